@@ -1,0 +1,95 @@
+//! The lines of a text, one after another.
+//!
+//! The list, the requests, the household and the driver are read by it. This crate stands on
+//! nothing but `std`, and doesn't know what the lines say.
+#![tactic(auto)]
+
+ghost use Rattle.std.specs.Prelude.{◌≡◌, ◌+◌, ◌<◌, ◌≤◌, ◌==◌, [], ◌∷◌, length, take, drop, slice_index, IfSome, MatchOption};
+ghost use Rattle.std.specs.List.{position_or_len};
+ghost use Rattle.std.specs.Str.{is_utf8};
+ghost use Rattle.m_lines.specs.Lines.{lines_of, line_feed, without_return};
+
+/// The first line of a text and what stands behind its line feed; `None` where the text is empty.
+/// A carriage return right before the line feed is dropped. Takes no memory.
+///
+/// `first_line(b"iliad\r\na.m")` is the line `iliad` and the rest `a.m`.
+pub fn first_line(bytes: &[u8]) -> Option<(&[u8], &[u8])>
+    ensures first { MatchOption result (bytes.now ≡ []) (λ r. lines_of bytes.now ≡ r.0.now ∷ lines_of r.1.now) }
+    ensures shorter { IfSome result (λ r. length r.1.now < length bytes.now) }
+{
+    if bytes.is_empty() {
+        return None;
+    }
+    let end = line_end(bytes);
+    if end == bytes.len() {
+        return Some((bytes, &bytes[end..]));
+    }
+    Some((without_return(&bytes[..end]), &bytes[end + 1..]))
+}
+
+/// Where the first line feed stands; the length where none does.
+fn line_end(bytes: &[u8]) -> usize
+    ensures place { result ≡ position_or_len (λ byte. byte == line_feed) bytes.now }
+    ensures within { result ≤ length bytes.now }
+{
+    bytes
+        .iter()
+        .position(|byte| *byte == b'\n')
+        .unwrap_or(bytes.len())
+}
+
+/// A line without the carriage return at its end, if it has one.
+fn without_return(line: &[u8]) -> &[u8]
+    ensures { result.now ≡ without_return line.now }
+{
+    if line.is_empty() {
+        return line;
+    }
+    let last = line.len() - 1;
+    if line[last] == b'\r' {
+        &line[..last]
+    } else {
+        line
+    }
+}
+
+/// Whether a text is UTF-8. Takes no memory.
+pub fn is_text(bytes: &[u8]) -> bool
+    ensures { result ≡ is_utf8 bytes.now }
+{
+    std::str::from_utf8(bytes).is_ok()
+}
+
+#[cfg(test)]
+mod tests {
+    use super::*;
+    use std::test::Fail;
+
+    #[test]
+    fn first_lines(rt: HostRuntime) -> Result<(), Fail> {
+        let rows: [(&[u8], &[u8], &[u8]); 8] = [
+            (b"a\nb", b"a", b"b"),
+            (b"\nb", b"", b"b"),
+            (b"\n", b"", b""),
+            (b"a\r\nb", b"a", b"b"),
+            (b"a\r\r\n", b"a\r", b""),
+            (b"\r\n", b"", b""),
+            (b"a\r", b"a\r", b""),
+            (b"a\rb\n", b"a\rb", b""),
+        ];
+        for (text, line, rest) in rows {
+            let (first, behind) = first_line(text).ok_or("no line")?;
+            assert!(rt; first == line, "the line of {text:?} is {first:?}");
+            assert!(rt; behind == rest, "the rest of {text:?} is {behind:?}");
+        }
+        assert!(rt; first_line(b"").is_none());
+        Ok(())
+    }
+
+    #[test]
+    fn texts(rt: HostRuntime) {
+        assert!(rt; is_text(b""));
+        assert!(rt; is_text("Traitements d\u{e9}clar\u{e9}s".as_bytes()));
+        assert!(rt; !is_text(b"d\xe9clar\xe9s"));
+    }
+}

@@ -1,0 +1,34 @@
+-- What a fetch appends to the attempts, and what it says of the files, where they are told.
+use Rattle.std.specs.Prelude.{◌≡◌, ◌⊎◌, ℕ, ◌+◌, ◌<◌, true, false, if◌then◌else◌, List, [], ◌∷◌, length, Option, None, Some, IfSome, IsSomeAnd, Result, Ok, Err}
+use Rattle.m_ports.specs.declared.files.Attempt.{Attempt}
+use Rattle.m_ports.specs.declared.files.FetchFault.{FetchFault}
+use Rattle.m_ports.specs.declared.files.FetchFault.TheVariants.{Failed, TooLong, Memory}
+
+-- The attempt that a fetch of this name with this answer is: one that failed at `Failed`, one that
+-- did not at `Ok` and at `TooLong`, and none where it was refused for memory.
+abbrev pub attempt_of : {T : Type 0} → List ℕ → Result T FetchFault → List Attempt
+attempt_of name (Ok bytes) = record { name = name; failed = false } ∷ []
+attempt_of name (Err Failed) = record { name = name; failed = true } ∷ []
+attempt_of name (Err TooLong) = record { name = name; failed = false } ∷ []
+attempt_of name (Err Memory) = []
+
+-- how many of the attempts failed: the count of faults of files
+abbrev pub failed_count : List Attempt → ℕ
+failed_count [] = 0
+failed_count (attempt ∷ attempts) = (if attempt.failed then 1 else 0) + failed_count attempts
+
+-- where the files are told, the name has these bytes
+abbrev pub Holds : Option (List ℕ → Option (List ℕ)) → List ℕ → List ℕ → Type 0
+Holds told name bytes = IfSome told (λ files. files name ≡ Some bytes)
+
+-- where the files are told, the name has more bytes than this
+abbrev pub HoldsMoreThan : ℕ → Option (List ℕ → Option (List ℕ)) → List ℕ → Type 0
+HoldsMoreThan limit told name = IfSome told (λ files. IsSomeAnd (files name) (λ bytes. limit < length bytes))
+
+-- the files are told, and none has the name
+abbrev pub IsMissing : Option (List ℕ → Option (List ℕ)) → List ℕ → Type 0
+IsMissing told name = IsSomeAnd told (λ files. files name ≡ None)
+
+-- the file could not be had: the fetch failed, or there was no memory for it
+abbrev pub IsRefused : {T : Type 0} → Result T FetchFault → Type 0
+IsRefused result = (result ≡ Err Failed) ⊎ (result ≡ Err Memory)

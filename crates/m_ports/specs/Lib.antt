@@ -1,0 +1,5 @@
+pub mod Counts
+pub mod Files
+pub mod MemFiles
+pub mod MemStream
+pub mod Sink

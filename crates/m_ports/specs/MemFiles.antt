@@ -1,0 +1,26 @@
+-- What files in memory answer.
+use Rattle.std.specs.Prelude.{◌≡◌, ◌⊎◌, ℕ, ◌+◌, Bool, true, false, if◌then◌else◌, nat_le, bytes_eq, List, length, find, Option, None, Some, Result, Ok, Err, MatchResult, Vec, option_map}
+use Rattle.std.specs.declared.alloc.Global.{Global}
+use Rattle.m_ports.specs.declared.files.FetchFault.{FetchFault}
+use Rattle.m_ports.specs.declared.files.FetchFault.TheVariants.{Failed, TooLong, Memory}
+
+-- the bytes of the first file of this name
+abbrev pub content_of : List (List ℕ × Vec ℕ Global) → List ℕ → Option (List ℕ)
+content_of files name = option_map (λ file. file.1.items) (find (λ file. bytes_eq file.0 name) files)
+
+-- The answer to a fetch that is to fail or not, of a name that has these bytes or none.
+abbrev pub answer_of : Bool → Option (List ℕ) → ℕ → Result (List ℕ) FetchFault
+answer_of true content limit = Err Failed
+answer_of false None limit = Err Failed
+answer_of false (Some bytes) limit = if nat_le (length bytes) limit then Ok bytes else Err TooLong
+
+-- the result is this answer, unless there was no memory for it
+abbrev pub Answers : Result (Vec ℕ Global) FetchFault → Result (List ℕ) FetchFault → Type 0
+Answers result answer = MatchResult result (λ bytes. answer ≡ Ok bytes.items) (λ fault. (fault ≡ Memory) ⊎ (answer ≡ Err fault))
+
+-- how many bytes a fetch with this answer took: of a file that is too long one past the limit
+abbrev pub bytes_taken : Result (Vec ℕ Global) FetchFault → ℕ → ℕ
+bytes_taken (Ok bytes) limit = length bytes.items
+bytes_taken (Err Failed) limit = 0
+bytes_taken (Err TooLong) limit = limit + 1
+bytes_taken (Err Memory) limit = 0

@@ -1,0 +1,92 @@
+//! Files that are fetched whole by their names.
+//!
+//! A fetch names a limit and is noted down as an attempt, so that a caller's contract can say which
+//! names were fetched and which of them failed, also where nothing is known of what files hold.
+ghost use Rattle.std.specs.Prelude.{◌≡◌, ◌⊎◌, ℕ, ◌≤◌, List, ◌++◌, Option, length, IfOk, IsErrOf};
+ghost use Rattle.m_ports.specs.declared.files.Attempt.{Attempt};
+ghost use Rattle.m_ports.specs.declared.files.FetchFault.TheVariants.{Memory};
+ghost use Rattle.m_ports.specs.Counts.{RoseByMore};
+ghost use Rattle.m_ports.specs.Files.{attempt_of, Holds, HoldsMoreThan, IsMissing, IsRefused};
+
+use m_places::Name;
+use std::alloc::{AllocError, AllocFailed, Global};
+
+/// Why a file was not fetched.
+#[derive(Clone, Copy, Debug, PartialEq, Eq)]
+pub enum FetchFault {
+    /// It could not be opened or read, or there is none of that name.
+    Failed,
+    /// It has more bytes than the limit.
+    TooLong,
+    /// There was no memory for it.
+    Memory,
+}
+
+impl From<AllocError> for FetchFault {
+    ghost from_gives = { λ _ e. e ≡ Memory };
+
+    fn from(_: AllocError) -> Self {
+        FetchFault::Memory
+    }
+}
+
+impl<T: Drop> From<AllocFailed<T>> for FetchFault {
+    ghost from_gives = { λ _ e. e ≡ Memory };
+
+    fn from(_: AllocFailed<T>) -> Self {
+        FetchFault::Memory
+    }
+}
+
+/// One fetch: the name that was asked for, and whether opening or reading the file failed.
+#[derive(Drop)]
+pub struct Attempt {
+    pub name: Name,
+    pub failed: bool,
+}
+
+/// Files that are fetched by name.
+pub trait Files {
+    /// What each name holds, where the object tells it. A missing name holds nothing.
+    ghost told: { Self → Option (List ℕ → Option (List ℕ)) };
+
+    /// The fetches so far, in order. The object's count of faults is the number of those that failed.
+    ghost attempts: { Self → List Attempt };
+
+    /// How many bytes were taken from files so far, up to the last number that the object can count to.
+    ghost taken: { Self → ℕ };
+
+    /// All the bytes of the file of this name, if it has at most `limit` of them.
+    fn fetch(&mut self, alloc: Global, name: &Name, limit: u64) -> Result<Vec<u8>, FetchFault>
+        // Each fetch is one attempt, which failed exactly where the answer says so. A fetch that
+        // is refused for memory is none.
+        ensures attempt { attempts self.new ≡ attempts self.old ++ attempt_of name.now result }
+
+        ensures whole { IfOk result (λ bytes. Holds (told self.old) name.now bytes.items) }
+        ensures within { IfOk result (λ bytes. length bytes.items ≤ limit) }
+
+        ensures missing { IsMissing (told self.old) name.now → IsRefused result }
+        ensures too_long { IsErrOf result FetchFault.TooLong → HoldsMoreThan limit (told self.old) name.now }
+        ensures took_more { IsErrOf result FetchFault.TooLong → RoseByMore limit (taken self.old) (taken self.new) }
+
+        ensures same { told self.new ≡ told self.old }
+        ensures counted { taken self.old ≤ taken self.new };
+}
+
+/// Notes down the attempt that a fetch of this name with this answer is, and hands the answer on. If
+/// there is no memory to note it down, the answer is want of memory.
+pub fn note(
+    attempts: &mut Vec<Attempt>,
+    name: Name,
+    answer: Result<Vec<u8>, FetchFault>,
+) -> Result<Vec<u8>, FetchFault>
+    ensures attempt { attempts.new.items ≡ attempts.old.items ++ attempt_of name result }
+    ensures answer { (result ≡ answer) ⊎ (result ≡ Err FetchFault.Memory) }
+{
+    if matches!(answer, Err(FetchFault::Memory)) {
+        return answer;
+    }
+    let failed = matches!(answer, Err(FetchFault::Failed));
+    attempts.push(Attempt { name, failed })?;
+    answer
+}

@@ -1,0 +1,24 @@
+//! The outside: files that are fetched by name, an input that is taken and an output that is given
+//! to, each as a trait that says what may be relied on, with a version in memory for tests.
+//!
+//! This crate stands on `m_places` for names, and knows nothing of what the bytes mean.
+#![tactic(auto)]
+
+mod counts;
+mod files;
+mod host;
+mod mem_files;
+mod mem_sink;
+mod mem_source;
+mod sink;
+mod source;
+#[cfg(test)]
+mod tests;
+
+pub use files::{Attempt, FetchFault, Files};
+pub use host::{HostFiles, HostSink, HostSource};
+pub use mem_files::MemFiles;
+pub use mem_sink::MemSink;
+pub use mem_source::MemSource;
+pub use sink::{Sink, give_all};
+pub use source::{Failed, Source};
