@@ -1,9 +1,9 @@
 -- The first line of a text, by the place of its line feed.
-use Rattle.std.proofs.Common.{◌≡◌, ltb, unwrap_or, Some, None, ℕ, ◌+◌, ◌-◌, ◌<◌, ◌≤◌, zero, suc, Bool, true, false, not, cond, eqb, List, [], ◌∷◌, length, take, drop, get_or, Result, Ok, Err, MatchResult, IfOk, is_ok, refl, sym, add-one, ap, subst, ◌∙◌, inl, inr, arith, rules}
+use Rattle.std.proofs.Common.{◌≡◌, ltb, unwrap_or, Some, None, ℕ, ◌+◌, ◌-◌, ◌<◌, ◌≤◌, zero, suc, Bool, true, false, not, cond, eqb, List, [], ◌∷◌, length, take, drop, get_or, Result, Ok, Err, MatchResult, is_ok, refl, sym, add-one, ap, subst, ◌∙◌, inl, inr, arith}
 use mathlib.Core.Bool.{◌&&◌}
 use Rattle.std.specs.List.{position_or_len}
 use Rattle.std.specs.Str.{is_utf8, IsUtf8}
-use Rattle.std.proofs.lemmas.Bool.{eqb-true, eqb-false, ne_eqb, false_from_ne_true, cases_Bool, and_right, cond_both, ltb-false}
+use Rattle.std.proofs.lemmas.Bool.{eqb-false, ne_eqb, false_from_ne_true, cases_Bool, and_right, cond_both, ltb-false}
 use Rattle.std.proofs.lemmas.List.{take_rest, drop_all}
 use Rattle.std.proofs.lemmas.Str.{IsUtf8-from_is_utf8, is_utf8-from_IsUtf8}
 use Rattle.m_lines.specs.Lines.{lines_of, onto_first, begins_with_feed, without_return}

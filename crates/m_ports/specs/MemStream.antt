@@ -12,10 +12,6 @@ pub record MemStream : Type 0 where
   pub calls : ℕ
   pub faults : ℕ
 
--- how many bytes an output in memory has room for
-abbrev pub room_of : ℕ
-room_of = 1048576
-
 -- the stream before its first call
 abbrev pub new_stream : List ℕ → ℕ → List ℕ → MemStream
 new_stream bytes piece failing = record { bytes = bytes; piece = piece; failing = failing; calls = 0; faults = 0 }

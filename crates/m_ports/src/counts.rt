@@ -10,7 +10,7 @@ pub fn count_up(count: u64) -> u64
 }
 
 /// Whether the call after so many counted ones is among those that fail.
-pub fn fails(failing: &[u64], calls: u64) -> bool
+pub fn is_failing(failing: &[u64], calls: u64) -> bool
     ensures { result ≡ is_failing failing.now calls }
 {
     failing

@@ -2,7 +2,7 @@
 //!
 //! What a real file, pipe or terminal holds is known to no contract, so these are the trusted edge.
 //! Every error that the system gives is a fault, also one that std's own loops would try again.
-ghost use Rattle.std.specs.Prelude.{◌≡◌, ◌<◌, ◌≤◌, [], length, IfOk, OnErr, IsErrOf};
+ghost use Rattle.std.specs.Prelude.{◌≡◌, ◌<◌, ◌≤◌, [], length, IfOk, IfSome, OnErr, IsErrOf};
 ghost use Rattle.m_ports.specs.Counts.{Rose, RoseByMore, faults_after};
 
 use crate::counts::count_up;
@@ -39,14 +39,17 @@ impl<'a, H: rt::Files> HostFiles<'a, H> {
     }
 }
 
-/// Reads to the end, or until more bytes than the limit were read.
+/// Reads to the end, or until more bytes than the limit were read. Where the reader tells what is
+/// left, `Ok` gives all of that.
 fn read_whole<R: Read>(
     reader: &mut R,
     alloc: Global,
     limit: u64,
     taken: &mut u64,
 ) -> Result<Vec<u8>, FetchFault>
+    ensures whole { IfOk result (λ bytes. IfSome (R.remaining reader.old) (λ content. bytes.items ≡ content)) }
     ensures within { IfOk result (λ bytes. length bytes.items ≤ limit) }
+    ensures too_long { IsErrOf result FetchFault.TooLong → IfSome (R.remaining reader.old) (λ content. limit < length content) }
     ensures took_more { IsErrOf result FetchFault.TooLong → RoseByMore limit taken.old taken.new }
     ensures counted { taken.old ≤ taken.new }
 {

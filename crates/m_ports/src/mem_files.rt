@@ -4,7 +4,7 @@ ghost use Rattle.m_ports.specs.Counts.{last_count};
 ghost use Rattle.m_ports.specs.Files.{attempt_of};
 ghost use Rattle.m_ports.specs.MemFiles.{content_of, Answers, bytes_taken};
 
-use crate::counts::fails;
+use crate::counts::is_failing;
 use crate::files::note;
 use crate::{Attempt, FetchFault, Files};
 use m_places::Name;
@@ -75,7 +75,7 @@ impl MemFiles {
         ensures { Answers result (answer_of (is_failing self.now.failing.items (length self.now.attempts.items))
             (content_of self.now.files.items name.now) limit) }
     {
-        if fails(&self.failing, self.attempts.len() as u64) {
+        if is_failing(&self.failing, self.attempts.len() as u64) {
             return Err(FetchFault::Failed);
         }
         match find(&self.files, name) {

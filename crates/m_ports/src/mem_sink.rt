@@ -1,9 +1,9 @@
 //! An output in memory, for tests: it tells what was written, and fails at the calls that it is told.
 ghost use Rattle.std.specs.Prelude.{◌≡◌, ◌<◌, ◌≤◌, ◌-◌, ◌↔◌, ◌⊎◌, [], min, length, IfOk, OnOk, OnErr, IsErr, IsTrue};
 ghost use Rattle.m_ports.specs.Counts.{is_failing};
-ghost use Rattle.m_ports.specs.MemStream.{new_stream, room_of, after_fault, after_give};
+ghost use Rattle.m_ports.specs.MemStream.{new_stream, after_fault, after_give};
 
-use crate::counts::{count_up, fails};
+use crate::counts::{count_up, is_failing};
 use crate::{Failed, Sink};
 use std::alloc::{AllocError, Global};
 use std::marker::Model;
@@ -24,13 +24,14 @@ pub struct MemSink {
 
 impl Model for MemSink {
     ghost use Rattle.std.specs.Prelude.{◌≤◌, length, vec_capacity};
-    ghost use Rattle.m_ports.specs.MemStream.{MemStream, room_of};
+    ghost use Rattle.m_ports.specs.MemStream.{MemStream};
+    ghost use Rattle.m_ports.specs.declared.mem_sink.TheConstants.{ROOM};
 
     ghost Value = { MemStream };
 
     ghost view = { λ s. record { bytes = s.content.items; piece = s.piece; failing = s.failing.items; calls = s.calls; faults = s.faults } };
 
-    ghost invariant = { λ s. (length s.content.items ≤ room_of) × (room_of ≤ vec_capacity s.content) × (1 ≤ s.piece) };
+    ghost invariant = { λ s. (length s.content.items ≤ ROOM) × (ROOM ≤ vec_capacity s.content) × (1 ≤ s.piece) };
 }
 
 impl MemSink {
@@ -71,8 +72,8 @@ impl Sink for MemSink {
     fn give(&mut self, piece: &[u8]) -> Result<usize, Failed>
         ensures empty { piece.now ≡ [] → (result ≡ Ok 0) × (self.new ≡ self.old) }
         ensures fails { 0 < length piece.now →
-            (IsErr result ↔ (IsTrue (is_failing self.old.failing self.old.calls) ⊎ (length self.old.bytes ≡ room_of))) }
-        ensures count { IfOk result (λ n. n ≡ min self.old.piece (min (length piece.now) (room_of - length self.old.bytes))) }
+            (IsErr result ↔ (IsTrue (is_failing self.old.failing self.old.calls) ⊎ (length self.old.bytes ≡ ROOM))) }
+        ensures count { IfOk result (λ n. n ≡ min self.old.piece (min (length piece.now) (ROOM - length self.old.bytes))) }
         ensures some { IfOk result (λ n. 0 < length piece.now → 0 < n) }
         ensures after { 0 < length piece.now → IfOk result (λ n. self.new ≡ after_give self.old piece.now n) }
         ensures after_fault { OnErr result (self.new ≡ after_fault self.old) }
@@ -81,7 +82,7 @@ impl Sink for MemSink {
         if piece.is_empty() {
             return Ok(0);
         }
-        let fails = fails(&self.failing, self.calls) || self.content.len() == ROOM;
+        let fails = is_failing(&self.failing, self.calls) || self.content.len() == ROOM;
         self.calls = count_up(self.calls);
         if fails {
             self.faults = count_up(self.faults);

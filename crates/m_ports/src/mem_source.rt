@@ -3,7 +3,7 @@ ghost use Rattle.std.specs.Prelude.{◌≡◌, ◌<◌, ◌≤◌, ◌↔◌, []
 ghost use Rattle.m_ports.specs.Counts.{is_failing};
 ghost use Rattle.m_ports.specs.MemStream.{new_stream, after_fault, after_take};
 
-use crate::counts::{count_up, fails};
+use crate::counts::{count_up, is_failing};
 use crate::{Failed, Source};
 use std::marker::Model;
 
@@ -74,7 +74,7 @@ impl Source for MemSource {
         ensures after_fault { OnErr result (self.new ≡ after_fault self.old) }
         ensures counted { self.old.faults ≤ self.new.faults }
     {
-        let fails = fails(&self.failing, self.calls);
+        let fails = is_failing(&self.failing, self.calls);
         self.calls = count_up(self.calls);
         if fails {
             self.faults = count_up(self.faults);

@@ -47,36 +47,32 @@ fn files_of(alloc: Global, failing: &[u64]) -> Result<MemFiles, AllocError> {
 
 #[test]
 fn files_in_memory(rt: HostRuntime) -> Result<(), Fail> {
-    let mut files = files_of(rt.alloc(), &[4])?;
-    let rows = [
-        ("a.m", 4, Ok("abcd")),
+    let alloc = rt.alloc();
+    let mut files = files_of(alloc, &[4])?;
+    let first = fetched(&mut files, alloc, b"a.m", 4)?;
+    assert_eq!(rt;
+        first.as_slice(),
+        b"abcd".as_slice(),
+        "the first of its name"
+    );
+    for (name, limit, want) in [
         ("a.m", 3, Err(FetchFault::TooLong)),
         ("c.m", 9, Err(FetchFault::Failed)),
         ("a.m", 9, Err(FetchFault::Failed)),
-        ("b.m", 0, Ok("")),
-    ];
-    for (name, limit, want) in rows {
-        match (
-            fetched(&mut files, rt.alloc(), name.as_bytes(), limit),
-            want,
-        ) {
-            (Ok(bytes), Ok(want)) => assert_eq!(rt; bytes.as_slice(), want.as_bytes()),
-            (Err(fault), Err(want)) => assert_eq!(rt; fault, want, "at {name}, {limit}"),
-            _ => assert!(rt; false, "at {name}, {limit}"),
-        }
+        ("b.m", 0, Ok(0)),
+    ] {
+        let got = fetched(&mut files, alloc, name.as_bytes(), limit).map(|bytes| bytes.len());
+        assert_eq!(rt; got, want, "at {name}, {limit}");
     }
-    let attempts = files.attempted();
-    assert_eq!(rt; attempts.len(), 5);
-    for (attempt, (name, failed)) in attempts.iter().zip([
-        ("a.m", false),
-        ("a.m", false),
-        ("c.m", true),
-        ("a.m", true),
-        ("b.m", false),
-    ]) {
-        assert_eq!(rt; attempt.name.bytes(), name.as_bytes());
-        assert_eq!(rt; attempt.failed, failed);
-    }
+    let failed: Vec<bool> = files
+        .attempted()
+        .iter()
+        .map(|attempt| attempt.failed)
+        .collect(alloc)?;
+    assert_eq!(rt;
+        failed.as_slice(),
+        [false, false, true, true, false].as_slice()
+    );
     Ok(())
 }
 

@@ -1,2 +1,5 @@
+pub mod Cells
 pub mod Formulas
+pub mod Solutions
+pub mod Terms
 pub mod Values

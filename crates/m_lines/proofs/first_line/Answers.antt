@@ -1,4 +1,4 @@
-use Rattle.std.proofs.Common.{arith, sym, ap, ◌∙◌, ◌∷◌}
+use Rattle.std.proofs.Common.{arith, sym, ◌∙◌}
 use Rattle.m_lines.proofs.LineLemmas.{lines_of-cut, lines_of-whole}
 use Rattle.m_lines.proofs.first_line.Goals as goal
 

@@ -1,0 +1,4 @@
+pub mod CodeLemmas
+pub mod PairLemmas
+pub mod RowLemmas
+pub mod ValueLemmas

@@ -1,0 +1,10 @@
+pub mod Decimals
+pub mod Grammar
+pub mod Nearest
+pub mod Numbers
+pub mod Products
+pub mod Reading
+pub mod ReadsBack
+pub mod Rounds
+pub mod Values
+pub mod Writing

@@ -1,0 +1,29 @@
+-- What the laws of amounts and operators speak of.
+use Rattle.std.specs.Prelude.{◌≡◌, ℕ, List, [], ◌∷◌, ◌++◌, IsTrue, Bool, true, false, ℤ, pos, neg_ℤ, ⊤}
+use Rattle.m_fixed.specs.declared.amount.Value.{Value}
+use Rattle.m_fixed.specs.declared.amount.Value.TheVariants.{Num}
+use Rattle.m_fixed.specs.declared.operator.Op.{Op}
+use Rattle.m_fixed.specs.declared.operator.Op.TheVariants.{Truth, Choose}
+use Rattle.m_fixed.specs.Amounts.{IsAmount}
+use Rattle.m_fixed.specs.Text.{is_digits, millionths_of, minus, point}
+
+-- a value that the program can hold: a number in it is an amount
+abbrev pub IsValue : Value → Type 0
+IsValue (Num z) = IsAmount z
+IsValue _ = ⊤
+
+-- the two operators that select, and look at no more than they need
+abbrev pub is_selecting : Op → Bool
+is_selecting Truth = true
+is_selecting Choose = true
+is_selecting _ = false
+
+-- the text is a number: digits, or digits, a point and decimals; it spells n millionths
+pub data SpellsNumber (text : List ℕ) (n : ℕ) : Type 0 where
+  whole : (ds : List ℕ) → IsTrue (is_digits ds) → text ≡ ds → n ≡ millionths_of ds [] → SpellsNumber text n
+  decimal : (ds fs : List ℕ) → IsTrue (is_digits ds) → IsTrue (is_digits fs) → text ≡ ds ++ point ∷ fs → n ≡ millionths_of ds fs → SpellsNumber text n
+
+-- the text is an amount: a number, or a number behind a minus; it spells z millionths
+pub data SpellsAmount (text : List ℕ) (z : ℤ) : Type 0 where
+  plain : (n : ℕ) → SpellsNumber text n → z ≡ pos n → SpellsAmount text z
+  below_zero : (number : List ℕ) (n : ℕ) → text ≡ minus ∷ number → SpellsNumber number n → z ≡ neg_ℤ (pos n) → SpellsAmount text z

@@ -1,0 +1,5 @@
+pub mod Amounts
+pub mod Laws
+pub mod Operators
+pub mod Rounding
+pub mod Text

@@ -1,0 +1,92 @@
+ghost use Rattle.std.specs.Prelude.{◌≡◌, SomeIff, pos, ◌≤◌, unsigned_abs};
+ghost use Rattle.std.specs.Int.{is_negative};
+ghost use Rattle.m_fixed.specs.Amounts.{IsAmount, most};
+ghost use Rattle.m_fixed.specs.Rounding.{signed};
+
+use std::marker::Model;
+
+/// The greatest absolute value of an amount, in millionths.
+const MOST: i128 = 10_000_000_000_000_000_000;
+
+/// An amount: a whole number of millionths, at most 10^19 of them above or below zero.
+#[derive(Clone, Copy, Debug, PartialEq, Eq)]
+pub struct Amount {
+    millionths: i128,
+}
+
+impl Model for Amount {
+    ghost use Rattle.std.specs.Prelude.{ℤ};
+    ghost use Rattle.m_fixed.specs.Amounts.{IsAmount};
+
+    ghost Value = { ℤ };
+
+    ghost view = { λ a. a.millionths };
+
+    ghost invariant = { λ a. IsAmount a.millionths };
+
+    ghost inverse = { λ z. record { millionths = z } };
+}
+
+impl Amount {
+    /// The amount of so many millionths, and `None` where their absolute value is above 10^19.
+    pub fn new(millionths: i128) -> Option<Amount>
+        ensures { SomeIff result (IsAmount millionths) millionths }
+    {
+        if millionths < -MOST || millionths > MOST {
+            return None;
+        }
+        Some(Amount { millionths })
+    }
+
+    /// No units.
+    pub fn zero() -> Amount
+        ensures { result ≡ pos 0 }
+    {
+        Amount { millionths: 0 }
+    }
+
+    /// So many millionths, below zero or not.
+    pub(crate) fn of_size(negative: bool, size: u64) -> Amount
+        requires { size ≤ most }
+        ensures { result ≡ signed negative size }
+    {
+        let size = size as i128;
+        Amount {
+            millionths: if negative { -size } else { size },
+        }
+    }
+
+    /// Whether it is below zero.
+    pub(crate) fn is_negative(self) -> bool
+        ensures { result ≡ is_negative self }
+    {
+        self.millionths < 0
+    }
+
+    /// How many millionths it is above or below zero.
+    pub(crate) fn size(self) -> u64
+        ensures value { result ≡ unsigned_abs self }
+        ensures bound { result ≤ most }
+    {
+        self.millionths.unsigned_abs() as u64
+    }
+
+    /// How many millionths it is.
+    pub fn millionths(self) -> i128
+        ensures value { result ≡ self }
+        ensures bound { IsAmount result }
+    {
+        self.millionths
+    }
+}
+
+/// What a term of M is worth.
+#[derive(Clone, Copy, Debug, PartialEq, Eq)]
+pub enum Value {
+    /// Nothing was given.
+    Undef,
+    /// An amount.
+    Num(Amount),
+    /// A result beyond the greatest amount.
+    Over,
+}

@@ -1,0 +1,149 @@
+ghost use Rattle.std.specs.Prelude.{◌≡◌, ◌≤◌, ◌<◌, ◌*◌, ◌+◌, ◌-◌, ◌^◌, slice_index_or, length, take, drop, min, IsTrue, IfOk, option_copied, Some, None, if◌then◌else◌, ◌==◌};
+ghost use Rattle.std.specs.Str.Parse.{digits_value, starts_with_minus};
+ghost use Rattle.m_fixed.specs.Amounts.{unit, most};
+ghost use Rattle.m_fixed.specs.Rounding.{nearest};
+ghost use Rattle.m_fixed.specs.Text.{text_value, without_minus, amount_read, number_value, number_read, is_digits, only_digits, before_point, behind_point, millionths_of};
+
+use crate::Amount;
+
+/// Why a text is not read as an amount.
+#[derive(Clone, Copy, Debug, PartialEq, Eq)]
+pub enum AmountFault {
+    /// The text isn't of the form `-12.5`.
+    NotAnAmount,
+    /// It is, and the amount is beyond the greatest one.
+    TooGreat,
+}
+
+/// One unit, in millionths.
+const UNIT: u64 = 1_000_000;
+
+/// More whole units than any amount has.
+const UNITS_ABOVE: u64 = 10_000_000_000_001;
+
+/// The most millionths of an amount.
+const MOST: u64 = 10_000_000_000_000_000_000;
+
+/// The amount that a text spells: a minus or nothing, digits, and behind a point decimals. It is
+/// rounded at the sixth decimal, halves away from zero.
+pub fn read_amount(text: &[u8]) -> Result<Amount, AmountFault>
+    ensures { result ≡ amount_read (text_value text.now) }
+{
+    let (negative, number) = split_sign(text);
+    let size = read_number(number)?;
+    Ok(Amount::of_size(negative, size))
+}
+
+/// Whether a minus stands first, and the text without it.
+fn split_sign(text: &[u8]) -> (bool, &[u8])
+    ensures sign { result.0 ≡ starts_with_minus text.now }
+    ensures number { result.1.now ≡ without_minus text.now }
+{
+    if text.len() > 0 && text[0] == b'-' {
+        (true, &text[1..])
+    } else {
+        (false, text)
+    }
+}
+
+/// The millionths that a number without a sign spells.
+fn read_number(text: &[u8]) -> Result<u64, AmountFault>
+    ensures value { result ≡ number_read (number_value text.now) }
+    ensures bound { IfOk result (λ size. size ≤ most) }
+{
+    let (whole, decimals) = split_at_point(text);
+    if !is_digits(whole) {
+        return Err(AmountFault::NotAnAmount);
+    }
+    match decimals {
+        None => size(whole, b""),
+        Some(decimals) => {
+            if !is_digits(decimals) {
+                return Err(AmountFault::NotAnAmount);
+            }
+            size(whole, decimals)
+        }
+    }
+}
+
+/// The millionths that the digits before and behind a point spell.
+fn size(whole: &[u8], decimals: &[u8]) -> Result<u64, AmountFault>
+    requires whole_in { IsTrue (only_digits whole.now) }
+    requires decimals_in { IsTrue (only_digits decimals.now) }
+    ensures value { result ≡ number_read (Some (millionths_of whole.now decimals.now)) }
+    ensures bound { IfOk result (λ size. size ≤ most) }
+{
+    let size = whole_units(whole) * UNIT + rounded_decimals(decimals);
+    if size <= MOST {
+        Ok(size)
+    } else {
+        Err(AmountFault::TooGreat)
+    }
+}
+
+/// What stands before the first point, and what stands behind it, if there is one.
+fn split_at_point(text: &[u8]) -> (&[u8], Option<&[u8]>)
+    ensures before { result.0.now ≡ before_point text.now }
+    ensures behind { option_copied result.1 ≡ behind_point text.now }
+{
+    for i in 0..text.len() {
+        if text[i] == b'.' {
+            return (&text[..i], Some(&text[i + 1..]));
+        }
+    }
+    (text, None)
+}
+
+fn is_digits(text: &[u8]) -> bool
+    ensures { result ≡ is_digits text.now }
+{
+    text.len() > 0 && only_digits(text)
+}
+
+fn only_digits(text: &[u8]) -> bool
+    ensures { result ≡ only_digits text.now }
+{
+    text.iter().all(|byte| byte.is_ascii_digit())
+}
+
+/// The whole units, or more than any amount has.
+fn whole_units(whole: &[u8]) -> u64
+    requires { IsTrue (only_digits whole.now) }
+    ensures { result ≡ min (digits_value 10 whole.now) 10_000_000_000_001 }
+{
+    let mut units = 0;
+    for byte in whole {
+        units = (units * 10 + (*byte - b'0') as u64).min(UNITS_ABOVE);
+    }
+    units
+}
+
+/// The millionths of the decimals, rounded at the sixth.
+fn rounded_decimals(decimals: &[u8]) -> u64
+    requires { IsTrue (only_digits decimals.now) }
+    ensures value { result ≡ nearest (digits_value 10 decimals.now * unit) (10 ^ length decimals.now) }
+    ensures bound { result ≤ unit }
+{
+    let mut millionths = 0;
+    for place in 0..6 {
+        millionths = millionths * 10 + decimal_at(decimals, place);
+    }
+    if decimal_at(decimals, 6) >= 5 {
+        millionths + 1
+    } else {
+        millionths
+    }
+}
+
+/// The decimal at a place, which is 0 behind the last one.
+fn decimal_at(decimals: &[u8], place: usize) -> u64
+    requires { IsTrue (only_digits decimals.now) }
+    ensures value { result ≡ slice_index_or decimals.now place 48 - 48 }
+    ensures small { result < 10 }
+{
+    if place < decimals.len() {
+        (decimals[place] - b'0') as u64
+    } else {
+        0
+    }
+}

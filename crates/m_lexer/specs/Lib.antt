@@ -1,0 +1,4 @@
+pub mod Runs
+pub mod Spellings
+pub mod Steps
+pub mod Tokens

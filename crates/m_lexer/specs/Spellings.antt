@@ -1,0 +1,136 @@
+-- What gaps and tokens are spelled by, as lists of bytes.
+use Rattle.std.specs.Prelude.{◌≡◌, ◌≢◌, ◌⊎◌, ℕ, ◌≤◌, List, [], ◌∷◌, ◌++◌, codes}
+use Rattle.std.specs.List.{AllByRecursion}
+use Rattle.m_lexer.specs.declared.token.Key.{Key}
+use Rattle.m_lexer.specs.declared.token.Key.TheVariants.{Regle, Verif, Application, Enchaineur, Si, Alors, Sinon, Finsi, Erreur, Saisie, Calculee, Const, Tableau, Alias, TypeKey, Pour, Un, Dans, Et, Ou, Non, Somme, Present, Positif, PositifOuNul, Null, Arr, Inf, Abs, Max, Min, Anomalie, Discordance, Informative, X}
+use Rattle.m_lexer.specs.declared.token.Sign.{Sign}
+use Rattle.m_lexer.specs.declared.token.Sign.TheVariants.{Plus, Minus, Star, Slash, Equal, NotEqual, Less, LessEqual, Greater, GreaterEqual, OpenParen, CloseParen, OpenBracket, CloseBracket, Comma, Semicolon, Colon, Range}
+
+-- a line ends at this byte
+abbrev pub line_feed : ℕ
+line_feed = 10
+
+-- the byte `"`
+abbrev pub quote : ℕ
+quote = 34
+
+-- the byte `#`
+abbrev pub hash : ℕ
+hash = 35
+
+-- the byte `.`
+abbrev pub point : ℕ
+point = 46
+
+-- a letter of ASCII: `A` to `Z`, `a` to `z`
+abbrev pub IsLetter : ℕ → Type 0
+IsLetter b = ((65 ≤ b) × (b ≤ 90)) ⊎ ((97 ≤ b) × (b ≤ 122))
+
+-- `0` to `9`
+abbrev pub IsDigit : ℕ → Type 0
+IsDigit b = (48 ≤ b) × (b ≤ 57)
+
+-- a letter, a digit or `_`
+abbrev pub IsWordByte : ℕ → Type 0
+IsWordByte b = IsLetter b ⊎ (IsDigit b ⊎ (b ≡ 95))
+
+-- a space, a tab, a carriage return or a line feed
+abbrev pub IsBlankByte : ℕ → Type 0
+IsBlankByte b = (b ≡ 32) ⊎ ((b ≡ 9) ⊎ ((b ≡ 13) ⊎ (b ≡ line_feed)))
+
+-- one blank byte
+abbrev pub IsBlank : List ℕ → Type 0
+IsBlank t = (b : ℕ) × IsBlankByte b × (t ≡ b ∷ [])
+
+-- `#` and bytes of any kind, but no line feed
+abbrev pub IsComment : List ℕ → Type 0
+IsComment t = (bytes : List ℕ) × AllByRecursion (λ b. b ≢ line_feed) bytes × (t ≡ hash ∷ bytes)
+
+-- letters, digits and `_`, not digits alone: `REV`, `1AJ`, `1_000`, `_`
+abbrev pub IsWord : List ℕ → Type 0
+IsWord t = AllByRecursion IsWordByte t × (AllByRecursion IsDigit t → ⊥)
+
+-- one or more digits: `08`
+abbrev pub AreDigits : List ℕ → Type 0
+AreDigits t = (t ≢ []) × AllByRecursion IsDigit t
+
+-- digits, a point and digits: `2.50`
+abbrev pub IsDecimal : List ℕ → Type 0
+IsDecimal t = (whole decimals : List ℕ) × AreDigits whole × AreDigits decimals × (t ≡ whole ++ point ∷ decimals)
+
+-- digits, optionally with a point and digits
+abbrev pub IsNumber : List ℕ → Type 0
+IsNumber t = AreDigits t ⊎ IsDecimal t
+
+-- the bytes inside, of any kind but a quote, between two quotes: `""`, `"n"`
+abbrev pub IsQuoted : List ℕ → List ℕ → Type 0
+IsQuoted t inside = AllByRecursion (λ b. b ≢ quote) inside × (t ≡ quote ∷ (inside ++ quote ∷ []))
+
+-- the spelling of each sign
+abbrev pub sign_spelling : Sign → List ℕ
+sign_spelling Plus = codes "+"
+sign_spelling Minus = codes "-"
+sign_spelling Star = codes "*"
+sign_spelling Slash = codes "/"
+sign_spelling Equal = codes "="
+sign_spelling NotEqual = codes "!="
+sign_spelling Less = codes "<"
+sign_spelling LessEqual = codes "<="
+sign_spelling Greater = codes ">"
+sign_spelling GreaterEqual = codes ">="
+sign_spelling OpenParen = codes "("
+sign_spelling CloseParen = codes ")"
+sign_spelling OpenBracket = codes "["
+sign_spelling CloseBracket = codes "]"
+sign_spelling Comma = codes ","
+sign_spelling Semicolon = codes ";"
+sign_spelling Colon = codes ":"
+sign_spelling Range = codes ".."
+
+-- the spelling of each reserved word
+abbrev pub key_spelling : Key → List ℕ
+key_spelling Regle = codes "regle"
+key_spelling Verif = codes "verif"
+key_spelling Application = codes "application"
+key_spelling Enchaineur = codes "enchaineur"
+key_spelling Si = codes "si"
+key_spelling Alors = codes "alors"
+key_spelling Sinon = codes "sinon"
+key_spelling Finsi = codes "finsi"
+key_spelling Erreur = codes "erreur"
+key_spelling Saisie = codes "saisie"
+key_spelling Calculee = codes "calculee"
+key_spelling Const = codes "const"
+key_spelling Tableau = codes "tableau"
+key_spelling Alias = codes "alias"
+key_spelling TypeKey = codes "type"
+key_spelling Pour = codes "pour"
+key_spelling Un = codes "un"
+key_spelling Dans = codes "dans"
+key_spelling Et = codes "et"
+key_spelling Ou = codes "ou"
+key_spelling Non = codes "non"
+key_spelling Somme = codes "somme"
+key_spelling Present = codes "present"
+key_spelling Positif = codes "positif"
+key_spelling PositifOuNul = codes "positif_ou_nul"
+key_spelling Null = codes "null"
+key_spelling Arr = codes "arr"
+key_spelling Inf = codes "inf"
+key_spelling Abs = codes "abs"
+key_spelling Max = codes "max"
+key_spelling Min = codes "min"
+key_spelling Anomalie = codes "anomalie"
+key_spelling Discordance = codes "discordance"
+key_spelling Informative = codes "informative"
+key_spelling X = codes "X"
+
+-- What stands in a file, piece by piece: a gap, or what is spelled as a token is. A reserved word is
+-- a word here, and a number is one however great it is.
+pub data IsPiece : List ℕ → Type 0 where
+  blank : {t : List ℕ} → IsBlank t → IsPiece t
+  comment : {t : List ℕ} → IsComment t → IsPiece t
+  word : {t : List ℕ} → IsWord t → IsPiece t
+  number : {t : List ℕ} → IsNumber t → IsPiece t
+  text : {t : List ℕ} (inside : List ℕ) → IsQuoted t inside → IsPiece t
+  sign : {t : List ℕ} (s : Sign) → t ≡ sign_spelling s → IsPiece t

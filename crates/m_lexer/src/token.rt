@@ -1,0 +1,100 @@
+use m_fixed::Amount;
+use m_places::{Name, Place};
+
+/// A reserved word of M.
+#[derive(Clone, Copy, Debug, PartialEq, Eq)]
+pub enum Key {
+    Regle,
+    Verif,
+    Application,
+    Enchaineur,
+    Si,
+    Alors,
+    Sinon,
+    Finsi,
+    Erreur,
+    Saisie,
+    Calculee,
+    Const,
+    Tableau,
+    Alias,
+    TypeKey,
+    Pour,
+    Un,
+    Dans,
+    Et,
+    Ou,
+    Non,
+    Somme,
+    Present,
+    Positif,
+    PositifOuNul,
+    Null,
+    Arr,
+    Inf,
+    Abs,
+    Max,
+    Min,
+    Anomalie,
+    Discordance,
+    Informative,
+    X,
+}
+
+/// A sign of M.
+#[derive(Clone, Copy, Debug, PartialEq, Eq)]
+pub enum Sign {
+    Plus,
+    Minus,
+    Star,
+    Slash,
+    Equal,
+    NotEqual,
+    Less,
+    LessEqual,
+    Greater,
+    GreaterEqual,
+    OpenParen,
+    CloseParen,
+    OpenBracket,
+    CloseBracket,
+    Comma,
+    Semicolon,
+    Colon,
+    Range,
+}
+
+/// What a token is.
+#[derive(Drop)]
+pub enum Kind {
+    /// A word that isn't reserved, as spelled.
+    Word(Name),
+    /// A number, rounded at the sixth decimal, and its spelling.
+    Number(Amount, Name),
+    /// The bytes between the quotes of a text.
+    Text(Name),
+    /// A reserved word.
+    Key(Key),
+    /// A sign.
+    Sign(Sign),
+}
+
+/// A token and the place of its first byte.
+#[derive(Drop)]
+pub struct Token {
+    pub kind: Kind,
+    pub place: Place,
+}
+
+/// Why a file has no tokens: its first fault.
+#[derive(Clone, Copy, Debug, PartialEq, Eq)]
+pub enum LexFault {
+    /// A byte at which no token begins.
+    BadByte(Place),
+    /// The opening quote of a text that isn't closed before the end of the file.
+    OpenString(Place),
+    /// A number above 10000000000000 after it is rounded at the sixth decimal.
+    NumberTooGreat(Place),
+    /// Want of memory.
+    Memory,
+}

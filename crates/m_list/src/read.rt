@@ -1,0 +1,119 @@
+ghost use Rattle.std.specs.Prelude.{◌≡◌, ◌+◌, ◌≤◌, ◌<◌, ◌^◌, length, IfOk, IfErr, Ok};
+ghost use Rattle.m_lines.specs.Lines.{lines_of};
+ghost use Rattle.m_list.specs.Listing.{list_of, one_file_of, IsCause, is_word, is_word_byte, is_file_line, first_bad_from, files_of, only_file, AreTooMany};
+
+use crate::{ListFault, Listing, OneFile};
+use m_lines::{first_line, is_text};
+use m_places::limits::{FILE_NAME_BYTES, LIST_FILES};
+use m_places::{Name, Seq};
+use std::alloc::{AllocError, Global};
+
+/// Reads a list file. Line 1 is the application, a word of M, which may be a reserved one. Each
+/// later line that isn't empty is the name of a file.
+///
+/// `iliad\na.m\n` lists the application `iliad` and the file `a.m`.
+pub fn read_list(alloc: Global, bytes: &[u8]) -> Result<Listing, ListFault>
+    requires { length bytes.now ≤ 16777216 }
+    ensures listing { IfOk result (λ listing. list_of bytes.now ≡ Ok listing) }
+    ensures fault { IfErr result (IsCause (list_of bytes.now)) }
+{
+    let Some((application, rest)) = first_line(bytes) else {
+        return Err(ListFault::BadLine(1));
+    };
+    if !is_word(application) {
+        return Err(ListFault::BadLine(1));
+    }
+    if let Some(number) = first_bad_line(rest) {
+        return Err(ListFault::BadLine(number));
+    }
+    let files = read_files(alloc, rest)?;
+    let application = Name::new(alloc, application)?;
+    Ok(Listing {
+        application,
+        files: Seq::from_vec(files),
+    })
+}
+
+/// Whether a text is a word of M, reserved or not.
+fn is_word(text: &[u8]) -> bool
+    ensures { result ≡ is_word text.now }
+{
+    text.iter().all(|byte| is_word_byte(*byte)) && !text.iter().all(|byte| byte.is_ascii_digit())
+}
+
+fn is_word_byte(byte: u8) -> bool
+    ensures { result ≡ is_word_byte byte }
+{
+    byte.is_ascii_alphanumeric() || byte == b'_'
+}
+
+/// The number of the first line that is no file line, where these are the lines from line 2 on.
+fn first_bad_line(bytes: &[u8]) -> Option<u32>
+    requires { length bytes.now ≤ 16777216 }
+    ensures { result ≡ first_bad_from 2 (lines_of bytes.now) }
+{
+    let mut number = 2;
+    let mut rest = bytes;
+    while let Some((line, behind)) = first_line(rest) {
+        if !is_file_line(line) {
+            return Some(number);
+        }
+        number += 1;
+        rest = behind;
+    }
+    None
+}
+
+/// Whether a line is a file's name, or empty.
+fn is_file_line(line: &[u8]) -> bool
+    ensures { result ≡ is_file_line line.now }
+{
+    line.len() <= FILE_NAME_BYTES && is_text(line)
+}
+
+/// The names of the lines that aren't empty.
+fn read_files(alloc: Global, bytes: &[u8]) -> Result<Vec<Name>, ListFault>
+    ensures files { IfOk result (λ files. files.items ≡ files_of (lines_of bytes.now)) }
+    ensures few { IfOk result (λ files. length files.items ≤ LIST_FILES) }
+    ensures many { IfErr result (AreTooMany (files_of (lines_of bytes.now))) }
+{
+    let mut files = Vec::new(alloc);
+    let mut rest = bytes;
+    while let Some((line, behind)) = first_line(rest) {
+        if !line.is_empty() {
+            if files.len() == LIST_FILES {
+                return Err(ListFault::TooManyFiles);
+            }
+            files.push(Name::new(alloc, line)?)?;
+        }
+        rest = behind;
+    }
+    Ok(files)
+}
+
+/// Reads a list file that has one rule file, and answers `None` for any other. Its only error is
+/// want of memory.
+pub fn read_one_file(alloc: Global, bytes: &[u8]) -> Result<Option<OneFile>, AllocError>
+    requires { length bytes.now ≤ 16777216 }
+    ensures { IfOk result (λ one. one ≡ one_file_of bytes.now) }
+{
+    match read_list(alloc, bytes) {
+        Ok(listing) => Ok(only_file(listing)),
+        Err(ListFault::Memory) => Err(AllocError),
+        Err(ListFault::BadLine(_)) => Ok(None),
+        Err(ListFault::TooManyFiles) => Ok(None),
+    }
+}
+
+/// The only file of a listing that has one.
+fn only_file(listing: Listing) -> Option<OneFile>
+    ensures { result ≡ only_file listing.application listing.files }
+{
+    let Listing { application, files } = listing;
+    let mut files = files.into_vec();
+    if files.len() != 1 {
+        return None;
+    }
+    let file = files.pop()?;
+    Some(OneFile { application, file })
+}

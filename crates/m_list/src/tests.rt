@@ -1,0 +1,98 @@
+use crate::{ListFault, Listing, read_list, read_one_file};
+use std::alloc::{AllocError, Global};
+use std::test::Fail;
+
+/// The fault of a list, if it has one.
+fn fault_of(alloc: Global, bytes: &[u8]) -> Option<ListFault> {
+    if bytes.len() > 16_777_216 {
+        return None;
+    }
+    read_list(alloc, bytes).err()
+}
+
+/// A list of so many files.
+fn many_files(alloc: Global, count: u32) -> Result<Vec<u8>, AllocError> {
+    let mut bytes = b"iliad\n".to_vec(alloc)?;
+    for _ in 0..count {
+        bytes.extend_from_slice(b"a.m\n")?;
+    }
+    Ok(bytes)
+}
+
+#[test]
+fn lists(rt: HostRuntime) -> Result<(), Fail> {
+    let rows: [(&[u8], &[u8], &[&[u8]]); 6] = [
+        (b"iliad\r\na.m\r\n", b"iliad", &[b"a.m"]),
+        (b"iliad", b"iliad", &[]),
+        (b"iliad\n\n\na.m\n\r\nb.m", b"iliad", &[b"a.m", b"b.m"]),
+        (b"1AJ\na.m\r", b"1AJ", &[b"a.m\r"]),
+        (b"regle\na.m\na.m\n", b"regle", &[b"a.m", b"a.m"]),
+        (b"_\n a.m ", b"_", &[b" a.m "]),
+    ];
+    for (bytes, application, names) in rows {
+        let listing = read_list(rt.alloc(), bytes)?;
+        assert!(rt; listing.application.bytes() == application, "{bytes:?}");
+        let files = listing.files.as_slice();
+        assert_eq!(rt; files.len(), names.len(), "{bytes:?}");
+        for (file, name) in files.iter().zip(names) {
+            assert!(rt; file.bytes() == *name, "{bytes:?}");
+        }
+    }
+    Ok(())
+}
+
+#[test]
+fn faults(rt: HostRuntime) {
+    let rows: [(&[u8], u32); 9] = [
+        (b"", 1),
+        (b"\na.m\n", 1),
+        (b"iliad\r", 1),
+        (b"2020\na.m\n", 1),
+        (b"iliad 2\na.m\n", 1),
+        (b"d\xe9\n", 1),
+        (b"iliad\n\nd\xe9.m\n", 3),
+        (b"iliad\na.m\n\xff\n\xfe\n", 3),
+        (b"iliad-\n\xff\n", 1),
+    ];
+    for (bytes, line) in rows {
+        assert_eq!(rt;
+            fault_of(rt.alloc(), bytes),
+            Some(ListFault::BadLine(line)),
+            "{bytes:?}"
+        );
+    }
+}
+
+#[test]
+fn limits(rt: HostRuntime) -> Result<(), Fail> {
+    let mut long = b"iliad\n".to_vec(rt.alloc())?;
+    for _ in 0..4_096 {
+        long.push(b'm')?;
+    }
+    assert_eq!(rt; fault_of(rt.alloc(), &long), None);
+    long.push(b'm')?;
+    assert_eq!(rt; fault_of(rt.alloc(), &long), Some(ListFault::BadLine(2)));
+
+    let mut many = many_files(rt.alloc(), 1_024)?;
+    assert_eq!(rt; fault_of(rt.alloc(), &many), None);
+    many.extend_from_slice(b"a.m\n")?;
+    assert_eq!(rt; fault_of(rt.alloc(), &many), Some(ListFault::TooManyFiles));
+    many.extend_from_slice(b"\xff\n")?;
+    assert_eq!(rt;
+        fault_of(rt.alloc(), &many),
+        Some(ListFault::BadLine(1_027))
+    );
+    Ok(())
+}
+
+#[test]
+fn one_file(rt: HostRuntime) -> Result<(), Fail> {
+    let one = read_one_file(rt.alloc(), b"iliad\n\na.m")?.ok_or("no file")?;
+    assert!(rt; one.application.bytes() == b"iliad".as_slice());
+    assert!(rt; one.file.bytes() == b"a.m".as_slice());
+    let others: [&[u8]; 4] = [b"", b"iliad\n", b"iliad\na.m\nb.m\n", b"iliad\n\xff\n"];
+    for bytes in others {
+        assert!(rt; read_one_file(rt.alloc(), bytes)?.is_none(), "{bytes:?}");
+    }
+    Ok(())
+}

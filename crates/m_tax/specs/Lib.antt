@@ -1,0 +1,5 @@
+pub mod Command
+pub mod Lines
+pub mod Output
+pub mod Reading
+pub mod Writing

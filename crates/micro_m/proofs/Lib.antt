@@ -1,0 +1,8 @@
+pub mod CellLemmas
+pub mod FirstLemmas
+pub mod FormulaLemmas
+pub mod NameLemmas
+pub mod SolutionLemmas
+pub mod StageLemmas
+pub mod TermLemmas
+pub mod TurnLemmas
