@@ -1,5 +1,5 @@
 -- The printed form of an amount spells that amount.
-use Rattle.std.proofs.Common.{◌≡◌, ◌≢◌, ℕ, zero, suc, ◌+◌, ◌-◌, ◌*◌, ◌/◌, ◌%◌, ◌^◌, ◌<◌, ◌≤◌, List, [], ◌∷◌, length, Bool, true, false, if◌then◌else◌, Some, ℤ, pos, negsuc, refl, sym, ap, ◌∙◌, arith, add-zero, ⊎_elim}
+use Rattle.std.proofs.Common.{Ok, unsigned_abs, ◌≡◌, ◌≢◌, ℕ, zero, suc, ◌+◌, ◌-◌, ◌*◌, ◌/◌, ◌%◌, ◌^◌, ◌<◌, ◌≤◌, List, [], ◌∷◌, length, Bool, true, false, if◌then◌else◌, Some, ℤ, pos, negsuc, refl, sym, ap, ◌∙◌, arith, add-zero, ⊎_elim}
 use Rattle.std.proofs.Math.Nat.{pow-suc}
 use Rattle.std.proofs.lemmas.Bool.{ne_eqb, eqb-true, eqb-false, cases_Bool, lt-leb, le-leb}
 use Rattle.std.proofs.lemmas.List.{append-nil}
@@ -13,7 +13,7 @@ use Rattle.std.specs.Char.{is_ascii_digit, digit_value}
 use Rattle.std.specs.Str.Parse.{digits_value}
 use Rattle.m_fixed.specs.Amounts.{unit, most, IsAmount}
 use Rattle.m_fixed.specs.Rounding.{nearest}
-use Rattle.m_fixed.specs.Text.{only_digits, is_digits, millionths_of, number_value, text_value, decimals_of, size_text, printed}
+use Rattle.m_fixed.specs.Text.{only_digits, is_digits, millionths_of, number_value, text_value, amount_read, decimals_of, size_text, printed}
 use Rattle.m_fixed.proofs.Decimals.{both, digit_from_test, digits_cons}
 use Rattle.m_fixed.proofs.Reading.{millionths_split, pow_ten}
 use Rattle.m_fixed.proofs.Numbers.{number_value-digits, number_value-decimals, text_value-number, text_value-minus}
@@ -121,3 +121,12 @@ pub reads_back : (z : ℤ) → IsAmount z → text_value (printed z) ≡ Some z
 unfolding printed
 reads_back (pos n) h = rw (lt-leb (suc n) 0 (omega arith)) (text_value-number (size_text n) n (spells_size n (size_of_amount (pos n) h)))
 reads_back (negsuc n) h = text_value-minus (size_text (suc n)) (suc n) (spells_size (suc n) (size_of_amount (negsuc n) h))
+
+within : (z : ℤ) → unsigned_abs z ≤ most → amount_read (Some z) ≡ Ok z
+within z h = rw (le-leb (unsigned_abs z) most h) refl
+
+pub is_read : (z : ℤ) → IsAmount z → amount_read (text_value (printed z)) ≡ Ok z
+is_read z h = ap amount_read (reads_back z h) ∙ within z (size_of_amount z h)
+
+pub one_form : (y z : ℤ) → IsAmount y → IsAmount z → printed y ≡ printed z → y ≡ z
+one_form y z p q e = let same = sym (reads_back y p) ∙ ap text_value e ∙ reads_back z q in cc

@@ -9,6 +9,8 @@ use Rattle.m_fixed.specs.declared.amount.Value.TheVariants.{Undef, Num, Over}
 use Rattle.m_fixed.specs.Amounts.{unit, most}
 use Rattle.m_fixed.specs.Rounding.{rounded}
 
+-- ---- the columns of the table
+
 -- how many arguments an operator looks at
 abbrev pub arity_of : Op → ℕ
 arity_of Neg = 1
@@ -24,8 +26,8 @@ arity_of Truth = 1
 arity_of Choose = 3
 arity_of _ = 2
 
--- an operator for which one undefined argument of two counts as 0; for all others of two arguments
--- one undefined argument makes the result undefined
+-- Two undefined arguments always give undefined, but for Present. With one of two: these operators
+-- count it as 0, and in all others it makes the result undefined.
 abbrev pub counts_undefined_as_zero : Op → Bool
 counts_undefined_as_zero Add = true
 counts_undefined_as_zero Sub = true
@@ -34,7 +36,7 @@ counts_undefined_as_zero Max = true
 counts_undefined_as_zero Min = true
 counts_undefined_as_zero _ = false
 
--- 1 where the test passes, and 0 where it doesn't
+-- 1 where the test passes, and 0 where it doesn't, in millionths
 abbrev pub truth : Bool → ℤ
 truth b = if b then pos unit else pos 0
 
@@ -54,18 +56,19 @@ floor x = int_div_euclid x (pos unit)
 abbrev pub units : ℤ → ℤ
 units n = n *ℤ pos unit
 
--- a quotient, which is 0 where the divisor is
+-- a quotient, which is 0 where the divisor is: 2 / 3 gives 0.666667, and 5 / 0 gives 0
 abbrev pub quotient : ℤ → ℤ → ℤ
 quotient x y = if is_zero y then pos 0 else rounded (x *ℤ pos unit) y
 
--- what an operator gives where its arguments are numbers; one of one argument looks at the first
--- (the two that select are below)
+-- What an operator gives where its arguments are numbers, in millionths and without a bound; one of one
+-- argument looks at the first. Of the two that select it says what they give of numbers alone: a
+-- choice whose condition isn't 0 gives its first branch.
 abbrev pub result_of : Op → ℤ → ℤ → ℤ
 result_of Add x y = x +ℤ y
 result_of Sub x y = x -ℤ y
 result_of Mul x y = rounded (x *ℤ y) (pos unit)
 result_of Div x y = quotient x y
-result_of Neg x y = neg_ℤ x
+result_of Neg x _ = neg_ℤ x
 result_of Eq x y = truth (int_eq x y)
 result_of Ne x y = truth (not (int_eq x y))
 result_of Lt x y = truth (int_lt x y)
@@ -74,21 +77,23 @@ result_of Gt x y = truth (int_lt y x)
 result_of Ge x y = truth (int_le y x)
 result_of And x y = truth (not (is_zero x) && not (is_zero y))
 result_of Or x y = truth (not (is_zero x) || not (is_zero y))
-result_of Not x y = truth (is_zero x)
-result_of Present x y = pos unit
-result_of Abs x y = pos (unsigned_abs x)
-result_of Positive x y = truth (int_lt (pos 0) x)
-result_of PositiveOrNull x y = truth (int_le (pos 0) x)
-result_of Null x y = truth (is_zero x)
-result_of Arr x y = units (cut (if is_negative x then x -ℤ pos 500_050 else x +ℤ pos 500_050))
-result_of Inf x y = units (floor (x +ℤ pos 1))
+result_of Not x _ = truth (is_zero x)
+result_of Present _ _ = pos unit
+result_of Abs x _ = pos (unsigned_abs x)
+result_of Positive x _ = truth (int_lt (pos 0) x)
+result_of PositiveOrNull x _ = truth (int_le (pos 0) x)
+result_of Null x _ = truth (is_zero x)
+result_of Arr x _ = units (cut (if is_negative x then x -ℤ pos 500_050 else x +ℤ pos 500_050))
+result_of Inf x _ = units (floor (x +ℤ pos 1))
 result_of Max x y = int_max x y
 result_of Min x y = int_min x y
 result_of At x y = truth (int_eq (cut x) (cut y))
-result_of Truth x y = truth (not (is_zero x))
-result_of Choose x y = y
+result_of Truth x _ = truth (not (is_zero x))
+result_of Choose _ y = y
 
--- a number as a value, which is Over where its absolute value is above the greatest
+-- ---- the rules
+
+-- a number as a value: Over where its absolute value is above the greatest
 abbrev pub bounded : ℤ → Value
 bounded z = if nat_le (unsigned_abs z) most then Num z else Over
 
@@ -99,7 +104,7 @@ of_one Present Undef = Num (pos 0)
 of_one op Undef = Undef
 of_one op (Num x) = bounded (result_of op x (pos 0))
 
--- an operator of two arguments
+-- an operator of two arguments: Over comes first, then the undefined ones
 abbrev pub of_two : Op → Value → Value → Value
 of_two op Over b = Over
 of_two op a Over = Over
@@ -119,7 +124,7 @@ abbrev pub truth_of : Value → Value
 truth_of (Num x) = Num (truth (not (is_zero x)))
 truth_of _ = Num (pos 0)
 
--- what an operator gives, whatever its arguments are
+-- what an operator gives, whatever its arguments are: the two that select have their own rule
 unfoldable pub op_value : Op → Value → Value → Value → Value
 op_value Choose a b c = chosen a b c
 op_value Truth a b c = truth_of a

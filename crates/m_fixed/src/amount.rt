@@ -1,3 +1,4 @@
+//! An amount and a value. Contracts see an amount as its whole number of millionths.
 ghost use Rattle.std.specs.Prelude.{◌≡◌, SomeIff, pos, ◌≤◌, unsigned_abs};
 ghost use Rattle.std.specs.Int.{is_negative};
 ghost use Rattle.m_fixed.specs.Amounts.{IsAmount, most};
@@ -28,7 +29,8 @@ impl Model for Amount {
 }
 
 impl Amount {
-    /// The amount of so many millionths, and `None` where their absolute value is above 10^19.
+    /// The amount of so many millionths, and `None` where their absolute value is above 10^19:
+    /// `Amount::new(1_500_500)` is 1.5005.
     pub fn new(millionths: i128) -> Option<Amount>
         ensures { SomeIff result (IsAmount millionths) millionths }
     {
@@ -38,7 +40,7 @@ impl Amount {
         Some(Amount { millionths })
     }
 
-    /// No units.
+    /// 0.
     pub fn zero() -> Amount
         ensures { result ≡ pos 0 }
     {
@@ -80,7 +82,8 @@ impl Amount {
     }
 }
 
-/// What a term of M is worth.
+/// What a term of M is worth: `2 * REV` is undefined where nobody gave `REV`, and over where the product
+/// is beyond the greatest amount.
 #[derive(Clone, Copy, Debug, PartialEq, Eq)]
 pub enum Value {
     /// Nothing was given.

@@ -1,6 +1,6 @@
 //! Laws of amounts and operators. Each function does nothing: its contract is the law, shown once for
 //! all values and texts.
-ghost use Rattle.std.specs.Prelude.{◌≡◌, ◌≢◌, ◌≤◌, ◌*◌, ◌^◌, ◌++◌, ◌⊎◌, ℕ, List, length, Some, IsFalse, ℤ, pos, ◌≤ℤ◌};
+ghost use Rattle.std.specs.Prelude.{◌≡◌, ◌≢◌, ◌≤◌, ◌*◌, ◌^◌, ◌++◌, ◌⊎◌, ℕ, List, length, Some, Ok, IsFalse, ℤ, pos, ◌≤ℤ◌};
 ghost use Rattle.std.specs.Int.{int_max, int_min};
 ghost use Rattle.std.specs.Str.Parse.{digits_value};
 ghost use Rattle.m_fixed.specs.declared.amount.Value.{Value};
@@ -8,7 +8,7 @@ ghost use Rattle.m_fixed.specs.declared.operator.Op.{Op};
 ghost use Rattle.m_fixed.specs.Amounts.{IsAmount, unit};
 ghost use Rattle.m_fixed.specs.Rounding.{rounded, IsNearest};
 ghost use Rattle.m_fixed.specs.Operators.{op_value, arity_of};
-ghost use Rattle.m_fixed.specs.Text.{text_value, number_value, printed, millionths_of};
+ghost use Rattle.m_fixed.specs.Text.{text_value, amount_read, number_value, printed, millionths_of};
 ghost use Rattle.m_fixed.specs.Laws.{IsValue, is_selecting, SpellsNumber, SpellsAmount};
 
 /// A sum with one undefined operand is the other operand, and a difference is the one that is left.
@@ -75,7 +75,9 @@ pub fn texts_are_read_by_their_form()
     ensures amount_back { (text : List ℕ) (z : ℤ) → SpellsAmount text z → text_value text ≡ Some z }
 {}
 
-/// What is written of an amount reads back as that amount.
+/// What is written of an amount reads back as that amount, so no two amounts have one printed form.
 pub fn written_reads_back()
-    ensures { (z : ℤ) → IsAmount z → text_value (printed z) ≡ Some z }
+    ensures value { (z : ℤ) → IsAmount z → text_value (printed z) ≡ Some z }
+    ensures read { (z : ℤ) → IsAmount z → amount_read (text_value (printed z)) ≡ Ok z }
+    ensures one_form { (y z : ℤ) → IsAmount y → IsAmount z → printed y ≡ printed z → y ≡ z }
 {}

@@ -1,3 +1,4 @@
+//! Amounts read from text.
 ghost use Rattle.std.specs.Prelude.{◌≡◌, ◌≤◌, ◌<◌, ◌*◌, ◌+◌, ◌-◌, ◌^◌, slice_index_or, length, take, drop, min, IsTrue, IfOk, option_copied, Some, None, if◌then◌else◌, ◌==◌};
 ghost use Rattle.std.specs.Str.Parse.{digits_value, starts_with_minus};
 ghost use Rattle.m_fixed.specs.Amounts.{unit, most};
@@ -25,7 +26,7 @@ const UNITS_ABOVE: u64 = 10_000_000_000_001;
 const MOST: u64 = 10_000_000_000_000_000_000;
 
 /// The amount that a text spells: a minus or nothing, digits, and behind a point decimals. It is
-/// rounded at the sixth decimal, halves away from zero.
+/// rounded at the sixth decimal, halves away from zero: `-0.1234565` is -0.123457.
 pub fn read_amount(text: &[u8]) -> Result<Amount, AmountFault>
     ensures { result ≡ amount_read (text_value text.now) }
 {
@@ -94,12 +95,14 @@ fn split_at_point(text: &[u8]) -> (&[u8], Option<&[u8]>)
     (text, None)
 }
 
+/// Whether the text is one digit or more.
 fn is_digits(text: &[u8]) -> bool
     ensures { result ≡ is_digits text.now }
 {
     text.len() > 0 && only_digits(text)
 }
 
+/// Whether nothing but digits stands in the text.
 fn only_digits(text: &[u8]) -> bool
     ensures { result ≡ only_digits text.now }
 {

@@ -1,3 +1,4 @@
+//! What each operator gives. All arithmetic stays within `i128` and `u128`.
 ghost use Rattle.std.specs.Prelude.{◌≡◌, if◌then◌else◌, ◌≤◌, ◌≢◌, ℕ, pos, unsigned_abs, ◌*ℤ◌, ◌+ℤ◌, ◌-ℤ◌, neg_ℤ, int_div, ◌^◌, ◌<◌, not, IsTrue};
 ghost use Rattle.std.specs.Int.{is_negative, int_div_euclid};
 ghost use Rattle.m_fixed.specs.Amounts.{IsAmount, unit, most};
@@ -9,8 +10,9 @@ use crate::{Amount, Op, Value};
 /// One unit, in millionths.
 const UNIT: i128 = 1_000_000;
 
+/// What the operator gives: of `Op::Div`, 2 and 3 units it is 0.666667, of `Op::Add`, 2 units and
+/// undefined it is 2 units. Arguments past its arity are ignored.
 #[tactic(auto, unfolding(crate::specs::Operators::op_value))]
-/// What the operator gives. Arguments past its arity are ignored.
 pub fn apply(op: Op, a: Value, b: Value, c: Value) -> Value
     ensures { result ≡ op_value op a b c }
 {
@@ -44,6 +46,7 @@ pub fn apply(op: Op, a: Value, b: Value, c: Value) -> Value
     }
 }
 
+/// The branch that the condition takes.
 fn choose(c: Value, a: Value, b: Value) -> Value
     ensures { result ≡ chosen c a b }
 {
@@ -54,6 +57,7 @@ fn choose(c: Value, a: Value, b: Value) -> Value
     }
 }
 
+/// 1 for a number other than 0, and else 0.
 fn truth_value(a: Value) -> Value
     ensures { result ≡ truth_of a }
 {
@@ -63,6 +67,7 @@ fn truth_value(a: Value) -> Value
     }
 }
 
+/// What an operator of one argument gives.
 fn apply_one(op: Op, a: Value) -> Value
     ensures { result ≡ of_one op a }
 {
@@ -79,6 +84,7 @@ fn apply_one(op: Op, a: Value) -> Value
     }
 }
 
+/// What an operator of two arguments gives.
 fn apply_two(op: Op, a: Value, b: Value) -> Value
     ensures { result ≡ of_two op a b }
 {
@@ -117,6 +123,7 @@ fn bounded(millionths: i128) -> Value
     }
 }
 
+/// An amount as a value.
 fn number(millionths: i128) -> Value
     requires { IsAmount millionths }
     ensures { result ≡ Value.Num millionths }
@@ -135,6 +142,7 @@ fn as_number(test: bool) -> i128
     if test { UNIT } else { 0 }
 }
 
+/// What the operator gives of two numbers, in millionths; one of one argument looks at the first.
 fn result_of(op: Op, x: Amount, y: Amount) -> i128
     ensures { result ≡ result_of op x y }
 {
@@ -168,6 +176,7 @@ fn result_of(op: Op, x: Amount, y: Amount) -> i128
     }
 }
 
+/// The product of two amounts, in millionths of millionths: at most 10^38, and so below 2^127.
 fn product(x: i128, y: i128) -> i128
     requires x_in { IsAmount x }
     requires y_in { IsAmount y }
@@ -177,6 +186,7 @@ fn product(x: i128, y: i128) -> i128
     x * y
 }
 
+/// `n / d` rounded to the nearest, halves away from zero.
 fn rounded(n: i128, d: i128) -> i128
     requires n_small { unsigned_abs n ≤ 10 ^ 38 }
     requires d_small { unsigned_abs d ≤ 2 ^ 64 }
@@ -187,6 +197,7 @@ fn rounded(n: i128, d: i128) -> i128
     signed((n < 0) != (d < 0), nearest(size, by))
 }
 
+/// `n / d` rounded to the nearest, halves up.
 fn nearest(n: u128, d: u128) -> u128
     requires n_small { n ≤ 10 ^ 38 }
     requires d_small { d ≤ 2 ^ 64 }
@@ -197,6 +208,7 @@ fn nearest(n: u128, d: u128) -> u128
     (2 * n + d) / (2 * d)
 }
 
+/// A size with a sign.
 fn signed(negative: bool, size: u128) -> i128
     requires { size ≤ 10 ^ 38 }
     ensures { result ≡ signed negative size }
@@ -208,6 +220,7 @@ fn signed(negative: bool, size: u128) -> i128
     }
 }
 
+/// `x / y` in millionths, and 0 where y is 0.
 fn quotient(x: i128, y: i128) -> i128
     requires x_in { IsAmount x }
     requires y_in { IsAmount y }
@@ -220,6 +233,7 @@ fn quotient(x: i128, y: i128) -> i128
     }
 }
 
+/// Whole units, moved by 0.50005 away from zero and cut.
 fn nearest_units(x: i128) -> i128
     requires { IsAmount x }
     ensures { result ≡ result_of Op.Arr x (pos 0) }
@@ -228,6 +242,7 @@ fn nearest_units(x: i128) -> i128
     moved / UNIT * UNIT
 }
 
+/// The whole units that are not above so many millionths.
 fn units_not_above(x: i128) -> i128
     requires { unsigned_abs x ≤ 10 ^ 38 }
     ensures { result ≡ units (floor x) }
@@ -235,6 +250,7 @@ fn units_not_above(x: i128) -> i128
     x.div_euclid(UNIT) * UNIT
 }
 
+/// How many whole units there are, cut toward zero.
 fn cut(x: i128) -> i128
     ensures { result ≡ cut x }
 {

@@ -1,3 +1,4 @@
+//! Amounts written as text.
 ghost use Rattle.std.specs.Prelude.{◌≡◌, ◌≤◌, ◌<◌, ◌+◌, ◌^◌, length, take, drop, ◌++◌, decimal};
 ghost use Rattle.m_fixed.specs.Amounts.{most};
 ghost use Rattle.m_fixed.specs.Text.{printed, size_text, fraction_text, decimals_of, Writes};
@@ -7,8 +8,8 @@ use crate::Amount;
 /// One unit, in millionths.
 const UNIT: u64 = 1_000_000;
 
-/// Writes the one printed form of an amount into the front of the room, and answers its length. What
-/// stands behind it in the room stays.
+/// Writes the one printed form of an amount into the front of the room, as `-1.5005`, and answers its
+/// length. What stands behind it in the room stays.
 pub fn write_amount(a: Amount, room: &mut [u8; 32]) -> usize
     ensures text { take result room.new ≡ printed a }
     ensures rest { drop result room.new ≡ drop result room.old }

@@ -3,9 +3,10 @@
 use Rattle.std.specs.Prelude.{◌≡◌, ℕ, ◌<◌, ◌≤◌, Bool, true, false, ◌&&◌, List, [], ◌∷◌, length, Option, Some, None, if◌then◌else◌, nat_le, option_and_then}
 use Rattle.std.specs.Option.{option_map_or}
 use Rattle.m_places.specs.declared.limits.TheConstants.{FILE_BYTES}
-use Rattle.m_list.specs.Listing.{one_file_of, OneFile}
-use Rattle.first_form.specs.Answer.{IsAnswer}
-use Rattle.first_form.specs.declared.answer.Answer.TheVariants.{Lines, Syntax, NotBuilt}
+use Rattle.m_list.specs.Listing.{one_file_of}
+use Rattle.m_list.specs.declared.listing.OneFile.{OneFile}
+use Rattle.first_form.specs.Meaning.{IsOutcome}
+use Rattle.first_form.specs.declared.outcome.Outcome.TheVariants.{Lines, Syntax, NotBuilt}
 use Rattle.m_tax.specs.Command.{Command, run, command_of, is_none}
 use Rattle.m_tax.specs.Lines.{usage_line, not_built_line, syntax_line, too_long_line}
 use Rattle.m_tax.specs.declared.status.Status.{Status}
@@ -32,9 +33,12 @@ abbrev pub rules_fetches : Disk → List ℕ → List ℕ → List (List ℕ)
 rules_fetches disk rules household = fetching disk rules (λ bytes. household_fetches disk household)
 
 -- behind the list the rule file is, if the list has one
+abbrev pub listed_fetches : Disk → List ℕ → List ℕ → List (List ℕ)
+listed_fetches disk listing household = option_map_or (λ one. rules_fetches disk one.file household) (one_file_of listing) []
+
+-- behind the list are what it names and the household
 abbrev pub list_fetches : Disk → List ℕ → List ℕ → List (List ℕ)
-list_fetches disk list household =
-    fetching disk list (λ bytes. option_map_or (λ listed. rules_fetches disk listed.file household) (one_file_of bytes) [])
+list_fetches disk list household = fetching disk list (λ bytes. listed_fetches disk bytes household)
 
 -- what a command fetches
 abbrev pub command_fetches : Disk → Command → List (List ℕ)
@@ -51,9 +55,9 @@ pub data Fetching (disk : Disk) (name : List ℕ) (Behind : List ℕ → List �
 
 -- the answer to a household: its lines, or the refusal of the rule file or the household
 pub data Answering (application rules household : List ℕ) : List ℕ → Status → Type 0 where
-  lines : {text : List ℕ} → IsAnswer application rules household (Lines text) → Answering application rules household text Done
-  syntax : IsAnswer application rules household Syntax → Answering application rules household syntax_line Refused
-  not_built : IsAnswer application rules household NotBuilt → Answering application rules household not_built_line Refused
+  lines : {text : List ℕ} → IsOutcome application rules household (Lines text) → Answering application rules household text Done
+  syntax : IsOutcome application rules household Syntax → Answering application rules household syntax_line Refused
+  not_built : IsOutcome application rules household NotBuilt → Answering application rules household not_built_line Refused
 
 -- then the household is read, and answered
 abbrev pub Household : Disk → List ℕ → List ℕ → List ℕ → List ℕ → Status → Type 0

@@ -1,5 +1,5 @@
--- What a call of the program has read, and which faults of reading it tells.
-use Rattle.std.specs.Prelude.{◌≡◌, ◌⊎◌, ℕ, Bool, true, false, List, [], ◌∷◌, ◌++◌, map, Option, Some}
+-- What a call has read: its attempts on files, and the faults of reading that it tells.
+use Rattle.std.specs.Prelude.{◌≡◌, ◌⊎◌, ℕ, true, false, List, [], ◌∷◌, ◌++◌, map, Option, Some}
 use Rattle.std.specs.Io.KnownBytes.{append_known}
 use Rattle.m_ports.specs.Counts.{Rose}
 use Rattle.m_ports.specs.declared.files.Attempt.{Attempt}
@@ -13,18 +13,30 @@ use Rattle.m_tax.specs.declared.status.Status.TheVariants.{ReadFault, WriteFault
 abbrev pub BeginsWith : {A : Type 0} → List A → List A → Type 0
 BeginsWith {A} whole part = (rest : List A) × (whole ≡ part ++ rest)
 
+-- the names that were tried
+abbrev pub names_of : List Attempt → List (List ℕ)
+names_of attempts = map (λ attempt. attempt.name) attempts
+
 -- none of the attempts failed
 abbrev pub NoneFailed : List Attempt → Type 0
 NoneFailed [] = Unit {0}
 NoneFailed (attempt ∷ attempts) = (attempt.failed ≡ false) × NoneFailed attempts
 
 -- the last attempt failed, which was on this name, and none before it
-abbrev pub LastFailed : List Attempt → List ℕ → Type 0
-LastFailed attempts name = (before : List Attempt) × (attempts ≡ before ++ record { name = name; failed = true } ∷ []) × NoneFailed before
+pub record LastFailed (attempts : List Attempt) (name : List ℕ) : Type 0 where
+  pub before : List Attempt
+  pub last : attempts ≡ before ++ record { name = name; failed = true } ∷ []
+  pub others : NoneFailed before
 
--- The attempts of a call: the names are fetched in their order, where the files are told, and at
--- most the last of them failed.
-pub record Attempts (words : List (List ℕ)) (told : Option Disk) (old new : List Attempt) (made : List Attempt) : Type 0 where
+-- The attempts that a call made. Where the files are told, their names are fetched in the order of
+-- `fetches_of`. At most the last of them failed, and then the status says so, or that writing did.
+-- `ReadFault` comes only there or where a fault of the input rose, and the line that tells of an
+-- unreadable file names it.
+pub record Reading (words : List (List ℕ)) (told : Option Disk) (old new : List Attempt) (faults_old faults_new : ℕ) (written_old written_new : Option (List ℕ)) (status : Status) : Type 0 where
+  pub made : List Attempt
   pub appended : new ≡ old ++ made
-  pub in_order : (disk : Disk) → told ≡ Some disk → BeginsWith (fetches_of words disk) (map (λ attempt. attempt.name) made)
+  pub in_order : (disk : Disk) → told ≡ Some disk → BeginsWith (fetches_of words disk) (names_of made)
   pub at_most_last : NoneFailed made ⊎ ((name : List ℕ) × LastFailed made name)
+  pub failed : (name : List ℕ) → LastFailed made name → (status ≡ ReadFault) ⊎ (status ≡ WriteFault)
+  pub cause : status ≡ ReadFault → ((name : List ℕ) × LastFailed made name × (written_new ≡ append_known written_old (unreadable_line name)))
+      ⊎ ((reads_input words ≡ true) × Rose faults_old faults_new)

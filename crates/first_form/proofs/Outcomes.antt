@@ -1,0 +1,69 @@
+-- What the steps from bytes to the answer make together.
+use Rattle.std.proofs.Common.{◌≡◌, ℕ, ℤ, List, map, length, Option, Some, None, Result, Ok, Err, IfOk, Vec, Global, sym, ap, ◌∙◌, subst}
+use Rattle.std.specs.Prelude.{MatchOption, ◌≢◌}
+use Rattle.std.specs.declared.alloc.AllocError.{AllocError}
+use Rattle.m_fixed.specs.declared.amount.Value.{Value}
+use Rattle.m_lexer.specs.declared.token.Token.{Token}
+use Rattle.m_lexer.specs.declared.token.LexFault.{LexFault}
+use Rattle.m_lexer.specs.Tokens.{Lexes, FirstFault, start_of}
+use Rattle.m_lexer.proofs.OneReading.{one_list, no_list_and_fault}
+use Rattle.m_ast.specs.declared.formula.Formula.{Formula}
+use Rattle.m_ast.specs.declared.item.Item.{Item}
+use Rattle.m_ast.specs.declared.variable.VariableItem.{VariableItem}
+use Rattle.m_items.specs.Grammar.{SpellsItems}
+use Rattle.m_items.proofs.Readings.{items_one}
+use Rattle.household.specs.Household.{IsHousehold, values_of}
+use Rattle.micro_m.specs.Formulas.{names_of, AreInOrder}
+use Rattle.micro_m.specs.Values.{value_of, environment}
+use Rattle.first_form.specs.Form.{variables_of, formulas_of, codes_of, given_of, AreDeclared}
+use Rattle.first_form.specs.Lines.{lines_of}
+use Rattle.first_form.specs.Meaning.{Answers, AnswersTokens, IsOutcome, syntax, not_built}
+use Rattle.m_lexer.specs.declared.token.LexFault.TheVariants.{Memory as NoMemory}
+use Rattle.first_form.specs.declared.outcome.Outcome.{Outcome}
+use Rattle.first_form.specs.declared.outcome.Outcome.TheVariants.{Syntax, NotBuilt}
+
+-- bytes that are no household have no answer
+pub no_household : (variables : List VariableItem) (formulas : List Formula) (household : List ℕ) (codes : List (List ℕ)) → codes ≡ codes_of variables
+    → ((pairs : List (ℕ × ℤ)) → IsHousehold codes household pairs → ⊥) → (text : List ℕ) → Answers variables formulas household text → ⊥
+no_household variables formulas household codes e none text a = none a.pairs (subst (λ (c : List (List ℕ)). IsHousehold c household a.pairs) (sym e) a.spelled)
+
+-- the lines of the values that were found are the answer
+pub found_answer : (variables : List VariableItem) (formulas : List Formula) (household : List ℕ) (codes : List (List ℕ)) (pairs : List (ℕ × ℤ)) (inputs : ℕ) (amounts given found : List Value) (text : List ℕ)
+    → AreDeclared variables → AreInOrder variables formulas → codes ≡ codes_of variables → IsHousehold codes household pairs → inputs ≡ length codes
+    → amounts ≡ values_of pairs inputs → given ≡ given_of codes amounts variables
+    → found ≡ map (λ v. value_of formulas (environment (names_of variables) given) v.name) variables
+    → text ≡ lines_of variables found → Answers variables formulas household text
+found_answer variables formulas household codes pairs inputs amounts given found text declared in_order c h n a g f t = record {
+  form = record { declared = declared; in_order = in_order };
+  pairs = pairs;
+  spelled = subst (λ (x : List (List ℕ)). IsHousehold x household pairs) c h;
+  lines = t ∙ ap (lines_of variables) (f ∙ (λ i. map (λ v. value_of formulas (environment (names_of variables) (of_pairs i)) v.name) variables));
+}
+  where
+    of_pairs : given ≡ given_of (codes_of variables) (values_of pairs (length (codes_of variables))) variables
+    of_pairs = g ∙ (λ i. given_of (c i) ((a ∙ ap (values_of pairs) (n ∙ ap length c)) i) variables)
+
+-- the answer of the one list of items is that of the tokens
+pub items_answer : (application : List ℕ) (tokens : List Token) (household : List ℕ) (items : List Item) (variables : List VariableItem) (formulas : List Formula) (result : Result (Option (Vec ℕ Global)) AllocError)
+    → SpellsItems items tokens → variables ≡ variables_of items → formulas ≡ formulas_of application items
+    → IfOk result (λ o. MatchOption o ((text : List ℕ) → Answers variables formulas household text → ⊥) (λ text. Answers variables formulas household text.items))
+    → IfOk result (λ o. MatchOption o ((text : List ℕ) → AnswersTokens application tokens household text → ⊥) (λ text. AnswersTokens application tokens household text.items))
+items_answer application tokens household items variables formulas (Ok (Some text)) s v f h =
+    record { items = items; spelled = s; answered = let P : List VariableItem → List Formula → Type 0 = λ x y. Answers x y household text.items in subst (λ x. P x (formulas_of application items)) v (subst (P variables) f h) }
+items_answer application tokens household items variables formulas (Ok None) s v f h = λ text a.
+    let same : a.items ≡ items = items_one a.spelled s in
+    h text (subst (λ x. Answers x formulas household text) (ap variables_of same ∙ sym v) (subst (λ y. Answers (variables_of a.items) y household text) (ap (formulas_of application) same ∙ sym f) a.answered))
+items_answer application tokens household items variables formulas (Err e) s v f h = tt
+
+-- a file with a fault has no tokens
+pub fault_outcome : (application rules household : List ℕ) (fault : LexFault) (result : Result Outcome AllocError) → (fault ≢ NoMemory → FirstFault (start_of 0) rules fault)
+    → IfOk result (λ o. o ≡ Syntax) → IfOk result (λ o. fault ≢ NoMemory) → IfOk result (IsOutcome application rules household)
+fault_outcome application rules household fault (Ok o) f e m =
+    subst (IsOutcome application rules household) (sym e) (syntax (λ tokens l. no_list_and_fault _ rules tokens fault l (f m)))
+fault_outcome application rules household fault (Err error) f e m = tt
+
+-- the one list of tokens has no answer, so the file has none
+pub no_outcome : (application rules household : List ℕ) (tokens : List Token) → Lexes (start_of 0) rules tokens
+    → ((text : List ℕ) → AnswersTokens application tokens household text → ⊥) → IsOutcome application rules household NotBuilt
+no_outcome application rules household tokens l none =
+    not_built tokens l (λ text a. none text (subst (λ (t : List Token). AnswersTokens application t household text) (one_list _ rules a.tokens tokens a.lexed l) a.answered))

@@ -1,0 +1,4 @@
+pub mod Clauses
+pub mod Steps
+pub mod Valid
+pub mod Writes

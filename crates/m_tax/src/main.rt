@@ -1,0 +1,47 @@
+//! The program: its words, the order in which it fetches files, and what it prints.
+//!
+//! `m_tax` in `program` is the one call that `main` makes, and carries the program's theorem. It
+//! knows files, input and output only as the traits of `m_ports`. `main` hands it the real ones.
+#![tactic(auto)]
+
+mod lines;
+mod program;
+mod reply;
+mod run;
+mod status;
+#[cfg(test)]
+mod tests;
+mod words;
+
+use m_places::{Name, Word};
+use m_ports::{HostFiles, HostSink, HostSource};
+use program::m_tax;
+use status::Status;
+use std::alloc::AllocError;
+use std::env;
+use std::process::ExitCode;
+
+/// The words behind the program's name. A command line that can't be read as text has none, and so is
+/// no command.
+fn command_words<R: env::Env + AllocGlobal>(rt: &R) -> Result<Vec<Word>, AllocError> {
+    let mut words = Vec::new(rt.alloc());
+    let Ok(arguments) = env::args(rt) else {
+        return Ok(words);
+    };
+    for argument in arguments.skip(1) {
+        words.push(Name::new(rt.alloc(), argument.as_bytes())?)?;
+    }
+    Ok(words)
+}
+
+fn main(rt: HostRuntime) -> ExitCode {
+    let Ok(words) = command_words(&rt) else {
+        return ExitCode::from(Status::Memory.number());
+    };
+    let alloc = rt.alloc();
+    let mut files = HostFiles::new(alloc, &rt);
+    let mut input = HostSource::new(rt.stdin());
+    let mut out = HostSink::new(rt.stdout());
+    let status = m_tax(&rt, alloc, &words, &mut files, &mut input, &mut out);
+    ExitCode::from(status.number())
+}
