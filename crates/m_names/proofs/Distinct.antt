@@ -25,8 +25,8 @@ pub twice : (x : List ℕ) (xs ys : List (List ℕ)) → has x xs ≡ true → A
 twice x [] ys h d = false≢true h
 twice x (y ∷ xs) ys h d =
     elim (or_cases (bytes_eq x y) (has x xs) h) as (λ _. ⊥) [
-    | inl e ↦ false≢true (sym d.0 ∙ has-middle x y xs ys ((bytes_eq-Decides x y).0 e))
-    | inr e ↦ twice x xs ys e d.1
+      | inl e ↦ false≢true (sym d.0 ∙ has-middle x y xs ys ((bytes_eq-Decides x y).0 e))
+      | inr e ↦ twice x xs ys e d.1
     ]
 
 -- a name that is neither among names nor behind them

@@ -78,6 +78,7 @@ reading_of words told old new f g w v (Unreadable name) status r h = record {
     either : WritesWhole w v (Unreadable name) status → (status ≡ ReadFault) ⊎ (status ≡ WriteFault)
     either (inl p) = inl p.1
     either (inr p) = inr p.1
+
     told_of : WritesWhole w v (Unreadable name) status → status ≡ ReadFault
         → ((other : List ℕ) × LastFailed r.made other × (v ≡ append_known w (unreadable_line other))) ⊎ ((reads_input words ≡ true) × Rose f g)
     told_of (inl p) e = inl (name, r.answered, p.0)

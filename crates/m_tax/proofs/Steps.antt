@@ -85,13 +85,14 @@ pub had_then : (told : Option Disk) (old mid new : List Attempt) (name bytes : L
 had_then told old mid new name bytes behind After result had r = record {
   made = record { name = name; failed = false } ∷ r.made;
   appended = r.appended ∙ ap (λ l. l ++ r.made) had.appended ∙ append_assoc old (record { name = name; failed = false } ∷ []) r.made;
-  in_order = λ disk e.
-      ((r.in_order disk e).0,
-      ap (λ o. name ∷ option_map_or (behind disk) o []) (limited disk name bytes (held told name bytes had.holds disk e) had.within)
-      ∙ ap (λ l. name ∷ l) (r.in_order disk e).1);
+  in_order = λ disk e. (
+    (r.in_order disk e).0,
+    ap (λ o. name ∷ option_map_or (behind disk) o []) (limited disk name bytes (held told name bytes had.holds disk e) had.within)
+        ∙ ap (λ l. name ∷ l) (r.in_order disk e).1,
+  );
   answered = answered_then told r.made name (λ disk. Fetching disk name (After disk)) result
       (answered_widen told r.made (λ disk. After disk bytes) (λ disk. Fetching disk name (After disk))
-          (λ disk text status e h. fetched (held told name bytes had.holds disk e) had.within h) result r.answered);
+      (λ disk text status e h. fetched (held told name bytes had.holds disk e) had.within h) result r.answered);
 }
 
 -- where a file was refused, nothing goes on

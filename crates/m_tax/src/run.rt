@@ -123,11 +123,7 @@ fn run<F: Files>(
 }
 
 /// What the words and the files lead to.
-pub fn reply_to<F: Files>(
-    alloc: Global,
-    words: &[Word],
-    files: &mut F,
-) -> Result<Reply, AllocError>
+pub fn reply_to<F: Files>(alloc: Global, words: &[Word], files: &mut F) -> Result<Reply, AllocError>
     ensures replies { Replies (F.told files.old) (F.attempts files.old) (F.attempts files.new)
         (fetches_of words.now) (λ disk text status. (typed : List ℕ) → Output words.now disk typed text status) result }
     ensures usage { IfOk result (TellsUsage words.now) }

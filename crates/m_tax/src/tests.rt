@@ -69,7 +69,11 @@ fn runs(rt: HostRuntime) -> Result<(), Fail> {
         ("IRN = REV + 0 ;", "", "IRN = 0\n"),
         ("IRN = REV * 2 ;", "", "IRN undefined\n"),
         ("IRN = REV * 2 ;", "1AJ,10000000000000\n", "IRN over\n"),
-        ("IRN = REV * 2 ;", "1AJ,5000000000000\n", "IRN = 10000000000000\n"),
+        (
+            "IRN = REV * 2 ;",
+            "1AJ,5000000000000\n",
+            "IRN = 10000000000000\n",
+        ),
     ];
     for (formulas, rows, text) in table {
         let mut files = run_files(alloc, with_formulas(alloc, formulas)?, rows)?;

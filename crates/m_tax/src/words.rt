@@ -15,6 +15,7 @@ pub struct Run<'a> {
 }
 
 const RUN: &[u8] = b"run";
+
 const NONE: &[u8] = b"-";
 
 /// The names of a run's files, where the words are a run.
