@@ -1,5 +1,5 @@
 -- What the steps from bytes to the answer make together.
-use Rattle.std.proofs.Common.{◌≡◌, ℕ, ℤ, List, map, length, Option, Some, None, Result, Ok, Err, IfOk, Vec, Global, sym, ap, ◌∙◌, subst}
+use Rattle.std.proofs.Common.{refl, ◌≡◌, ℕ, ℤ, List, map, length, Option, Some, None, Result, Ok, Err, IfOk, Vec, Global, sym, ap, ◌∙◌, subst}
 use Rattle.std.specs.Prelude.{MatchOption, ◌≢◌}
 use Rattle.std.specs.declared.alloc.AllocError.{AllocError}
 use Rattle.m_fixed.specs.declared.amount.Value.{Value}
@@ -13,14 +13,15 @@ use Rattle.m_ast.specs.declared.variable.VariableItem.{VariableItem}
 use Rattle.m_items.specs.Grammar.{SpellsItems}
 use Rattle.m_items.proofs.Readings.{items_one}
 use Rattle.household.specs.Household.{IsHousehold, values_of}
+use Rattle.household.proofs.PairLemmas.{same_pairs}
 use Rattle.micro_m.specs.Formulas.{names_of, AreInOrder}
 use Rattle.micro_m.specs.Values.{value_of, environment}
 use Rattle.first_form.specs.Form.{variables_of, formulas_of, codes_of, given_of, AreDeclared}
 use Rattle.first_form.specs.Lines.{lines_of}
-use Rattle.first_form.specs.Meaning.{Answers, AnswersTokens, IsOutcome, syntax, not_built}
+use Rattle.first_form.specs.Meaning.{answer_of, Answers, AnswersTokens, IsAnswer, IsOutcome, lines, syntax, not_built}
 use Rattle.m_lexer.specs.declared.token.LexFault.TheVariants.{Memory as NoMemory}
 use Rattle.first_form.specs.declared.outcome.Outcome.{Outcome}
-use Rattle.first_form.specs.declared.outcome.Outcome.TheVariants.{Syntax, NotBuilt}
+use Rattle.first_form.specs.declared.outcome.Outcome.TheVariants.{Lines, Syntax, NotBuilt}
 
 -- bytes that are no household have no answer
 pub no_household : (variables : List VariableItem) (formulas : List Formula) (household : List ℕ) (codes : List (List ℕ)) → codes ≡ codes_of variables
@@ -67,3 +68,30 @@ pub no_outcome : (application rules household : List ℕ) (tokens : List Token) 
     → ((text : List ℕ) → AnswersTokens application tokens household text → ⊥) → IsOutcome application rules household NotBuilt
 no_outcome application rules household tokens l none =
     not_built tokens l (λ text a. none text (subst (λ (t : List Token). AnswersTokens application t household text) (one_list _ rules a.tokens tokens a.lexed l) a.answered))
+
+-- one answer of the same variables and formulas
+one_answer : (variables : List VariableItem) (formulas : List Formula) (household one other : List ℕ) → Answers variables formulas household one → Answers variables formulas household other → one ≡ other
+one_answer variables formulas household one other a b =
+    let same : a.pairs ≡ b.pairs = same_pairs a.spelled b.spelled in
+    a.lines ∙ ap (λ p. lines_of variables (answer_of variables formulas p)) same ∙ sym b.lines
+
+-- one answer of the same bytes
+one_text : (application rules household one other : List ℕ) → IsAnswer application rules household one → IsAnswer application rules household other → one ≡ other
+one_text application rules household one other a b =
+    let tokens : a.tokens ≡ b.tokens = one_list _ rules a.tokens b.tokens a.lexed b.lexed in
+    let spelled : SpellsItems a.answered.items b.tokens = subst (λ (t : List Token). SpellsItems a.answered.items t) tokens a.answered.spelled in
+    let items : a.answered.items ≡ b.answered.items = items_one spelled b.answered.spelled in
+    one_answer (variables_of b.answered.items) (formulas_of application b.answered.items) household one other
+    (subst (λ (is : List Item). Answers (variables_of is) (formulas_of application is) household one) items a.answered.answered) b.answered.answered
+
+-- one outcome of the same bytes
+pub one_outcome : (application rules household : List ℕ) (one other : Outcome) → IsOutcome application rules household one → IsOutcome application rules household other → one ≡ other
+one_outcome application rules household one other (lines {text = t} a) (lines {text = u} b) = ap Lines (one_text application rules household t u a b)
+one_outcome application rules household one other (lines {text = t} a) (syntax none) = absurd (none a.tokens a.lexed)
+one_outcome application rules household one other (lines {text = t} a) (not_built tokens l none) = absurd (none t a)
+one_outcome application rules household one other (syntax none) (lines {text = u} b) = absurd (none b.tokens b.lexed)
+one_outcome application rules household one other (syntax none) (syntax also) = refl
+one_outcome application rules household one other (syntax none) (not_built tokens l also) = absurd (none tokens l)
+one_outcome application rules household one other (not_built tokens l none) (lines {text = u} b) = absurd (none u b)
+one_outcome application rules household one other (not_built tokens l none) (syntax also) = absurd (also tokens l)
+one_outcome application rules household one other (not_built tokens l none) (not_built others k also) = refl

@@ -11,4 +11,4 @@ mod outcome;
 mod split;
 mod variables;
 
-pub use outcome::{Outcome, answer};
+pub use outcome::{Outcome, answer, one_outcome};

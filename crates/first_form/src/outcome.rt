@@ -1,6 +1,7 @@
 //! From the bytes of a rule file and a household to the answer.
 ghost use Rattle.std.specs.Prelude.{◌≡◌, ◌≢◌, ◌≤◌, IfOk, MatchOption, List, ℕ, length};
 ghost use Rattle.first_form.specs.Meaning.{Answers, AnswersTokens, IsOutcome};
+ghost use Rattle.first_form.specs.declared.outcome.Outcome.{Outcome};
 
 use crate::given::given_values;
 use crate::lines::answer_lines;
@@ -106,3 +107,9 @@ fn answer_of_parts(
     };
     Ok(Some(answer_lines(alloc, variables, &found)?))
 }
+
+/// One outcome comes of the same rule file and household.
+pub fn one_outcome()
+    ensures { (application rules household : List ℕ) (one other : Outcome) →
+        IsOutcome application rules household one → IsOutcome application rules household other → one ≡ other }
+{}

@@ -1,8 +1,8 @@
 -- Numbers of codes, and codes that are distinct.
-use Rattle.std.proofs.Common.{◌≡◌, ℕ, ◌+◌, ◌<◌, zero, suc, Bool, true, false, not, cond, List, [], ◌∷◌, ◌++◌, length, take, get_or, Option, Some, None, refl, sym, ap, ◌∙◌, arith}
+use Rattle.std.proofs.Common.{◌≡◌, ℕ, ◌+◌, ◌<◌, zero, suc, Bool, true, false, not, cond, List, [], ◌∷◌, ◌++◌, length, take, get_or, Option, Some, None, refl, sym, subst, ap, ◌∙◌, arith}
 use Rattle.std.specs.Option.{option_map}
 use Rattle.std.specs.Str.{bytes_eq}
-use Rattle.std.proofs.lemmas.Bool.{or_parts, or_from, false_from_ne_true, false≢true}
+use Rattle.std.proofs.lemmas.Bool.{or_parts, or_from, not-true, false_from_ne_true, false≢true}
 use Rattle.std.proofs.lemmas.Slice.Eq.{bytes_eq-Decides}
 use Rattle.std.proofs.lemmas.List.{take_more}
 use Rattle.m_names.specs.Names.{index_of, has, AreDistinct}
@@ -46,3 +46,21 @@ take-added names i {known} {new} {name} {fresh} d distinct l k n f e =
     let unknown : has name known ≡ false = (λ j. has (n j) (k j)) ∙ has-take names i d distinct l in
     let is_fresh : fresh ≡ true = f ∙ ap not unknown in
     e ∙ ap (λ b. cond b (known ++ name ∷ []) known) is_fresh ∙ (λ j. k j ++ n j ∷ []) ∙ sym (take_more names i d l)
+
+has-push : (name other : List ℕ) (names : List (List ℕ)) → has name names ≡ false → bytes_eq name other ≡ false → has name (names ++ other ∷ []) ≡ false
+has-push name other [] h e = or_from _ _ e refl
+has-push name other (n ∷ ns) h e = or_from _ _ (or_parts _ _ h).0 (has-push name other ns (or_parts _ _ h).1 e)
+
+-- a new name leaves names distinct
+pub AreDistinct-push : (names : List (List ℕ)) (name : List ℕ) → AreDistinct names → has name names ≡ false → AreDistinct (names ++ name ∷ [])
+AreDistinct-push [] name distinct new = (refl, tt)
+AreDistinct-push (n ∷ ns) name distinct new =
+    (has-push n name ns distinct.0 (not_equal name n (or_parts _ _ new).0), AreDistinct-push ns name distinct.1 (or_parts _ _ new).1)
+
+-- what is added and is new leaves the names those before the next one, and distinct
+pub distinct_added : (names : List (List ℕ)) (i : ℕ) {known new : List (List ℕ)} {name : List ℕ} {fresh : Bool} (d : List ℕ) → i < length names → known ≡ take i names → AreDistinct known → name ≡ get_or names i d
+    → fresh ≡ not (has name known) → fresh ≡ true → new ≡ cond fresh (known ++ name ∷ []) known → (new ≡ take (i + 1) names) × AreDistinct new
+distinct_added names i {known} {new} {name} {fresh} d l k distinct n f is_fresh e =
+    let pushed : new ≡ known ++ name ∷ [] = e ∙ ap (λ b. cond b (known ++ name ∷ []) known) is_fresh in
+    let unknown : has name known ≡ false = not-true (has name known) (sym f ∙ is_fresh) in
+    (pushed ∙ (λ j. k j ++ n j ∷ []) ∙ sym (take_more names i d l), subst AreDistinct (sym pushed) (AreDistinct-push known name distinct unknown))

@@ -30,7 +30,8 @@ pub record IsSplit (text before behind : List ℕ) : Type 0 where
   pub first : AllByRecursion (λ byte. byte ≢ comma) before
 
 -- A row: the code of an input, a comma, and an amount. It gives the input's number and the amount,
--- in millionths. `inputs` are the codes by their numbers.
+-- in millionths. `inputs` are the codes by their numbers: where `1AJ` has the number 0, the row
+-- `1AJ,2500.5` gives 0 and 2500500000.
 pub record IsRow (inputs : List (List ℕ)) (row : List ℕ) (pair : ℕ × ℤ) : Type 0 where
   pub code : List ℕ
   pub amount : List ℕ
@@ -67,6 +68,7 @@ abbrev pub value_at : List (ℕ × ℤ) → ℕ → Value
 value_at [] input = Undef
 value_at (pair ∷ pairs) input = if pair.0 == input then Num pair.1 else value_at pairs input
 
--- what pairs give each of so many inputs, in the order of their numbers
+-- what pairs give each of so many inputs, in the order of their numbers: the pair of 1 and 5 gives 3
+-- inputs Undef, Num 5 and Undef
 abbrev pub values_of : List (ℕ × ℤ) → ℕ → List Value
 values_of pairs inputs = map (value_at pairs) (range_with_len 0 inputs)

@@ -11,3 +11,6 @@ mod read;
 pub use amounts::values;
 pub use codes::Codes;
 pub use read::{Household, HouseholdFault, one_household, read_household};
+
+#[cfg(test)]
+mod tests;

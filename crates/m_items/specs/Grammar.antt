@@ -79,11 +79,15 @@ SpellsWhole n ts rest = (z : ℤ) × (p : Place) × Begins (kinds.Number z n) p 
 -- { R }
 pub data Many {A : Type 0} (R : A → List Token → List Token → Type 0) : List A → List Token → List Token → Type 0 where
   none : {ts : List Token} → Many R [] ts ts
-  more : {x : A} {xs : List A} {ts mid rest : List Token} → R x ts mid → Many R xs mid rest → Many R (x ∷ xs) ts rest
+  more : {x : A} {xs : List A} {ts mid rest : List Token}
+      → R x ts mid → Many R xs mid rest →
+      Many R (x ∷ xs) ts rest
 
 -- R { R }
 pub data OneOrMore {A : Type 0} (R : A → List Token → List Token → Type 0) : List A → List Token → List Token → Type 0 where
-  one : {x : A} {xs : List A} {ts mid rest : List Token} → R x ts mid → Many R xs mid rest → OneOrMore R (x ∷ xs) ts rest
+  one : {x : A} {xs : List A} {ts mid rest : List Token}
+      → R x ts mid → Many R xs mid rest →
+      OneOrMore R (x ∷ xs) ts rest
 
 -- a sign and then R
 pub data Behind {A : Type 0} (s : Sign) (R : A → List Token → List Token → Type 0) : A → List Token → List Token → Type 0 where
@@ -91,7 +95,9 @@ pub data Behind {A : Type 0} (s : Sign) (R : A → List Token → List Token →
 
 -- R { sign R }
 pub data Joined {A : Type 0} (s : Sign) (R : A → List Token → List Token → Type 0) : List A → List Token → List Token → Type 0 where
-  joined : {x : A} {xs : List A} {ts mid rest : List Token} → R x ts mid → Many (Behind s R) xs mid rest → Joined s R (x ∷ xs) ts rest
+  joined : {x : A} {xs : List A} {ts mid rest : List Token}
+      → R x ts mid → Many (Behind s R) xs mid rest →
+      Joined s R (x ∷ xs) ts rest
 
 -- Formulas.
 
@@ -102,14 +108,20 @@ pub data SpellsMinus : Bool → List Token → List Token → Type 0 where
 
 -- NUMBER | WORD
 pub data SpellsOperand : Operand → List Token → List Token → Type 0 where
-  number : {z : ℤ} {ts rest : List Token} → SpellsNumber z ts rest → SpellsOperand (operands.Number z) ts rest
-  named : {w : List ℕ} {ts rest : List Token} → SpellsWord w ts rest → SpellsOperand (operands.Named w) ts rest
+  number : {z : ℤ} {ts rest : List Token}
+      → SpellsNumber z ts rest →
+      SpellsOperand (operands.Number z) ts rest
+  named : {w : List ℕ} {ts rest : List Token}
+      → SpellsWord w ts rest →
+      SpellsOperand (operands.Named w) ts rest
 
--- factor1 := [ "-" ] ( NUMBER | WORD )
+-- factor := [ "-" ] ( NUMBER | WORD )
 pub data SpellsFactor : Factor → List Token → List Token → Type 0 where
-  factor : {m : Bool} {o : Operand} {ts a rest : List Token} → SpellsMinus m ts a → SpellsOperand o a rest → SpellsFactor (record { minus = m; operand = o }) ts rest
+  factor : {m : Bool} {o : Operand} {ts a rest : List Token}
+      → SpellsMinus m ts a → SpellsOperand o a rest →
+      SpellsFactor (record { minus = m; operand = o }) ts rest
 
--- prod1 := factor1 { "*" factor1 }
+-- product := factor { "*" factor }
 abbrev pub SpellsProduct : List Factor → List Token → List Token → Type 0
 SpellsProduct = Joined signs.Star SpellsFactor
 
@@ -118,29 +130,42 @@ pub data SpellsAddition : Bool → List Token → List Token → Type 0 where
   plus : {ts rest : List Token} → SpellsSign signs.Plus ts rest → SpellsAddition false ts rest
   minus : {ts rest : List Token} → SpellsSign signs.Minus ts rest → SpellsAddition true ts rest
 
--- ( "+" | "-" ) prod1
+-- ( "+" | "-" ) product
 pub data SpellsSummand : Summand → List Token → List Token → Type 0 where
-  summand : {m : Bool} {fs : List Factor} {ts a rest : List Token} → SpellsAddition m ts a → SpellsProduct fs a rest → SpellsSummand (record { minus = m; factors = fs }) ts rest
+  summand : {m : Bool} {fs : List Factor} {ts a rest : List Token}
+      → SpellsAddition m ts a → SpellsProduct fs a rest →
+      SpellsSummand (record { minus = m; factors = fs }) ts rest
 
--- sum1 := prod1 { ( "+" | "-" ) prod1 }
+-- sum := product { ( "+" | "-" ) product }: `- 2 * REV - 0.5` is the product of -2 and REV, without minus, and 0.5 with minus
 pub data SpellsSum : List Summand → List Token → List Token → Type 0 where
-  sum : {fs : List Factor} {ss : List Summand} {ts a rest : List Token} → SpellsProduct fs ts a → Many SpellsSummand ss a rest → SpellsSum (record { minus = false; factors = fs } ∷ ss) ts rest
+  sum : {fs : List Factor} {ss : List Summand} {ts a rest : List Token}
+      → SpellsProduct fs ts a → Many SpellsSummand ss a rest →
+      SpellsSum (record { minus = false; factors = fs } ∷ ss) ts rest
 
--- formula1 := WORD "=" sum1 ";", whose place is that of its WORD
+-- formula := WORD "=" sum ";", whose place is that of its WORD
 pub data SpellsFormula : Formula → List Token → List Token → Type 0 where
-  formula : {w : List ℕ} {p : Place} {ss : List Summand} {ts a b c rest : List Token} → Begins (kinds.Word w) p ts a → SpellsSign signs.Equal a b → SpellsSum ss b c → SpellsSign signs.Semicolon c rest → SpellsFormula (record { target = w; sum = ss; place = p }) ts rest
+  formula : {w : List ℕ} {p : Place} {ss : List Summand} {ts a b c rest : List Token}
+      → Begins (kinds.Word w) p ts a → SpellsSign signs.Equal a b → SpellsSum ss b c →
+      SpellsSign signs.Semicolon c rest →
+      SpellsFormula (record { target = w; sum = ss; place = p }) ts rest
 
 -- Variables.
 
 -- [ "-" ] NUMBER: with a `-` the negative amount
 pub data SpellsAmount : ℤ → List Token → List Token → Type 0 where
   plain : {z : ℤ} {ts rest : List Token} → SpellsNumber z ts rest → SpellsAmount z ts rest
-  negative : {z : ℤ} {ts a rest : List Token} → SpellsSign signs.Minus ts a → SpellsNumber z a rest → SpellsAmount (neg_ℤ z) ts rest
+  negative : {z : ℤ} {ts a rest : List Token}
+      → SpellsSign signs.Minus ts a → SpellsNumber z a rest →
+      SpellsAmount (neg_ℤ z) ts rest
 
--- attribute := WORD [ "=" [ "-" ] NUMBER ], of which the number may be absent
+-- attribute := WORD [ "=" [ "-" ] NUMBER ]
 pub data SpellsAttribute : Attribute → List Token → List Token → Type 0 where
-  alone : {w : List ℕ} {ts rest : List Token} → SpellsWord w ts rest → SpellsAttribute (record { word = w; amount = None }) ts rest
-  with_amount : {w : List ℕ} {z : ℤ} {ts a b rest : List Token} → SpellsWord w ts a → SpellsSign signs.Equal a b → SpellsAmount z b rest → SpellsAttribute (record { word = w; amount = Some z }) ts rest
+  alone : {w : List ℕ} {ts rest : List Token}
+      → SpellsWord w ts rest →
+      SpellsAttribute (record { word = w; amount = None }) ts rest
+  with_amount : {w : List ℕ} {z : ℤ} {ts a b rest : List Token}
+      → SpellsWord w ts a → SpellsSign signs.Equal a b → SpellsAmount z b rest →
+      SpellsAttribute (record { word = w; amount = Some z }) ts rest
 
 -- what an attribute adds to the words, and to the pairs
 abbrev pub word_of : List ℕ → Option ℤ → List (List ℕ)
@@ -161,58 +186,89 @@ abbrev pub pairs_of : List Attribute → List (List ℕ × ℤ)
 pairs_of [] = []
 pairs_of (a ∷ rest) = pair_of a.word a.amount ++ pairs_of rest
 
--- { attribute }
+-- { attribute }: `revenu classe = 0` has the word `revenu` and the pair of `classe` and 0
 pub data SpellsAttributes : Attributes → List Token → List Token → Type 0 where
-  attributes : {all : List Attribute} {ts rest : List Token} → Many SpellsAttribute all ts rest → SpellsAttributes (record { words = words_of all; pairs = pairs_of all }) ts rest
+  attributes : {all : List Attribute} {ts rest : List Token}
+      → Many SpellsAttribute all ts rest →
+      SpellsAttributes (record { words = words_of all; pairs = pairs_of all }) ts rest
 
 -- ":" TEXT ";", of which nothing is kept
 pub data SpellsDescription : List Token → List Token → Type 0 where
-  description : {t : List ℕ} {ts a b rest : List Token} → SpellsSign signs.Colon ts a → SpellsText t a b → SpellsSign signs.Semicolon b rest → SpellsDescription ts rest
+  description : {t : List ℕ} {ts a b rest : List Token}
+      → SpellsSign signs.Colon ts a → SpellsText t a b → SpellsSign signs.Semicolon b rest →
+      SpellsDescription ts rest
 
 -- "saisie" { attribute } "alias" CODE ":" TEXT ";"
 pub data SpellsInput : Declaration → List Token → List Token → Type 0 where
-  input : {code : List ℕ} {found : Attributes} {ts a b c d rest : List Token} → SpellsKey keys.Saisie ts a → SpellsAttributes found a b → SpellsKey keys.Alias b c → SpellsWord code c d → SpellsDescription d rest → SpellsInput (record { role = roles.Input code; attributes = found }) ts rest
+  input : {code : List ℕ} {found : Attributes} {ts a b c d rest : List Token}
+      → SpellsKey keys.Saisie ts a → SpellsAttributes found a b → SpellsKey keys.Alias b c →
+      SpellsWord code c d → SpellsDescription d rest →
+      SpellsInput (record { role = roles.Input code; attributes = found }) ts rest
 
 -- "calculee" { attribute } ":" TEXT ";"
 pub data SpellsComputed : Declaration → List Token → List Token → Type 0 where
-  computed : {found : Attributes} {ts a b rest : List Token} → SpellsKey keys.Calculee ts a → SpellsAttributes found a b → SpellsDescription b rest → SpellsComputed (record { role = roles.Computed None; attributes = found }) ts rest
+  computed : {found : Attributes} {ts a b rest : List Token}
+      → SpellsKey keys.Calculee ts a → SpellsAttributes found a b → SpellsDescription b rest →
+      SpellsComputed (record { role = roles.Computed None; attributes = found }) ts rest
 
 -- "const" "=" [ "-" ] NUMBER ";"
 pub data SpellsConstant : Declaration → List Token → List Token → Type 0 where
-  constant : {z : ℤ} {ts a b c rest : List Token} → SpellsKey keys.Const ts a → SpellsSign signs.Equal a b → SpellsAmount z b c → SpellsSign signs.Semicolon c rest → SpellsConstant (record { role = roles.Constant z; attributes = record { words = []; pairs = [] } }) ts rest
+  constant : {z : ℤ} {ts a b c rest : List Token}
+      → SpellsKey keys.Const ts a → SpellsSign signs.Equal a b → SpellsAmount z b c →
+      SpellsSign signs.Semicolon c rest →
+      SpellsConstant (record { role = roles.Constant z; attributes = record { words = []; pairs = [] } }) ts rest
 
 -- what stands behind the NAME and the colon of a variable
 pub data SpellsDeclaration : Declaration → List Token → List Token → Type 0 where
   as_input : {d : Declaration} {ts rest : List Token} → SpellsInput d ts rest → SpellsDeclaration d ts rest
-  as_computed : {d : Declaration} {ts rest : List Token} → SpellsComputed d ts rest → SpellsDeclaration d ts rest
-  as_constant : {d : Declaration} {ts rest : List Token} → SpellsConstant d ts rest → SpellsDeclaration d ts rest
+  as_computed : {d : Declaration} {ts rest : List Token}
+      → SpellsComputed d ts rest →
+      SpellsDeclaration d ts rest
+  as_constant : {d : Declaration} {ts rest : List Token}
+      → SpellsConstant d ts rest →
+      SpellsDeclaration d ts rest
 
--- variable1 := NAME ":" declaration, whose place is that of its NAME
+-- variable := NAME ":" declaration, whose place is that of its NAME
 pub data SpellsVariable : VariableItem → List Token → List Token → Type 0 where
-  variable : {name : List ℕ} {p : Place} {d : Declaration} {ts a b rest : List Token} → Begins (kinds.Word name) p ts a → IsName name → SpellsSign signs.Colon a b → SpellsDeclaration d b rest → SpellsVariable (record { name = name; place = p; role = d.role; words = d.attributes.words; pairs = d.attributes.pairs; value_word = None }) ts rest
+  variable : {name : List ℕ} {p : Place} {d : Declaration} {ts a b rest : List Token}
+      → Begins (kinds.Word name) p ts a → IsName name → SpellsSign signs.Colon a b →
+      SpellsDeclaration d b rest →
+      SpellsVariable (record { name = name; place = p; role = d.role; words = d.attributes.words; pairs = d.attributes.pairs; value_word = None }) ts rest
 
 -- Rules.
 
 -- { WORD } WHOLE, of which the WHOLE's spelling is kept
 pub data SpellsRuleNumber : List ℕ → List Token → List Token → Type 0 where
-  rule_number : {ws : List (List ℕ)} {n : List ℕ} {ts a rest : List Token} → Many SpellsWord ws ts a → SpellsWhole n a rest → SpellsRuleNumber n ts rest
+  rule_number : {ws : List (List ℕ)} {n : List ℕ} {ts a rest : List Token}
+      → Many SpellsWord ws ts a → SpellsWhole n a rest →
+      SpellsRuleNumber n ts rest
 
--- apps := "application" ":" WORD { "," WORD }
+-- applications := "application" ":" WORD { "," WORD }
 pub data SpellsApplications : List (List ℕ) → List Token → List Token → Type 0 where
-  applications : {ws : List (List ℕ)} {ts a b rest : List Token} → SpellsKey keys.Application ts a → SpellsSign signs.Colon a b → Joined signs.Comma SpellsWord ws b rest → SpellsApplications ws ts rest
+  applications : {ws : List (List ℕ)} {ts a b rest : List Token}
+      → SpellsKey keys.Application ts a → SpellsSign signs.Colon a b →
+      Joined signs.Comma SpellsWord ws b rest →
+      SpellsApplications ws ts rest
 
--- rule1 := "regle" { WORD } WHOLE ":" apps ";" formula1 { formula1 }, whose place is that of `regle`
+-- rule := "regle" { WORD } WHOLE ":" applications ";" formula { formula }, whose place is that of `regle`
 pub data SpellsRule : RuleItem → List Token → List Token → Type 0 where
-  rule : {n : List ℕ} {p : Place} {ws : List (List ℕ)} {fs : List Formula} {ts a b c d e rest : List Token} → Begins (kinds.Key keys.Regle) p ts a → SpellsRuleNumber n a b → SpellsSign signs.Colon b c → SpellsApplications ws c d → SpellsSign signs.Semicolon d e → OneOrMore SpellsFormula fs e rest → SpellsRule (record { number = n; place = p; applications = ws; formulas = fs }) ts rest
+  rule : {n : List ℕ} {p : Place} {ws : List (List ℕ)} {fs : List Formula} {ts a b c d e rest : List Token}
+      → Begins (kinds.Key keys.Regle) p ts a → SpellsRuleNumber n a b → SpellsSign signs.Colon b c →
+      SpellsApplications ws c d → SpellsSign signs.Semicolon d e → OneOrMore SpellsFormula fs e rest →
+      SpellsRule (record { number = n; place = p; applications = ws; formulas = fs }) ts rest
 
 -- Items.
 
--- variable1 | rule1 | "application" WORD ";"
+-- variable | rule | "application" WORD ";"
 pub data SpellsItem : Item → List Token → List Token → Type 0 where
-  a_variable : {v : VariableItem} {ts rest : List Token} → SpellsVariable v ts rest → SpellsItem (items.Variable v) ts rest
+  a_variable : {v : VariableItem} {ts rest : List Token}
+      → SpellsVariable v ts rest →
+      SpellsItem (items.Variable v) ts rest
   a_rule : {r : RuleItem} {ts rest : List Token} → SpellsRule r ts rest → SpellsItem (items.Rule r) ts rest
-  an_application : {p : Place} {w : List ℕ} {ts a b rest : List Token} → Begins (kinds.Key keys.Application) p ts a → SpellsWord w a b → SpellsSign signs.Semicolon b rest → SpellsItem (items.Silent p) ts rest
+  an_application : {p : Place} {w : List ℕ} {ts a b rest : List Token}
+      → Begins (kinds.Key keys.Application) p ts a → SpellsWord w a b → SpellsSign signs.Semicolon b rest →
+      SpellsItem (items.Silent p) ts rest
 
--- file1: all the tokens spell the items
+-- file := { item }: all the tokens spell the items, in order
 abbrev pub SpellsItems : List Item → List Token → Type 0
 SpellsItems is tokens = Many SpellsItem is tokens []

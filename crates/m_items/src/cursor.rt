@@ -1,5 +1,5 @@
 //! A place in the tokens, and the readers of single tokens. It knows nothing of trees.
-ghost use Rattle.std.specs.Prelude.{◌≡◌, ◌<◌, ◌∷◌, ◌↔◌, [], length, List, ℕ, MatchBool, MatchOption, IfOk, IfErr, OnOk, OnSome, IsTrue};
+ghost use Rattle.std.specs.Prelude.{◌≡◌, ◌<◌, ◌∷◌, [], length, List, ℕ, MatchBool, MatchOption, IfOk, IfErr, OnOk, OnSome};
 ghost use Rattle.std.specs.Bool.{OnTrue};
 ghost use Rattle.m_lexer.specs.declared.token.Kind.TheVariants as kinds;
 ghost use Rattle.m_items.specs.Grammar.{Begins, SpellsSign, SpellsKey, SpellsWord, SpellsNumber, SpellsText};

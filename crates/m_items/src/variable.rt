@@ -1,5 +1,5 @@
 //! Variables: their names, roles and attributes.
-ghost use Rattle.std.specs.Prelude.{◌≡◌, ◌<◌, ◌≤◌, ◌↔◌, ◌++◌, length, neg_ℤ, MatchBool, MatchOption, IfOk, IfErr, OnOk, OnSome, IsTrue};
+ghost use Rattle.std.specs.Prelude.{◌≡◌, ◌<◌, ◌≤◌, ◌++◌, length, neg_ℤ, MatchBool, MatchOption, IfOk, IfErr, OnOk, OnSome};
 ghost use Rattle.std.specs.Bool.{OnTrue};
 ghost use Rattle.std.specs.List.{list_all};
 ghost use Rattle.m_items.specs.Grammar.{is_not_small, word_of, pair_of, SpellsAmount, SpellsAttribute, SpellsAttributes, SpellsDescription, SpellsInput, SpellsComputed, SpellsConstant, SpellsDeclaration, SpellsVariable};

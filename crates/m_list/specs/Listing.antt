@@ -14,7 +14,8 @@ pub use Rattle.m_list.specs.declared.listing.OneFile.{OneFile}
 abbrev pub is_word_byte : ℕ → Bool
 is_word_byte byte = is_ascii_alphanumeric byte || byte == 95
 
--- a word of M, reserved or not: letters, digits and `_`, one or more, and not digits alone
+-- a word of M, reserved or not: letters, digits and `_`, one or more, and not digits alone. `iliad`,
+-- `1AJ` and `regle` are words, and `2020` is none
 abbrev pub is_word : List ℕ → Bool
 is_word text = list_all is_word_byte text && not (list_all is_ascii_digit text)
 
@@ -52,7 +53,8 @@ abbrev pub lines_read : List (List ℕ) → Result Listing ListFault
 lines_read [] = Err (BadLine 1)
 lines_read (application ∷ lines) = if is_word application then files_read application lines (first_bad_from 2 lines) else Err (BadLine 1)
 
--- What a list file says, or the fault for which it is refused.
+-- What a list file says, or the fault for which it is refused. `iliad\n\na.m` says the application
+-- `iliad` and the file `a.m`, and `iliad\r` is bad at line 1.
 abbrev pub list_of : List ℕ → Result Listing ListFault
 list_of bytes = lines_read (lines_of bytes)
 
@@ -72,6 +74,7 @@ abbrev pub only_file_read : Result Listing ListFault → Option OneFile
 only_file_read (Ok listing) = only_file listing.application listing.files
 only_file_read (Err fault) = None
 
--- The application and the only file of a list file that has one, and none for any other.
+-- The application and the only file of a list file that has one, and none for any other: `iliad` has
+-- no file, and gives none.
 abbrev pub one_file_of : List ℕ → Option OneFile
 one_file_of bytes = only_file_read (list_of bytes)

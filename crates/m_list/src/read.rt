@@ -1,4 +1,5 @@
 ghost use Rattle.std.specs.Prelude.{◌≡◌, ◌+◌, ◌≤◌, ◌<◌, ◌^◌, length, IfOk, IfErr, Ok};
+ghost use Rattle.m_places.specs.declared.limits.TheConstants.{FILE_BYTES};
 ghost use Rattle.m_lines.specs.Lines.{lines_of};
 ghost use Rattle.m_list.specs.Listing.{list_of, one_file_of, IsCause, is_word, is_word_byte, is_file_line, first_bad_from, files_of, only_file, AreTooMany};
 
@@ -13,7 +14,7 @@ use std::alloc::{AllocError, Global};
 ///
 /// `iliad\na.m\n` lists the application `iliad` and the file `a.m`.
 pub fn read_list(alloc: Global, bytes: &[u8]) -> Result<Listing, ListFault>
-    requires { length bytes.now ≤ 16777216 }
+    requires { length bytes.now ≤ FILE_BYTES }
     ensures listing { IfOk result (λ listing. list_of bytes.now ≡ Ok listing) }
     ensures fault { IfErr result (IsCause (list_of bytes.now)) }
 {
@@ -49,7 +50,7 @@ fn is_word_byte(byte: u8) -> bool
 
 /// The number of the first line that is no file line, where these are the lines from line 2 on.
 fn first_bad_line(bytes: &[u8]) -> Option<u32>
-    requires { length bytes.now ≤ 16777216 }
+    requires { length bytes.now ≤ FILE_BYTES }
     ensures { result ≡ first_bad_from 2 (lines_of bytes.now) }
 {
     let mut number = 2;
@@ -94,7 +95,7 @@ fn read_files(alloc: Global, bytes: &[u8]) -> Result<Vec<Name>, ListFault>
 /// Reads a list file that has one rule file, and answers `None` for any other. Its only error is
 /// want of memory.
 pub fn read_one_file(alloc: Global, bytes: &[u8]) -> Result<Option<OneFile>, AllocError>
-    requires { length bytes.now ≤ 16777216 }
+    requires { length bytes.now ≤ FILE_BYTES }
     ensures { IfOk result (λ one. one ≡ one_file_of bytes.now) }
 {
     match read_list(alloc, bytes) {

@@ -1,10 +1,11 @@
 use crate::{ListFault, Listing, read_list, read_one_file};
+use m_places::limits::FILE_BYTES;
 use std::alloc::{AllocError, Global};
 use std::test::Fail;
 
 /// The fault of a list, if it has one.
 fn fault_of(alloc: Global, bytes: &[u8]) -> Option<ListFault> {
-    if bytes.len() > 16_777_216 {
+    if bytes.len() as u64 > FILE_BYTES {
         return None;
     }
     read_list(alloc, bytes).err()

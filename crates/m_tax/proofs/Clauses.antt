@@ -1,18 +1,17 @@
 -- The clauses of the top call, from the reply and from how it was printed.
-use Rattle.std.proofs.Common.{◌≡◌, ◌<◌, ◌≤◌, ◌+◌, ℕ, Bool, true, false, List, [], ◌∷◌, ◌++◌, length, Option, Some, None, Result, Ok, Err, refl, sym, ap, ◌∙◌, subst, cond, arith, inl, inr, append_assoc}
+use Rattle.std.proofs.Common.{◌≡◌, ◌<◌, ◌+◌, ℕ, true, false, List, [], ◌∷◌, ◌++◌, Option, Some, Ok, Err, refl, sym, ap, ◌∙◌, subst, arith, inl, inr}
 use Rattle.std.specs.Prelude.{◌⊎◌}
 use Rattle.std.specs.Io.KnownBytes.{append_known}
 use Rattle.std.specs.declared.alloc.AllocError.{AllocError}
 use Rattle.m_ports.specs.Counts.{Rose}
 use Rattle.m_ports.specs.Files.{failed_count}
-use Rattle.m_ports.specs.Sink.{AppendsPrefix}
 use Rattle.m_ports.specs.declared.files.Attempt.{Attempt}
 use Rattle.m_tax.specs.Command.{reads_input}
 use Rattle.m_tax.specs.Lines.{unreadable_line}
 use Rattle.m_tax.specs.Output.{Disk, fetches_of, Output}
 use Rattle.m_tax.specs.Reading.{Reading, NoneFailed, LastFailed}
-use Rattle.m_tax.specs.Replies.{Replies, Answered, WritesWhole, IsSound}
-use Rattle.m_tax.specs.Writing.{IsFaultless, IsComplete, IsWhole, output, unreadable, WritesFront, IsTyped, IsValid}
+use Rattle.m_tax.specs.Replies.{Replies, WritesWhole}
+use Rattle.m_tax.specs.Writing.{IsFaultless, IsComplete, output, unreadable, WritesFront, IsValid}
 use Rattle.m_tax.proofs.Valid.{valid_done}
 use Rattle.m_tax.specs.declared.status.Status.{Status}
 use Rattle.m_tax.specs.declared.status.Status.TheVariants.{Done, Refused, Usage, ReadFault, WriteFault, Memory, Stopped}

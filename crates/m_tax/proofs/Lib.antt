@@ -1,4 +1,5 @@
 pub mod Clauses
+pub mod OneOutput
 pub mod Steps
 pub mod Valid
 pub mod Writes

@@ -1,8 +1,8 @@
 -- How the steps of a run go on from one another.
-use Rattle.std.proofs.Common.{◌≡◌, ◌<◌, ◌≤◌, ℕ, true, false, List, [], ◌∷◌, ◌++◌, map, length, leb, Option, Some, None, Result, Ok, Err, IfOk, refl, sym, ap, ◌∙◌, subst, append_assoc, arith}
+use Rattle.std.proofs.Common.{◌≡◌, ◌<◌, ◌≤◌, ℕ, true, false, List, [], ◌∷◌, ◌++◌, length, Option, Some, None, Result, Ok, Err, IfOk, refl, sym, ap, ◌∙◌, subst, append_assoc, arith}
 use Rattle.std.proofs.lemmas.Bool.Decides.{nat_tests}
 use Rattle.std.proofs.lemmas.List.{append-nil}
-use Rattle.std.specs.Prelude.{option_and_then, IsSomeAnd, IfSome, nat_le, cond, ◌&&◌}
+use Rattle.std.specs.Prelude.{option_and_then, IsSomeAnd, nat_le, cond, ◌&&◌}
 use Rattle.std.specs.Option.{option_map_or}
 use Rattle.std.specs.declared.alloc.AllocError.{AllocError}
 use Rattle.m_places.specs.declared.limits.TheConstants.{FILE_BYTES}
@@ -14,7 +14,7 @@ use Rattle.m_list.specs.declared.listing.OneFile.{OneFile}
 use Rattle.m_tax.specs.Command.{Command, run, command_of, is_none}
 use Rattle.m_tax.specs.Output.{Disk, within_limit, fetching, Fetching, too_long, fetched, rules_fetches, listed_fetches, list_fetches, command_fetches, fetches_of, Rules, Listed, listed, Running, Output, ran}
 use Rattle.m_tax.specs.Writing.{IsFaultless}
-use Rattle.m_tax.specs.Reading.{BeginsWith, names_of, NoneFailed, LastFailed}
+use Rattle.m_tax.specs.Reading.{BeginsWith, names_of, LastFailed}
 use Rattle.m_tax.specs.Replies.{Replies, Answered, Had, IsTextOf, IsNoUsage, TellsUsage}
 use Rattle.m_tax.specs.declared.status.Status.{Status}
 use Rattle.m_tax.specs.declared.status.Status.TheVariants.{Refused}

@@ -1,13 +1,12 @@
 -- What is valid is answered.
-use Rattle.std.proofs.Common.{◌≡◌, ◌<◌, ◌≤◌, ℕ, Bool, true, false, List, [], ◌∷◌, length, Option, Some, None, refl, sym, ap, ◌∙◌, subst, cond, arith}
+use Rattle.std.proofs.Common.{◌≡◌, ◌≤◌, ℕ, Bool, true, false, List, length, Option, Some, None, refl, sym, ap, ◌∙◌, subst, cond, arith}
 use Rattle.std.specs.Prelude.{option_and_then, nat_le, ◌&&◌}
 use Rattle.std.proofs.lemmas.Bool.Decides.{nat_tests}
 use Rattle.m_places.specs.declared.limits.TheConstants.{FILE_BYTES}
-use Rattle.m_list.specs.Listing.{one_file_of}
 use Rattle.m_list.specs.declared.listing.OneFile.{OneFile}
 use Rattle.first_form.specs.Meaning.{IsAnswer, IsOutcome}
 use Rattle.first_form.specs.Meaning as meaning
-use Rattle.m_tax.specs.Command.{Command, run, command_of, is_none}
+use Rattle.m_tax.specs.Command.{is_none}
 use Rattle.m_tax.specs.Output.{Disk, within_limit, Fetching, too_long, fetched, Answering, Household, Rules, Listed, not_listed, listed, Running, Output, usage, ran}
 use Rattle.m_tax.specs.Output as output
 use Rattle.m_tax.specs.Writing.{IsValid}

@@ -1,18 +1,17 @@
 -- What a call has written.
-use Rattle.std.specs.Prelude.{◌≡◌, ◌≤◌, ◌⊎◌, ℕ, true, List, ◌++◌, Option, None, Some}
+use Rattle.std.specs.Prelude.{◌≡◌, ◌⊎◌, ℕ, true, List, ◌++◌, Option, None, Some}
 use Rattle.std.specs.Io.KnownBytes.{append_known}
 use Rattle.m_ports.specs.declared.files.Attempt.{Attempt}
 use Rattle.m_ports.specs.Sink.{AppendsPrefix}
-use Rattle.m_places.specs.declared.limits.TheConstants.{FILE_BYTES}
 use Rattle.m_list.specs.Listing.{one_file_of}
 use Rattle.m_list.specs.declared.listing.OneFile.{OneFile}
 use Rattle.first_form.specs.Meaning.{IsAnswer}
-use Rattle.m_tax.specs.Command.{Command, run, command_of, is_none, reads_input}
+use Rattle.m_tax.specs.Command.{run, command_of, is_none, reads_input}
 use Rattle.m_tax.specs.Lines.{unreadable_line}
 use Rattle.m_tax.specs.Output.{Disk, Output, within_limit}
 use Rattle.m_tax.specs.Reading.{LastFailed}
 use Rattle.m_tax.specs.declared.status.Status.{Status}
-use Rattle.m_tax.specs.declared.status.Status.TheVariants.{Done, Refused, Usage, ReadFault, WriteFault, Memory, Stopped}
+use Rattle.m_tax.specs.declared.status.Status.TheVariants.{Done, Usage, ReadFault, WriteFault, Memory, Stopped}
 
 -- neither reading, writing nor memory failed
 abbrev pub IsFaultless : Status → Type 0

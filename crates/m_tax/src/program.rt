@@ -1,9 +1,10 @@
 //! The top call.
-ghost use Rattle.std.specs.Prelude.{◌≡◌, Some, false};
+ghost use Rattle.std.specs.Prelude.{◌≡◌, ℕ, List, Some, false};
 ghost use Rattle.m_ports.specs.Counts.{Rose};
 ghost use Rattle.m_ports.specs.Files.{failed_count};
 ghost use Rattle.m_tax.specs.Command.{command_of, reads_input, writes_early};
-ghost use Rattle.m_tax.specs.Output.{Disk};
+ghost use Rattle.m_tax.specs.Output.{Disk, Output};
+ghost use Rattle.m_tax.specs.declared.status.Status.{Status};
 ghost use Rattle.m_tax.specs.Reading.{Reading};
 ghost use Rattle.m_tax.specs.Writing.{Prints, WritesFront, IsValid, IsComplete, IsToldUsage};
 ghost use Rattle.m_tax.specs.Replies.{IsSound, WritesWhole};
@@ -80,3 +81,9 @@ pub fn m_tax<R: Threads + Sync, F: Files, S: Source, K: Sink>(
         Err(_) => Status::Memory,
     }
 }
+
+/// The same words, files and input have one output: one text and one status.
+pub fn one_output()
+    ensures { (words : List (List ℕ)) (disk : Disk) (typed one other : List ℕ) (status outcome : Status) →
+        Output words disk typed one status → Output words disk typed other outcome → (one ≡ other) × (status ≡ outcome) }
+{}

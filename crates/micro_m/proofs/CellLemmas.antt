@@ -41,10 +41,10 @@ look-cells awaited values (v ∷ vs) name =
     let looked : Bool → Option Value = λ b. option_and_then (λ n. get_or (c ∷ cs) n None) (cond b (Some 0) (option_map (λ i. i + 1) (index_of name (names_of vs)))) in
     let answer : Bool → Option Value = λ b. cond ((b || has name (names_of vs)) && not (has name awaited)) (Some (values name)) None in
     cases (bytes_eq name v.name)
-        (λ (t : bytes_eq name v.name ≡ true).
-            ap looked t ∙ ap (cell_named awaited values) (sym (same name v.name t)) ∙ unless (has name awaited) (values name) ∙ sym (ap answer t))
-        (λ (f : bytes_eq name v.name ≡ false).
-            ap looked f ∙ further c cs (index_of name (names_of vs)) ∙ rest ∙ sym (ap answer f))
+    (λ (t : bytes_eq name v.name ≡ true).
+    ap looked t ∙ ap (cell_named awaited values) (sym (same name v.name t)) ∙ unless (has name awaited) (values name) ∙ sym (ap answer t))
+    (λ (f : bytes_eq name v.name ≡ false).
+    ap looked f ∙ further c cs (index_of name (names_of vs)) ∙ rest ∙ sym (ap answer f))
 
 -- the list with this value at the variables of this name
 abbrev pub put : (VariableItem → Option Value) → List ℕ → Option Value → VariableItem → Option Value
@@ -62,18 +62,18 @@ set-named cell c [] name i d e = cc
 set-named cell c (v ∷ vs) name i d e =
     let place : Bool → Option ℕ = λ b. cond b (Some 0) (option_map (λ j. j + 1) (index_of name (names_of vs))) in
     cases (bytes_eq name v.name)
-        (λ (t : bytes_eq name v.name ≡ true).
-            let first : Some 0 ≡ Some i = sym (ap place t) ∙ e in
-            let at : 0 ≡ i = cc in
-            let away : has name (names_of vs) ≡ false = ap (λ n. has n (names_of vs)) (same name v.name t) ∙ d.0 in
-            ap (λ n. set (cell v ∷ map cell vs) n c) (sym at)
-            ∙ ap (λ cs. c ∷ cs) (unchanged cell c vs name away)
-            ∙ ap (λ b. cond b c (cell v) ∷ map (put cell name c) vs) (sym t))
-        (λ (f : bytes_eq name v.name ≡ false).
-            let later = shifted-some (index_of name (names_of vs)) i (sym (ap place f) ∙ e) in
-            ap (λ n. set (cell v ∷ map cell vs) n c) later.2
-            ∙ ap (λ cs. cell v ∷ cs) (set-named cell c vs name later.0 d.1 later.1)
-            ∙ ap (λ b. cond b c (cell v) ∷ map (put cell name c) vs) (sym f))
+    (λ (t : bytes_eq name v.name ≡ true).
+    let first : Some 0 ≡ Some i = sym (ap place t) ∙ e in
+    let at : 0 ≡ i = cc in
+    let away : has name (names_of vs) ≡ false = ap (λ n. has n (names_of vs)) (same name v.name t) ∙ d.0 in
+    ap (λ n. set (cell v ∷ map cell vs) n c) (sym at)
+    ∙ ap (λ cs. c ∷ cs) (unchanged cell c vs name away)
+    ∙ ap (λ b. cond b c (cell v) ∷ map (put cell name c) vs) (sym t))
+    (λ (f : bytes_eq name v.name ≡ false).
+    let later = shifted-some (index_of name (names_of vs)) i (sym (ap place f) ∙ e) in
+    ap (λ n. set (cell v ∷ map cell vs) n c) later.2
+    ∙ ap (λ cs. cell v ∷ cs) (set-named cell c vs name later.0 d.1 later.1)
+    ∙ ap (λ b. cond b c (cell v) ∷ map (put cell name c) vs) (sym f))
 
 -- the same cells where each is the same
 pub map-same : {A B : Type 0} (f g : A → B) → ((x : A) → f x ≡ g x) → (xs : List A) → map f xs ≡ map g xs

@@ -55,13 +55,13 @@ named-at [] name i w e = cc
 named-at (v ∷ vs) name i w e =
     let place : Bool → Option ℕ = λ b. cond b (Some 0) (option_map (λ j. j + 1) (index_of name (names_of vs))) in
     cases (bytes_eq name v.name)
-        (λ (t : bytes_eq name v.name ≡ true).
-            let first : Some 0 ≡ Some i = sym (ap place t) ∙ e in
-            let at : i ≡ 0 = cc in
-            ap (λ j. (get_or (v ∷ vs) j w).name) at ∙ sym (same name v.name t))
-        (λ (f : bytes_eq name v.name ≡ false).
-            let later = shifted-some (index_of name (names_of vs)) i (sym (ap place f) ∙ e) in
-            ap (λ j. (get_or (v ∷ vs) j w).name) later.2 ∙ named-at vs name later.0 w later.1)
+    (λ (t : bytes_eq name v.name ≡ true).
+    let first : Some 0 ≡ Some i = sym (ap place t) ∙ e in
+    let at : i ≡ 0 = cc in
+    ap (λ j. (get_or (v ∷ vs) j w).name) at ∙ sym (same name v.name t))
+    (λ (f : bytes_eq name v.name ≡ false).
+    let later = shifted-some (index_of name (names_of vs)) i (sym (ap place f) ∙ e) in
+    ap (λ j. (get_or (v ∷ vs) j w).name) later.2 ∙ named-at vs name later.0 w later.1)
 
 -- its cell
 pub cell-at : (awaited : List (List ℕ)) (values : Environment) (vs : List VariableItem) (name : List ℕ) (i : ℕ) (c : Option Value) → index_of name (names_of vs) ≡ Some i → get_or (cells_of vs awaited values) i c ≡ cell_named awaited values name
@@ -69,13 +69,13 @@ cell-at awaited values [] name i c e = cc
 cell-at awaited values (v ∷ vs) name i c e =
     let place : Bool → Option ℕ = λ b. cond b (Some 0) (option_map (λ j. j + 1) (index_of name (names_of vs))) in
     cases (bytes_eq name v.name)
-        (λ (t : bytes_eq name v.name ≡ true).
-            let first : Some 0 ≡ Some i = sym (ap place t) ∙ e in
-            let at : i ≡ 0 = cc in
-            ap (λ j. get_or (cells_of (v ∷ vs) awaited values) j c) at ∙ ap (cell_named awaited values) (sym (same name v.name t)))
-        (λ (f : bytes_eq name v.name ≡ false).
-            let later = shifted-some (index_of name (names_of vs)) i (sym (ap place f) ∙ e) in
-            ap (λ j. get_or (cells_of (v ∷ vs) awaited values) j c) later.2 ∙ cell-at awaited values vs name later.0 c later.1)
+    (λ (t : bytes_eq name v.name ≡ true).
+    let first : Some 0 ≡ Some i = sym (ap place t) ∙ e in
+    let at : i ≡ 0 = cc in
+    ap (λ j. get_or (cells_of (v ∷ vs) awaited values) j c) at ∙ ap (cell_named awaited values) (sym (same name v.name t)))
+    (λ (f : bytes_eq name v.name ≡ false).
+    let later = shifted-some (index_of name (names_of vs)) i (sym (ap place f) ∙ e) in
+    ap (λ j. get_or (cells_of (v ∷ vs) awaited values) j c) later.2 ∙ cell-at awaited values vs name later.0 c later.1)
 
 -- the names of the variables that rules set
 one : (b : Bool) (name n : List ℕ) → has name (cond b (n ∷ []) []) ≡ (b && bytes_eq name n)
@@ -111,20 +111,20 @@ computed-at (v ∷ vs) name i w a e =
     let place : Bool → Option ℕ = λ b. cond b (Some 0) (option_map (λ j. j + 1) (index_of name (names_of vs))) in
     let answer : Bool → Bool = λ b. (is_computed v.role && b) || has name (computed_of vs) in
     cases (bytes_eq name v.name)
-        (λ (t : bytes_eq name v.name ≡ true).
-            let first : Some 0 ≡ Some i = sym (ap place t) ∙ e in
-            let at : 0 ≡ i = cc in
-            let away : has name (names_of vs) ≡ false = ap (λ n. has n (names_of vs)) (same name v.name t) ∙ a.0 in
-            has-computed name v vs ∙ ap answer t
-            ∙ ap (λ b. (is_computed v.role && true) || b) (computed-absent vs name away)
-            ∙ only (is_computed v.role)
-            ∙ ap (λ j. is_computed (get_or (v ∷ vs) j w).role) at)
-        (λ (f : bytes_eq name v.name ≡ false).
-            let later = shifted-some (index_of name (names_of vs)) i (sym (ap place f) ∙ e) in
-            has-computed name v vs ∙ ap answer f
-            ∙ ap (λ b. b || has name (computed_of vs)) (neither (is_computed v.role))
-            ∙ computed-at vs name later.0 w a.1 later.1
-            ∙ ap (λ j. is_computed (get_or (v ∷ vs) j w).role) (sym later.2))
+    (λ (t : bytes_eq name v.name ≡ true).
+    let first : Some 0 ≡ Some i = sym (ap place t) ∙ e in
+    let at : 0 ≡ i = cc in
+    let away : has name (names_of vs) ≡ false = ap (λ n. has n (names_of vs)) (same name v.name t) ∙ a.0 in
+    has-computed name v vs ∙ ap answer t
+    ∙ ap (λ b. (is_computed v.role && true) || b) (computed-absent vs name away)
+    ∙ only (is_computed v.role)
+    ∙ ap (λ j. is_computed (get_or (v ∷ vs) j w).role) at)
+    (λ (f : bytes_eq name v.name ≡ false).
+    let later = shifted-some (index_of name (names_of vs)) i (sym (ap place f) ∙ e) in
+    has-computed name v vs ∙ ap answer f
+    ∙ ap (λ b. b || has name (computed_of vs)) (neither (is_computed v.role))
+    ∙ computed-at vs name later.0 w a.1 later.1
+    ∙ ap (λ j. is_computed (get_or (v ∷ vs) j w).role) (sym later.2))
 
 emptied : (a b : Bool) (v : Value) → cond b None (cond a None (Some v)) ≡ cond (a || (b || false)) None (Some v)
 emptied true true v = refl
@@ -137,23 +137,16 @@ pub cells-awaited : (awaited : List (List ℕ)) (values : Environment) (vs : Lis
 cells-awaited awaited values vs name i a e =
     set-named (cell_of awaited values) None vs name i a e
     ∙ map-same _ _
-        (λ v.
-            emptied (has v.name awaited) (bytes_eq name v.name) (values v.name)
-            ∙ ap (λ b. cond (has v.name awaited || (b || false)) None (Some (values v.name))) (bytes_eq_comm name v.name)
-            ∙ ap (λ b. cond b None (Some (values v.name))) (sym (has-append v.name awaited (name ∷ []))))
-        vs
+    (λ v.
+    emptied (has v.name awaited) (bytes_eq name v.name) (values v.name)
+    ∙ ap (λ b. cond (has v.name awaited || (b || false)) None (Some (values v.name))) (bytes_eq_comm name v.name)
+    ∙ ap (λ b. cond b None (Some (values v.name))) (sym (has-append v.name awaited (name ∷ []))))
+    vs
 
 -- why no order can be found: the target of the first formula that is left
 pub refused-absent : (vs : List VariableItem) (fs : List Formula) (i : ℕ) (d : Formula) (rest : List Formula) → drop i fs ≡ d ∷ rest → index_of d.target (names_of vs) ≡ None → SetComputedOnce vs fs → ⊥
 refused-absent vs fs i d rest e h s =
     false≢true (sym (computed-absent vs d.target (index_of-none d.target (names_of vs) h)) ∙ AllByRecursion-at _ fs i d rest s.computed e)
-
-pub refused-given : (vs : List VariableItem) (fs : List Formula) (i : ℕ) (d : Formula) (rest : List Formula) (n : ℕ) (w : VariableItem) → AreDistinct (names_of vs) → drop i fs ≡ d ∷ rest → index_of d.target (names_of vs) ≡ Some n → is_computed (get_or vs n w).role ≡ false → SetComputedOnce vs fs → ⊥
-refused-given vs fs i d rest n w a e h r s =
-    false≢true (sym r ∙ sym (computed-at vs d.target n w a h) ∙ AllByRecursion-at _ fs i d rest s.computed e)
-
-pub refused-twice : (vs : List VariableItem) (fs : List Formula) (i : ℕ) (d : Formula) (rest : List Formula) → drop i fs ≡ d ∷ rest → has d.target (targets_of (take i fs)) ≡ true → SetComputedOnce vs fs → ⊥
-refused-twice vs fs i d rest e h s = false≢true (sym (target-before fs i d rest s.once e) ∙ h)
 
 -- a cell is empty where its name is awaited
 some-unless : (b : Bool) (v : Value) → is_some (cond b None (Some v)) ≡ not b
@@ -168,6 +161,20 @@ pub awaited-at : (awaited : List (List ℕ)) (values : Environment) (vs : List V
 awaited-at awaited values vs name i cells cell e h g =
     sym (not-twice (has name awaited))
     ∙ ap not (sym (some-unless (has name awaited) (values name)) ∙ sym (ap is_some (g ∙ ap (λ (cs : List (Option Value)). get_or cs i cell) e ∙ cell-at awaited values vs name i cell h)))
+
+-- what the test of a target tells
+pub may_be_set-is : (awaited : List (List ℕ)) (values : Environment) (vs : List VariableItem) (name : List ℕ) (i : ℕ) (v : VariableItem) (cells : List (Option Value)) (cell : Option Value) → AreDistinct (names_of vs) → index_of name (names_of vs) ≡ Some i → cells ≡ cells_of vs awaited values → v ≡ get_or vs i v → cell ≡ get_or cells i cell → (is_computed v.role && is_some cell) ≡ (has name (computed_of vs) && not (has name awaited))
+may_be_set-is awaited values vs name i v cells cell a h e f g =
+    ap (λ (w : VariableItem). is_computed w.role && is_some cell) f
+    ∙ ap (λ b. b && is_some cell) (sym (computed-at vs name i v a h))
+    ∙ ap (λ b. has name (computed_of vs) && b) (sym (not-twice (is_some cell)) ∙ ap not (sym (awaited-at awaited values vs name i cells cell e h g)))
+
+-- the target isn't a computed variable, or another formula before sets it
+pub refused-set : (vs : List VariableItem) (fs : List Formula) (i : ℕ) (d : Formula) (rest : List Formula) → drop i fs ≡ d ∷ rest → (has d.target (computed_of vs) && not (has d.target (targets_of (take i fs)))) ≡ false → SetComputedOnce vs fs → ⊥
+refused-set vs fs i d rest e r s =
+    false≢true (sym r
+        ∙ ap (λ b. b && not (has d.target (targets_of (take i fs)))) (AllByRecursion-at _ fs i d rest s.computed e)
+        ∙ ap not (target-before fs i d rest s.once e))
 
 -- one formula more
 pub cells-push : (fs : List Formula) (values : Environment) (vs : List VariableItem) (i : ℕ) (d : Formula) (n : ℕ) (cells : List (Option Value)) → AreDistinct (names_of vs) → take (i + 1) fs ≡ take i fs ++ d ∷ [] → index_of d.target (names_of vs) ≡ Some n → cells ≡ cells_of vs (targets_of (take i fs)) values → set cells n None ≡ cells_of vs (targets_of (take (i + 1) fs)) values

@@ -1,5 +1,5 @@
 -- Lists of formulas: their targets and definitions, where one formula follows others.
-use Rattle.std.proofs.Common.{◌≡◌, ℕ, ◌+◌, ◌<◌, Bool, true, false, cond, suc, zero, List, [], ◌∷◌, ◌++◌, map, length, take, drop, get_or, Option, Some, None, refl, ap, sym, ◌∙◌, subst}
+use Rattle.std.proofs.Common.{◌≡◌, ℕ, ◌+◌, ◌<◌, Bool, true, false, not, cond, suc, zero, List, [], ◌∷◌, ◌++◌, map, length, take, drop, get_or, Option, Some, None, refl, ap, sym, ◌∙◌, subst}
 use mathlib.Core.Bool.{◌||◌}
 use Rattle.std.specs.List.{AllByRecursion}
 use Rattle.std.specs.Str.{bytes_eq}
@@ -8,10 +8,10 @@ use Rattle.std.proofs.lemmas.List.{map-append, drop_more, take_more}
 use Rattle.m_names.specs.Names.{has, AreDistinct}
 use Rattle.m_ast.specs.declared.formula.Formula.{Formula}
 use Rattle.m_ast.specs.declared.variable.VariableItem.{VariableItem}
-use Rattle.micro_m.specs.Formulas.{computed_of, targets_of}
+use Rattle.micro_m.specs.Formulas.{names_of, computed_of, targets_of}
 use Rattle.micro_m.specs.Values.{definition_of}
 use Rattle.micro_m.specs.Cells.{SetComputedOnce}
-use Rattle.micro_m.proofs.NameLemmas.{same, itself, cases, bytes_eq_comm, or-false, or-true_right, has-append}
+use Rattle.micro_m.proofs.NameLemmas.{not-true, same, itself, cases, bytes_eq_comm, or-false, or-true_right, has-append}
 
 -- a name that no formula sets has no definition
 pub definition_of-none : (fs : List Formula) (name : List ℕ) → has name (targets_of fs) ≡ false → definition_of fs name ≡ None
@@ -39,16 +39,16 @@ definition_of-target (f ∷ fs) zero d rest a e =
     ∙ ap (λ b. cond b (Some d.sum) (definition_of fs d.target)) (itself d.target)
 definition_of-target (f ∷ fs) (suc i) d rest a e =
     cases (bytes_eq d.target f.target)
-        (λ (t : bytes_eq d.target f.target ≡ true).
-            absurd (false≢true (sym a.0 ∙ ap (λ n. has n (targets_of fs)) (sym (same d.target f.target t)) ∙ has-target fs i d rest e)))
-        (λ (g : bytes_eq d.target f.target ≡ false).
-            ap (λ b. cond b (Some f.sum) (definition_of fs d.target)) g ∙ definition_of-target fs i d rest a.1 e)
+    (λ (t : bytes_eq d.target f.target ≡ true).
+    absurd (false≢true (sym a.0 ∙ ap (λ n. has n (targets_of fs)) (sym (same d.target f.target t)) ∙ has-target fs i d rest e)))
+    (λ (g : bytes_eq d.target f.target ≡ false).
+    ap (λ b. cond b (Some f.sum) (definition_of fs d.target)) g ∙ definition_of-target fs i d rest a.1 e)
 
 -- the first of the formulas that are left sets what no formula before it sets, nor any after it
 other-target : (fs : List Formula) (i : ℕ) (f d : Formula) (rest : List Formula) → has f.target (targets_of fs) ≡ false → drop i fs ≡ d ∷ rest → bytes_eq d.target f.target ≡ false
 other-target fs i f d rest a e = cases (bytes_eq d.target f.target)
     (λ (t : bytes_eq d.target f.target ≡ true).
-        absurd (false≢true (sym a ∙ ap (λ n. has n (targets_of fs)) (sym (same d.target f.target t)) ∙ has-target fs i d rest e)))
+    absurd (false≢true (sym a ∙ ap (λ n. has n (targets_of fs)) (sym (same d.target f.target t)) ∙ has-target fs i d rest e)))
     (λ (g : bytes_eq d.target f.target ≡ false). g)
 
 pub target-before : (fs : List Formula) (i : ℕ) (d : Formula) (rest : List Formula) → AreDistinct (targets_of fs) → drop i fs ≡ d ∷ rest → has d.target (targets_of (take i fs)) ≡ false
@@ -78,7 +78,7 @@ AllByRecursion-push : (P : Formula → Type 0) (fs : List Formula) (d : Formula)
 AllByRecursion-push P [] d a h = (h, tt)
 AllByRecursion-push P (f ∷ fs) d a h = (a.0, AllByRecursion-push P fs d a.1 h)
 
-AreDistinct-push : (ns : List (List ℕ)) (t : List ℕ) → AreDistinct ns → has t ns ≡ false → AreDistinct (ns ++ t ∷ [])
+pub AreDistinct-push : (ns : List (List ℕ)) (t : List ℕ) → AreDistinct ns → has t ns ≡ false → AreDistinct (ns ++ t ∷ [])
 AreDistinct-push [] t a h = (refl, tt)
 AreDistinct-push (n ∷ ns) t a h =
     let k = or-false (bytes_eq t n) (has t ns) h in
@@ -87,8 +87,8 @@ AreDistinct-push (n ∷ ns) t a h =
 pub SetComputedOnce-more : (vs : List VariableItem) (fs : List Formula) (i : ℕ) (d : Formula) → take (i + 1) fs ≡ take i fs ++ d ∷ [] → SetComputedOnce vs (take i fs) → has d.target (computed_of vs) ≡ true → has d.target (targets_of (take i fs)) ≡ false → SetComputedOnce vs (take (i + 1) fs)
 SetComputedOnce-more vs fs i d e s c h =
     subst (λ (gs : List Formula). SetComputedOnce vs gs) (sym e) record {
-        computed = AllByRecursion-push _ (take i fs) d s.computed c;
-        once = subst AreDistinct (sym (map-append (λ (f : Formula). f.target) (take i fs) (d ∷ []))) (AreDistinct-push (targets_of (take i fs)) d.target s.once h)
+      computed = AllByRecursion-push _ (take i fs) d s.computed c;
+      once = subst AreDistinct (sym (map-append (λ (f : Formula). f.target) (take i fs) (d ∷ []))) (AreDistinct-push (targets_of (take i fs)) d.target s.once h);
     }
 
 -- the formulas that are left and those that are done, at the turn of one
@@ -97,3 +97,15 @@ left-at fs i d h e = drop_more fs i d h ∙ ap (λ (f : Formula). f ∷ drop (i 
 
 pub done-at : (fs : List Formula) (i : ℕ) (d : Formula) → i < length fs → d ≡ get_or fs i d → take (i + 1) fs ≡ take i fs ++ d ∷ []
 done-at fs i d h e = take_more fs i d h ∙ ap (λ (f : Formula). take i fs ++ f ∷ []) (sym e)
+
+-- a variable more, whose name was added and is new
+pub names_of-push : (variables : List VariableItem) (v : VariableItem) (old new : List (List ℕ)) (name : List ℕ) (fresh : Bool) → fresh ≡ true → fresh ≡ not (has name old) → new ≡ cond fresh (old ++ name ∷ []) old → v.name ≡ name → old ≡ names_of variables → new ≡ names_of (variables ++ v ∷ [])
+names_of-push variables v old new name fresh t f e n s =
+    e ∙ ap (λ b. cond b (old ++ name ∷ []) old) t
+    ∙ ap (λ x. old ++ x ∷ []) (sym n)
+    ∙ ap (λ ns. ns ++ v.name ∷ []) s
+    ∙ sym (map-append (λ (w : VariableItem). w.name) variables (v ∷ []))
+
+pub AreDistinct-added : (old new : List (List ℕ)) (name : List ℕ) (fresh : Bool) → fresh ≡ true → fresh ≡ not (has name old) → new ≡ cond fresh (old ++ name ∷ []) old → AreDistinct old → AreDistinct new
+AreDistinct-added old new name fresh t f e a =
+    subst AreDistinct (sym (e ∙ ap (λ b. cond b (old ++ name ∷ []) old) t)) (AreDistinct-push old name a (not-true (has name old) (sym f ∙ t)))

@@ -1,5 +1,5 @@
 -- Names, and lists of variables by their names.
-use Rattle.std.proofs.Common.{◌≡◌, ℕ, ◌+◌, ◌<◌, Bool, true, false, cond, suc, zero, List, [], ◌∷◌, ◌++◌, map, length, get_or, set, drop, Option, Some, None, refl, ap, sym, ◌∙◌, subst, arith, add-one}
+use Rattle.std.proofs.Common.{◌≡◌, ℕ, ◌+◌, ◌<◌, Bool, true, false, not, cond, suc, zero, List, [], ◌∷◌, ◌++◌, map, length, get_or, set, drop, Option, Some, None, refl, ap, sym, ◌∙◌, subst, arith, add-one}
 use mathlib.Core.Bool.{◌||◌}
 use Rattle.std.specs.Option.{option_map, option_and_then}
 use Rattle.std.specs.Str.{bytes_eq}
@@ -21,12 +21,16 @@ pub cases : (b : Bool) {P : Type 0} → (b ≡ true → P) → (b ≡ false → 
 cases true t f = t refl
 cases false t f = f refl
 
+pub not-true : (b : Bool) → not b ≡ true → b ≡ false
+not-true true e = absurd (false≢true e)
+not-true false e = refl
+
 pub bytes_eq_comm : (a b : List ℕ) → bytes_eq a b ≡ bytes_eq b a
 bytes_eq_comm a b = cases (bytes_eq a b)
     (λ (t : bytes_eq a b ≡ true). let e = same a b t in subst (λ (x : List ℕ). bytes_eq a x ≡ bytes_eq x a) e refl)
     (λ (f : bytes_eq a b ≡ false). cases (bytes_eq b a)
-        (λ (t : bytes_eq b a ≡ true). absurd (false≢true (sym f ∙ subst (λ (x : List ℕ). bytes_eq a x ≡ true) (sym (same b a t)) (itself a))))
-        (λ (g : bytes_eq b a ≡ false). f ∙ sym g))
+    (λ (t : bytes_eq b a ≡ true). absurd (false≢true (sym f ∙ subst (λ (x : List ℕ). bytes_eq a x ≡ true) (sym (same b a t)) (itself a))))
+    (λ (g : bytes_eq b a ≡ false). f ∙ sym g))
 
 pub or-false : (a b : Bool) → (a || b) ≡ false → (a ≡ false) × (b ≡ false)
 or-false true b e = absurd (false≢true (sym e))
@@ -68,3 +72,7 @@ present false o c n j e f =
 pub index_of-some : (x : List ℕ) (ns : List (List ℕ)) (i : ℕ) → index_of x ns ≡ Some i → (has x ns ≡ true) × (i < length ns)
 index_of-some x [] i e = cc
 index_of-some x (n ∷ ns) i e = present (bytes_eq x n) (index_of x ns) (has x ns) (length ns) i e (index_of-some x ns)
+
+-- a name's number is below the length of any list as long as the names
+pub number_within : {X : Type 0} (xs : List X) (x : List ℕ) (ns : List (List ℕ)) (i : ℕ) → index_of x ns ≡ Some i → length xs ≡ length ns → i < length xs
+number_within xs x ns i e h = omega (arith, (index_of-some x ns i e).1)

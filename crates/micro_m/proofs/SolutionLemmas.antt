@@ -12,9 +12,9 @@ use Rattle.m_ast.specs.declared.variable.VariableItem.{VariableItem}
 use Rattle.micro_m.specs.Formulas.{names_of, targets_of, words_of_sum, ReadsEarlier, AreInOrder}
 use Rattle.micro_m.specs.Values.{Environment, sum_value, definition_of, value_in, value_of}
 use Rattle.micro_m.specs.Solutions.{IsSolution}
-use Rattle.micro_m.proofs.NameLemmas.{same, itself, cases, bytes_eq_comm, or-false}
+use Rattle.micro_m.proofs.NameLemmas.{not-true, same, itself, cases, bytes_eq_comm, or-false}
 use Rattle.micro_m.proofs.FormulaLemmas.{definition_of-none}
-use Rattle.micro_m.proofs.TurnLemmas.{Settled, settled-none, settled-more, sum_value-same, free, not-true}
+use Rattle.micro_m.proofs.TurnLemmas.{Settled, settled-none, settled-more, sum_value-same, free}
 use Rattle.micro_m.proofs.StageLemmas.{all-from_reads, all-free}
 
 -- each formula is the definition of its target
@@ -42,7 +42,7 @@ settled-all vs fs given [] k a r s = let e : k ≡ k + 0 = omega arith in subst 
 settled-all vs fs given (d ∷ rest) k a r s =
     let e : suc k + length rest ≡ k + suc (length rest) = omega arith in
     subst (λ n. Settled fs given [] n) e
-        (settled-all vs fs given rest (suc k) a.1 r.1 (settled-more fs given d (targets_of rest) k a.0 (words-free vs d rest r) s))
+    (settled-all vs fs given rest (suc k) a.1 r.1 (settled-more fs given d (targets_of rest) k a.0 (words-free vs d rest r) s))
 
 pub settled-whole : (vs : List VariableItem) (fs : List Formula) (given : Environment) → AreInOrder vs fs → Settled fs given [] (length fs)
 settled-whole vs fs given order =
@@ -55,7 +55,7 @@ whole-turn vs fs given order =
     let s = settled-whole vs fs given order in
     let turns : length fs + 1 ≡ suc (length fs) = omega arith in
     let each : (name : List ℕ) → value_of fs given name ≡ value_in fs given (suc (length fs + 1)) name = λ name.
-        ap (λ n. value_in fs given n name) turns ∙ sym (s.stays name refl (length fs + 1) (omega arith)) in
+    ap (λ n. value_in fs given n name) turns ∙ sym (s.stays name refl (length fs + 1) (omega arith)) in
     λ i. λ name. each name i
 
 set-all : (fs gs : List Formula) (given : Environment) → value_of fs given ≡ value_in fs given (suc (length fs + 1)) → AllByRecursion (Defines fs) gs → AllByRecursion (λ formula. value_of fs given formula.target ≡ sum_value (value_of fs given) formula.sum) gs
@@ -69,8 +69,8 @@ solves vs fs given order =
     record {
       set = set-all fs fs given (whole-turn vs fs given order) (defines-all fs order.once);
       unset = λ name away.
-        ap (λ n. value_in fs given n name) turns
-        ∙ ap (λ d. option_map_or (sum_value (value_in fs given (length fs))) d (given name)) (definition_of-none fs name away)
+          ap (λ n. value_in fs given n name) turns
+          ∙ ap (λ d. option_map_or (sum_value (value_in fs given (length fs))) d (given name)) (definition_of-none fs name away);
     }
 
 -- two solutions agree on what isn't still to come, and so on all
@@ -78,14 +78,14 @@ agree : (vs : List VariableItem) (rest : List Formula) (e1 e2 : Environment) →
 agree vs [] e1 e2 a b r h name = h name refl
 agree vs (d ∷ rest) e1 e2 a b r h name =
     let same_sum : sum_value e1 d.sum ≡ sum_value e2 d.sum =
-        sum_value-same (free (targets_of (d ∷ rest))) e1 e2 d.sum (λ n t. h n (not-true (has n (targets_of (d ∷ rest))) t)) (words-free vs d rest r) in
+    sum_value-same (free (targets_of (d ∷ rest))) e1 e2 d.sum (λ n t. h n (not-true (has n (targets_of (d ∷ rest))) t)) (words-free vs d rest r) in
     agree vs rest e1 e2 a.1 b.1 r.1
-        (λ n away. cases (bytes_eq n d.target)
-            (λ (t : bytes_eq n d.target ≡ true).
-                let is : d.target ≡ n = sym (same n d.target t) in
-                subst (λ x. e1 x ≡ e2 x) is (a.0 ∙ same_sum ∙ sym b.0))
-            (λ (f : bytes_eq n d.target ≡ false). h n (ap (λ x. x || has n (targets_of rest)) f ∙ away)))
-        name
+    (λ n away. cases (bytes_eq n d.target)
+    (λ (t : bytes_eq n d.target ≡ true).
+    let is : d.target ≡ n = sym (same n d.target t) in
+    subst (λ x. e1 x ≡ e2 x) is (a.0 ∙ same_sum ∙ sym b.0))
+    (λ (f : bytes_eq n d.target ≡ false). h n (ap (λ x. x || has n (targets_of rest)) f ∙ away)))
+    name
 
 pub one : (vs : List VariableItem) (fs : List Formula) (given values : Environment) (name : List ℕ) → AreInOrder vs fs → IsSolution fs given values → values name ≡ value_of fs given name
 one vs fs given values name order s =

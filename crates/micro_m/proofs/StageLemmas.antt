@@ -17,7 +17,7 @@ use Rattle.micro_m.specs.Formulas.{names_of, computed_of, targets_of, words_of_s
 use Rattle.micro_m.specs.Values.{Environment, sum_value, definition_of, value_in, value_of}
 use Rattle.micro_m.specs.Terms.{sum_of}
 use Rattle.micro_m.specs.Cells.{cell_of, cells_of, cells_after, look, SetComputedOnce}
-use Rattle.micro_m.proofs.NameLemmas.{same, itself, cases, bytes_eq_comm, or-false, or-true_right, index_of-none}
+use Rattle.micro_m.proofs.NameLemmas.{not-true, same, itself, cases, bytes_eq_comm, or-false, or-true_right, index_of-none}
 use Rattle.micro_m.proofs.TermLemmas.{found, where_all, sum_of-known}
 use Rattle.micro_m.proofs.CellLemmas.{known, cell_named, look-cells, put, set-named, map-same}
 use Rattle.micro_m.proofs.FormulaLemmas.{definition_of-target, target-after, AllByRecursion-at}
@@ -28,13 +28,9 @@ use Rattle.micro_m.proofs.TurnLemmas.{Settled, settled-none, settled-more, cells
 abbrev pub reads_earlier : List VariableItem → Formula → List Formula → Bool
 reads_earlier vs d rest = list_all (known vs (targets_of (d ∷ rest))) (words_of_sum d.sum)
 
-both : (a b : Bool) → (a && b) ≡ true → (a ≡ true) × (b ≡ true)
+pub both : (a b : Bool) → (a && b) ≡ true → (a ≡ true) × (b ≡ true)
 both true b e = (refl, e)
 both false b e = absurd (false≢true e)
-
-not-true : (b : Bool) → not b ≡ true → b ≡ false
-not-true true e = absurd (false≢true e)
-not-true false e = refl
 
 and-both : (a b : Bool) → a ≡ true → b ≡ true → (a && b) ≡ true
 and-both true b e f = f
@@ -64,18 +60,18 @@ all-from_reads vs awaited (w ∷ ws) h =
 cells-more : (awaited : List (List ℕ)) (target : List ℕ) (before after : Environment) (vs : List VariableItem) (value : Value) → has target awaited ≡ false → value ≡ after target → ((name : List ℕ) → has name (target ∷ awaited) ≡ false → before name ≡ after name) → map (put (cell_of (target ∷ awaited) before) target (Some value)) vs ≡ cells_of vs awaited after
 cells-more awaited target before after vs value alone is stays = map-same _ _
     (λ v. cases (bytes_eq target v.name)
-        (λ (t : bytes_eq target v.name ≡ true).
-            let there : (name : List ℕ) → target ≡ name → Some value ≡ cell_named awaited after name = λ name e. subst (λ n. Some value ≡ cell_named awaited after n) e (ap (λ (x : Value). Some x) is ∙ sym (ap (λ b. cond b None (Some (after target))) alone)) in
-            ap (λ b. cond b (Some value) (cell_of (target ∷ awaited) before v)) t ∙ there v.name (same target v.name t))
-        (λ (f : bytes_eq target v.name ≡ false).
-            let other : bytes_eq v.name target ≡ false = bytes_eq_comm v.name target ∙ f in
-            ap (λ b. cond b (Some value) (cell_of (target ∷ awaited) before v)) f
-            ∙ ap (λ b. cond (b || has v.name awaited) None (Some (before v.name))) other
-            ∙ cases (has v.name awaited)
-                (λ (a : has v.name awaited ≡ true).
-                    ap (λ b. cond b None (Some (before v.name))) a ∙ sym (ap (λ b. cond b None (Some (after v.name))) a))
-                (λ (a : has v.name awaited ≡ false).
-                    ap (λ (x : Value). cond (has v.name awaited) None (Some x)) (stays v.name (ap (λ b. b || has v.name awaited) other ∙ a)))))
+    (λ (t : bytes_eq target v.name ≡ true).
+    let there : (name : List ℕ) → target ≡ name → Some value ≡ cell_named awaited after name = λ name e. subst (λ n. Some value ≡ cell_named awaited after n) e (ap (λ (x : Value). Some x) is ∙ sym (ap (λ b. cond b None (Some (after target))) alone)) in
+    ap (λ b. cond b (Some value) (cell_of (target ∷ awaited) before v)) t ∙ there v.name (same target v.name t))
+    (λ (f : bytes_eq target v.name ≡ false).
+    let other : bytes_eq v.name target ≡ false = bytes_eq_comm v.name target ∙ f in
+    ap (λ b. cond b (Some value) (cell_of (target ∷ awaited) before v)) f
+    ∙ ap (λ b. cond (b || has v.name awaited) None (Some (before v.name))) other
+    ∙ cases (has v.name awaited)
+    (λ (a : has v.name awaited ≡ true).
+    ap (λ b. cond b None (Some (before v.name))) a ∙ sym (ap (λ b. cond b None (Some (after v.name))) a))
+    (λ (a : has v.name awaited ≡ false).
+    ap (λ (x : Value). cond (has v.name awaited) None (Some x)) (stays v.name (ap (λ b. b || has v.name awaited) other ∙ a)))))
     vs
 
 option_cases : (o : Option ℕ) {P : Type 0} → (o ≡ None → P) → ((i : ℕ) → o ≡ Some i → P) → P
@@ -96,22 +92,22 @@ cells_after-turn vs fs given d rest k distinct there alone defined settled =
     let is : value ≡ after d.target = sym (ap (λ o. option_map_or (sum_value before) o (given d.target)) defined) in
     let put_at : Option Value → ℕ → Option (List (Option Value)) = λ o n. option_map (λ (x : Value). set cells n (Some x)) o in
     option_cases (index_of d.target (names_of vs))
-        (λ (e : index_of d.target (names_of vs) ≡ None).
-            absurd (false≢true (sym (index_of-none d.target (names_of vs) e) ∙ there)))
-        (λ (n : ℕ) (e : index_of d.target (names_of vs) ≡ Some n).
-            ap (option_and_then (put_at (sum_of (look (names_of vs) cells) d.sum))) e
-            ∙ ap (λ o. put_at o n) known_sum
-            ∙ cases (reads_earlier vs d rest)
-                (λ (t : reads_earlier vs d rest ≡ true).
-                    ap (λ b. put_at (cond b (Some value) None) n) t
-                    ∙ ap (λ (x : List (Option Value)). Some x)
-                        (set-named (cell_of awaited before) (Some value) vs d.target n distinct e
-                        ∙ cells-more (targets_of rest) d.target before after vs value alone is
-                            (λ name away. sym (settled.stays name away (suc k) (omega arith))))
-                    ∙ sym (ap (λ b. cond b (Some (cells_of vs (targets_of rest) after)) None) t))
-                (λ (f : reads_earlier vs d rest ≡ false).
-                    ap (λ b. put_at (cond b (Some value) None) n) f
-                    ∙ sym (ap (λ b. cond b (Some (cells_of vs (targets_of rest) after)) None) f)))
+    (λ (e : index_of d.target (names_of vs) ≡ None).
+    absurd (false≢true (sym (index_of-none d.target (names_of vs) e) ∙ there)))
+    (λ (n : ℕ) (e : index_of d.target (names_of vs) ≡ Some n).
+    ap (option_and_then (put_at (sum_of (look (names_of vs) cells) d.sum))) e
+    ∙ ap (λ o. put_at o n) known_sum
+    ∙ cases (reads_earlier vs d rest)
+    (λ (t : reads_earlier vs d rest ≡ true).
+    ap (λ b. put_at (cond b (Some value) None) n) t
+    ∙ ap (λ (x : List (Option Value)). Some x)
+    (set-named (cell_of awaited before) (Some value) vs d.target n distinct e
+    ∙ cells-more (targets_of rest) d.target before after vs value alone is
+    (λ name away. sym (settled.stays name away (suc k) (omega arith))))
+    ∙ sym (ap (λ b. cond b (Some (cells_of vs (targets_of rest) after)) None) t))
+    (λ (f : reads_earlier vs d rest ≡ false).
+    ap (λ b. put_at (cond b (Some value) None) n) f
+    ∙ sym (ap (λ b. cond b (Some (cells_of vs (targets_of rest) after)) None) f)))
 
 -- a formula that is computed reads nothing that is awaited, so the rest is settled one turn later
 pub settled-turn : (vs : List VariableItem) (fs : List Formula) (given : Environment) (d : Formula) (rest : List Formula) (k : ℕ) → definition_of fs d.target ≡ Some d.sum → reads_earlier vs d rest ≡ true → Settled fs given (targets_of (d ∷ rest)) k → Settled fs given (targets_of rest) (suc k)
@@ -139,7 +135,7 @@ pub Stage-first : (vs : List VariableItem) (fs : List Formula) (given : Environm
 Stage-first vs fs given cells e = record {
   values = e ∙ cells-first fs given vs;
   settled = settled-none fs given;
-  earlier = λ h. h
+  earlier = λ h. h;
 }
 
 -- a computed variable is a variable
@@ -156,10 +152,10 @@ cells_after-stage vs fs given cells i d distinct once left stage =
     let awaited : targets_of (drop i fs) ≡ targets_of (d ∷ rest) = ap targets_of left in
     ap (cells_after (names_of vs) d) (stage.values ∙ ap (λ ts. cells_of vs ts (value_in fs given (suc i))) awaited)
     ∙ cells_after-turn vs fs given d rest i distinct
-        (computed-present vs d.target (AllByRecursion-at _ fs i d rest once.computed left))
-        (target-after fs i d rest once.once left)
-        (definition_of-target fs i d rest once.once left)
-        (subst (λ ts. Settled fs given ts i) awaited stage.settled)
+    (computed-present vs d.target (AllByRecursion-at _ fs i d rest once.computed left))
+    (target-after fs i d rest once.once left)
+    (definition_of-target fs i d rest once.once left)
+    (subst (λ ts. Settled fs given ts i) awaited stage.settled)
 
 pub Stage-more : (vs : List VariableItem) (fs : List Formula) (given : Environment) (cells new : List (Option Value)) (i : ℕ) (d : Formula) → AreDistinct (names_of vs) → SetComputedOnce vs fs → drop i fs ≡ d ∷ drop (i + 1) fs → Stage vs fs given cells i → cells_after (names_of vs) d cells ≡ Some new → Stage vs fs given new (i + 1)
 Stage-more vs fs given cells new i d distinct once left stage after =
@@ -169,8 +165,8 @@ Stage-more vs fs given cells new i d distinct once left stage after =
     record {
       values = sym told.1 ∙ ap (λ n. cells_of vs (targets_of rest) (value_in fs given (suc n))) (sym (add-one i));
       settled = subst (λ n. Settled fs given (targets_of rest) n) (sym (add-one i))
-        (settled-turn vs fs given d rest i (definition_of-target fs i d rest once.once left) told.0 (subst (λ ts. Settled fs given ts i) awaited stage.settled));
-      earlier = λ h. stage.earlier (subst (λ (gs : List Formula). ReadsEarlier (names_of vs) gs) (sym left) (reads-from_all vs (targets_of (d ∷ rest)) (words_of_sum d.sum) told.0, h))
+          (settled-turn vs fs given d rest i (definition_of-target fs i d rest once.once left) told.0 (subst (λ ts. Settled fs given ts i) awaited stage.settled));
+      earlier = λ h. stage.earlier (subst (λ (gs : List Formula). ReadsEarlier (names_of vs) gs) (sym left) (reads-from_all vs (targets_of (d ∷ rest)) (words_of_sum d.sum) told.0, h));
     }
 
 -- where the next formula can't be computed, the formulas aren't in order
@@ -189,7 +185,7 @@ Stage-last vs fs given cells i low high stage =
     let all : i ≡ length fs = omega arith in
     let turns : suc i ≡ length fs + 1 = omega arith in
     ap (λ (cs : List (Option Value)). map (λ c. unwrap_or c Undef) cs)
-        (stage.values ∙ ap (λ (gs : List Formula). cells_of vs (targets_of gs) (value_in fs given (suc i))) (drop_all i fs low) ∙ ap (λ n. cells_of vs [] (value_in fs given n)) turns)
+    (stage.values ∙ ap (λ (gs : List Formula). cells_of vs (targets_of gs) (value_in fs given (suc i))) (drop_all i fs low) ∙ ap (λ n. cells_of vs [] (value_in fs given n)) turns)
     ∙ full vs (value_in fs given (length fs + 1))
   where
     full : (ws : List VariableItem) (values : Environment) → map (λ c. unwrap_or c Undef) (cells_of ws [] values) ≡ map (λ w. values w.name) ws
@@ -201,7 +197,7 @@ pub Stage-order : (vs : List VariableItem) (fs : List Formula) (given : Environm
 Stage-order vs fs given cells i low once stage = record {
   computed = once.computed;
   once = once.once;
-  earlier = stage.earlier (subst (λ (gs : List Formula). ReadsEarlier (names_of vs) gs) (sym (drop_all i fs low)) tt)
+  earlier = stage.earlier (subst (λ (gs : List Formula). ReadsEarlier (names_of vs) gs) (sym (drop_all i fs low)) tt);
 }
 
 -- a slice written through a borrow of a whole vector

@@ -56,30 +56,30 @@ times_of-known : (p : List ℕ → Bool) (values : Environment) (product : Value
 times_of-known p values product [] = refl
 times_of-known p values product (factor ∷ factors) =
     chained p (words_of_operand factor.operand) (words_of_product factors) (factor_value values factor) _ _
-        (λ value. times_of (found p values) (op_value Mul product value Undef) factors)
-        (factor_of-known p values factor)
-        (times_of-known p values (op_value Mul product (factor_value values factor) Undef) factors)
+    (λ value. times_of (found p values) (op_value Mul product value Undef) factors)
+    (factor_of-known p values factor)
+    (times_of-known p values (op_value Mul product (factor_value values factor) Undef) factors)
 
 product_of-known : (p : List ℕ → Bool) (values : Environment) (factors : List Factor) → product_of (found p values) factors ≡ where_all p (words_of_product factors) (product_value values factors)
 product_of-known p values [] = refl
 product_of-known p values (factor ∷ factors) =
     chained p (words_of_operand factor.operand) (words_of_product factors) (factor_value values factor) _ _
-        (λ value. times_of (found p values) value factors)
-        (factor_of-known p values factor)
-        (times_of-known p values (factor_value values factor) factors)
+    (λ value. times_of (found p values) value factors)
+    (factor_of-known p values factor)
+    (times_of-known p values (factor_value values factor) factors)
 
 plus_of-known : (p : List ℕ → Bool) (values : Environment) (sum : Value) (summands : List Summand) → plus_of (found p values) sum summands ≡ where_all p (words_of_sum summands) (plus values sum summands)
 plus_of-known p values sum [] = refl
 plus_of-known p values sum (summand ∷ summands) =
     chained p (words_of_product summand.factors) (words_of_sum summands) (product_value values summand.factors) _ _
-        (λ value. plus_of (found p values) (op_value (addition summand.minus) sum value Undef) summands)
-        (product_of-known p values summand.factors)
-        (plus_of-known p values (op_value (addition summand.minus) sum (product_value values summand.factors) Undef) summands)
+    (λ value. plus_of (found p values) (op_value (addition summand.minus) sum value Undef) summands)
+    (product_of-known p values summand.factors)
+    (plus_of-known p values (op_value (addition summand.minus) sum (product_value values summand.factors) Undef) summands)
 
 pub sum_of-known : (p : List ℕ → Bool) (values : Environment) (sum : List Summand) → sum_of (found p values) sum ≡ where_all p (words_of_sum sum) (sum_value values sum)
 sum_of-known p values [] = refl
 sum_of-known p values (summand ∷ summands) =
     chained p (words_of_product summand.factors) (words_of_sum summands) (product_value values summand.factors) _ _
-        (λ value. plus_of (found p values) value summands)
-        (product_of-known p values summand.factors)
-        (plus_of-known p values (product_value values summand.factors) summands)
+    (λ value. plus_of (found p values) value summands)
+    (product_of-known p values summand.factors)
+    (plus_of-known p values (product_value values summand.factors) summands)

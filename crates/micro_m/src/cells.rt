@@ -31,5 +31,8 @@ pub fn filled(alloc: Global, values: &[Value]) -> Result<Vec<Option<Value>>, All
 pub fn values_of(alloc: Global, cells: &[Option<Value>]) -> Result<Vec<Value>, AllocError>
     ensures { IfOk result (λ values. values.items ≡ map (λ c. unwrap_or c Undef) cells.now) }
 {
-    cells.iter().map(|cell| cell.unwrap_or(Value::Undef)).collect(alloc)
+    cells
+        .iter()
+        .map(|cell| cell.unwrap_or(Value::Undef))
+        .collect(alloc)
 }

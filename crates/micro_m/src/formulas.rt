@@ -1,6 +1,6 @@
 //! Formulas computed one after the other.
 
-ghost use Rattle.std.specs.Prelude.{◌≡◌, IfOk, IfSome, IfNone, map, length, is_some, unwrap_or};
+ghost use Rattle.std.specs.Prelude.{◌≡◌, IfOk, IfSome, IfNone, map, length, is_some, unwrap_or, ◌&&◌};
 ghost use Rattle.m_names.specs.Names.{AreDistinct};
 ghost use Rattle.micro_m.specs.Formulas.{names_of, targets_of, AreInOrder, is_computed};
 ghost use Rattle.micro_m.specs.Values.{value_of, environment};
@@ -23,6 +23,13 @@ fn is_computed(role: &Role) -> bool
     }
 }
 
+/// Whether a formula may set the variable: rules set it, and no earlier formula emptied its cell.
+fn may_be_set(variable: &VariableItem, cell: Option<Value>) -> bool
+    ensures { result ≡ (is_computed variable.now.role && is_some cell) }
+{
+    is_computed(&variable.role) && cell.is_some()
+}
+
 /// The cells of the variables before the first formula: those that formulas set are empty. `None`
 /// where a formula sets what isn't a computed variable, or what another formula sets too.
 fn first_cells(
@@ -37,7 +44,7 @@ fn first_cells(
     requires given { length given.now ≡ length variables.now }
     ensures cells { IfOk result (λ o. IfSome o (λ cells. cells.items
         ≡ cells_of variables.now (targets_of formulas.now)
-            (environment (names_of variables.now) given.now))) }
+        (environment (names_of variables.now) given.now))) }
     ensures some { IfOk result (λ o. IfSome o (λ _. SetComputedOnce variables.now formulas.now)) }
     ensures none { IfOk result (λ o. IfNone o (SetComputedOnce variables.now formulas.now → ⊥)) }
 {
@@ -46,7 +53,7 @@ fn first_cells(
         let Some(number) = names.find(formula.target.bytes()) else {
             return Ok(None);
         };
-        if !is_computed(&variables[number].role) || cells[number].is_none() {
+        if !may_be_set(&variables[number], cells[number]) {
             return Ok(None);
         }
         cells[number] = None;
@@ -56,6 +63,7 @@ fn first_cells(
 
 /// Puts the value of a formula into its target's cell, and says whether each word of the formula
 /// had one. If not, the cells stay as they are.
+#[tactic(auto, using(crate::proofs::NameLemmas::number_within))]
 fn fill(names: &Names, formula: &Formula, cells: &mut [Option<Value>]) -> bool
     requires { length cells.old ≡ length names.now }
     ensures filled { result ≡ is_some (cells_after names.now formula.now cells.old) }
@@ -91,15 +99,15 @@ pub fn compute(
     requires given { length given.now ≡ length variables.now }
     ensures values { IfOk result (λ o. IfSome o (λ values. values.items
         ≡ map (λ v. value_of formulas.now (environment (names_of variables.now) given.now) v.name)
-            variables.now)) }
+        variables.now)) }
     ensures some { IfOk result (λ o. IfSome o (λ _. AreInOrder variables.now formulas.now)) }
     ensures none { IfOk result (λ o. IfNone o (AreInOrder variables.now formulas.now → ⊥)) }
 {
     let Some(mut cells) = first_cells(alloc, variables, names, formulas, given)? else {
         return Ok(None);
     };
-    for formula in formulas {
-        if !fill(names, formula, &mut cells) {
+    for next in formulas {
+        if !fill(names, next, &mut cells) {
             return Ok(None);
         }
     }

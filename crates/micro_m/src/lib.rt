@@ -11,3 +11,6 @@ mod terms;
 
 pub use formulas::compute;
 pub use laws::{solution_is_one, values_solve};
+
+#[cfg(test)]
+mod tests;

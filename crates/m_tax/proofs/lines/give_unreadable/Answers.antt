@@ -1,7 +1,6 @@
-use Rattle.std.proofs.Common.{ap, ◌∙◌, ◌∷◌, [], ◌++◌}
-use Rattle.std.proofs.lemmas.Result.{err_from_is_err_and, IfErr-weaker, IfOk-weaker}
-use Rattle.std.specs.Io.KnownBytes.{append_known}
-use Rattle.m_ports.proofs.SinkLemmas.{append_known-append, AppendsPrefix-after, AppendsPrefix-before}
+use Rattle.std.proofs.Common.{◌∷◌, [], ◌++◌}
+use Rattle.std.proofs.lemmas.Result.{err_from_is_err_and}
+use Rattle.m_ports.proofs.SinkLemmas.{AppendsPrefix-after, AppendsPrefix-before}
 use Rattle.m_tax.proofs.Writes.{append_thrice}
 use Rattle.m_tax.proofs.lines.give_unreadable.Goals as goal
 

@@ -4,19 +4,20 @@ use Rattle.micro_m.specs.Formulas.{names_of, targets_of, is_computed, computed_o
 use Rattle.micro_m.specs.Values.{environment}
 use Rattle.micro_m.specs.Cells.{cells_of}
 use Rattle.micro_m.proofs.CellLemmas.{length-cells, number_within}
+use Rattle.micro_m.proofs.StageLemmas.{both}
+use Rattle.micro_m.proofs.NameLemmas.{not-true}
 use Rattle.micro_m.proofs.FormulaLemmas.{left-at, done-at, SetComputedOnce-more}
-use Rattle.micro_m.proofs.FirstLemmas.{cells-given, cells-awaited, computed-at, refused-absent, refused-given, refused-twice, awaited-at, cells-push}
+use Rattle.micro_m.proofs.FirstLemmas.{cells-given, cells-awaited, computed-at, refused-absent, refused-set, may_be_set-is, cells-push}
 use Rattle.micro_m.proofs.formulas.first_cells.Goals as goal
-use Rattle.micro_m.proofs.formulas.first_cells.Goals.{then-not-is_computed-via-then-not-is_computed, then-not-is_computed-via-else-not-is_computed+then-is_none}
 
 pub loop-formula-init : goal.loop-formula-init
 loop-formula-init c = record {
-    cells = c.in_ok-cells.ensures ∙ cells-given c.args.variables.now c.args.given.now c.requires.distinct c.requires.given;
-    once = record { computed = tt; once = tt }
+  cells = c.in_ok-cells.ensures ∙ cells-given c.args.variables.now c.args.given.now c.requires.distinct c.requires.given;
+  once = record { computed = tt; once = tt };
 }
 
 pub returns-in_default-clause-none : goal.returns-in_default-clause-none
-returns-in_default-clause-none c = 
+returns-in_default-clause-none c =
     let left = left-at c.args.formulas.now c.loop-formula.formula-index c.formula-item.result c.loop-formula-test.true c.formula-item.is in
     let absent : index_of c.formula-item.result.target (names_of c.args.variables.now) ≡ None = cc in
     refused-absent c.args.variables.now c.args.formulas.now c.loop-formula.formula-index c.formula-item.result _ left absent
@@ -47,21 +48,16 @@ index_mut-requires c =
     let long : length c.loop-formula.cells.items ≡ length vs = ap length c.loop-formula.invariant.cells ∙ length-cells vs _ _ in
     omega (arith, c.loop-formula.cells.ok.0)
 
-pub returns-then-not-is_computed-clause-none : goal.returns-then-not-is_computed-clause-none
-returns-then-not-is_computed-clause-none c =
+pub returns-then-not-may_be_set-clause-none : goal.returns-then-not-may_be_set-clause-none
+returns-then-not-may_be_set-clause-none c =
     let vs = c.args.variables.now in
     let fs = c.args.formulas.now in
     let i = c.loop-formula.formula-index in
-    let target : List ℕ = c.formula-item.result.target in
-    let left = left-at fs i c.formula-item.result c.loop-formula-test.true c.formula-item.is in
-    let found : index_of target (names_of vs) ≡ Some c.in-Some.number = cc in
-    elim c.then-not-is_computed.branch [
-      | then-not-is_computed-via-then-not-is_computed w ↦
-        refused-given vs fs i c.formula-item.result _ c.in-Some.number c.index-variables-number.result c.requires.distinct left found (sym w.if-not-is_computed.ensures)
-      | then-not-is_computed-via-else-not-is_computed+then-is_none w ↦
-        let awaited = awaited-at (targets_of (take i fs)) (environment (names_of vs) c.args.given.now) vs target c.in-Some.number c.loop-formula.cells.items w.index.result.now c.loop-formula.invariant.cells found w.index.ensures ∙ ap not w.if-is_none.ensures in
-        refused-twice vs fs i c.formula-item.result _ left awaited
-    ]
+    let d = c.formula-item.result in
+    let left = left-at fs i d c.loop-formula-test.true c.formula-item.is in
+    let found : index_of c.formula-item.result.target (names_of vs) ≡ Some c.in-Some.number = cc in
+    let told = may_be_set-is (targets_of (take i fs)) (environment (names_of vs) c.args.given.now) vs c.formula-item.result.target c.in-Some.number c.index-variables-number.result c.loop-formula.cells.items c.index.result.now c.requires.distinct found c.loop-formula.invariant.cells c.index-variables-number.is c.index.ensures in
+    refused-set vs fs i d _ left (sym told ∙ sym c.if-not-may_be_set.ensures)
 
 pub loop-formula-preserved : goal.loop-formula-preserved
 loop-formula-preserved c =
@@ -69,13 +65,12 @@ loop-formula-preserved c =
     let fs = c.args.formulas.now in
     let i = c.loop-formula.formula-index in
     let d = c.formula-item.result in
-    let target : List ℕ = c.formula-item.result.target in
     let given = environment (names_of vs) c.args.given.now in
-    let found : index_of target (names_of vs) ≡ Some c.in-Some.number = cc in
+    let found : index_of c.formula-item.result.target (names_of vs) ≡ Some c.in-Some.number = cc in
     let done = done-at fs i d c.loop-formula-test.true c.formula-item.is in
-    let role = computed-at vs target c.in-Some.number c.index-variables-number.result c.requires.distinct found ∙ sym c.if-not-is_computed.ensures in
-    let fresh = awaited-at (targets_of (take i fs)) given vs target c.in-Some.number c.loop-formula.cells.items c.index.result.now c.loop-formula.invariant.cells found c.index.ensures ∙ ap not c.if-is_none.ensures in
+    let told = may_be_set-is (targets_of (take i fs)) given vs c.formula-item.result.target c.in-Some.number c.index-variables-number.result c.loop-formula.cells.items c.index.result.now c.requires.distinct found c.loop-formula.invariant.cells c.index-variables-number.is c.index.ensures in
+    let free = both (has c.formula-item.result.target (computed_of vs)) (not (has c.formula-item.result.target (targets_of (take i fs)))) (sym told ∙ sym c.if-not-may_be_set.ensures) in
     record {
       cells = cells-push fs given vs i d c.in-Some.number c.loop-formula.cells.items c.requires.distinct done found c.loop-formula.invariant.cells;
-      once = SetComputedOnce-more vs fs i d done c.loop-formula.invariant.once role fresh
+      once = SetComputedOnce-more vs fs i d done c.loop-formula.invariant.once free.0 (not-true (has c.formula-item.result.target (targets_of (take i fs))) free.1);
     }
