@@ -1,18 +1,16 @@
 -- The cells of variables: what is found in them, and what a write leaves.
-use Rattle.std.proofs.Common.{◌≡◌, ℕ, ◌+◌, ◌<◌, Bool, true, false, not, cond, suc, zero, List, [], ◌∷◌, ◌++◌, map, length, get_or, set, Option, Some, None, refl, ap, sym, ◌∙◌, subst, arith, add-one}
+use Rattle.std.proofs.Common.{◌≡◌, ℕ, ◌+◌, ◌<◌, Bool, true, false, not, cond, List, [], ◌∷◌, map, length, get_or, set, Option, Some, None, refl, ap, sym, ◌∙◌, arith, add-one}
 use mathlib.Core.Bool.{◌||◌, ◌&&◌}
-use Rattle.std.specs.Option.{option_map, option_and_then, option_map_or}
+use Rattle.std.specs.Option.{option_map, option_and_then}
 use Rattle.std.specs.Str.{bytes_eq}
-use Rattle.std.proofs.lemmas.Bool.{false≢true}
 use Rattle.std.proofs.lemmas.List.{length-map}
 use Rattle.m_fixed.specs.declared.amount.Value.{Value}
-use Rattle.m_fixed.specs.declared.amount.Value.TheVariants.{Undef}
 use Rattle.m_names.specs.Names.{has, index_of, AreDistinct}
 use Rattle.m_ast.specs.declared.variable.VariableItem.{VariableItem}
-use Rattle.micro_m.specs.Formulas.{names_of, is_computed, computed_of}
-use Rattle.micro_m.specs.Values.{Environment, environment}
+use Rattle.micro_m.specs.Formulas.{names_of}
+use Rattle.micro_m.specs.Values.{Environment}
 use Rattle.micro_m.specs.Cells.{cell_of, cells_of, look}
-use Rattle.micro_m.proofs.NameLemmas.{same, itself, cases, bytes_eq_comm, or-false, or-true_right, has-append, shifted-some, index_of-some}
+use Rattle.micro_m.proofs.NameLemmas.{same, cases, or-false, shifted-some, index_of-some}
 use Rattle.micro_m.proofs.TermLemmas.{found}
 
 -- the names that have a value in the cells: those of variables that aren't awaited

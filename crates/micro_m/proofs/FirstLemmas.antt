@@ -1,8 +1,7 @@
 -- The cells before the first formula.
-use Rattle.std.proofs.Common.{◌≡◌, ℕ, ◌+◌, ◌-◌, ◌<◌, ◌≤◌, Bool, true, false, not, cond, suc, zero, List, [], ◌∷◌, ◌++◌, map, length, take, drop, get_or, set, Option, Some, None, is_some, refl, ap, sym, ◌∙◌, subst, arith, add-one}
+use Rattle.std.proofs.Common.{◌≡◌, ℕ, ◌+◌, Bool, true, false, not, cond, List, [], ◌∷◌, ◌++◌, map, length, take, drop, get_or, set, Option, Some, None, is_some, refl, ap, sym, ◌∙◌, arith, add-one}
 use mathlib.Core.Bool.{◌||◌, ◌&&◌}
-use Rattle.std.specs.Option.{option_map, option_and_then, option_map_or}
-use Rattle.std.specs.List.{AllByRecursion}
+use Rattle.std.specs.Option.{option_map, option_map_or}
 use Rattle.std.specs.Str.{bytes_eq}
 use Rattle.std.proofs.lemmas.Bool.{false≢true}
 use Rattle.std.proofs.lemmas.List.{map-append}
@@ -10,15 +9,14 @@ use Rattle.m_fixed.specs.declared.amount.Value.{Value}
 use Rattle.m_fixed.specs.declared.amount.Value.TheVariants.{Undef}
 use Rattle.m_names.specs.Names.{has, index_of, AreDistinct}
 use Rattle.m_ast.specs.declared.formula.Formula.{Formula}
-use Rattle.m_ast.specs.declared.variable.Role.{Role}
 use Rattle.m_ast.specs.declared.variable.VariableItem.{VariableItem}
 use Rattle.micro_m.specs.Formulas.{names_of, is_computed, computed_of, targets_of}
 use Rattle.micro_m.specs.Values.{Environment, environment}
 use Rattle.micro_m.specs.Cells.{cell_of, cells_of, SetComputedOnce}
-use Rattle.micro_m.proofs.NameLemmas.{same, itself, cases, bytes_eq_comm, or-false, or-true_right, has-append, shifted-some}
+use Rattle.micro_m.proofs.NameLemmas.{same, itself, cases, bytes_eq_comm, or-false, has-append, shifted-some}
 use Rattle.micro_m.proofs.FormulaLemmas.{target-before, AllByRecursion-at}
 use Rattle.micro_m.proofs.NameLemmas.{index_of-none}
-use Rattle.micro_m.proofs.CellLemmas.{cell_named, put, set-named, map-same}
+use Rattle.micro_m.proofs.CellLemmas.{cell_named, set-named, map-same}
 
 -- a longer environment at names that aren't its first
 further : (g : Value) (gs : List Value) (o : Option ℕ) → option_map_or (λ n. get_or (g ∷ gs) n Undef) (option_map (λ i. i + 1) o) Undef ≡ option_map_or (λ n. get_or gs n Undef) o Undef
@@ -49,21 +47,7 @@ cells-given (v ∷ vs) (g ∷ gs) a e =
     ap (λ (cs : List (Option Value)). Some g ∷ cs) (cells-given vs gs a.1 (omega arith) ∙ sym (cells-later v.name g (names_of vs) gs vs a.0))
     ∙ ap (λ (x : Value). Some x ∷ cells_of vs [] (environment (names_of (v ∷ vs)) (g ∷ gs))) (sym (environment-first v.name g (names_of vs) gs))
 
--- the variable at a name's number
-pub named-at : (vs : List VariableItem) (name : List ℕ) (i : ℕ) (w : VariableItem) → index_of name (names_of vs) ≡ Some i → (get_or vs i w).name ≡ name
-named-at [] name i w e = cc
-named-at (v ∷ vs) name i w e =
-    let place : Bool → Option ℕ = λ b. cond b (Some 0) (option_map (λ j. j + 1) (index_of name (names_of vs))) in
-    cases (bytes_eq name v.name)
-    (λ (t : bytes_eq name v.name ≡ true).
-    let first : Some 0 ≡ Some i = sym (ap place t) ∙ e in
-    let at : i ≡ 0 = cc in
-    ap (λ j. (get_or (v ∷ vs) j w).name) at ∙ sym (same name v.name t))
-    (λ (f : bytes_eq name v.name ≡ false).
-    let later = shifted-some (index_of name (names_of vs)) i (sym (ap place f) ∙ e) in
-    ap (λ j. (get_or (v ∷ vs) j w).name) later.2 ∙ named-at vs name later.0 w later.1)
-
--- its cell
+-- the cell at a name's number
 pub cell-at : (awaited : List (List ℕ)) (values : Environment) (vs : List VariableItem) (name : List ℕ) (i : ℕ) (c : Option Value) → index_of name (names_of vs) ≡ Some i → get_or (cells_of vs awaited values) i c ≡ cell_named awaited values name
 cell-at awaited values [] name i c e = cc
 cell-at awaited values (v ∷ vs) name i c e =
@@ -173,8 +157,8 @@ may_be_set-is awaited values vs name i v cells cell a h e f g =
 pub refused-set : (vs : List VariableItem) (fs : List Formula) (i : ℕ) (d : Formula) (rest : List Formula) → drop i fs ≡ d ∷ rest → (has d.target (computed_of vs) && not (has d.target (targets_of (take i fs)))) ≡ false → SetComputedOnce vs fs → ⊥
 refused-set vs fs i d rest e r s =
     false≢true (sym r
-        ∙ ap (λ b. b && not (has d.target (targets_of (take i fs)))) (AllByRecursion-at _ fs i d rest s.computed e)
-        ∙ ap not (target-before fs i d rest s.once e))
+    ∙ ap (λ b. b && not (has d.target (targets_of (take i fs)))) (AllByRecursion-at _ fs i d rest s.computed e)
+    ∙ ap not (target-before fs i d rest s.once e))
 
 -- one formula more
 pub cells-push : (fs : List Formula) (values : Environment) (vs : List VariableItem) (i : ℕ) (d : Formula) (n : ℕ) (cells : List (Option Value)) → AreDistinct (names_of vs) → take (i + 1) fs ≡ take i fs ++ d ∷ [] → index_of d.target (names_of vs) ≡ Some n → cells ≡ cells_of vs (targets_of (take i fs)) values → set cells n None ≡ cells_of vs (targets_of (take (i + 1) fs)) values

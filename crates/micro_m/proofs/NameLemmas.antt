@@ -1,14 +1,11 @@
 -- Names, and lists of variables by their names.
-use Rattle.std.proofs.Common.{◌≡◌, ℕ, ◌+◌, ◌<◌, Bool, true, false, not, cond, suc, zero, List, [], ◌∷◌, ◌++◌, map, length, get_or, set, drop, Option, Some, None, refl, ap, sym, ◌∙◌, subst, arith, add-one}
-use mathlib.Core.Bool.{◌||◌}
-use Rattle.std.specs.Option.{option_map, option_and_then}
+use Rattle.std.proofs.Common.{◌≡◌, ℕ, ◌+◌, ◌<◌, Bool, true, false, not, cond, suc, List, [], ◌∷◌, ◌++◌, length, Option, Some, None, refl, sym, ◌∙◌, subst, arith, add-one}
+use mathlib.Core.Bool.{◌||◌, ◌&&◌}
+use Rattle.std.specs.Option.{option_map}
 use Rattle.std.specs.Str.{bytes_eq}
 use Rattle.std.proofs.lemmas.Slice.Eq.{bytes_eq-Decides}
 use Rattle.std.proofs.lemmas.Bool.{false≢true}
-use Rattle.m_names.specs.Names.{has, index_of, AreDistinct}
-use Rattle.m_ast.specs.declared.formula.Formula.{Formula}
-use Rattle.m_ast.specs.declared.variable.VariableItem.{VariableItem}
-use Rattle.micro_m.specs.Formulas.{names_of, is_computed, computed_of, targets_of}
+use Rattle.m_names.specs.Names.{has, index_of}
 
 pub same : (a b : List ℕ) → bytes_eq a b ≡ true → a ≡ b
 same a b = (bytes_eq-Decides a b).0
@@ -39,6 +36,14 @@ or-false false b e = (refl, e)
 pub or-true_right : (a b : Bool) → b ≡ true → (a || b) ≡ true
 or-true_right true b e = refl
 or-true_right false b e = e
+
+pub both : (a b : Bool) → (a && b) ≡ true → (a ≡ true) × (b ≡ true)
+both true b e = (refl, e)
+both false b e = absurd (false≢true e)
+
+pub and-both : (a b : Bool) → a ≡ true → b ≡ true → (a && b) ≡ true
+and-both true b e f = f
+and-both false b e f = absurd (false≢true e)
 
 pub has-append : (x : List ℕ) (ns ms : List (List ℕ)) → has x (ns ++ ms) ≡ (has x ns || has x ms)
 has-append x [] ms = refl

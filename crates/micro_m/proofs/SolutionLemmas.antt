@@ -1,11 +1,9 @@
 -- The values of formulas in order solve them, and nothing else does.
-use Rattle.std.proofs.Common.{◌≡◌, ℕ, ◌+◌, ◌<◌, ◌≤◌, Bool, true, false, not, cond, suc, zero, List, [], ◌∷◌, ◌++◌, map, length, drop, Option, Some, None, refl, ap, sym, ◌∙◌, subst, arith, add-one}
+use Rattle.std.proofs.Common.{◌≡◌, ℕ, ◌+◌, true, false, cond, suc, List, [], ◌∷◌, length, Some, refl, ap, sym, ◌∙◌, subst, arith}
 use mathlib.Core.Bool.{◌||◌}
 use Rattle.std.specs.Option.{option_map_or}
 use Rattle.std.specs.List.{AllByRecursion, list_all}
 use Rattle.std.specs.Str.{bytes_eq}
-use Rattle.std.proofs.lemmas.Bool.{false≢true}
-use Rattle.m_fixed.specs.declared.amount.Value.{Value}
 use Rattle.m_names.specs.Names.{has, AreDistinct}
 use Rattle.m_ast.specs.declared.formula.Formula.{Formula}
 use Rattle.m_ast.specs.declared.variable.VariableItem.{VariableItem}

@@ -1,6 +1,6 @@
 -- One formula computed: what its turn does to the cells.
-use Rattle.std.proofs.Common.{◌≡◌, ℕ, ◌+◌, ◌-◌, ◌<◌, ◌≤◌, Bool, true, false, not, cond, suc, zero, List, [], ◌∷◌, ◌++◌, map, length, take, drop, set, Option, Some, None, is_some, unwrap_or, refl, ap, sym, ◌∙◌, subst, arith, add-one}
-use mathlib.Core.Bool.{◌||◌, ◌&&◌}
+use Rattle.std.proofs.Common.{◌≡◌, ℕ, ◌+◌, ◌≤◌, Bool, true, false, not, cond, suc, zero, List, [], ◌∷◌, ◌++◌, map, length, take, drop, set, Option, Some, None, is_some, unwrap_or, refl, ap, sym, ◌∙◌, subst, arith, add-one}
+use mathlib.Core.Bool.{◌||◌}
 use Rattle.std.specs.Option.{option_map, option_and_then, option_map_or}
 use Rattle.std.specs.List.{list_all, AllByRecursion}
 use Rattle.std.specs.Str.{bytes_eq}
@@ -11,14 +11,13 @@ use Rattle.m_fixed.specs.declared.amount.Value.{Value}
 use Rattle.m_fixed.specs.declared.amount.Value.TheVariants.{Undef}
 use Rattle.m_names.specs.Names.{has, index_of, AreDistinct}
 use Rattle.m_ast.specs.declared.formula.Formula.{Formula}
-use Rattle.m_ast.specs.declared.formula.Summand.{Summand}
 use Rattle.m_ast.specs.declared.variable.VariableItem.{VariableItem}
 use Rattle.micro_m.specs.Formulas.{names_of, computed_of, targets_of, words_of_sum, ReadsEarlier, AreInOrder}
 use Rattle.micro_m.specs.Values.{Environment, sum_value, definition_of, value_in, value_of}
 use Rattle.micro_m.specs.Terms.{sum_of}
 use Rattle.micro_m.specs.Cells.{cell_of, cells_of, cells_after, look, SetComputedOnce}
-use Rattle.micro_m.proofs.NameLemmas.{not-true, same, itself, cases, bytes_eq_comm, or-false, or-true_right, index_of-none}
-use Rattle.micro_m.proofs.TermLemmas.{found, where_all, sum_of-known}
+use Rattle.micro_m.proofs.NameLemmas.{both, and-both, not-true, same, cases, bytes_eq_comm, index_of-none}
+use Rattle.micro_m.proofs.TermLemmas.{found, sum_of-known}
 use Rattle.micro_m.proofs.CellLemmas.{known, cell_named, look-cells, put, set-named, map-same}
 use Rattle.micro_m.proofs.FormulaLemmas.{definition_of-target, target-after, AllByRecursion-at}
 use Rattle.micro_m.proofs.FirstLemmas.{computed-absent}
@@ -27,14 +26,6 @@ use Rattle.micro_m.proofs.TurnLemmas.{Settled, settled-none, settled-more, cells
 -- what the first of the formulas that are left may read
 abbrev pub reads_earlier : List VariableItem → Formula → List Formula → Bool
 reads_earlier vs d rest = list_all (known vs (targets_of (d ∷ rest))) (words_of_sum d.sum)
-
-pub both : (a b : Bool) → (a && b) ≡ true → (a ≡ true) × (b ≡ true)
-both true b e = (refl, e)
-both false b e = absurd (false≢true e)
-
-and-both : (a b : Bool) → a ≡ true → b ≡ true → (a && b) ≡ true
-and-both true b e f = f
-and-both false b e f = absurd (false≢true e)
 
 -- words that are known aren't awaited
 pub all-free : (vs : List VariableItem) (awaited : List (List ℕ)) (words : List (List ℕ)) → list_all (known vs awaited) words ≡ true → list_all (free awaited) words ≡ true
@@ -191,14 +182,6 @@ Stage-last vs fs given cells i low high stage =
     full : (ws : List VariableItem) (values : Environment) → map (λ c. unwrap_or c Undef) (cells_of ws [] values) ≡ map (λ w. values w.name) ws
     full [] values = refl
     full (w ∷ ws) values = ap (λ vs'. values w.name ∷ vs') (full ws values)
-
--- then they are in order
-pub Stage-order : (vs : List VariableItem) (fs : List Formula) (given : Environment) (cells : List (Option Value)) (i : ℕ) → length fs ≤ i → SetComputedOnce vs fs → Stage vs fs given cells i → AreInOrder vs fs
-Stage-order vs fs given cells i low once stage = record {
-  computed = once.computed;
-  once = once.once;
-  earlier = stage.earlier (subst (λ (gs : List Formula). ReadsEarlier (names_of vs) gs) (sym (drop_all i fs low)) tt);
-}
 
 -- a slice written through a borrow of a whole vector
 pub written : {X : Type 0} (old new : List X) (n : ℕ) → length new ≡ length old → n ≡ length old → take n (new ++ drop (length new) old) ≡ new

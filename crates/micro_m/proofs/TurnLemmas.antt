@@ -1,25 +1,23 @@
 -- When more turns change nothing: the value of a variable whose formula isn't still to come.
-use Rattle.std.proofs.Common.{◌≡◌, ℕ, ◌+◌, ◌-◌, ◌<◌, ◌≤◌, Bool, true, false, not, cond, suc, zero, List, [], ◌∷◌, ◌++◌, map, length, drop, Option, Some, None, refl, ap, sym, ◌∙◌, subst, arith, add-one}
-use mathlib.Core.Bool.{◌||◌, ◌&&◌}
+use Rattle.std.proofs.Common.{◌≡◌, ℕ, ◌-◌, ◌≤◌, Bool, true, false, not, cond, suc, List, ◌∷◌, Some, None, ap, sym, ◌∙◌, subst, arith}
+use mathlib.Core.Bool.{◌||◌}
 use Rattle.std.specs.Option.{option_map_or}
 use Rattle.std.specs.List.{list_all}
 use Rattle.std.specs.Str.{bytes_eq}
-use Rattle.std.proofs.lemmas.Bool.{false≢true}
 use Rattle.std.proofs.lemmas.Option.{same_Some}
 use Rattle.m_fixed.specs.declared.amount.Value.{Value}
-use Rattle.m_fixed.specs.declared.amount.Value.TheVariants.{Undef}
-use Rattle.m_names.specs.Names.{has, AreDistinct}
+use Rattle.m_names.specs.Names.{has}
 use Rattle.m_ast.specs.declared.formula.Formula.{Formula}
 use Rattle.m_ast.specs.declared.formula.Summand.{Summand}
 use Rattle.micro_m.specs.Formulas.{targets_of, words_of_sum}
 use Rattle.micro_m.specs.Values.{Environment, sum_value, definition_of, value_in}
 use Rattle.micro_m.specs.Terms.{sum_of}
 use Rattle.micro_m.specs.Cells.{cells_of}
-use Rattle.micro_m.proofs.NameLemmas.{not-true, same, itself, cases, bytes_eq_comm, or-false, or-true_right}
+use Rattle.micro_m.proofs.NameLemmas.{not-true, same, cases}
 use Rattle.micro_m.proofs.FormulaLemmas.{definition_of-none}
 use Rattle.m_ast.specs.declared.variable.VariableItem.{VariableItem}
 use Rattle.micro_m.proofs.CellLemmas.{map-same}
-use Rattle.micro_m.proofs.TermLemmas.{found, where_all, sum_of-known}
+use Rattle.micro_m.proofs.TermLemmas.{found, sum_of-known}
 
 -- A sum depends on its words alone.
 pub sum_value-same : (p : List ℕ → Bool) (e1 e2 : Environment) (sum : List Summand) → ((name : List ℕ) → p name ≡ true → e1 name ≡ e2 name) → list_all p (words_of_sum sum) ≡ true → sum_value e1 sum ≡ sum_value e2 sum

@@ -1,6 +1,6 @@
 -- One cell for each variable while formulas are computed one after the other. A cell is empty as
 -- long as the formula that sets its variable is still to come.
-use Rattle.std.specs.Prelude.{◌≡◌, ℕ, true, List, [], ◌∷◌, map, Option, None, Some, if◌then◌else◌, slice_index_or, slice_set, option_and_then}
+use Rattle.std.specs.Prelude.{◌≡◌, ℕ, true, List, map, Option, None, Some, if◌then◌else◌, slice_index_or, slice_set, option_and_then}
 use Rattle.std.specs.Option.{option_map}
 use Rattle.std.specs.List.{AllByRecursion}
 use Rattle.m_fixed.specs.declared.amount.Value.{Value}

@@ -1,6 +1,6 @@
 -- The values of variables in the core of M: a map from variables to values, in which a variable that
 -- nobody set is undefined. The order of the formulas plays no part.
-use Rattle.std.specs.Prelude.{ℕ, zero, suc, ◌+◌, true, false, Bool, List, [], ◌∷◌, length, Option, None, Some, if◌then◌else◌, slice_index_or}
+use Rattle.std.specs.Prelude.{ℕ, zero, suc, ◌+◌, Bool, List, [], ◌∷◌, length, Option, None, Some, if◌then◌else◌, slice_index_or}
 use Rattle.std.specs.Option.{option_map_or}
 use Rattle.std.specs.Str.{bytes_eq}
 use Rattle.m_fixed.specs.declared.amount.Value.{Value}

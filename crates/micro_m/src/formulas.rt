@@ -84,6 +84,8 @@ fn fill(names: &Names, formula: &Formula, cells: &mut [Option<Value>]) -> bool
 /// be computed one after the other: where one sets what isn't a computed variable, or what another
 /// sets too, or reads what isn't a variable, or what it or a later one sets.
 ///
+/// Where R is 10 and S is 4, `A = R - S;` and `B = -A * 2 + 0.5;` give 6 and -11.5.
+///
 /// `names` are those of the variables in the same order. `given` has a value for each variable:
 /// that of the household or of the constant, and undefined for any other. The only error is want of
 /// memory.

@@ -1,13 +1,11 @@
-use Rattle.std.proofs.Common.{◌≡◌, ◌+◌, ◌<◌, not, ℕ, true, false, length, List, ◌∷◌, ◌++◌, [], map, take, drop, get_or, Some, None, arith, sym, ap, ◌∙◌, subst}
+use Rattle.std.proofs.Common.{◌≡◌, ◌<◌, not, length, take, Some, None, arith, sym, ap, ◌∙◌}
 use Rattle.m_names.specs.Names.{has, index_of}
-use Rattle.micro_m.specs.Formulas.{names_of, targets_of, is_computed, computed_of}
+use Rattle.micro_m.specs.Formulas.{names_of, targets_of, computed_of}
 use Rattle.micro_m.specs.Values.{environment}
-use Rattle.micro_m.specs.Cells.{cells_of}
 use Rattle.micro_m.proofs.CellLemmas.{length-cells, number_within}
-use Rattle.micro_m.proofs.StageLemmas.{both}
-use Rattle.micro_m.proofs.NameLemmas.{not-true}
+use Rattle.micro_m.proofs.NameLemmas.{both, not-true}
 use Rattle.micro_m.proofs.FormulaLemmas.{left-at, done-at, SetComputedOnce-more}
-use Rattle.micro_m.proofs.FirstLemmas.{cells-given, cells-awaited, computed-at, refused-absent, refused-set, may_be_set-is, cells-push}
+use Rattle.micro_m.proofs.FirstLemmas.{cells-given, refused-absent, refused-set, may_be_set-is, cells-push}
 use Rattle.micro_m.proofs.formulas.first_cells.Goals as goal
 
 pub loop-formula-init : goal.loop-formula-init

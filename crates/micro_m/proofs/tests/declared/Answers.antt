@@ -10,6 +10,6 @@ loop-text-preserved c =
     let fresh = c.in_ok-add.field-0 in
     let named : c.in_ok-variable.field-0.name ≡ name = c.in_ok-variable.ensures ∙ sym c.as_bytes.ensures.value in
     record {
-        same = names_of-push c.loop-text.variables.items c.in_ok-variable.field-0 names c.add.new.self name fresh c.if-not-branch.false c.in_ok-add.ensures.fresh c.in_ok-add.ensures.added named c.loop-text.invariant.same ∙ ap names_of (sym c.in_ok-push.ensures.items);
-        distinct = AreDistinct-added names c.add.new.self name fresh c.if-not-branch.false c.in_ok-add.ensures.fresh c.in_ok-add.ensures.added c.loop-text.invariant.distinct
+      same = names_of-push c.loop-text.variables.items c.in_ok-variable.field-0 names c.add.new.self name fresh c.if-not-branch.false c.in_ok-add.ensures.fresh c.in_ok-add.ensures.added named c.loop-text.invariant.same ∙ ap names_of (sym c.in_ok-push.ensures.items);
+      distinct = AreDistinct-added names c.add.new.self name fresh c.if-not-branch.false c.in_ok-add.ensures.fresh c.in_ok-add.ensures.added c.loop-text.invariant.distinct;
     }
