@@ -39,7 +39,16 @@ listing() {
 # The program is built here, where it isn't yet.
 "$program" >/dev/null 2>&1
 
+# The examples, and what the first hour makes of them.
 row 0 "IRN = 1500.5" run $list - - $household
+row 0 "$(cat examples/chain/answer.txt)" run examples/chain/rules.list - - examples/chain/household.csv
+printf 'code,amount\n' >"$dir/none.csv"
+row 0 "IRN = -1000" run $list - - "$dir/none.csv"
+sed 's/REV - SEUIL/REV * 2/' examples/first/base.m >"$dir/base.m"
+listing product.list "$dir/base.m"
+row 0 "IRN undefined" run "$dir/product.list" - - "$dir/none.csv"
+printf 'code,amount\n1AJ,10000000000000\n' >"$dir/rich.csv"
+row 0 "IRN over" run "$dir/product.list" - - "$dir/rich.csv"
 
 # Wrong words.
 row 2 "$usage"
