@@ -8,7 +8,6 @@ use Rattle.m_lines.specs.Lines.{lines_of}
 use Rattle.m_list.specs.declared.listing.Listing.{Listing}
 use Rattle.m_list.specs.declared.listing.ListFault.{ListFault}
 use Rattle.m_list.specs.declared.listing.ListFault.TheVariants.{BadLine, TooManyFiles, Memory}
-pub use Rattle.m_list.specs.declared.listing.OneFile.{OneFile}
 
 -- a letter, a digit or `_`
 abbrev pub is_word_byte : ℕ → Bool
@@ -63,18 +62,3 @@ abbrev pub IsCause : Result Listing ListFault → ListFault → Type 0
 IsCause read Memory = Unit {0}
 IsCause read (BadLine number) = read ≡ Err (BadLine number)
 IsCause read TooManyFiles = read ≡ Err TooManyFiles
-
--- the only file of files
-abbrev pub only_file : List ℕ → List (List ℕ) → Option OneFile
-only_file application (file ∷ []) = Some (record { application = application; file = file })
-only_file application _ = None
-
--- the only file of a listing
-abbrev pub only_file_read : Result Listing ListFault → Option OneFile
-only_file_read (Ok listing) = only_file listing.application listing.files
-only_file_read (Err fault) = None
-
--- The application and the only file of a list file that has one, and none for any other: `iliad` has
--- no file, and gives none.
-abbrev pub one_file_of : List ℕ → Option OneFile
-one_file_of bytes = only_file_read (list_of bytes)

@@ -6,8 +6,8 @@
 mod listing;
 mod read;
 
-pub use listing::{ListFault, Listing, OneFile};
-pub use read::{read_list, read_one_file};
+pub use listing::{ListFault, Listing};
+pub use read::read_list;
 
 #[cfg(test)]
 mod tests;

@@ -13,13 +13,6 @@ pub struct Listing {
     pub files: Seq<Name>,
 }
 
-/// A list of a single rule file.
-#[derive(Drop)]
-pub struct OneFile {
-    pub application: Name,
-    pub file: Name,
-}
-
 /// Why a list file is refused.
 #[derive(Clone, Copy, Debug, PartialEq, Eq)]
 pub enum ListFault {

@@ -1,13 +1,13 @@
 ghost use Rattle.std.specs.Prelude.{◌≡◌, ◌+◌, ◌≤◌, ◌<◌, ◌^◌, length, IfOk, IfErr, Ok};
 ghost use Rattle.m_places.specs.declared.limits.TheConstants.{FILE_BYTES};
 ghost use Rattle.m_lines.specs.Lines.{lines_of};
-ghost use Rattle.m_list.specs.Listing.{list_of, one_file_of, IsCause, is_word, is_word_byte, is_file_line, first_bad_from, files_of, only_file, AreTooMany};
+ghost use Rattle.m_list.specs.Listing.{list_of, IsCause, is_word, is_word_byte, is_file_line, first_bad_from, files_of, AreTooMany};
 
-use crate::{ListFault, Listing, OneFile};
+use crate::{ListFault, Listing};
 use m_lines::{first_line, is_text};
 use m_places::limits::{FILE_NAME_BYTES, LIST_FILES};
 use m_places::{Name, Seq};
-use std::alloc::{AllocError, Global};
+use std::alloc::Global;
 
 /// Reads a list file. Line 1 is the application, a word of M, which may be a reserved one. Each
 /// later line that isn't empty is the name of a file.
@@ -90,31 +90,4 @@ fn read_files(alloc: Global, bytes: &[u8]) -> Result<Vec<Name>, ListFault>
         rest = behind;
     }
     Ok(files)
-}
-
-/// Reads a list file that has one rule file, and answers `None` for any other. Its only error is
-/// want of memory.
-pub fn read_one_file(alloc: Global, bytes: &[u8]) -> Result<Option<OneFile>, AllocError>
-    requires { length bytes.now ≤ FILE_BYTES }
-    ensures { IfOk result (λ one. one ≡ one_file_of bytes.now) }
-{
-    match read_list(alloc, bytes) {
-        Ok(listing) => Ok(only_file(listing)),
-        Err(ListFault::Memory) => Err(AllocError),
-        Err(ListFault::BadLine(_)) => Ok(None),
-        Err(ListFault::TooManyFiles) => Ok(None),
-    }
-}
-
-/// The only file of a listing that has one.
-fn only_file(listing: Listing) -> Option<OneFile>
-    ensures { result ≡ only_file listing.application listing.files }
-{
-    let Listing { application, files } = listing;
-    let mut files = files.into_vec();
-    if files.len() != 1 {
-        return None;
-    }
-    let file = files.pop()?;
-    Some(OneFile { application, file })
 }

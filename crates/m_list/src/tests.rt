@@ -1,4 +1,4 @@
-use crate::{ListFault, Listing, read_list, read_one_file};
+use crate::{ListFault, read_list};
 use m_places::limits::FILE_BYTES;
 use std::alloc::{AllocError, Global};
 use std::test::Fail;
@@ -83,17 +83,5 @@ fn limits(rt: HostRuntime) -> Result<(), Fail> {
         fault_of(rt.alloc(), &many),
         Some(ListFault::BadLine(1_027))
     );
-    Ok(())
-}
-
-#[test]
-fn one_file(rt: HostRuntime) -> Result<(), Fail> {
-    let one = read_one_file(rt.alloc(), b"iliad\n\na.m")?.ok_or("no file")?;
-    assert!(rt; one.application.bytes() == b"iliad".as_slice());
-    assert!(rt; one.file.bytes() == b"a.m".as_slice());
-    let others: [&[u8]; 4] = [b"", b"iliad\n", b"iliad\na.m\nb.m\n", b"iliad\n\xff\n"];
-    for bytes in others {
-        assert!(rt; read_one_file(rt.alloc(), bytes)?.is_none(), "{bytes:?}");
-    }
     Ok(())
 }

@@ -2,7 +2,7 @@
 //!
 //! A fetch names a limit and is noted down as an attempt, so that a caller's contract can say which
 //! names were fetched and which of them failed, also where nothing is known of what files hold.
-ghost use Rattle.std.specs.Prelude.{◌≡◌, ◌⊎◌, ℕ, ◌≤◌, List, ◌++◌, Option, length, IfOk, IsErrOf};
+ghost use Rattle.std.specs.Prelude.{◌≡◌, ◌⊎◌, ℕ, ◌+◌, ◌≤◌, List, ◌++◌, Option, length, IfOk, IsErrOf};
 ghost use Rattle.m_ports.specs.declared.files.Attempt.{Attempt};
 ghost use Rattle.m_ports.specs.declared.files.FetchFault.TheVariants.{Memory};
 ghost use Rattle.m_ports.specs.Counts.{RoseByMore};
@@ -70,7 +70,10 @@ pub trait Files {
         ensures took_more { IsErrOf result FetchFault.TooLong → RoseByMore limit (taken self.old) (taken self.new) }
 
         ensures same { told self.new ≡ told self.old }
-        ensures counted { taken self.old ≤ taken self.new };
+
+        // No more is taken than shows that a file is too long, whatever the answer is.
+        ensures counted { taken self.old ≤ taken self.new }
+        ensures bounded { taken self.new ≤ taken self.old + (limit + 1) };
 }
 
 /// Notes down the attempt that a fetch of this name with this answer is, and hands the answer on. If

@@ -2,7 +2,8 @@
 //!
 //! What a real file, pipe or terminal holds is known to no contract, so these are the trusted edge.
 //! Every error that the system gives is a fault, also one that std's own loops would try again.
-ghost use Rattle.std.specs.Prelude.{◌≡◌, ◌<◌, ◌≤◌, [], length, IfOk, IfSome, OnErr, IsErrOf};
+ghost use Rattle.std.specs.Prelude.{◌≡◌, ◌<◌, ◌≤◌, ◌+◌, [], length, IfOk, IfSome, OnErr, IsErrOf};
+ghost use Rattle.std.specs.Io.KnownBytes.{ReadConsumes, WriteAppends};
 ghost use Rattle.m_ports.specs.Counts.{Rose, RoseByMore, faults_after};
 
 use crate::counts::count_up;
@@ -39,8 +40,22 @@ impl<'a, H: rt::Files> HostFiles<'a, H> {
     }
 }
 
-/// Reads to the end, or until more bytes than the limit were read. Where the reader tells what is
-/// left, `Ok` gives all of that.
+/// How many bytes to read next, where there is room for so many more: a piece, or one byte past the
+/// room, which shows that there are too many.
+fn next_piece(room: u64) -> usize
+    ensures some { 0 < result }
+    ensures within { result ≤ PIECE }
+    ensures bounded { result ≤ room + 1 }
+{
+    if room < PIECE as u64 {
+        room as usize + 1
+    } else {
+        PIECE
+    }
+}
+
+/// Reads to the end, or one byte past the limit. Where the reader tells what is left, `Ok` gives all
+/// of that.
 fn read_whole<R: Read>(
     reader: &mut R,
     alloc: Global,
@@ -52,13 +67,14 @@ fn read_whole<R: Read>(
     ensures too_long { IsErrOf result FetchFault.TooLong → IfSome (R.remaining reader.old) (λ content. limit < length content) }
     ensures took_more { IsErrOf result FetchFault.TooLong → RoseByMore limit taken.old taken.new }
     ensures counted { taken.old ≤ taken.new }
+    ensures bounded { taken.new ≤ taken.old + (limit + 1) }
 {
     let before = *taken;
     let mut bytes = Vec::new(alloc);
     let mut piece = [0; PIECE];
     for _ in 0..u64::MAX {
         let room = limit - bytes.len() as u64;
-        let count = match reader.read(&mut piece) {
+        let count = match reader.read(&mut piece[..next_piece(room)]) {
             Ok(0) => return Ok(bytes),
             Ok(count) => count,
             Err(_) => return Err(FetchFault::Failed),
@@ -85,6 +101,7 @@ fn read_file<H: rt::Files>(
     ensures within { IfOk result (λ bytes. length bytes.items ≤ limit) }
     ensures took_more { IsErrOf result FetchFault.TooLong → RoseByMore limit taken.old taken.new }
     ensures counted { taken.old ≤ taken.new }
+    ensures bounded { taken.new ≤ taken.old + (limit + 1) }
 {
     let Ok(path) = str::from_utf8(name) else {
         return Err(FetchFault::Failed);
@@ -111,7 +128,8 @@ impl<'a, H: rt::Files> Files for HostFiles<'a, H> {
     }
 }
 
-/// An input that is read from a reader. Its count of faults is how many reads failed.
+/// An input that is read from a reader. Its count of faults is how many reads failed. It tells nothing
+/// of content; where the reader tells what is left, each call moves that reader's next bytes.
 #[derive(Drop)]
 pub struct HostSource<R> {
     reader: R,
@@ -138,6 +156,7 @@ impl<R: Read> Source for HostSource<R> {
         requires { 0 < length piece.old }
 
         ensures within { IfOk result (λ n. n ≤ length piece.new) }
+        ensures bytes { ReadConsumes (R.remaining self.old.reader) (R.remaining self.new.reader) result piece.new }
         ensures faults { self.new.faults ≡ faults_after result self.old.faults }
         ensures failed { OnErr result (Rose self.old.faults self.new.faults) }
         ensures counted { self.old.faults ≤ self.new.faults }
@@ -153,7 +172,8 @@ impl<R: Read> Source for HostSource<R> {
 }
 
 /// An output that is written to a writer, which should hold nothing back. Its count of faults is how
-/// many writes failed, or took nothing of bytes that were there.
+/// many writes failed, or took nothing of bytes that were there. It tells nothing of content; where the
+/// writer tells what it holds, each call appends to that.
 #[derive(Drop)]
 pub struct HostSink<W> {
     writer: W,
@@ -179,6 +199,7 @@ impl<W: Write> Sink for HostSink<W> {
     fn give(&mut self, piece: &[u8]) -> Result<usize, Failed>
         ensures within { IfOk result (λ n. n ≤ length piece.now) }
         ensures some { IfOk result (λ n. 0 < length piece.now → 0 < n) }
+        ensures bytes { WriteAppends (W.contents self.old.writer) (W.contents self.new.writer) result piece.now }
         ensures faults { self.new.faults ≡ faults_after result self.old.faults }
         ensures failed { OnErr result (Rose self.old.faults self.new.faults) }
         ensures counted { self.old.faults ≤ self.new.faults }

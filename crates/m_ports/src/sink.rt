@@ -24,6 +24,8 @@ pub trait Sink {
         ensures failed { OnErr result (Rose (faults self.old) (faults self.new)) }
         ensures kept { OnErr result (written self.new ≡ written self.old) }
 
+        // A failure is never kept back: where the answer is none, none was counted.
+        ensures faultless { OnOk result (faults self.new ≡ faults self.old) }
         ensures counted { faults self.old ≤ faults self.new };
 }
 
@@ -35,6 +37,7 @@ pub fn give_all<K: Sink>(out: &mut K, bytes: &[u8]) -> Result<(), Failed>
     ensures failed { OnErr result (Rose (K.faults out.old) (K.faults out.new)) }
     ensures prefix { OnErr result (AppendsPrefix (K.written out.old) (K.written out.new) bytes.now) }
 
+    ensures faultless { OnOk result (K.faults out.new ≡ K.faults out.old) }
     ensures counted { K.faults out.old ≤ K.faults out.new }
 {
     let mut given = 0;

@@ -10,7 +10,7 @@ use Rattle.m_tax.specs.Command.{reads_input}
 use Rattle.m_tax.specs.Lines.{unreadable_line}
 use Rattle.m_tax.specs.Output.{Disk, fetches_of, Output}
 use Rattle.m_tax.specs.Reading.{Reading, NoneFailed, LastFailed}
-use Rattle.m_tax.specs.Replies.{Replies, WritesWhole}
+use Rattle.m_tax.specs.inner.Replies.{Replies, WritesWhole}
 use Rattle.m_tax.specs.Writing.{IsFaultless, IsComplete, output, unreadable, WritesFront, IsValid}
 use Rattle.m_tax.proofs.Valid.{valid_done}
 use Rattle.m_tax.specs.declared.status.Status.{Status}

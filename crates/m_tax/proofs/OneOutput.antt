@@ -1,7 +1,7 @@
 -- The same words, files and input have one output.
 use Rattle.std.proofs.Common.{◌≡◌, ℕ, true, false, List, length, refl, sym, ap, ◌∙◌, subst, arith}
 use Rattle.std.specs.Prelude.{◌&&◌}
-use Rattle.m_list.specs.declared.listing.OneFile.{OneFile}
+use Rattle.m_tax.specs.declared.listing.OneFile.{OneFile}
 use Rattle.first_form.specs.declared.outcome.Outcome.TheVariants.{Lines, Syntax, NotBuilt}
 use Rattle.first_form.proofs.Outcomes.{one_outcome}
 use Rattle.m_tax.specs.Command.{is_none}

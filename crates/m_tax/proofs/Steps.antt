@@ -9,13 +9,13 @@ use Rattle.m_places.specs.declared.limits.TheConstants.{FILE_BYTES}
 use Rattle.m_ports.specs.Files.{Holds, HoldsMoreThan}
 use Rattle.m_ports.specs.declared.files.Attempt.{Attempt}
 use Rattle.m_tax.specs.Lines.{too_long_line}
-use Rattle.m_list.specs.Listing.{one_file_of}
-use Rattle.m_list.specs.declared.listing.OneFile.{OneFile}
+use Rattle.m_tax.specs.Listing.{one_file_of}
+use Rattle.m_tax.specs.declared.listing.OneFile.{OneFile}
 use Rattle.m_tax.specs.Command.{Command, run, command_of, is_none}
 use Rattle.m_tax.specs.Output.{Disk, within_limit, fetching, Fetching, too_long, fetched, rules_fetches, listed_fetches, list_fetches, command_fetches, fetches_of, Rules, Listed, listed, Running, Output, ran}
 use Rattle.m_tax.specs.Writing.{IsFaultless}
 use Rattle.m_tax.specs.Reading.{BeginsWith, names_of, LastFailed}
-use Rattle.m_tax.specs.Replies.{Replies, Answered, Had, IsTextOf, IsNoUsage, TellsUsage}
+use Rattle.m_tax.specs.inner.Replies.{Replies, Answered, Had, IsTextOf, IsNoUsage, TellsUsage}
 use Rattle.m_tax.specs.declared.status.Status.{Status}
 use Rattle.m_tax.specs.declared.status.Status.TheVariants.{Refused}
 use Rattle.m_tax.specs.declared.reply.Reply.{Reply}

@@ -3,7 +3,7 @@ use Rattle.std.proofs.Common.{◌≡◌, ◌≤◌, ℕ, Bool, true, false, List
 use Rattle.std.specs.Prelude.{option_and_then, nat_le, ◌&&◌}
 use Rattle.std.proofs.lemmas.Bool.Decides.{nat_tests}
 use Rattle.m_places.specs.declared.limits.TheConstants.{FILE_BYTES}
-use Rattle.m_list.specs.declared.listing.OneFile.{OneFile}
+use Rattle.m_tax.specs.declared.listing.OneFile.{OneFile}
 use Rattle.first_form.specs.Meaning.{IsAnswer, IsOutcome}
 use Rattle.first_form.specs.Meaning as meaning
 use Rattle.m_tax.specs.Command.{is_none}

@@ -3,6 +3,7 @@ use Rattle.std.specs.Prelude.{ℕ, Bool, false, ◌&&◌, List, [], ◌∷◌, O
 use Rattle.std.specs.List.{list_all}
 use Rattle.std.specs.Option.{option_map_or}
 use Rattle.std.specs.Str.{bytes_eq, is_utf8}
+use Rattle.m_places.specs.declared.limits.TheConstants.{FILE_BYTES}
 
 -- a command, with the names of its files
 pub data Command : Type 0 where
@@ -19,6 +20,14 @@ command_of _ = None
 -- `-` in the place of a driver or of requests: there is none
 abbrev pub is_none : List ℕ → Bool
 is_none word = bytes_eq word (codes "-")
+
+-- the most bytes of a file that a command fetches
+abbrev pub file_limit : Command → ℕ
+file_limit (run list driver requests household) = FILE_BYTES
+
+-- the most bytes of a file that the words' command fetches; none where they are no command
+abbrev pub limit_of : List (List ℕ) → ℕ
+limit_of words = option_map_or file_limit (command_of words) 0
 
 -- whether a command takes from the input
 abbrev pub takes_input : Command → Bool

@@ -1,7 +1,8 @@
 pub mod Command
 pub mod Lines
+pub mod Listing
 pub mod Output
 pub mod Reading
-pub mod Replies
 pub mod Status
 pub mod Writing
+pub mod inner

@@ -3,8 +3,8 @@
 use Rattle.std.specs.Prelude.{◌≡◌, ℕ, ◌<◌, ◌≤◌, true, false, ◌&&◌, List, [], ◌∷◌, length, Option, Some, None, if◌then◌else◌, nat_le, option_and_then}
 use Rattle.std.specs.Option.{option_map_or}
 use Rattle.m_places.specs.declared.limits.TheConstants.{FILE_BYTES}
-use Rattle.m_list.specs.Listing.{one_file_of}
-use Rattle.m_list.specs.declared.listing.OneFile.{OneFile}
+use Rattle.m_tax.specs.Listing.{one_file_of}
+use Rattle.m_tax.specs.declared.listing.OneFile.{OneFile}
 use Rattle.first_form.specs.Meaning.{IsOutcome}
 use Rattle.first_form.specs.declared.outcome.Outcome.TheVariants.{Lines, Syntax, NotBuilt}
 use Rattle.m_tax.specs.Command.{Command, run, command_of, is_none}

@@ -1,5 +1,5 @@
 -- What a call has read: its attempts on files, and the faults of reading that it tells.
-use Rattle.std.specs.Prelude.{◌≡◌, ◌⊎◌, ℕ, true, false, List, [], ◌∷◌, ◌++◌, map, Option, Some}
+use Rattle.std.specs.Prelude.{◌≡◌, ◌⊎◌, ℕ, ◌+◌, ◌*◌, ◌≤◌, true, false, List, [], ◌∷◌, ◌++◌, length, map, Option, Some}
 use Rattle.std.specs.Io.KnownBytes.{append_known}
 use Rattle.m_ports.specs.Counts.{Rose}
 use Rattle.m_ports.specs.declared.files.Attempt.{Attempt}
@@ -7,7 +7,7 @@ use Rattle.m_tax.specs.Command.{reads_input}
 use Rattle.m_tax.specs.Lines.{unreadable_line}
 use Rattle.m_tax.specs.Output.{Disk, fetches_of}
 use Rattle.m_tax.specs.declared.status.Status.{Status}
-use Rattle.m_tax.specs.declared.status.Status.TheVariants.{ReadFault, WriteFault}
+use Rattle.m_tax.specs.declared.status.Status.TheVariants.{ReadFault, WriteFault, Memory}
 
 -- a list begins with this part
 abbrev pub BeginsWith : {A : Type 0} → List A → List A → Type 0
@@ -40,3 +40,14 @@ pub record Reading (words : List (List ℕ)) (told : Option Disk) (old new : Lis
   pub failed : (name : List ℕ) → LastFailed made name → (status ≡ ReadFault) ⊎ (status ≡ WriteFault)
   pub cause : status ≡ ReadFault → ((name : List ℕ) × LastFailed made name × (written_new ≡ append_known written_old (unreadable_line name)))
       ⊎ ((reads_input words ≡ true) × Rose faults_old faults_new)
+
+-- how many bytes attempts may take, where no file may have more than the limit: of each file one byte
+-- past it, which shows that the file is too long
+abbrev pub allowance : ℕ → List Attempt → ℕ
+allowance limit attempts = length attempts * (limit + 1)
+
+-- A call takes no more bytes than the allowance of its attempts. A fetch that is refused for memory is
+-- no attempt, and may take as many bytes as one.
+abbrev pub TakesWithin : ℕ → List Attempt → List Attempt → ℕ → ℕ → Status → Type 0
+TakesWithin limit old new taken_old taken_new Memory = taken_new + allowance limit old ≤ taken_old + allowance limit new + (limit + 1)
+TakesWithin limit old new taken_old taken_new _ = taken_new + allowance limit old ≤ taken_old + allowance limit new

@@ -3,8 +3,8 @@ use Rattle.std.specs.Prelude.{◌≡◌, ◌⊎◌, ℕ, true, List, ◌++◌, O
 use Rattle.std.specs.Io.KnownBytes.{append_known}
 use Rattle.m_ports.specs.declared.files.Attempt.{Attempt}
 use Rattle.m_ports.specs.Sink.{AppendsPrefix}
-use Rattle.m_list.specs.Listing.{one_file_of}
-use Rattle.m_list.specs.declared.listing.OneFile.{OneFile}
+use Rattle.m_tax.specs.Listing.{one_file_of}
+use Rattle.m_tax.specs.declared.listing.OneFile.{OneFile}
 use Rattle.first_form.specs.Meaning.{IsAnswer}
 use Rattle.m_tax.specs.Command.{run, command_of, is_none, reads_input}
 use Rattle.m_tax.specs.Lines.{unreadable_line}

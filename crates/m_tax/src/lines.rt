@@ -57,6 +57,7 @@ pub fn give_unreadable<K: Sink>(out: &mut K, name: &Name) -> Result<(), Failed>
     ensures all { OnOk result (K.written out.new ≡ append_known (K.written out.old) (unreadable_line name.now)) }
     ensures failed { OnErr result (Rose (K.faults out.old) (K.faults out.new)) }
     ensures prefix { OnErr result (AppendsPrefix (K.written out.old) (K.written out.new) (unreadable_line name.now)) }
+    ensures faultless { OnOk result (K.faults out.new ≡ K.faults out.old) }
 {
     give_all(out, b"unreadable ")?;
     give_all(out, name.bytes())?;

@@ -5,6 +5,7 @@
 #![tactic(auto)]
 
 mod lines;
+mod listing;
 mod program;
 mod reply;
 mod run;

@@ -1,13 +1,13 @@
 //! The top call.
-ghost use Rattle.std.specs.Prelude.{◌≡◌, ℕ, List, Some, false};
+ghost use Rattle.std.specs.Prelude.{◌≡◌, ◌<◌, ℕ, List, Some, false};
 ghost use Rattle.m_ports.specs.Counts.{Rose};
 ghost use Rattle.m_ports.specs.Files.{failed_count};
-ghost use Rattle.m_tax.specs.Command.{command_of, reads_input, writes_early};
+ghost use Rattle.m_tax.specs.Command.{command_of, limit_of, reads_input, writes_early};
 ghost use Rattle.m_tax.specs.Output.{Disk, Output};
 ghost use Rattle.m_tax.specs.declared.status.Status.{Status};
-ghost use Rattle.m_tax.specs.Reading.{Reading};
+ghost use Rattle.m_tax.specs.Reading.{Reading, TakesWithin};
 ghost use Rattle.m_tax.specs.Writing.{Prints, WritesFront, IsValid, IsComplete, IsToldUsage};
-ghost use Rattle.m_tax.specs.Replies.{IsSound, WritesWhole};
+ghost use Rattle.m_tax.specs.inner.Replies.{IsSound, WritesWhole};
 
 use crate::lines::give_unreadable;
 use crate::reply::Reply;
@@ -23,6 +23,7 @@ fn print<K: Sink>(out: &mut K, reply: &Reply) -> Status
     requires { IsSound reply.now }
     ensures whole { WritesWhole (K.written out.old) (K.written out.new) reply.now result }
     ensures cause { result ≡ Status.WriteFault → Rose (K.faults out.old) (K.faults out.new) }
+    ensures told { K.faults out.old < K.faults out.new → result ≡ Status.WriteFault }
 {
     match reply {
         Reply::Text(text, status) => match give_all(out, text.as_slice()) {
@@ -52,14 +53,18 @@ pub fn m_tax<R: Threads + Sync, F: Files, S: Source, K: Sink>(
     ensures text { Prints words.now (F.told files.old) (S.left input.old) (K.written out.old) (K.written out.new) result }
 
     // The attempts on files are those of `fetches_of`, at most the last of them failed, and a read fault
-    // is told only there.
+    // is told only there. No file is read further than one byte past its limit.
     ensures reading { Reading words.now (F.told files.old) (F.attempts files.old) (F.attempts files.new)
         (S.faults input.old) (S.faults input.new) (K.written out.old) (K.written out.new) result }
+    ensures taken { TakesWithin (limit_of words.now) (F.attempts files.old) (F.attempts files.new)
+        (F.taken files.old) (F.taken files.new) result }
     ensures input_left { reads_input words.now ≡ false → S.left input.new ≡ S.left input.old }
     ensures input_faults { reads_input words.now ≡ false → S.faults input.new ≡ S.faults input.old }
 
-    // A write fault is told only where one happened, and what was written is the front of a text.
+    // A write fault is told only where one happened and always where one did, and what was written is
+    // the front of a text.
     ensures write_fault { result ≡ Status.WriteFault → Rose (K.faults out.old) (K.faults out.new) }
+    ensures write_told { K.faults out.old < K.faults out.new → result ≡ Status.WriteFault }
     ensures writing { WritesFront words.now (F.told files.old) (S.left input.old) (F.attempts files.old) (F.attempts files.new)
         (K.written out.old) (K.written out.new) result }
 

@@ -1,4 +1,4 @@
-use Rattle.std.proofs.Common.{◌≤◌, length, drop, arith, length-drop}
+use Rattle.std.proofs.Common.{◌≤◌, ◌∙◌, length, drop, arith, length-drop}
 use Rattle.std.proofs.lemmas.Result.{err_from_is_err_and}
 use Rattle.m_ports.proofs.SinkLemmas.{append_known-take, AppendsPrefix-take, rest_from}
 use Rattle.m_ports.proofs.sink.give_all.Goals as goal
@@ -15,5 +15,5 @@ loop-given-preserved g c =
       omega (arith, length-drop c.loop-given.given c.args.bytes.now),
       append_known-take _ _ _ c.args.bytes.now c.loop-given.given c.in_ok-given.field-0 c.loop-given.invariant.1
           (rw (rest_from c.args.bytes.now c.loop-given.given) at c.in_ok-given.ensures.appended),
-      omega (arith, c.give.ensures.counted),
+      c.in_ok-given.ensures.faultless ∙ c.loop-given.invariant.2,
     )

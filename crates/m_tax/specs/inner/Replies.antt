@@ -1,5 +1,5 @@
 -- What a step that reads files and answers ensures, whatever step it is.
-use Rattle.std.specs.Prelude.{◌≡◌, ◌≢◌, ◌⊎◌, ◌≤◌, ℕ, false, List, [], ◌∷◌, ◌++◌, length, Option, None, Some, Result, Ok, Err}
+use Rattle.std.specs.Prelude.{◌≡◌, ◌≢◌, ◌⊎◌, ◌≤◌, ℕ, ◌+◌, false, List, [], ◌∷◌, ◌++◌, length, Option, None, Some, Result, Ok, Err}
 use Rattle.std.specs.declared.alloc.AllocError.{AllocError}
 use Rattle.m_places.specs.declared.limits.TheConstants.{FILE_BYTES}
 use Rattle.std.specs.Io.KnownBytes.{append_known}
@@ -9,7 +9,7 @@ use Rattle.m_ports.specs.declared.files.Attempt.{Attempt}
 use Rattle.m_tax.specs.Command.{command_of}
 use Rattle.m_tax.specs.Lines.{unreadable_line}
 use Rattle.m_tax.specs.Output.{Disk, Fetching}
-use Rattle.m_tax.specs.Reading.{BeginsWith, names_of, NoneFailed, LastFailed}
+use Rattle.m_tax.specs.Reading.{BeginsWith, names_of, NoneFailed, LastFailed, allowance}
 use Rattle.m_tax.specs.Writing.{IsFaultless}
 use Rattle.m_tax.specs.declared.status.Status.{Status}
 use Rattle.m_tax.specs.declared.status.Status.TheVariants.{Usage, ReadFault, WriteFault}
@@ -81,3 +81,9 @@ IsSound (Unreadable name) = Unit {0}
 -- A reply was printed: all of it, and then the status is its own, or a front of it.
 abbrev pub WritesWhole : Option (List ℕ) → Option (List ℕ) → Reply → Status → Type 0
 WritesWhole old new reply status = ((new ≡ append_known old (text_of reply)) × (status ≡ status_of reply)) ⊎ (AppendsPrefix old new (text_of reply) × (status ≡ WriteFault))
+
+-- A step takes no more bytes than the allowance of its attempts, and of one more file where there was no
+-- memory.
+abbrev pub Takes : {T : Type 0} → List Attempt → List Attempt → ℕ → ℕ → Result T AllocError → Type 0
+Takes old new taken_old taken_new (Ok step) = taken_new + allowance FILE_BYTES old ≤ taken_old + allowance FILE_BYTES new
+Takes old new taken_old taken_new (Err error) = taken_new + allowance FILE_BYTES old ≤ taken_old + allowance FILE_BYTES new + (FILE_BYTES + 1)
