@@ -1,15 +1,16 @@
 -- The clauses of the top call, from the reply and from how it was printed.
-use Rattle.std.proofs.Common.{◌≡◌, ◌<◌, ◌+◌, ℕ, true, false, List, [], ◌∷◌, ◌++◌, Option, Some, Ok, Err, refl, sym, ap, ◌∙◌, subst, arith, inl, inr}
+use Rattle.std.proofs.Common.{◌≡◌, ◌<◌, ◌≤◌, ◌+◌, ℕ, true, false, List, [], ◌∷◌, ◌++◌, Option, Some, Ok, Err, refl, sym, ap, ◌∙◌, subst, arith, inl, inr}
 use Rattle.std.specs.Prelude.{◌⊎◌}
 use Rattle.std.specs.Io.KnownBytes.{append_known}
 use Rattle.std.specs.declared.alloc.AllocError.{AllocError}
 use Rattle.m_ports.specs.Counts.{Rose}
 use Rattle.m_ports.specs.Files.{failed_count}
 use Rattle.m_ports.specs.declared.files.Attempt.{Attempt}
+use Rattle.m_ports.proofs.FileLemmas.{failed_count-append}
 use Rattle.m_tax.specs.Command.{reads_input}
 use Rattle.m_tax.specs.Lines.{unreadable_line}
 use Rattle.m_tax.specs.Output.{Disk, fetches_of, Output}
-use Rattle.m_tax.specs.Reading.{Reading, NoneFailed, LastFailed}
+use Rattle.m_tax.specs.Reading.{Reading, NoneFailed, LastFailed, allowance, TakesWithin}
 use Rattle.m_tax.specs.inner.Replies.{Replies, WritesWhole}
 use Rattle.m_tax.specs.Writing.{IsFaultless, IsComplete, output, unreadable, WritesFront, IsValid}
 use Rattle.m_tax.proofs.Valid.{valid_done}
@@ -95,6 +96,16 @@ reading_without words told old new f g w v error r = record {
   cause = λ e. cc;
 }
 
+-- what was taken, where there was a reply, however it was printed
+pub taken_of : (limit : ℕ) (old new : List Attempt) (a b : ℕ) (status : Status) → b + allowance limit old ≤ a + allowance limit new → TakesWithin limit old new a b status
+taken_of limit old new a b Done h = h
+taken_of limit old new a b Refused h = h
+taken_of limit old new a b Usage h = h
+taken_of limit old new a b ReadFault h = h
+taken_of limit old new a b WriteFault h = h
+taken_of limit old new a b Memory h = omega arith
+taken_of limit old new a b Stopped h = h
+
 -- what was written, where a write failed
 pub writing_of : (words : List (List ℕ)) (told : Option Disk) (left : Option (List ℕ)) (old new : List Attempt) (w v : Option (List ℕ)) (reply : Reply) (status : Status)
     → Replies told old new (fetches_of words) (outputs words) (Ok reply) → WritesWhole w v reply status → WritesFront words told left old new w v status
@@ -102,10 +113,6 @@ writing_of words told left old new w v (Text text own) status r (inl p) disk typ
 writing_of words told left old new w v (Text text own) status r (inr p) disk typed t i e = (text, output (r.answered.2 disk t typed), p.0)
 writing_of words told left old new w v (Unreadable name) status r (inl p) disk typed t i e = cc (p.1, e)
 writing_of words told left old new w v (Unreadable name) status r (inr p) disk typed t i e = (unreadable_line name, unreadable r.appended r.answered refl, p.0)
-
-failed_count-append : (a b : List Attempt) → failed_count (a ++ b) ≡ failed_count a + failed_count b
-failed_count-append [] b = omega arith
-failed_count-append (x ∷ a) b = omega (arith, failed_count-append a b)
 
 -- what is valid is answered
 pub complete_of : (words : List (List ℕ)) (told : Option Disk) (old new : List Attempt) (w v : Option (List ℕ)) (reply : Reply) (status : Status) (disk : Disk) (out_old out_new : ℕ)

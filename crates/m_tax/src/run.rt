@@ -1,5 +1,7 @@
 //! The steps of a run: each fetches one file, and hands its bytes to the next.
 ghost use Rattle.std.specs.Prelude.{◌≡◌, ◌≤◌, IfOk, ℕ, List, length};
+ghost use Rattle.m_places.specs.declared.limits.TheConstants.{FILE_BYTES};
+ghost use Rattle.m_tax.specs.Command.{limit_of};
 ghost use Rattle.m_tax.specs.Output.{household_fetches, rules_fetches, listed_fetches, list_fetches, fetches_of, Household, Rules, Listed, Running, Output, Answering};
 ghost use Rattle.m_tax.specs.inner.Replies.{Replies, Steps, Takes, TellsUsage, IsTextOf, IsNoUsage, IsNoUsageStep};
 
@@ -19,7 +21,7 @@ fn fetch<F: Files>(alloc: Global, files: &mut F, name: &Name) -> Result<Step, Al
     ensures steps { Steps (F.told files.old) (F.attempts files.old) (F.attempts files.new) name.now result }
     ensures used { IfOk result IsNoUsageStep }
     ensures told { F.told files.new ≡ F.told files.old }
-    ensures taken { Takes (F.attempts files.old) (F.attempts files.new) (F.taken files.old) (F.taken files.new) result }
+    ensures taken { Takes FILE_BYTES (F.attempts files.old) (F.attempts files.new) (F.taken files.old) (F.taken files.new) result }
 {
     let name = name.copy(alloc)?;
     match files.fetch(alloc, &name, FILE_BYTES) {
@@ -63,7 +65,7 @@ fn with_household<F: Files>(
     ensures used { IfOk result IsNoUsage }
     ensures replies { Replies (F.told files.old) (F.attempts files.old) (F.attempts files.new)
         (λ disk. household_fetches disk household.now) (λ disk. Household disk application.now rules.now household.now) result }
-    ensures taken { Takes (F.attempts files.old) (F.attempts files.new) (F.taken files.old) (F.taken files.new) result }
+    ensures taken { Takes FILE_BYTES (F.attempts files.old) (F.attempts files.new) (F.taken files.old) (F.taken files.new) result }
 {
     match fetch(alloc, files, household)? {
         Step::Bytes(bytes) => answered(alloc, application.bytes(), rules, &bytes),
@@ -82,7 +84,7 @@ fn with_rules<F: Files>(
     ensures used { IfOk result IsNoUsage }
     ensures replies { Replies (F.told files.old) (F.attempts files.old) (F.attempts files.new)
         (λ disk. rules_fetches disk file.now household.now) (λ disk. Rules disk application.now file.now household.now) result }
-    ensures taken { Takes (F.attempts files.old) (F.attempts files.new) (F.taken files.old) (F.taken files.new) result }
+    ensures taken { Takes FILE_BYTES (F.attempts files.old) (F.attempts files.new) (F.taken files.old) (F.taken files.new) result }
 {
     match fetch(alloc, files, file)? {
         Step::Bytes(bytes) => with_household(alloc, files, application, &bytes, household),
@@ -101,7 +103,7 @@ fn with_listing<F: Files>(
     ensures used { IfOk result IsNoUsage }
     ensures replies { Replies (F.told files.old) (F.attempts files.old) (F.attempts files.new)
         (λ disk. listed_fetches disk listing.now household.now) (λ disk. Listed disk household.now listing.now) result }
-    ensures taken { Takes (F.attempts files.old) (F.attempts files.new) (F.taken files.old) (F.taken files.new) result }
+    ensures taken { Takes FILE_BYTES (F.attempts files.old) (F.attempts files.new) (F.taken files.old) (F.taken files.new) result }
 {
     match read_one_file(alloc, listing)? {
         None => Ok(Reply::Text(lines::not_built(alloc)?, Status::Refused)),
@@ -119,7 +121,7 @@ fn run<F: Files>(
     ensures used { IfOk result IsNoUsage }
     ensures replies { Replies (F.told files.old) (F.attempts files.old) (F.attempts files.new)
         (λ disk. list_fetches disk list.now household.now) (λ disk. Running disk list.now household.now) result }
-    ensures taken { Takes (F.attempts files.old) (F.attempts files.new) (F.taken files.old) (F.taken files.new) result }
+    ensures taken { Takes FILE_BYTES (F.attempts files.old) (F.attempts files.new) (F.taken files.old) (F.taken files.new) result }
 {
     match fetch(alloc, files, list)? {
         Step::Bytes(bytes) => with_listing(alloc, files, &bytes, household),
@@ -131,7 +133,7 @@ fn run<F: Files>(
 pub fn reply_to<F: Files>(alloc: Global, words: &[Word], files: &mut F) -> Result<Reply, AllocError>
     ensures replies { Replies (F.told files.old) (F.attempts files.old) (F.attempts files.new)
         (fetches_of words.now) (λ disk text status. (typed : List ℕ) → Output words.now disk typed text status) result }
-    ensures taken { Takes (F.attempts files.old) (F.attempts files.new) (F.taken files.old) (F.taken files.new) result }
+    ensures taken { Takes (limit_of words.now) (F.attempts files.old) (F.attempts files.new) (F.taken files.old) (F.taken files.new) result }
     ensures usage { IfOk result (TellsUsage words.now) }
 {
     let Some(form) = run_of(words) else {

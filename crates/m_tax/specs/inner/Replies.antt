@@ -84,6 +84,6 @@ WritesWhole old new reply status = ((new ≡ append_known old (text_of reply)) �
 
 -- A step takes no more bytes than the allowance of its attempts, and of one more file where there was no
 -- memory.
-abbrev pub Takes : {T : Type 0} → List Attempt → List Attempt → ℕ → ℕ → Result T AllocError → Type 0
-Takes old new taken_old taken_new (Ok step) = taken_new + allowance FILE_BYTES old ≤ taken_old + allowance FILE_BYTES new
-Takes old new taken_old taken_new (Err error) = taken_new + allowance FILE_BYTES old ≤ taken_old + allowance FILE_BYTES new + (FILE_BYTES + 1)
+abbrev pub Takes : {T : Type 0} → ℕ → List Attempt → List Attempt → ℕ → ℕ → Result T AllocError → Type 0
+Takes limit old new taken_old taken_new (Ok step) = taken_new + allowance limit old ≤ taken_old + allowance limit new
+Takes limit old new taken_old taken_new (Err error) = taken_new + allowance limit old ≤ taken_old + allowance limit new + (limit + 1)
