@@ -1,8 +1,9 @@
 -- One more turn of the loops over items, variables and values.
 use Rattle.std.proofs.Common.{◌≡◌, ◌<◌, ◌≤◌, ◌+◌, ℕ, Bool, true, false, not, suc, List, [], ◌∷◌, ◌++◌, drop, length, get_or, refl, sym, ap, ◌∙◌, subst, cond, append_assoc, length-append, arith}
 use Rattle.std.proofs.Math.Seq.{drop-cons}
+use Rattle.std.proofs.lemmas.List.{append-nil, drop_all}
 use Rattle.m_names.specs.Names.{has, AreDistinct}
-use Rattle.m_names.proofs.Distinct.{twice, AreDistinct-push}
+use Rattle.m_names.proofs.Distinct.{twice, AreDistinct-added}
 use Rattle.m_fixed.specs.declared.amount.Value.{Value}
 use Rattle.m_ast.specs.declared.formula.Formula.{Formula}
 use Rattle.m_ast.specs.declared.item.Item.{Item}
@@ -10,6 +11,7 @@ use Rattle.m_ast.specs.declared.item.Item.TheVariants.{Variable, Rule, Silent}
 use Rattle.m_ast.specs.declared.variable.VariableItem.{VariableItem}
 use Rattle.m_ast.specs.declared.variable.Role.{Role}
 use Rattle.m_ast.specs.declared.variable.Role.TheVariants.{Input, Computed, Constant}
+use Rattle.micro_m.specs.Formulas.{names_of}
 use Rattle.first_form.specs.Form.{variables_of, formulas_of, code_of, codes_of}
 use Rattle.first_form.specs.Lines.{value_line, is_returned, lines_of}
 
@@ -45,11 +47,14 @@ pub fresh_next : (name : List ℕ) (seen next others names : List (List ℕ)) (f
     → seen ++ name ∷ others ≡ names → AreDistinct seen → (next ++ others ≡ names) × AreDistinct next
 fresh_next name seen next others names fresh e f n s d =
     let is : next ≡ seen ++ name ∷ [] = n ∙ ap (λ b. cond b (seen ++ name ∷ []) seen) f in
-    (ap (λ l. l ++ others) is ∙ append_assoc seen (name ∷ []) others ∙ s, subst AreDistinct (sym is) (AreDistinct-push name seen d (not_yes (has name seen) (sym e ∙ f))))
-  where
-    not_yes : (b : Bool) → not b ≡ true → b ≡ false
-    not_yes false h = refl
-    not_yes true h = sym h
+    (ap (λ l. l ++ others) is ∙ append_assoc seen (name ∷ []) others ∙ s, AreDistinct-added seen next name fresh f e n d)
+
+-- behind the last variable the names are all that there are
+pub all_named : (names : List (List ℕ)) (variables : List VariableItem) (i : ℕ) → length variables ≤ i → names ++ names_of (drop i variables) ≡ names_of variables → AreDistinct names
+    → (names ≡ names_of variables) × AreDistinct (names_of variables)
+all_named names variables i h s d =
+    let e : names ≡ names_of variables = sym (append-nil names) ∙ ap (λ l. names ++ names_of l) (sym (drop_all i variables h)) ∙ s in
+    (e, subst AreDistinct e d)
 
 -- the line of one value more
 pub line_next : (text next : List ℕ) (variables : List VariableItem) (values : List Value) (all : List ℕ) (variable : VariableItem) (value : Value) (vs : List VariableItem) (xs : List Value)

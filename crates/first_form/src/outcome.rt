@@ -21,7 +21,7 @@ use std::alloc::{AllocError, Global};
 pub enum Outcome {
     /// The lines of the answer.
     Lines(Seq<u8>),
-    /// The rule file has no tokens.
+    /// The rule file has no list of tokens: it has a lexical fault.
     Syntax,
     /// The rule file or the household isn't in a form that is built yet.
     NotBuilt,

@@ -1,4 +1,3 @@
-pub mod CodeLemmas
 pub mod PairLemmas
 pub mod RowLemmas
 pub mod ValueLemmas

@@ -25,9 +25,6 @@ has_number-push_other n k (m ∷ ms) h = ap (λ b. eqb m k || b) (has_number-pus
 pub record Marks (seen : List Bool) (numbers : List ℕ) : Type 0 where
   pub each : (k : ℕ) → k < length seen → get_or seen k false ≡ has_number k numbers
 
-pub Marks-none : (n : ℕ) → Marks (replicate n false) []
-Marks-none n = record { each = λ k l. get_or-replicate n k false false (omega (arith, length-replicate {A = Bool})) }
-
 mark_at : (seen : List Bool) (numbers : List ℕ) (i k : ℕ) → Marks seen numbers → k < length seen → (k ≡ i) ⊎ (k ≡ i → ⊥) → get_or (set seen i true) k false ≡ has_number k (numbers ++ i ∷ [])
 mark_at seen numbers i k h l (inl same) = subst (λ (j : ℕ). get_or (set seen i true) j false ≡ has_number j (numbers ++ i ∷ [])) (sym same) (get_or-set_same seen i true false (omega arith) ∙ sym (has_number-push_same i numbers))
 mark_at seen numbers i k h l (inr other) = get_or-set_other seen i k true false other ∙ h.each k l ∙ sym (has_number-push_other i k numbers other)
@@ -62,9 +59,6 @@ pub record IsFront (inputs all rest : List (List ℕ)) (pairs : List (ℕ × ℤ
   pub sound : (others : List (ℕ × ℤ)) → AllZip (IsRow inputs) rest others → AllZip (IsRow inputs) all (pairs ++ others)
   pub whole : (whole : List (ℕ × ℤ)) → AllZip (IsRow inputs) all whole → (others : List (ℕ × ℤ)) × (whole ≡ pairs ++ others) × AllZip (IsRow inputs) rest others
 
-pub IsFront-none : (inputs all : List (List ℕ)) → IsFront inputs all all []
-IsFront-none inputs all = record { sound = λ others d. d; whole = λ whole d. (whole, refl, d) }
-
 zip_cons : (inputs lines : List (List ℕ)) (line : List ℕ) (pairs : List (ℕ × ℤ)) → AllZip (IsRow inputs) (line ∷ lines) pairs
     → (pair : ℕ × ℤ) × (others : List (ℕ × ℤ)) × (pairs ≡ pair ∷ others) × IsRow inputs line pair × AllZip (IsRow inputs) lines others
 zip_cons inputs lines line [] d = absurd d
@@ -91,13 +85,6 @@ pub IsFront-all : {inputs all rest : List (List ℕ)} {pairs : List (ℕ × ℤ)
 IsFront-all {inputs} {all} {rest} {pairs} front e = rw append-nil at (front.sound [] (subst (λ (lines : List (List ℕ)). AllZip (IsRow inputs) lines []) (sym e) tt))
 
 -- why a next row refuses the rows
-pub no_rows_from_many : {inputs all rest behind : List (List ℕ)} {line : List ℕ} {pairs : List (ℕ × ℤ)} → IsFront inputs all rest pairs → rest ≡ line ∷ behind → ROWS ≤ length pairs → (whole : List (ℕ × ℤ)) → AreRows inputs all whole → ⊥
-no_rows_from_many {pairs = pairs} front e many whole rows =
-    let next = IsFront-next front e whole rows.in_order in
-    let count : length whole ≡ length pairs + suc (length next.1) = ap length next.2 ∙ length-append pairs (next.0 ∷ next.1) in
-    let few = rows.few in
-    omega arith
-
 pub no_rows_from_line : {inputs all rest behind : List (List ℕ)} {line : List ℕ} {pairs : List (ℕ × ℤ)} → IsFront inputs all rest pairs → rest ≡ line ∷ behind → ((pair : ℕ × ℤ) → IsRow inputs line pair → ⊥) → (whole : List (ℕ × ℤ)) → AreRows inputs all whole → ⊥
 no_rows_from_line front e no_row whole rows = let next = IsFront-next front e whole rows.in_order in no_row next.0 next.3
 

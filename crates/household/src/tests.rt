@@ -11,11 +11,11 @@ fn codes_of(alloc: Global, names: &[Name]) -> Result<Codes, Fail> {
     for name in names {
         let fresh = known.add(alloc, name.bytes())?;
         if !fresh {
-            return Err("a code stands twice".into());
+            return Err(Fail::from("a code stands twice"));
         }
     }
     if names.len() > 1_000_000 {
-        return Err("too many codes".into());
+        return Err(Fail::from("too many codes"));
     }
     Ok(Codes::new(alloc, names)?)
 }

@@ -28,9 +28,6 @@ both_true : (a b : Bool) → (a && b) ≡ true → IsTrue a × IsTrue b
 both_true true b h = (refl, h)
 both_true false b h = (cc, cc)
 
-both_or_not : (a b : Bool) → ((a && b) ≡ true) ⊎ ((a && b) ≡ false)
-both_or_not a b = cases_Bool (a && b)
-
 spelled_parts : (text ds : List ℕ) (o : Option (List ℕ)) (n : ℕ) → text ≡ glued ds o → parts_value ds o ≡ Some n → SpellsNumber text n
 spelled_parts text ds None n et e = ⊎_elim
     (λ (good : is_digits ds ≡ true). let value : Some (millionths_of ds []) ≡ Some n = rw good at e in let same : millionths_of ds [] ≡ n = cc in whole ds good et (sym same))

@@ -37,9 +37,6 @@ pub record AreRead (ds : List ℕ) (places n : ℕ) : Type 0 where
   pub small : n < 10 ^ places
   pub value : digits_value 10 ds * 10 ^ places ≡ n * 10 ^ length ds + digits_value 10 (drop places ds) * 10 ^ places
 
-pub none_read : (ds : List ℕ) → AreRead ds 0 0
-none_read ds = record { small = omega arith; value = omega arith }
-
 pub more_read : (ds : List ℕ) (i n d : ℕ) → IsTrue (only_digits ds) → AreRead ds i n → d ≡ get_or ds i 48 - 48 → d < 10 → AreRead ds (i + 1) (n * 10 + d)
 more_read ds i n d h r e small =
     rw add-one record {

@@ -104,12 +104,6 @@ lesser_is x y = ⊎_elim (λ (h : int_lt y x ≡ true). inr (rw h refl)) (λ (h 
 one_of_amounts : (m x y : ℤ) → IsAmount x → IsAmount y → (m ≡ x) ⊎ (m ≡ y) → IsAmount m
 one_of_amounts m x y p q e = ⊎_elim (λ (h : m ≡ x). rw h p) (λ (h : m ≡ y). rw h q) e
 
-pub greater_bounds : (x y : ℤ) → (x ≤ℤ int_max x y) × (y ≤ℤ int_max x y)
-greater_bounds x y = (omega (arith, ints, int_max_is x y), omega (arith, ints, int_max_is x y))
-
-pub lesser_bounds : (x y : ℤ) → (int_min x y ≤ℤ x) × (int_min x y ≤ℤ y)
-lesser_bounds x y = (omega (arith, ints, int_min_is x y), omega (arith, ints, int_min_is x y))
-
 pub greater_value : (x y : ℤ) (c : Value) → IsAmount x → IsAmount y → op_value Max (Num x) (Num y) c ≡ Num (int_max x y)
 unfolding op_value
 greater_value x y c p q = bounded_amount (int_max x y) (one_of_amounts (int_max x y) x y p q (greater_is x y))

@@ -34,9 +34,6 @@ attributes_push a s d = record {
   pairs = ap (λ ps. ps ++ pair_of a.word a.amount) s.pairs ∙ sym (pairs_of-push s.all a);
 }
 
-pub attributes_read : {ws : List (List ℕ)} {ps : List (List ℕ × ℤ)} {ts b : List Token} → AttributesSoFar ws ps ts b → ¬ AtWord b → ReadsAttributes (record { words = ws; pairs = ps }) ts b
-attributes_read s h = record { all = s.all; each = s.each; words = s.words; pairs = s.pairs; last = h }
-
 -- no attributes where a word begins none
 pub attributes_stuck : {ws : List (List ℕ)} {ps : List (List ℕ × ℤ)} {ts b : List Token} → AttributesSoFar ws ps ts b → AtWord b → Lacks ClosedAttribute b → LacksBefore SpellsAttributes EndsAttributes ts
 attributes_stuck s w lacks x r (attributes d) k =

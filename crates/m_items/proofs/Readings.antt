@@ -91,14 +91,6 @@ items_one d e = (many_one ClosedItem item_one (λ ts. ts ≡ []) item_ends (clos
 
 -- What a reader knows.
 
-pub no_variable : {ts : List Token} → AtWord ts → Lacks SpellsVariable ts → Lacks ClosedItem ts
-no_variable w lacks x r c = go w lacks c.spelled
-  where
-    go : {x : Item} {ts r : List Token} → AtWord ts → Lacks SpellsVariable ts → SpellsItem x ts r → ⊥
-    go w lacks (a_variable v) = lacks _ _ v
-    go w lacks (a_rule d) = word_no_key w (rule_key d)
-    go w lacks (an_application a b c) = word_no_key w (_, (_, a))
-
 pub no_rule : {ts : List Token} → AtKey keys.Regle ts → LacksBefore SpellsRule EndsFormulas ts → Lacks ClosedItem ts
 no_rule k lacks x r c = go k lacks c.spelled c.ended
   where
@@ -106,14 +98,6 @@ no_rule k lacks x r c = go k lacks c.spelled c.ended
     go k lacks (a_variable v) h = word_no_key (variable_word v) k
     go k lacks (a_rule d) h = lacks _ _ d h
     go k lacks (an_application a b c) h = apart (λ e. cc) k.1.1 a
-
-pub no_silent : {ts : List Token} → ¬ AtWord ts → ¬ AtKey keys.Regle ts → ((p : Place) (r : List Token) → SpellsItem (items.Silent p) ts r → ⊥) → Lacks ClosedItem ts
-no_silent w k lacks x r c = go w k lacks c.spelled
-  where
-    go : {x : Item} {ts r : List Token} → ¬ AtWord ts → ¬ AtKey keys.Regle ts → ((p : Place) (r : List Token) → SpellsItem (items.Silent p) ts r → ⊥) → SpellsItem x ts r → ⊥
-    go w k lacks (a_variable v) = w (variable_word v)
-    go w k lacks (a_rule d) = k (rule_key d)
-    go w k lacks (an_application a b c) = lacks _ _ (an_application a b c)
 
 abbrev SilentParts : List Token → List Token → Type 0
 SilentParts = Then (SpellsKey keys.Application) (Then (Any SpellsWord) (SpellsSign signs.Semicolon))
@@ -123,9 +107,6 @@ silent_parts (an_application a b c) = record { mid = _; first = (_, a); second =
 
 pub no_application_key : {ts : List Token} → NoKey keys.Application ts → (p : Place) (r : List Token) → SpellsItem (items.Silent p) ts r → ⊥
 no_application_key h p r d = h _ (silent_parts d).first
-
-pub no_application_word : {ts a : List Token} → SpellsKey keys.Application ts a → ¬ AtWord a → (p : Place) (r : List Token) → SpellsItem (items.Silent p) ts r → ⊥
-no_application_word k h p r d = after_key k (never_first (λ s w. h (w.0, s, w.1))) r (silent_parts d)
 
 pub no_application_end : {w : List ℕ} {ts a b : List Token} → SpellsKey keys.Application ts a → SpellsWord w a b → NoSign signs.Semicolon b → (p : Place) (r : List Token) → SpellsItem (items.Silent p) ts r → ⊥
 no_application_end k w h p r d = after_key k (after_word w h) r (silent_parts d)

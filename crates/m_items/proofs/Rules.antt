@@ -109,9 +109,6 @@ rule_parts (rule a b c d e f) h = record { mid = _; first = (_, a); second = rec
 pub no_regle : {ts : List Token} → NoKey keys.Regle ts → LacksBefore SpellsRule EndsFormulas ts
 no_regle h x r d k = h _ (rule_parts d k).first
 
-pub no_number : {ts a : List Token} → SpellsKey keys.Regle ts a → Lacks SpellsRuleNumber a → LacksBefore SpellsRule EndsFormulas ts
-no_number b lacks x r d k = after_key b (never_first (lacks_never SpellsRuleNumber lacks)) r (rule_parts d k)
-
 pub no_number_colon : {n : List ℕ} {ts a b : List Token} → SpellsKey keys.Regle ts a → SpellsRuleNumber n a b → NoSign signs.Colon b → LacksBefore SpellsRule EndsFormulas ts
 no_number_colon b n h x r d k = after_key b (after_fixed rule_number_one n (never_first h)) r (rule_parts d k)
 

@@ -203,9 +203,6 @@ input_parts (input a b c d e) = record { mid = _; first = a; second = record { m
 pub no_saisie : {ts : List Token} → NoKey keys.Saisie ts → Lacks SpellsInput ts
 no_saisie h x r d = h _ (input_parts d).first
 
-pub no_input_attributes : {ts a : List Token} → SpellsKey keys.Saisie ts a → LacksBefore SpellsAttributes EndsAttributes a → Lacks SpellsInput ts
-no_input_attributes k lacks x r d = after_key k (no_attributes code_ends lacks) r (input_parts d)
-
 pub no_alias : {x : Attributes} {ts a b : List Token} → SpellsKey keys.Saisie ts a → ReadsAttributes x a b → NoKey keys.Alias b → Lacks SpellsInput ts
 no_alias k l h x r d = after_key k (after_attributes code_ends l (never_first h)) r (input_parts d)
 
@@ -245,9 +242,6 @@ no_const h x r d = h _ (constant_parts d).first
 pub no_const_equal : {ts a : List Token} → SpellsKey keys.Const ts a → NoSign signs.Equal a → Lacks SpellsConstant ts
 no_const_equal k h x r d = after_key k (never_first h) r (constant_parts d)
 
-pub no_const_amount : {ts a b : List Token} → SpellsKey keys.Const ts a → SpellsSign signs.Equal a b → Lacks SpellsAmount b → Lacks SpellsConstant ts
-no_const_amount k s lacks x r d = after_key k (after_sign s (never_first (lacks_never SpellsAmount lacks))) r (constant_parts d)
-
 pub no_const_semicolon : {z : ℤ} {ts a b c : List Token} → SpellsKey keys.Const ts a → SpellsSign signs.Equal a b → SpellsAmount z b c → NoSign signs.Semicolon c → Lacks SpellsConstant ts
 no_const_semicolon k s a h x r d = after_key k (after_sign s (after_fixed amount_one a h)) r (constant_parts d)
 
@@ -256,11 +250,6 @@ pub no_input : {ts : List Token} → AtKey keys.Saisie ts → Lacks SpellsInput 
 no_input k lacks x r (as_input d) = lacks _ _ d
 no_input k lacks x r (as_computed d) = apart (λ e. cc) k.1.1 (computed_key d).1.1
 no_input k lacks x r (as_constant d) = apart (λ e. cc) k.1.1 (constant_key d).1.1
-
-pub no_computed : {ts : List Token} → AtKey keys.Calculee ts → Lacks SpellsComputed ts → Lacks SpellsDeclaration ts
-no_computed k lacks x r (as_input d) = apart (λ e. cc) k.1.1 (input_key d).1.1
-no_computed k lacks x r (as_computed d) = lacks _ _ d
-no_computed k lacks x r (as_constant d) = apart (λ e. cc) k.1.1 (constant_key d).1.1
 
 pub no_constant : {ts : List Token} → ¬ AtKey keys.Saisie ts → ¬ AtKey keys.Calculee ts → Lacks SpellsConstant ts → Lacks SpellsDeclaration ts
 no_constant h k lacks x r (as_input d) = h (input_key d)
@@ -273,11 +262,5 @@ variable_parts (variable a b c d) = record { mid = _; first = (_, ((_, a), b)); 
 pub no_name : {ts : List Token} → Lacks SpellsWord ts → Lacks SpellsVariable ts
 no_name lacks x r d = lacks _ _ (variable_parts d).first.1.0
 
-pub not_a_name : {w : List ℕ} {ts a : List Token} → SpellsWord w ts a → ¬ IsName w → Lacks SpellsVariable ts
-not_a_name {w} b h x r d = let p = (variable_parts d).first in h (subst IsName (word_one p.1.0 b).0 p.1.1)
-
 pub no_name_colon : {w : List ℕ} {ts a : List Token} → SpellsWord w ts a → NoSign signs.Colon a → Lacks SpellsVariable ts
 no_name_colon b h x r d = never_second (λ m s p q. (word_one p.1.0 b).1) (never_first h) r (variable_parts d)
-
-pub no_declaration : {w : List ℕ} {ts a b : List Token} → SpellsWord w ts a → SpellsSign signs.Colon a b → Lacks SpellsDeclaration b → Lacks SpellsVariable ts
-no_declaration b s lacks x r d = never_second (λ m s p q. (word_one p.1.0 b).1) (after_sign s (lacks_never SpellsDeclaration lacks)) r (variable_parts d)

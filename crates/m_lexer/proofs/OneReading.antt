@@ -35,9 +35,6 @@ word_or_number : (t : List ℕ) → IsWord t → IsNumber t → ⊥
 word_or_number t h (inl k) = h.1 k.1
 word_or_number t h (inr k) = point_is_none (all_right IsWordByte k.0 (point ∷ k.1) (subst (AllByRecursion IsWordByte) k.4 h.0)).0
 
-word_or_text : (t i : List ℕ) → IsWordByte (first t) → IsQuoted t i → ⊥
-word_or_text t i h k = let e = quoted_first t i k in omega arith
-
 -- one text spells one kind
 one_kind : (t : List ℕ) (k l : Kind) → Spells t k → Spells t l → k ≡ l
 one_kind t k l (word h none) (word h' none') = refl

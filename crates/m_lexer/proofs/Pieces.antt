@@ -84,16 +84,6 @@ sign_length Range = lit≤ tt
 pub sign_first : (t : List ℕ) (s : Sign) → t ≡ sign_spelling s → IsMark (first t)
 sign_first t s e = subst IsMark (sym (ap first e)) (mark_first s)
 
--- the kinds of first bytes are apart
-not_blank_mark : (b : ℕ) → IsBlankByte b → IsMark b → ⊥
-not_blank_mark b h k = omega arith
-
-not_word_mark : (b : ℕ) → IsWordByte b → IsMark b → ⊥
-not_word_mark b h k = omega arith
-
-not_word_blank : (b : ℕ) → IsWordByte b → IsBlankByte b → ⊥
-not_word_blank b h k = omega arith
-
 -- what begins with a quote is a text
 pub after_quote : (t : List ℕ) → IsPiece t → first t ≡ quote → (inside : List ℕ) × IsQuoted t inside
 after_quote t (blank h) e = let k = (blank_first t h).0 in absurd (omega arith)

@@ -1,9 +1,10 @@
 -- Distinct names, one after another.
-use Rattle.std.proofs.Common.{◌≡◌, ℕ, Bool, true, false, List, [], ◌∷◌, ◌++◌, refl, sym, ap, ◌∙◌, inl, inr}
+use Rattle.std.proofs.Common.{◌≡◌, ℕ, ◌+◌, ◌<◌, zero, suc, Bool, true, false, not, cond, List, [], ◌∷◌, ◌++◌, length, take, get_or, refl, sym, subst, ap, ◌∙◌, inl, inr, arith}
 use mathlib.Core.Bool.{◌||◌}
 use Rattle.std.specs.Prelude.{◌⊎◌}
 use Rattle.std.specs.Str.{bytes_eq}
-use Rattle.std.proofs.lemmas.Bool.{or_parts, or_from, or_cases, false_from_ne_true, false≢true}
+use Rattle.std.proofs.lemmas.Bool.{or_parts, or_from, or_cases, not-true, false_from_ne_true, false≢true}
+use Rattle.std.proofs.lemmas.List.{take_more}
 use Rattle.std.proofs.lemmas.Slice.Eq.{bytes_eq-Decides}
 use Rattle.m_names.specs.Names.{has, AreDistinct}
 
@@ -39,3 +40,38 @@ pub AreDistinct-push : (x : List ℕ) (xs : List (List ℕ)) → AreDistinct xs 
 AreDistinct-push x [] d h = (refl, tt)
 AreDistinct-push x (y ∷ xs) d h =
     (has-push y x xs d.0 (bytes_eq-flip x y (or_parts (bytes_eq x y) (has x xs) h).0), AreDistinct-push x xs d.1 (or_parts (bytes_eq x y) (has x xs) h).1)
+
+-- a name that was added and is new leaves names distinct
+pub AreDistinct-added : (old new : List (List ℕ)) (name : List ℕ) (fresh : Bool) → fresh ≡ true → fresh ≡ not (has name old) → new ≡ cond fresh (old ++ name ∷ []) old → AreDistinct old → AreDistinct new
+AreDistinct-added old new name fresh t f e a =
+    subst AreDistinct (sym (e ∙ ap (λ b. cond b (old ++ name ∷ []) old) t)) (AreDistinct-push name old a (not-true (has name old) (sym f ∙ t)))
+
+-- a name that isn't there differs from each
+has-get_or : (name : List ℕ) (names : List (List ℕ)) (i : ℕ) (d : List ℕ) → has name names ≡ false → i < length names → bytes_eq name (get_or names i d) ≡ false
+has-get_or name [] i d h l = absurd (omega arith)
+has-get_or name (n ∷ ns) zero d h l = (or_parts _ _ h).0
+has-get_or name (n ∷ ns) (suc i) d h l = has-get_or name ns i d (or_parts _ _ h).1 (omega arith)
+
+-- of distinct names none stands among those before it
+pub has-take : (names : List (List ℕ)) (i : ℕ) (d : List ℕ) → AreDistinct names → i < length names → has (get_or names i d) (take i names) ≡ false
+has-take [] i d h l = absurd (omega arith)
+has-take (n ∷ ns) zero d h l = refl
+has-take (n ∷ ns) (suc i) d h l =
+    or_from _ _ (bytes_eq-flip n (get_or ns i d) (has-get_or n ns i d h.0 (omega arith))) (has-take ns i d h.1 (omega arith))
+
+-- the names that were added are those before the next one
+pub take-added : (names : List (List ℕ)) (i : ℕ) {known new : List (List ℕ)} {name : List ℕ} {fresh : Bool} (d : List ℕ) → AreDistinct names → i < length names → known ≡ take i names → name ≡ get_or names i d
+    → fresh ≡ not (has name known) → new ≡ cond fresh (known ++ name ∷ []) known → new ≡ take (i + 1) names
+take-added names i {known} {new} {name} {fresh} d distinct l k n f e =
+    let unknown : has name known ≡ false = (λ j. has (n j) (k j)) ∙ has-take names i d distinct l in
+    let is_fresh : fresh ≡ true = f ∙ ap not unknown in
+    e ∙ ap (λ b. cond b (known ++ name ∷ []) known) is_fresh ∙ (λ j. k j ++ n j ∷ []) ∙ sym (take_more names i d l)
+
+-- what is added and is new leaves the names those before the next one, and distinct
+pub distinct_added : (names : List (List ℕ)) (i : ℕ) {known new : List (List ℕ)} {name : List ℕ} {fresh : Bool} (d : List ℕ) → i < length names → known ≡ take i names → AreDistinct known → name ≡ get_or names i d
+    → fresh ≡ not (has name known) → fresh ≡ true → new ≡ cond fresh (known ++ name ∷ []) known → (new ≡ take (i + 1) names) × AreDistinct new
+distinct_added names i {known} {new} {name} {fresh} d l k distinct n f is_fresh e =
+    (
+        e ∙ ap (λ b. cond b (known ++ name ∷ []) known) is_fresh ∙ (λ j. k j ++ n j ∷ []) ∙ sym (take_more names i d l),
+        AreDistinct-added known new name fresh is_fresh f e distinct,
+    )

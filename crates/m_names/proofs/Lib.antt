@@ -1,2 +1,3 @@
 pub mod Distinct
-pub mod NamesLemmas
+pub mod KeyLemmas
+pub mod NameLemmas

@@ -75,27 +75,52 @@ fn files_with(alloc: Global, name: &str, bytes: Vec<u8>) -> Result<MemFiles, All
     Ok(files)
 }
 
-/// What a command over these files wrote, and its status.
-fn written<R: Threads + Sync>(
-    rt: &R,
-    alloc: Global,
-    line: &str,
-    files: &mut MemFiles,
-) -> Result<(Vec<u8>, Status), AllocError> {
-    let mut out = MemSink::new(alloc, 7, Vec::new(alloc))?;
-    let status = done(rt, alloc, line, files, &mut out)?;
-    Ok((Vec::from_slice(alloc, out.written())?, status))
+/// What a command is to print, its status, and the names that it tries: each with a space behind it, and
+/// with a `!` before that where the fetch fails.
+#[derive(Clone, Copy)]
+struct Wanted<'a> {
+    text: &'a str,
+    status: Status,
+    tried: &'a str,
 }
 
-/// The names that were fetched, each with a space behind it, and a `!` where that failed.
+/// The names that were tried, as a `Wanted` has them.
 fn tried(alloc: Global, files: &MemFiles) -> Result<Vec<u8>, AllocError> {
     let mut names = Vec::new(alloc);
     for attempt in files.attempted() {
         names.extend_from_slice(attempt.name.bytes())?;
-        names.extend_from_slice(if attempt.failed { b"! " } else { b" " })?;
+        if attempt.failed {
+            names.push(b'!')?;
+        }
+        names.push(b' ')?;
     }
     Ok(names)
 }
+
+/// Does a command over these files, and fails, naming the row, where it does anything but what is wanted.
+fn check<R: Threads + Sync>(
+    rt: &R,
+    alloc: Global,
+    row: &str,
+    line: &str,
+    files: &mut MemFiles,
+    want: Wanted<'_>,
+) -> Result<(), Fail> {
+    let mut out = MemSink::new(alloc, 7, Vec::new(alloc))?;
+    let status = done(rt, alloc, line, files, &mut out)?;
+    let tried = tried(alloc, files)?;
+    let is_right = out.written() == want.text.as_bytes()
+        && status == want.status
+        && tried.as_slice() == want.tried.as_bytes();
+    if is_right {
+        return Ok(());
+    }
+    let text = str::from_utf8(out.written()).unwrap_or("no text");
+    Err(Fail::from(format!(in alloc; "{row}: {status:?} and {text}")?))
+}
+
+/// All files of a run.
+const ALL: &str = "l.txt a.m h.csv ";
 
 const RUN: &str = "run l.txt - - h.csv";
 
@@ -169,14 +194,12 @@ fn runs(rt: HostRuntime) -> Result<(), Fail> {
     ];
     for (formulas, rows, text) in table {
         let mut files = run_files(alloc, with_formulas(alloc, formulas)?, rows)?;
-        let (written, status) = written(&rt, alloc, RUN, &mut files)?;
-        assert_eq!(rt; written.as_slice(), text.as_bytes(), "{formulas} {rows}");
-        assert_eq!(rt; status, Status::Done, "{formulas} {rows}");
-        assert_eq!(rt;
-            tried(alloc, &files)?.as_slice(),
-            b"l.txt a.m h.csv ".as_slice(),
-            "{formulas} {rows}"
-        );
+        let want = Wanted {
+            text,
+            status: Status::Done,
+            tried: ALL,
+        };
+        check(&rt, alloc, formulas, RUN, &mut files, want)?;
     }
     Ok(())
 }
@@ -224,8 +247,7 @@ fn chains(rt: HostRuntime) -> Result<(), Fail> {
     let alloc = rt.alloc();
     let rules = Vec::from_slice(alloc, CHAIN.as_bytes())?;
     let mut files = run_files(alloc, rules, "7UF,100.25\n1AJ,2500.5\n")?;
-    let (written, status) = written(&rt, alloc, RUN, &mut files)?;
-    let text = b"REV = 2500.5
+    let text = "REV = 2500.5
 N02 = 0.999999
 N03 = 2400.2476
 N04 = 0.166667
@@ -238,9 +260,12 @@ N10 = 5
 N11 undefined
 IRN = 223.7524
 ";
-    assert_eq!(rt; written.as_slice(), text.as_slice());
-    assert_eq!(rt; status, Status::Done);
-    Ok(())
+    let want = Wanted {
+        text,
+        status: Status::Done,
+        tried: ALL,
+    };
+    check(&rt, alloc, "the chain", RUN, &mut files, want)
 }
 
 #[test]
@@ -287,14 +312,12 @@ fn refuses_rules(rt: HostRuntime) -> Result<(), Fail> {
     ];
     for (formulas, text) in table {
         let mut files = files_with(alloc, "a.m", with_formulas(alloc, formulas)?)?;
-        let (written, status) = written(&rt, alloc, RUN, &mut files)?;
-        assert_eq!(rt; written.as_slice(), text.as_bytes(), "{formulas}");
-        assert_eq!(rt; status, Status::Refused, "{formulas}");
-        assert_eq!(rt;
-            tried(alloc, &files)?.as_slice(),
-            b"l.txt a.m h.csv ".as_slice(),
-            "{formulas}"
-        );
+        let want = Wanted {
+            text,
+            status: Status::Refused,
+            tried: ALL,
+        };
+        check(&rt, alloc, formulas, RUN, &mut files, want)?;
     }
     Ok(())
 }
@@ -328,13 +351,12 @@ fn refuses_households(rt: HostRuntime) -> Result<(), Fail> {
     for household in table {
         let bytes = Vec::from_slice(alloc, household.as_bytes())?;
         let mut files = files_with(alloc, "h.csv", bytes)?;
-        let (written, status) = written(&rt, alloc, RUN, &mut files)?;
-        assert_eq!(rt;
-            written.as_slice(),
-            b"refused not built\n".as_slice(),
-            "{household}"
-        );
-        assert_eq!(rt; status, Status::Refused, "{household}");
+        let want = Wanted {
+            text: "refused not built\n",
+            status: Status::Refused,
+            tried: ALL,
+        };
+        check(&rt, alloc, household, RUN, &mut files, want)?;
     }
     Ok(())
 }
@@ -365,12 +387,14 @@ fn tells_words(rt: HostRuntime) -> Result<(), Fail> {
             Status::Refused,
         ),
     ];
-    for (line, text, want) in table {
+    for (line, text, status) in table {
         let mut files = files_with(alloc, "d.txt", Vec::new(alloc))?;
-        let (written, status) = written(&rt, alloc, line, &mut files)?;
-        assert_eq!(rt; written.as_slice(), text.as_bytes(), "{line}");
-        assert_eq!(rt; status, want, "{line}");
-        assert!(rt; files.attempted().is_empty(), "{line}");
+        let want = Wanted {
+            text,
+            status,
+            tried: "",
+        };
+        check(&rt, alloc, line, line, &mut files, want)?;
     }
     Ok(())
 }
@@ -428,26 +452,20 @@ fn fetches(rt: HostRuntime) -> Result<(), Fail> {
             "l.txt l.txt h.csv ",
         ),
     ];
-    for (line, list, failing, text, names) in table {
+    for (line, list, failing, text, tried) in table {
         let mut files = files_with(alloc, "l.txt", Vec::from_slice(alloc, list.as_bytes())?)?;
         files.failing.push(failing)?;
-        let (written, status) = written(&rt, alloc, line, &mut files)?;
-        assert_eq!(rt;
-            written.as_slice(),
-            text.as_bytes(),
-            "{line} {list} {failing}"
-        );
-        let want = match text.as_bytes() {
+        let status = match text.as_bytes() {
             [b'u', ..] => Status::ReadFault,
             [b'r', ..] => Status::Refused,
             _ => Status::Done,
         };
-        assert_eq!(rt; status, want, "{line} {list} {failing}");
-        assert_eq!(rt;
-            tried(alloc, &files)?.as_slice(),
-            names.as_bytes(),
-            "{line} {list} {failing}"
-        );
+        let want = Wanted {
+            text,
+            status,
+            tried,
+        };
+        check(&rt, alloc, list, line, &mut files, want)?;
     }
     Ok(())
 }
@@ -460,17 +478,15 @@ fn limits(rt: HostRuntime) -> Result<(), Fail> {
         ("a.m", "refused file too long a.m\n", "l.txt a.m "),
         ("h.csv", "refused file too long h.csv\n", "l.txt a.m h.csv "),
     ];
-    for (name, text, names) in table {
+    for (name, text, tried) in table {
         let bytes = vec![in alloc; b' '; FILE_BYTES as usize + 1]?;
         let mut files = files_with(alloc, name, bytes)?;
-        let (written, status) = written(&rt, alloc, RUN, &mut files)?;
-        assert_eq!(rt; written.as_slice(), text.as_bytes(), "{name}");
-        assert_eq!(rt; status, Status::Refused, "{name}");
-        assert_eq!(rt;
-            tried(alloc, &files)?.as_slice(),
-            names.as_bytes(),
-            "{name}"
-        );
+        let want = Wanted {
+            text,
+            status: Status::Refused,
+            tried,
+        };
+        check(&rt, alloc, name, RUN, &mut files, want)?;
     }
     Ok(())
 }
@@ -524,12 +540,19 @@ fn prefixes(rt: HostRuntime) -> Result<(), Fail> {
         let mut rules = whole.clone()?;
         rules.truncate(bytes);
         let mut files = run_files(alloc, rules, "")?;
-        let (written, status) = written(&rt, alloc, RUN, &mut files)?;
-        let text = prefix_text(bytes).as_bytes();
-        assert_eq!(rt; written.as_slice(), text, "{bytes}");
-        let is_refused = text.starts_with(b"refused");
-        assert_eq!(rt; status == Status::Refused, is_refused, "{bytes}");
-        assert_eq!(rt; status == Status::Done, !is_refused, "{bytes}");
+        let text = prefix_text(bytes);
+        let status = if text.starts_with("refused") {
+            Status::Refused
+        } else {
+            Status::Done
+        };
+        let want = Wanted {
+            text,
+            status,
+            tried: ALL,
+        };
+        let row = format!(in alloc; "the first {bytes} bytes")?;
+        check(&rt, alloc, &row, RUN, &mut files, want)?;
     }
     Ok(())
 }

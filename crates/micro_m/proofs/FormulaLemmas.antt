@@ -6,12 +6,13 @@ use Rattle.std.specs.Str.{bytes_eq}
 use Rattle.std.proofs.lemmas.Bool.{false≢true}
 use Rattle.std.proofs.lemmas.List.{map-append, drop_more, take_more}
 use Rattle.m_names.specs.Names.{has, AreDistinct}
+use Rattle.m_names.proofs.Distinct.{AreDistinct-push}
 use Rattle.m_ast.specs.declared.formula.Formula.{Formula}
 use Rattle.m_ast.specs.declared.variable.VariableItem.{VariableItem}
 use Rattle.micro_m.specs.Formulas.{names_of, computed_of, targets_of}
 use Rattle.micro_m.specs.Values.{definition_of}
 use Rattle.micro_m.specs.Cells.{SetComputedOnce}
-use Rattle.micro_m.proofs.NameLemmas.{not-true, same, itself, cases, bytes_eq_comm, or-false, or-true_right, has-append}
+use Rattle.m_names.proofs.NameLemmas.{not-true, same, itself, cases, bytes_eq_comm, or-false, or-true_right, has-append}
 
 -- a name that no formula sets has no definition
 pub definition_of-none : (fs : List Formula) (name : List ℕ) → has name (targets_of fs) ≡ false → definition_of fs name ≡ None
@@ -78,17 +79,11 @@ AllByRecursion-push : (P : Formula → Type 0) (fs : List Formula) (d : Formula)
 AllByRecursion-push P [] d a h = (h, tt)
 AllByRecursion-push P (f ∷ fs) d a h = (a.0, AllByRecursion-push P fs d a.1 h)
 
-pub AreDistinct-push : (ns : List (List ℕ)) (t : List ℕ) → AreDistinct ns → has t ns ≡ false → AreDistinct (ns ++ t ∷ [])
-AreDistinct-push [] t a h = (refl, tt)
-AreDistinct-push (n ∷ ns) t a h =
-    let k = or-false (bytes_eq t n) (has t ns) h in
-    (has-append n ns (t ∷ []) ∙ ap (λ b. b || (bytes_eq n t || false)) a.0 ∙ ap (λ b. b || false) (bytes_eq_comm n t ∙ k.0), AreDistinct-push ns t a.1 k.1)
-
 pub SetComputedOnce-more : (vs : List VariableItem) (fs : List Formula) (i : ℕ) (d : Formula) → take (i + 1) fs ≡ take i fs ++ d ∷ [] → SetComputedOnce vs (take i fs) → has d.target (computed_of vs) ≡ true → has d.target (targets_of (take i fs)) ≡ false → SetComputedOnce vs (take (i + 1) fs)
 SetComputedOnce-more vs fs i d e s c h =
     subst (λ (gs : List Formula). SetComputedOnce vs gs) (sym e) record {
       computed = AllByRecursion-push _ (take i fs) d s.computed c;
-      once = subst AreDistinct (sym (map-append (λ (f : Formula). f.target) (take i fs) (d ∷ []))) (AreDistinct-push (targets_of (take i fs)) d.target s.once h);
+      once = subst AreDistinct (sym (map-append (λ (f : Formula). f.target) (take i fs) (d ∷ []))) (AreDistinct-push d.target (targets_of (take i fs)) s.once h);
     }
 
 -- the formulas that are left and those that are done, at the turn of one
@@ -105,7 +100,3 @@ names_of-push variables v old new name fresh t f e n s =
     ∙ ap (λ x. old ++ x ∷ []) (sym n)
     ∙ ap (λ ns. ns ++ v.name ∷ []) s
     ∙ sym (map-append (λ (w : VariableItem). w.name) variables (v ∷ []))
-
-pub AreDistinct-added : (old new : List (List ℕ)) (name : List ℕ) (fresh : Bool) → fresh ≡ true → fresh ≡ not (has name old) → new ≡ cond fresh (old ++ name ∷ []) old → AreDistinct old → AreDistinct new
-AreDistinct-added old new name fresh t f e a =
-    subst AreDistinct (sym (e ∙ ap (λ b. cond b (old ++ name ∷ []) old) t)) (AreDistinct-push old name a (not-true (has name old) (sym f ∙ t)))

@@ -1,7 +1,6 @@
 pub mod CellLemmas
 pub mod FirstLemmas
 pub mod FormulaLemmas
-pub mod NameLemmas
 pub mod SolutionLemmas
 pub mod StageLemmas
 pub mod TermLemmas

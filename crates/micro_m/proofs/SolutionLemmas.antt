@@ -10,7 +10,7 @@ use Rattle.m_ast.specs.declared.variable.VariableItem.{VariableItem}
 use Rattle.micro_m.specs.Formulas.{names_of, targets_of, words_of_sum, ReadsEarlier, AreInOrder}
 use Rattle.micro_m.specs.Values.{Environment, sum_value, definition_of, value_in, value_of}
 use Rattle.micro_m.specs.Solutions.{IsSolution}
-use Rattle.micro_m.proofs.NameLemmas.{not-true, same, itself, cases, bytes_eq_comm, or-false}
+use Rattle.m_names.proofs.NameLemmas.{not-true, same, itself, cases, bytes_eq_comm, or-false}
 use Rattle.micro_m.proofs.FormulaLemmas.{definition_of-none}
 use Rattle.micro_m.proofs.TurnLemmas.{Settled, settled-none, settled-more, sum_value-same, free}
 use Rattle.micro_m.proofs.StageLemmas.{all-from_reads, all-free}

@@ -16,7 +16,7 @@ use Rattle.micro_m.specs.Formulas.{names_of, computed_of, targets_of, words_of_s
 use Rattle.micro_m.specs.Values.{Environment, sum_value, definition_of, value_in, value_of}
 use Rattle.micro_m.specs.Terms.{sum_of}
 use Rattle.micro_m.specs.Cells.{cell_of, cells_of, cells_after, look, SetComputedOnce}
-use Rattle.micro_m.proofs.NameLemmas.{both, and-both, not-true, same, cases, bytes_eq_comm, index_of-none}
+use Rattle.m_names.proofs.NameLemmas.{both, and-both, not-true, same, cases, bytes_eq_comm, index_of-none}
 use Rattle.micro_m.proofs.TermLemmas.{found, sum_of-known}
 use Rattle.micro_m.proofs.CellLemmas.{known, cell_named, look-cells, put, set-named, map-same}
 use Rattle.micro_m.proofs.FormulaLemmas.{definition_of-target, target-after, AllByRecursion-at}

@@ -13,7 +13,7 @@ use Rattle.micro_m.specs.Formulas.{targets_of, words_of_sum}
 use Rattle.micro_m.specs.Values.{Environment, sum_value, definition_of, value_in}
 use Rattle.micro_m.specs.Terms.{sum_of}
 use Rattle.micro_m.specs.Cells.{cells_of}
-use Rattle.micro_m.proofs.NameLemmas.{not-true, same, cases}
+use Rattle.m_names.proofs.NameLemmas.{not-true, same, cases}
 use Rattle.micro_m.proofs.FormulaLemmas.{definition_of-none}
 use Rattle.m_ast.specs.declared.variable.VariableItem.{VariableItem}
 use Rattle.micro_m.proofs.CellLemmas.{map-same}

@@ -63,7 +63,7 @@ fn first_cells(
 
 /// Puts the value of a formula into its target's cell, and says whether each word of the formula
 /// had one. If not, the cells stay as they are.
-#[tactic(auto, using(crate::proofs::NameLemmas::number_within))]
+#[tactic(auto, using(m_names::proofs::NameLemmas::number_within))]
 fn fill(names: &Names, formula: &Formula, cells: &mut [Option<Value>]) -> bool
     requires { length cells.old ≡ length names.now }
     ensures filled { result ≡ is_some (cells_after names.now formula.now cells.old) }

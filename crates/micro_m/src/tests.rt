@@ -19,9 +19,9 @@ const NOWHERE: Place = Place {
 
 /// R and S are inputs, K is a constant, and rules set the others.
 fn role(alloc: Global, text: &str) -> Result<Role, AllocError> {
-    match text {
-        "R" | "S" => Ok(Role::Input(Name::new(alloc, text.as_bytes())?)),
-        "K" => Ok(Role::Constant(Amount::zero())),
+    match text.as_bytes() {
+        [b'R' | b'S'] => Ok(Role::Input(Name::new(alloc, text.as_bytes())?)),
+        [b'K'] => Ok(Role::Constant(Amount::zero())),
         _ => Ok(Role::Computed(None)),
     }
 }

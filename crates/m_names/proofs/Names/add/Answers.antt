@@ -1,6 +1,6 @@
 use Rattle.std.proofs.Common.{◌∙◌, ap, not}
 use Rattle.m_names.specs.Names.{has}
-use Rattle.m_names.proofs.NamesLemmas.{has-keys}
+use Rattle.m_names.proofs.KeyLemmas.{has-keys}
 use Rattle.m_names.proofs.Names.add.Goals as goal
 
 pub returns-clause-fresh : goal.returns-clause-fresh

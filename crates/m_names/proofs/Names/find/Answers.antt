@@ -1,6 +1,6 @@
 use Rattle.std.proofs.Common.{◌∙◌, ap}
 use Rattle.m_names.specs.Names.{index_of}
-use Rattle.m_names.proofs.NamesLemmas.{index_of-keys}
+use Rattle.m_names.proofs.KeyLemmas.{index_of-keys}
 use Rattle.m_names.proofs.Names.find.Goals as goal
 
 pub returns : goal.returns

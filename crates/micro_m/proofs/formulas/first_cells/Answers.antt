@@ -3,7 +3,7 @@ use Rattle.m_names.specs.Names.{has, index_of}
 use Rattle.micro_m.specs.Formulas.{names_of, targets_of, computed_of}
 use Rattle.micro_m.specs.Values.{environment}
 use Rattle.micro_m.proofs.CellLemmas.{length-cells, number_within}
-use Rattle.micro_m.proofs.NameLemmas.{both, not-true}
+use Rattle.m_names.proofs.NameLemmas.{both, not-true}
 use Rattle.micro_m.proofs.FormulaLemmas.{left-at, done-at, SetComputedOnce-more}
 use Rattle.micro_m.proofs.FirstLemmas.{cells-given, refused-absent, refused-set, may_be_set-is, cells-push}
 use Rattle.micro_m.proofs.formulas.first_cells.Goals as goal

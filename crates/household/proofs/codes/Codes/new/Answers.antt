@@ -1,5 +1,5 @@
 use Rattle.std.proofs.Common.{arith, ◌∙◌}
-use Rattle.household.proofs.CodeLemmas.{take-added}
+use Rattle.m_names.proofs.Distinct.{take-added}
 use Rattle.household.proofs.codes.Codes.new.Goals as goal
 
 pub loop-name-preserved : goal.loop-name-preserved
