@@ -11,6 +11,3 @@ mod read;
 pub use amounts::values;
 pub use codes::Codes;
 pub use read::{Household, HouseholdFault, one_household, read_household};
-
-#[cfg(test)]
-mod tests;

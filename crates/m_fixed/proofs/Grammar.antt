@@ -1,5 +1,5 @@
 -- The value of a text is there exactly where the text has the form, and is what the form spells.
-use Rattle.std.proofs.Common.{◌≡◌, ℕ, List, [], ◌∷◌, ◌++◌, Bool, true, false, Option, Some, None, ℤ, refl, sym, ap, ◌∙◌, ⊎_elim, ◌⊎◌}
+use Rattle.std.proofs.Common.{◌≡◌, ℕ, List, [], ◌∷◌, ◌++◌, Bool, true, false, Option, Some, None, ℤ, refl, sym, ap, ◌∙◌, ⊎_elim}
 use Rattle.std.proofs.lemmas.Bool.{eqb-true, cases_Bool}
 use Rattle.std.specs.Prelude.{IsTrue, ◌==◌, ◌&&◌, drop, option_map}
 use Rattle.std.specs.Str.Parse.{starts_with_minus}

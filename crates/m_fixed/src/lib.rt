@@ -16,6 +16,3 @@ pub use operator::{Op, arity};
 pub use read::{AmountFault, read_amount};
 pub use table::apply;
 pub use write::write_amount;
-
-#[cfg(test)]
-mod tests;

@@ -4,7 +4,7 @@ use Rattle.std.proofs.lemmas.List.{append-nil}
 use Rattle.m_lexer.specs.declared.token.Token.{Token}
 use Rattle.m_items.specs.declared.variable.Attribute.{Attribute}
 use Rattle.m_items.specs.Grammar.{Many, none, word_of, pair_of, words_of, pairs_of, SpellsAttributes, attributes}
-use Rattle.m_items.specs.Refusals.{Lacks, LacksBefore, AtWord, EndsAttributes, ReadsAttributes}
+use Rattle.m_items.specs.inner.Endings.{Lacks, LacksBefore, AtWord, EndsAttributes}
 use Rattle.m_items.proofs.Lists.{many_push, many_stuck}
 use Rattle.m_items.proofs.Variables.{ClosedAttribute, attribute_one, attribute_ends, close_attributes}
 

@@ -9,7 +9,7 @@ use Rattle.m_ast.specs.declared.formula.Factor.{Factor}
 use Rattle.m_ast.specs.declared.formula.Summand.{Summand}
 use Rattle.m_ast.specs.declared.formula.Formula.{Formula}
 use Rattle.m_items.specs.Grammar.{SpellsSign, SpellsWord, Many, none, more, SpellsMinus, absent, present, SpellsOperand, number, named, SpellsFactor, factor, SpellsProduct, SpellsAddition, plus, minus, SpellsSummand, summand, SpellsSum, sum, SpellsFormula, formula}
-use Rattle.m_items.specs.Refusals.{Lacks, LacksBefore, NoSign, EndsProduct, EndsSum, Closed}
+use Rattle.m_items.specs.inner.Endings.{Lacks, LacksBefore, NoSign, EndsProduct, EndsSum, Closed}
 use Rattle.m_items.proofs.Tokens.{same_token, sign_one, word_one, number_one, apart, sign_from}
 use Rattle.m_items.proofs.Sequences.{Some as Any, Then, Never, never_first, never_second, after_sign, after_word, lacks_never}
 use Rattle.m_items.proofs.Lists.{Fixed, Apart, many_one, many_from, closed, joined_one}

@@ -3,7 +3,7 @@ use Rattle.std.proofs.Common.{◌≡◌, List, [], ◌∷◌, ◌++◌, refl, sy
 use Rattle.m_lexer.specs.declared.token.Token.{Token}
 use Rattle.m_lexer.specs.declared.token.Sign.{Sign}
 use Rattle.m_items.specs.Grammar.{SpellsSign, Many, none, more, OneOrMore, one, Behind, behind, Joined, joined}
-use Rattle.m_items.specs.Refusals.{Lacks, LacksBefore, NoSign, Closed}
+use Rattle.m_items.specs.inner.Endings.{Lacks, LacksBefore, NoSign, Closed}
 use Rattle.m_items.proofs.Tokens.{sign_one}
 
 -- at most one R begins at any place

@@ -9,9 +9,10 @@ use Rattle.m_ast.specs.declared.item.RuleItem.{RuleItem}
 use Rattle.m_ast.specs.declared.item.Item.{Item}
 use Rattle.m_ast.specs.declared.item.Item.TheVariants as items
 use Rattle.m_items.specs.Grammar.{Begins, SpellsSign, SpellsKey, SpellsWord, Many, SpellsVariable, variable, SpellsRule, rule, SpellsItem, a_variable, a_rule, an_application, SpellsItems}
-use Rattle.m_items.specs.Refusals.{Lacks, LacksBefore, NoSign, NoKey, AtKey, AtWord, EndsFormulas, EndsItem, Closed, NoItems}
+use Rattle.m_items.specs.Refusals.{NoItems}
+use Rattle.m_items.specs.inner.Endings.{Lacks, LacksBefore, NoSign, NoKey, AtKey, AtWord, EndsFormulas, EndsItem, Closed}
 use Rattle.m_items.proofs.Tokens.{same_token, sign_one, word_one, apart, sign_from, word_from}
-use Rattle.m_items.proofs.Sequences.{Some as Any, Then, never_first, after_key, after_word}
+use Rattle.m_items.proofs.Sequences.{Some as Any, Then, after_key, after_word}
 use Rattle.m_items.proofs.Lists.{Fixed, Apart, many_one, many_stuck, closed, opened}
 use Rattle.m_items.proofs.Variables.{variable_one}
 use Rattle.m_items.proofs.Rules.{rule_one}

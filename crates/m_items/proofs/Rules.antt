@@ -7,9 +7,9 @@ use Rattle.m_lexer.specs.declared.token.Sign.TheVariants as signs
 use Rattle.m_ast.specs.declared.formula.Formula.{Formula}
 use Rattle.m_ast.specs.declared.item.RuleItem.{RuleItem}
 use Rattle.m_items.specs.Grammar.{SpellsSign, SpellsKey, SpellsWord, SpellsWhole, Many, OneOrMore, Joined, SpellsFormula, formula, SpellsRuleNumber, rule_number, SpellsApplications, applications, SpellsRule, rule}
-use Rattle.m_items.specs.Refusals.{Lacks, LacksBefore, NoSign, NoKey, AtWord, EndsFormulas}
+use Rattle.m_items.specs.inner.Endings.{Lacks, LacksBefore, NoSign, NoKey, AtWord, EndsFormulas}
 use Rattle.m_items.proofs.Tokens.{same_token, sign_one, key_one, word_one, apart, sign_from}
-use Rattle.m_items.proofs.Sequences.{Some as Any, Then, Never, never_first, never_second, after_sign, after_key, after_fixed, lacks_never}
+use Rattle.m_items.proofs.Sequences.{Some as Any, Then, Never, never_first, never_second, after_sign, after_key, after_fixed}
 use Rattle.m_items.proofs.Lists.{Fixed, Apart, many_one, one_one, joined_one}
 use Rattle.m_items.proofs.Formulas.{formula_one}
 

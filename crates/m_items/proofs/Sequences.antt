@@ -4,7 +4,8 @@ use Rattle.std.specs.Result.{IfErr, IsErrAnd}
 use Rattle.m_lexer.specs.declared.token.Token.{Token}
 use Rattle.m_items.specs.declared.fault.ParseFault.{ParseFault}
 use Rattle.m_items.specs.declared.fault.ParseFault.TheVariants.{Syntax, Memory}
-use Rattle.m_items.specs.Refusals.{Refused, Lacks}
+use Rattle.m_items.specs.Refusals.{Refused}
+use Rattle.m_items.specs.inner.Endings.{Lacks}
 use Rattle.m_lexer.specs.declared.token.Key.{Key}
 use Rattle.m_lexer.specs.declared.token.Sign.{Sign}
 use Rattle.m_items.specs.Grammar.{SpellsSign, SpellsKey, SpellsWord, SpellsText}

@@ -4,7 +4,7 @@ use Rattle.m_lexer.specs.declared.token.Token.{Token}
 use Rattle.m_ast.specs.declared.formula.Factor.{Factor}
 use Rattle.m_ast.specs.declared.formula.Summand.{Summand}
 use Rattle.m_items.specs.Grammar.{Many, none, more, SpellsProduct, SpellsAddition, SpellsSummand, summand, SpellsSum, sum}
-use Rattle.m_items.specs.Refusals.{Lacks, LacksBefore, EndsProduct, EndsSum}
+use Rattle.m_items.specs.inner.Endings.{Lacks, LacksBefore, EndsProduct, EndsSum}
 use Rattle.m_items.proofs.Lists.{many_push, opened, many_stuck, many_from}
 use Rattle.m_items.proofs.Formulas.{product_one, addition_one, ClosedSummand, summand_one, summand_starts, summand_ends, close_summands, product_from}
 

@@ -10,7 +10,7 @@ use Rattle.m_items.specs.declared.variable.Attribute.{Attribute}
 use Rattle.m_items.specs.declared.variable.Attributes.{Attributes}
 use Rattle.m_items.specs.declared.variable.Declaration.{Declaration}
 use Rattle.m_items.specs.Grammar.{SpellsSign, SpellsKey, SpellsWord, SpellsNumber, Many, SpellsAmount, plain, negative, SpellsAttribute, alone, with_amount, words_of, pairs_of, SpellsAttributes, attributes, IsName, SpellsText, SpellsDescription, description, SpellsInput, input, SpellsComputed, computed, SpellsConstant, constant, SpellsDeclaration, as_input, as_computed, as_constant, SpellsVariable, variable}
-use Rattle.m_items.specs.Refusals.{Lacks, LacksBefore, NoSign, NoKey, AtKey, AtWord, EndsAttribute, EndsAttributes, Closed, ReadsAttributes}
+use Rattle.m_items.specs.inner.Endings.{Lacks, LacksBefore, NoSign, NoKey, AtKey, AtWord, EndsAttribute, EndsAttributes, Closed, ReadsAttributes}
 use Rattle.m_items.proofs.Tokens.{same_token, sign_one, key_one, text_one, word_one, number_one, apart, sign_from, key_from, word_from, text_from}
 use Rattle.m_items.proofs.Sequences.{Some as Any, Then, Never, never_first, never_second, after_sign, after_key, after_word, after_text, after_fixed, lacks_never}
 use Rattle.m_items.proofs.Lists.{Fixed, Apart, many_one, closed, opened}

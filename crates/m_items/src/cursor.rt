@@ -3,7 +3,8 @@ ghost use Rattle.std.specs.Prelude.{◌≡◌, ◌<◌, ◌∷◌, [], length, L
 ghost use Rattle.std.specs.Bool.{OnTrue};
 ghost use Rattle.m_lexer.specs.declared.token.Kind.TheVariants as kinds;
 ghost use Rattle.m_items.specs.Grammar.{Begins, SpellsSign, SpellsKey, SpellsWord, SpellsNumber, SpellsText};
-ghost use Rattle.m_items.specs.Refusals.{Refused, Lacks, NoSign, NoKey, AtKey, AtWord, AtFormula};
+ghost use Rattle.m_items.specs.Refusals.{Refused};
+ghost use Rattle.m_items.specs.inner.Endings.{Lacks, NoSign, NoKey, AtKey, AtWord, AtFormula};
 
 use crate::fault::ParseFault;
 use m_fixed::Amount;

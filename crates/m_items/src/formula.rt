@@ -1,7 +1,8 @@
 //! Formulas: sums of products of factors.
 ghost use Rattle.std.specs.Prelude.{◌≡◌, ◌<◌, length, MatchOption, IfOk, IfErr, OnOk, OnSome};
 ghost use Rattle.m_items.specs.Grammar.{SpellsOperand, SpellsFactor, SpellsProduct, SpellsAddition, SpellsSum, SpellsFormula};
-ghost use Rattle.m_items.specs.Refusals.{Refused, Lacks, LacksBefore, EndsProduct, EndsSum};
+ghost use Rattle.m_items.specs.Refusals.{Refused};
+ghost use Rattle.m_items.specs.inner.Endings.{Lacks, LacksBefore, EndsProduct, EndsSum};
 
 use crate::cursor::Cursor;
 use crate::fault::ParseFault;

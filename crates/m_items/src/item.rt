@@ -5,7 +5,8 @@ ghost use Rattle.m_places.specs.declared.place.Place.{Place};
 ghost use Rattle.m_ast.specs.declared.item.Item.{Item};
 ghost use Rattle.m_ast.specs.declared.item.Item.TheVariants as items;
 ghost use Rattle.m_items.specs.Grammar.{SpellsItem, SpellsItems};
-ghost use Rattle.m_items.specs.Refusals.{Refused, Lacks, Closed, NoItems, EndsItem};
+ghost use Rattle.m_items.specs.Refusals.{Refused, NoItems};
+ghost use Rattle.m_items.specs.inner.Endings.{Lacks, Closed, EndsItem};
 
 use crate::cursor::Cursor;
 use crate::fault::ParseFault;

@@ -9,8 +9,6 @@ mod fault;
 mod formula;
 mod item;
 mod rule;
-#[cfg(test)]
-mod tests;
 mod variable;
 
 pub use fault::ParseFault;

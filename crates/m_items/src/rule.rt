@@ -3,7 +3,8 @@ ghost use Rattle.std.specs.Prelude.{◌≡◌, ◌<◌, ◌↔◌, length, IfOk,
 ghost use Rattle.std.specs.List.{list_all};
 ghost use Rattle.m_lexer.specs.declared.token.Sign.TheVariants as signs;
 ghost use Rattle.m_items.specs.Grammar.{is_digit, IsWhole, Joined, OneOrMore, SpellsWord, SpellsWhole, SpellsFormula, SpellsRuleNumber, SpellsApplications, SpellsRule};
-ghost use Rattle.m_items.specs.Refusals.{Refused, Lacks, LacksBefore, NoSign, EndsFormulas};
+ghost use Rattle.m_items.specs.Refusals.{Refused};
+ghost use Rattle.m_items.specs.inner.Endings.{Lacks, LacksBefore, NoSign, EndsFormulas};
 
 use crate::cursor::Cursor;
 use crate::fault::ParseFault;

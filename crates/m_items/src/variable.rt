@@ -3,7 +3,8 @@ ghost use Rattle.std.specs.Prelude.{◌≡◌, ◌<◌, ◌≤◌, ◌++◌, len
 ghost use Rattle.std.specs.Bool.{OnTrue};
 ghost use Rattle.std.specs.List.{list_all};
 ghost use Rattle.m_items.specs.Grammar.{is_not_small, word_of, pair_of, SpellsAmount, SpellsAttribute, SpellsAttributes, SpellsDescription, SpellsInput, SpellsComputed, SpellsConstant, SpellsDeclaration, SpellsVariable};
-ghost use Rattle.m_items.specs.Refusals.{Refused, Lacks, LacksBefore, Closed, EndsAttribute, EndsAttributes, ReadsAttributes};
+ghost use Rattle.m_items.specs.Refusals.{Refused};
+ghost use Rattle.m_items.specs.inner.Endings.{Lacks, LacksBefore, Closed, EndsAttribute, EndsAttributes, ReadsAttributes};
 
 use crate::cursor::Cursor;
 use crate::fault::ParseFault;

@@ -4,7 +4,7 @@ use Rattle.std.specs.List.{AllByRecursion}
 use Rattle.std.proofs.lemmas.Bool.{cases_lt}
 use Rattle.std.proofs.lemmas.List.{take-append-drop, drop-drop, drop_more, drop_all, get_or-take, get_or-drop, get_or_default, length-take, length-drop}
 use Rattle.std.proofs.lemmas.List.Elements.{recursion_from_All}
-use Rattle.m_lexer.specs.Runs.{RunsTo}
+use Rattle.m_lexer.specs.inner.Runs.{RunsTo}
 
 -- no byte of the kind comes next
 abbrev pub Stops : (ℕ → Type 0) → List ℕ → Type 0

@@ -12,9 +12,9 @@ use Rattle.m_lexer.specs.declared.token.Kind.{Kind}
 use Rattle.m_lexer.specs.declared.token.Kind.TheVariants as kinds
 use Rattle.m_lexer.specs.declared.token.Token.{Token}
 use Rattle.m_lexer.specs.declared.token.LexFault.TheVariants.{BadByte, OpenString}
-use Rattle.m_lexer.specs.Runs.{RunsTo}
+use Rattle.m_lexer.specs.inner.Runs.{RunsTo}
 use Rattle.m_lexer.specs.Spellings.{IsDigit, IsWordByte, IsBlankByte, IsWord, AreDigits, IsDecimal, IsNumber, sign_spelling, quote, hash, point, line_feed}
-use Rattle.m_lexer.specs.Steps.{left, byte_at, further, GoesOn, BeginsGap, TokenBetween, NoSign}
+use Rattle.m_lexer.specs.inner.Steps.{left, byte_at, further, GoesOn, BeginsGap, TokenBetween, NoSign}
 use Rattle.m_lexer.specs.Tokens.{Longest, IsGap, Spells, text, sign, Lexes, gap, token, NoPiece, FirstFault, bad_byte, open_string, behind}
 use Rattle.m_lexer.proofs.Fronts.{part, parts, length-part, all_part, stops_part}
 use Rattle.m_lexer.proofs.Pieces.{longest_blank, longest_comment, longest_quoted, longest_word, longest_whole, longest_decimal, longest_two, longest_one, no_piece, NoTwo, NoDecimals, all_weaker}

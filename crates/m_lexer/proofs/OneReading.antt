@@ -7,7 +7,7 @@ use Rattle.m_lexer.specs.declared.token.Kind.{Kind}
 use Rattle.m_lexer.specs.declared.token.Kind.TheVariants as kinds
 use Rattle.m_lexer.specs.declared.token.Token.{Token}
 use Rattle.m_lexer.specs.declared.token.LexFault.{LexFault}
-use Rattle.m_lexer.specs.Spellings.{IsWordByte, IsBlankByte, IsWord, IsNumber, IsQuoted, quote, hash, point}
+use Rattle.m_lexer.specs.Spellings.{IsWordByte, IsBlankByte, IsWord, IsNumber, quote, hash, point}
 use Rattle.m_lexer.specs.Tokens.{Longest, IsGap, IsTooGreat, Spells, word, key, number, text, sign, Lexes, end, gap, token, NoPiece, FirstFault, bad_byte, open_string, too_great, behind}
 use Rattle.m_lexer.proofs.Pieces.{IsMark, first, blank_first, comment_first, word_first, number_first, quoted_first, sign_first, after_quote, not_empty, one_longest, all_left, all_right, point_is_none}
 use Rattle.m_lexer.proofs.Named.{one_sign, one_key}

@@ -1,4 +1,3 @@
-pub mod Runs
 pub mod Spellings
-pub mod Steps
 pub mod Tokens
+pub mod inner

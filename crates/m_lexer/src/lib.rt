@@ -15,6 +15,3 @@ mod token;
 pub use laws::{fault_in_place, no_list_and_fault, one_first_fault, one_list, tokens_in_place};
 pub use scan::lex;
 pub use token::{Key, Kind, LexFault, Sign, Token};
-
-#[cfg(test)]
-mod tests;

@@ -2,7 +2,7 @@
 
 ghost use Rattle.std.specs.Prelude.{◌≡◌, ◌≢◌, ◌≤◌, ◌<◌, ◌↔◌, ◌==◌, IsTrue, MatchOption, length, count_by};
 ghost use Rattle.m_lexer.specs.Spellings.{IsWordByte, IsDigit, line_feed, quote};
-ghost use Rattle.m_lexer.specs.Runs.{RunsTo};
+ghost use Rattle.m_lexer.specs.inner.Runs.{RunsTo};
 
 /// Whether a byte may stand in a word.
 pub fn is_word_byte(b: u8) -> bool

@@ -3,9 +3,9 @@
 ghost use Rattle.std.specs.Prelude.{◌≡◌, ◌≢◌, ◌≤◌, ◌<◌, ◌+◌, [], IfOk, IfErr, IfSome, MatchOption, length, drop, slice_range};
 ghost use Rattle.m_lexer.specs.declared.token.Kind.TheVariants as kinds;
 ghost use Rattle.m_lexer.specs.declared.token.LexFault.TheVariants.{Memory, NumberTooGreat};
-ghost use Rattle.m_lexer.specs.Runs.{RunsTo};
+ghost use Rattle.m_lexer.specs.inner.Runs.{RunsTo};
 ghost use Rattle.m_lexer.specs.Spellings.{IsDigit, IsWordByte, IsWord, IsNumber, quote};
-ghost use Rattle.m_lexer.specs.Steps.{left, byte_at, IsPlaceIn, further, GoesOn, BeginsGap, TokenBetween, NoSign};
+ghost use Rattle.m_lexer.specs.inner.Steps.{left, byte_at, IsPlaceIn, further, GoesOn, BeginsGap, TokenBetween, NoSign};
 ghost use Rattle.m_lexer.specs.Tokens.{Longest, Lexes, FirstFault, IsTooGreat, Spells, start_of};
 
 use crate::keys::key_of;

@@ -59,37 +59,3 @@ pub fn is_text(bytes: &[u8]) -> bool
 {
     std::str::from_utf8(bytes).is_ok()
 }
-
-#[cfg(test)]
-mod tests {
-    use super::*;
-    use std::test::Fail;
-
-    #[test]
-    fn first_lines(rt: HostRuntime) -> Result<(), Fail> {
-        let rows: [(&[u8], &[u8], &[u8]); 8] = [
-            (b"a\nb", b"a", b"b"),
-            (b"\nb", b"", b"b"),
-            (b"\n", b"", b""),
-            (b"a\r\nb", b"a", b"b"),
-            (b"a\r\r\n", b"a\r", b""),
-            (b"\r\n", b"", b""),
-            (b"a\r", b"a\r", b""),
-            (b"a\rb\n", b"a\rb", b""),
-        ];
-        for (text, line, rest) in rows {
-            let (first, behind) = first_line(text).ok_or("no line")?;
-            assert!(rt; first == line, "the line of {text:?} is {first:?}");
-            assert!(rt; behind == rest, "the rest of {text:?} is {behind:?}");
-        }
-        assert!(rt; first_line(b"").is_none());
-        Ok(())
-    }
-
-    #[test]
-    fn texts(rt: HostRuntime) {
-        assert!(rt; is_text(b""));
-        assert!(rt; is_text("Traitements d\u{e9}clar\u{e9}s".as_bytes()));
-        assert!(rt; !is_text(b"d\xe9clar\xe9s"));
-    }
-}

@@ -8,6 +8,3 @@ mod read;
 
 pub use listing::{ListFault, Listing};
 pub use read::read_list;
-
-#[cfg(test)]
-mod tests;

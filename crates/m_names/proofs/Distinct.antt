@@ -1,7 +1,6 @@
 -- Distinct names, one after another.
 use Rattle.std.proofs.Common.{◌≡◌, ℕ, ◌+◌, ◌<◌, zero, suc, Bool, true, false, not, cond, List, [], ◌∷◌, ◌++◌, length, take, get_or, refl, sym, subst, ap, ◌∙◌, inl, inr, arith}
 use mathlib.Core.Bool.{◌||◌}
-use Rattle.std.specs.Prelude.{◌⊎◌}
 use Rattle.std.specs.Str.{bytes_eq}
 use Rattle.std.proofs.lemmas.Bool.{or_parts, or_from, or_cases, not-true, false_from_ne_true, false≢true}
 use Rattle.std.proofs.lemmas.List.{take_more}
@@ -70,8 +69,7 @@ take-added names i {known} {new} {name} {fresh} d distinct l k n f e =
 -- what is added and is new leaves the names those before the next one, and distinct
 pub distinct_added : (names : List (List ℕ)) (i : ℕ) {known new : List (List ℕ)} {name : List ℕ} {fresh : Bool} (d : List ℕ) → i < length names → known ≡ take i names → AreDistinct known → name ≡ get_or names i d
     → fresh ≡ not (has name known) → fresh ≡ true → new ≡ cond fresh (known ++ name ∷ []) known → (new ≡ take (i + 1) names) × AreDistinct new
-distinct_added names i {known} {new} {name} {fresh} d l k distinct n f is_fresh e =
-    (
-        e ∙ ap (λ b. cond b (known ++ name ∷ []) known) is_fresh ∙ (λ j. k j ++ n j ∷ []) ∙ sym (take_more names i d l),
-        AreDistinct-added known new name fresh is_fresh f e distinct,
-    )
+distinct_added names i {known} {new} {name} {fresh} d l k distinct n f is_fresh e = (
+  e ∙ ap (λ b. cond b (known ++ name ∷ []) known) is_fresh ∙ (λ j. k j ++ n j ∷ []) ∙ sym (take_more names i d l),
+  AreDistinct-added known new name fresh is_fresh f e distinct,
+)

@@ -12,8 +12,6 @@ mod mem_sink;
 mod mem_source;
 mod sink;
 mod source;
-#[cfg(test)]
-mod tests;
 
 pub use files::{Attempt, FetchFault, Files};
 pub use host::{HostFiles, HostSink, HostSource};

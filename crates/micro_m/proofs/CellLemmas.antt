@@ -9,7 +9,7 @@ use Rattle.m_names.specs.Names.{has, index_of, AreDistinct}
 use Rattle.m_ast.specs.declared.variable.VariableItem.{VariableItem}
 use Rattle.micro_m.specs.Formulas.{names_of}
 use Rattle.micro_m.specs.Values.{Environment}
-use Rattle.micro_m.specs.Cells.{cell_of, cells_of, look}
+use Rattle.micro_m.specs.inner.Cells.{cell_of, cells_of, look}
 use Rattle.m_names.proofs.NameLemmas.{same, cases, or-false, shifted-some, index_of-some}
 use Rattle.micro_m.proofs.TermLemmas.{found}
 

@@ -12,7 +12,7 @@ use Rattle.m_ast.specs.declared.formula.Formula.{Formula}
 use Rattle.m_ast.specs.declared.variable.VariableItem.{VariableItem}
 use Rattle.micro_m.specs.Formulas.{names_of, is_computed, computed_of, targets_of}
 use Rattle.micro_m.specs.Values.{Environment, environment}
-use Rattle.micro_m.specs.Cells.{cell_of, cells_of, SetComputedOnce}
+use Rattle.micro_m.specs.inner.Cells.{cell_of, cells_of, SetComputedOnce}
 use Rattle.m_names.proofs.NameLemmas.{same, itself, cases, bytes_eq_comm, or-false, has-append, shifted-some}
 use Rattle.micro_m.proofs.FormulaLemmas.{target-before, AllByRecursion-at}
 use Rattle.m_names.proofs.NameLemmas.{index_of-none}

@@ -11,8 +11,8 @@ use Rattle.m_ast.specs.declared.formula.Formula.{Formula}
 use Rattle.m_ast.specs.declared.variable.VariableItem.{VariableItem}
 use Rattle.micro_m.specs.Formulas.{names_of, computed_of, targets_of}
 use Rattle.micro_m.specs.Values.{definition_of}
-use Rattle.micro_m.specs.Cells.{SetComputedOnce}
-use Rattle.m_names.proofs.NameLemmas.{not-true, same, itself, cases, bytes_eq_comm, or-false, or-true_right, has-append}
+use Rattle.micro_m.specs.inner.Cells.{SetComputedOnce}
+use Rattle.m_names.proofs.NameLemmas.{same, itself, cases, or-false, or-true_right}
 
 -- a name that no formula sets has no definition
 pub definition_of-none : (fs : List Formula) (name : List ℕ) → has name (targets_of fs) ≡ false → definition_of fs name ≡ None

@@ -14,8 +14,8 @@ use Rattle.m_ast.specs.declared.formula.Formula.{Formula}
 use Rattle.m_ast.specs.declared.variable.VariableItem.{VariableItem}
 use Rattle.micro_m.specs.Formulas.{names_of, computed_of, targets_of, words_of_sum, ReadsEarlier, AreInOrder}
 use Rattle.micro_m.specs.Values.{Environment, sum_value, definition_of, value_in, value_of}
-use Rattle.micro_m.specs.Terms.{sum_of}
-use Rattle.micro_m.specs.Cells.{cell_of, cells_of, cells_after, look, SetComputedOnce}
+use Rattle.micro_m.specs.inner.Terms.{sum_of}
+use Rattle.micro_m.specs.inner.Cells.{cell_of, cells_of, cells_after, look, SetComputedOnce}
 use Rattle.m_names.proofs.NameLemmas.{both, and-both, not-true, same, cases, bytes_eq_comm, index_of-none}
 use Rattle.micro_m.proofs.TermLemmas.{found, sum_of-known}
 use Rattle.micro_m.proofs.CellLemmas.{known, cell_named, look-cells, put, set-named, map-same}

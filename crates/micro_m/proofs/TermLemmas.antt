@@ -14,7 +14,7 @@ use Rattle.m_ast.specs.declared.formula.Factor.{Factor}
 use Rattle.m_ast.specs.declared.formula.Summand.{Summand}
 use Rattle.micro_m.specs.Formulas.{words_of_operand, words_of_product, words_of_sum}
 use Rattle.micro_m.specs.Values.{Environment, operand_value, factor_value, times, product_value, addition, plus, sum_value}
-use Rattle.micro_m.specs.Terms.{operand_of, factor_of, times_of, product_of, plus_of, sum_of}
+use Rattle.micro_m.specs.inner.Terms.{operand_of, factor_of, times_of, product_of, plus_of, sum_of}
 
 -- the names that pass a test have a value
 abbrev pub found : (List ℕ → Bool) → Environment → List ℕ → Option Value

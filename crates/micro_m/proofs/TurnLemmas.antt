@@ -11,8 +11,8 @@ use Rattle.m_ast.specs.declared.formula.Formula.{Formula}
 use Rattle.m_ast.specs.declared.formula.Summand.{Summand}
 use Rattle.micro_m.specs.Formulas.{targets_of, words_of_sum}
 use Rattle.micro_m.specs.Values.{Environment, sum_value, definition_of, value_in}
-use Rattle.micro_m.specs.Terms.{sum_of}
-use Rattle.micro_m.specs.Cells.{cells_of}
+use Rattle.micro_m.specs.inner.Terms.{sum_of}
+use Rattle.micro_m.specs.inner.Cells.{cells_of}
 use Rattle.m_names.proofs.NameLemmas.{not-true, same, cases}
 use Rattle.micro_m.proofs.FormulaLemmas.{definition_of-none}
 use Rattle.m_ast.specs.declared.variable.VariableItem.{VariableItem}

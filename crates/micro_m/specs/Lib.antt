@@ -1,5 +1,4 @@
-pub mod Cells
 pub mod Formulas
 pub mod Solutions
-pub mod Terms
 pub mod Values
+pub mod inner

@@ -3,7 +3,7 @@
 
 ghost use Rattle.std.specs.Prelude.{◌≡◌, IfOk, map, unwrap_or, Some};
 ghost use Rattle.m_fixed.specs.declared.amount.Value.TheVariants.{Undef};
-ghost use Rattle.micro_m.specs.Cells.{look};
+ghost use Rattle.micro_m.specs.inner.Cells.{look};
 
 use m_fixed::Value;
 use m_names::Names;

@@ -4,7 +4,7 @@ ghost use Rattle.std.specs.Prelude.{◌≡◌, IfOk, IfSome, IfNone, map, length
 ghost use Rattle.m_names.specs.Names.{AreDistinct};
 ghost use Rattle.micro_m.specs.Formulas.{names_of, targets_of, AreInOrder, is_computed};
 ghost use Rattle.micro_m.specs.Values.{value_of, environment};
-ghost use Rattle.micro_m.specs.Cells.{SetComputedOnce, cells_of, cells_after};
+ghost use Rattle.micro_m.specs.inner.Cells.{SetComputedOnce, cells_of, cells_after};
 
 use crate::cells::{filled, values_of};
 use crate::terms::sum_value;

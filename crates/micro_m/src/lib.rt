@@ -11,6 +11,3 @@ mod terms;
 
 pub use formulas::compute;
 pub use laws::{solution_is_one, values_solve};
-
-#[cfg(test)]
-mod tests;

@@ -1,8 +1,8 @@
 //! The value of a sum from the cells of the variables, without a copy of them.
 
 ghost use Rattle.std.specs.Prelude.{◌≡◌};
-ghost use Rattle.micro_m.specs.Cells.{look};
-ghost use Rattle.micro_m.specs.Terms.{operand_of, factor_of, product_of, sum_of};
+ghost use Rattle.micro_m.specs.inner.Cells.{look};
+ghost use Rattle.micro_m.specs.inner.Terms.{operand_of, factor_of, product_of, sum_of};
 
 use crate::cells::find_value;
 use m_ast::{Factor, Operand, Summand};

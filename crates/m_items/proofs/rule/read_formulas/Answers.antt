@@ -1,6 +1,6 @@
 use Rattle.std.proofs.Common.{arith}
 use Rattle.m_items.specs.Grammar.{SpellsFormula}
-use Rattle.m_items.specs.Refusals.{EndsFormulas}
+use Rattle.m_items.specs.inner.Endings.{EndsFormulas}
 use Rattle.m_items.proofs.Lists.{one_start, one_push, one_stuck}
 use Rattle.m_items.proofs.Sequences.{exit}
 use Rattle.m_items.proofs.Formulas.{formula_one}

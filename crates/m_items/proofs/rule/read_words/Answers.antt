@@ -1,7 +1,7 @@
 use Rattle.std.proofs.Common.{arith, sym}
 use Rattle.m_lexer.specs.declared.token.Sign.TheVariants as signs
 use Rattle.m_items.specs.Grammar.{SpellsWord}
-use Rattle.m_items.specs.Refusals.{NoSign}
+use Rattle.m_items.specs.inner.Endings.{NoSign}
 use Rattle.m_items.proofs.Tokens.{sign_from}
 use Rattle.m_items.proofs.Lists.{joined_start, joined_push, joined_first, joined_stuck}
 use Rattle.m_items.proofs.Sequences.{exit}

@@ -1,5 +1,5 @@
 use Rattle.std.proofs.Common.{length, [], ◌-◌, ◌≤◌}
-use Rattle.m_lexer.specs.Steps.{IsPlaceIn, GoesOn}
+use Rattle.m_lexer.specs.inner.Steps.{IsPlaceIn, GoesOn}
 use Rattle.m_lexer.proofs.scan.after_gaps.Given as goal
 
 abbrev pub invariant-loop-next : goal.invariant-loop-next

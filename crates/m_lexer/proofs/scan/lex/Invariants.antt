@@ -1,5 +1,5 @@
 use Rattle.std.proofs.Common.{length, ◌-◌, ◌<◌}
-use Rattle.m_lexer.specs.Steps.{IsPlaceIn, GoesOn, BeginsGap, byte_at}
+use Rattle.m_lexer.specs.inner.Steps.{IsPlaceIn, GoesOn, BeginsGap, byte_at}
 use Rattle.m_lexer.specs.Tokens.{start_of}
 use Rattle.m_lexer.proofs.scan.lex.Given as goal
 

@@ -3,7 +3,7 @@ use Rattle.m_fixed.specs.declared.amount.Value.{Value}
 use Rattle.m_fixed.specs.declared.amount.Value.TheVariants.{Undef}
 use Rattle.micro_m.specs.Formulas.{names_of}
 use Rattle.micro_m.specs.Values.{environment}
-use Rattle.micro_m.specs.Cells.{cells_after}
+use Rattle.micro_m.specs.inner.Cells.{cells_after}
 use Rattle.micro_m.proofs.FormulaLemmas.{left-at}
 use Rattle.micro_m.proofs.StageLemmas.{Stage, Stage-first, Stage-more, Stage-stuck, Stage-last, written, Some-from_unwrap_or}
 use Rattle.micro_m.proofs.formulas.compute.Goals as goal

@@ -1,7 +1,7 @@
 use Rattle.std.proofs.Common.{◌≡◌, take}
 use Rattle.micro_m.specs.Formulas.{names_of, targets_of}
 use Rattle.micro_m.specs.Values.{environment}
-use Rattle.micro_m.specs.Cells.{cells_of, SetComputedOnce}
+use Rattle.micro_m.specs.inner.Cells.{cells_of, SetComputedOnce}
 use Rattle.micro_m.proofs.formulas.first_cells.Given as goal
 
 abbrev pub invariant-loop-formula : goal.invariant-loop-formula

@@ -1,6 +1,6 @@
 use Rattle.std.proofs.Common.{◌≡◌, drop}
-use Rattle.micro_m.specs.Cells.{look}
-use Rattle.micro_m.specs.Terms.{product_of, times_of}
+use Rattle.micro_m.specs.inner.Cells.{look}
+use Rattle.micro_m.specs.inner.Terms.{product_of, times_of}
 use Rattle.micro_m.proofs.terms.product_value.Given as goal
 
 abbrev pub invariant-loop-factor : goal.invariant-loop-factor

@@ -1,6 +1,6 @@
 use Rattle.std.proofs.Common.{◌≡◌, drop}
-use Rattle.micro_m.specs.Cells.{look}
-use Rattle.micro_m.specs.Terms.{plus_of, sum_of}
+use Rattle.micro_m.specs.inner.Cells.{look}
+use Rattle.micro_m.specs.inner.Terms.{plus_of, sum_of}
 use Rattle.micro_m.proofs.terms.sum_value.Given as goal
 
 abbrev pub invariant-loop-summand : goal.invariant-loop-summand

@@ -2,7 +2,7 @@ use Rattle.std.proofs.Common.{◌≡◌, sym, ap, ◌∙◌}
 use Rattle.micro_m.specs.Formulas.{names_of}
 use Rattle.m_names.proofs.Distinct.{AreDistinct-added}
 use Rattle.micro_m.proofs.FormulaLemmas.{names_of-push}
-use Rattle.micro_m.proofs.tests.declared.Goals as goal
+use Rattle.language_tests.proofs.formulas.declared.Goals as goal
 
 pub loop-text-preserved : goal.loop-text-preserved
 loop-text-preserved c =

@@ -1,5 +1,5 @@
 //! What the operators give and how amounts are read and written, with expected values by hand.
-use super::*;
+use m_fixed::{Amount, AmountFault, Op, Value, apply, arity, read_amount, write_amount};
 
 /// A value of the table below: undefined, over, or so many millionths.
 #[derive(Clone, Copy)]

@@ -1,10 +1,10 @@
 //! What no clause says: that calls succeed, what the adapters do on the real system, and the rows of
 //! the versions in memory with their numbers.
-use crate::{
+use m_places::Name;
+use m_ports::{
     FetchFault, Files, HostFiles, HostSink, HostSource, MemFiles, MemSink, MemSource, Sink, Source,
     give_all,
 };
-use m_places::Name;
 use std::alloc::{AllocError, Global};
 use std::io::{ErrorKind, Read, Write};
 use std::test::Fail;

@@ -1,4 +1,5 @@
-use crate::{Codes, HouseholdFault, read_household, values};
+//! Households that are read and refused, and what they give each input.
+use household::{Codes, HouseholdFault, read_household, values};
 use m_fixed::Value;
 use m_names::Names;
 use m_places::Name;

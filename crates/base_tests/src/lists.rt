@@ -1,4 +1,5 @@
-use crate::{ListFault, read_list};
+//! List files that are read and refused.
+use m_list::{ListFault, read_list};
 use m_places::limits::FILE_BYTES;
 use std::alloc::{AllocError, Global};
 use std::test::Fail;

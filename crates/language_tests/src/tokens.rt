@@ -1,4 +1,5 @@
-use crate::{Key, Kind, LexFault, Sign, Token, lex};
+//! Tokens at the edges, first faults, and words and numbers of great length.
+use m_lexer::{Key, Kind, LexFault, Sign, Token, lex};
 use m_places::Place;
 use std::test::Fail;
 
@@ -351,14 +352,6 @@ fn is_token(token: &Token, want: (Want<'_>, u32, u32)) -> bool {
         line: want.2,
     };
     token.place == place && is_kind(&token.kind, want.0)
-}
-
-fn crosses_threads<T: Send + Sync>() {}
-
-#[test]
-fn tokens_and_faults_cross_threads() {
-    crosses_threads::<Token>();
-    crosses_threads::<LexFault>();
 }
 
 #[test]

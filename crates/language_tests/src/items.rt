@@ -1,7 +1,7 @@
 //! Texts and the items that they are, worked out by hand, and texts that are none.
-use crate::{ParseFault, one_item_list, parse};
 use m_ast::{Factor, Formula, Item, Operand, Role, RuleItem, VariableItem};
 use m_fixed::Amount;
+use m_items::{ParseFault, one_item_list, parse};
 use m_lexer::{Token, lex};
 use m_places::limits::FILE_BYTES;
 use m_places::{Name, Place};

@@ -1,12 +1,13 @@
+//! Formulas with their values by hand, and formulas that are refused.
 ghost use Rattle.std.specs.Prelude.{◌≡◌, IfOk};
 ghost use Rattle.m_names.specs.Names.{AreDistinct};
 ghost use Rattle.micro_m.specs.Formulas.{names_of};
 
-use crate::compute;
 use m_ast::{Factor, Formula, Operand, Role, Summand, VariableItem};
 use m_fixed::{Amount, Value, read_amount};
 use m_names::Names;
 use m_places::{Name, Place, Seq};
+use micro_m::compute;
 use std::alloc::{AllocError, Global};
 use std::mem;
 use std::test::Fail;

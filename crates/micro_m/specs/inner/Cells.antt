@@ -9,7 +9,7 @@ use Rattle.m_ast.specs.declared.formula.Formula.{Formula}
 use Rattle.m_ast.specs.declared.variable.VariableItem.{VariableItem}
 use Rattle.micro_m.specs.Formulas.{computed_of, targets_of}
 use Rattle.micro_m.specs.Values.{Environment}
-use Rattle.micro_m.specs.Terms.{sum_of}
+use Rattle.micro_m.specs.inner.Terms.{sum_of}
 
 -- Each formula sets a computed variable, which no other sets.
 pub record SetComputedOnce (variables : List VariableItem) (formulas : List Formula) : Type 0 where

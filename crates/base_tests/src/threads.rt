@@ -1,0 +1,24 @@
+//! Types that may be sent to other threads and shared with them. That this compiles is the test.
+use household::{Household, HouseholdFault};
+use m_fixed::{Amount, AmountFault, Op, Value};
+use m_list::{ListFault, Listing};
+use m_places::{ErrorKind, Label, Name, Place, Seq};
+
+fn crosses_threads<T: Send + Sync>() {}
+
+#[test]
+fn types_cross_threads() {
+    crosses_threads::<Amount>();
+    crosses_threads::<Value>();
+    crosses_threads::<Op>();
+    crosses_threads::<AmountFault>();
+    crosses_threads::<Name>();
+    crosses_threads::<Place>();
+    crosses_threads::<Seq<Name>>();
+    crosses_threads::<ErrorKind>();
+    crosses_threads::<Label>();
+    crosses_threads::<Listing>();
+    crosses_threads::<ListFault>();
+    crosses_threads::<Household>();
+    crosses_threads::<HouseholdFault>();
+}
