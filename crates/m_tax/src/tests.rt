@@ -8,11 +8,14 @@ use std::alloc::{AllocError, Global};
 use std::test::Fail;
 use std::thread::Threads;
 
-const BASE: &[u8] = b"REV : saisie revenu classe = 0 alias 1AJ : \"s\" ;
+/// The base, which formulas follow.
+fn base() -> &'static [u8] {
+    b"REV : saisie revenu classe = 0 alias 1AJ : \"s\" ;
 SEUIL : const = 1000 ;
 IRN : calculee restituee : \"n\" ;
 regle 10 : application : iliad ;
-";
+"
+}
 
 /// A file of this name.
 fn file(alloc: Global, name: &[u8], bytes: &[u8]) -> Result<(Name, Vec<u8>), AllocError> {
@@ -30,7 +33,7 @@ fn words(alloc: Global, line: &str) -> Result<Vec<Word>, AllocError> {
 
 /// The base and the formulas of its rule.
 fn with_formulas(alloc: Global, formulas: &str) -> Result<Vec<u8>, AllocError> {
-    let mut rules = Vec::from_slice(alloc, BASE)?;
+    let mut rules = Vec::from_slice(alloc, base())?;
     rules.extend_from_slice(formulas.as_bytes())?;
     rules.push(b'\n')?;
     Ok(rules)
@@ -518,17 +521,33 @@ fn fails_to_write(rt: HostRuntime) -> Result<(), Fail> {
     Ok(())
 }
 
+/// What fronts of the rules of `prefixes` print without rows, by how many bytes they have.
+const FRONTS: [(usize, &str); 13] = [
+    // whole items, without the last line feed and with it
+    (0, ""),
+    (48, ""),
+    (49, ""),
+    (71, ""),
+    (72, ""),
+    (104, "IRN undefined\n"),
+    (105, "IRN undefined\n"),
+    (157, "IRN = -1000\n"),
+    (158, "IRN = -1000\n"),
+    // within a text
+    (44, "refused syntax\n"),
+    (45, "refused syntax\n"),
+    (100, "refused syntax\n"),
+    (101, "refused syntax\n"),
+];
+
 /// What the first so many bytes of the rules of `prefixes` print without rows.
 fn prefix_text(bytes: usize) -> &'static str {
-    match bytes {
-        // whole items, without the last line feed and with it
-        0 | 48 | 49 | 71 | 72 => "",
-        104 | 105 => "IRN undefined\n",
-        157 | 158 => "IRN = -1000\n",
-        // within a text
-        44 | 45 | 100 | 101 => "refused syntax\n",
-        _ => "refused not built\n",
+    for (front, text) in FRONTS {
+        if front == bytes {
+            return text;
+        }
     }
+    "refused not built\n"
 }
 
 #[test]
