@@ -18,6 +18,7 @@ use Rattle.micro_m.specs.Formulas.{names_of, AreInOrder}
 use Rattle.micro_m.specs.Values.{value_of, environment}
 use Rattle.first_form.specs.Form.{variables_of, formulas_of, codes_of, given_of, AreDeclared}
 use Rattle.first_form.specs.Lines.{lines_of}
+use Rattle.first_form.specs.inner.Given.{IsGiven}
 use Rattle.first_form.specs.Meaning.{answer_of, Answers, AnswersTokens, IsAnswer, IsOutcome, lines, syntax, not_built}
 use Rattle.m_lexer.specs.declared.token.LexFault.TheVariants.{Memory as NoMemory}
 use Rattle.first_form.specs.declared.outcome.Outcome.{Outcome}
@@ -29,20 +30,19 @@ pub no_household : (variables : List VariableItem) (formulas : List Formula) (ho
 no_household variables formulas household codes e none text a = none a.pairs (subst (λ (c : List (List ℕ)). IsHousehold c household a.pairs) (sym e) a.spelled)
 
 -- the lines of the values that were found are the answer
-pub found_answer : (variables : List VariableItem) (formulas : List Formula) (household : List ℕ) (codes : List (List ℕ)) (pairs : List (ℕ × ℤ)) (inputs : ℕ) (amounts given found : List Value) (text : List ℕ)
-    → AreDeclared variables → AreInOrder variables formulas → codes ≡ codes_of variables → IsHousehold codes household pairs → inputs ≡ length codes
-    → amounts ≡ values_of pairs inputs → given ≡ given_of codes amounts variables
+pub found_answer : (variables : List VariableItem) (formulas : List Formula) (household : List ℕ) (codes : List (List ℕ)) (given found : List Value) (text : List ℕ)
+    → AreDeclared variables → AreInOrder variables formulas → codes ≡ codes_of variables → IsGiven codes variables household given
     → found ≡ map (λ v. value_of formulas (environment (names_of variables) given) v.name) variables
     → text ≡ lines_of variables found → Answers variables formulas household text
-found_answer variables formulas household codes pairs inputs amounts given found text declared in_order c h n a g f t = record {
+found_answer variables formulas household codes given found text declared in_order c g f t = record {
   form = record { declared = declared; in_order = in_order };
-  pairs = pairs;
-  spelled = subst (λ (x : List (List ℕ)). IsHousehold x household pairs) c h;
+  pairs = g.pairs;
+  spelled = subst (λ (x : List (List ℕ)). IsHousehold x household g.pairs) c g.spelled;
   lines = t ∙ ap (lines_of variables) (f ∙ (λ i. map (λ v. value_of formulas (environment (names_of variables) (of_pairs i)) v.name) variables));
 }
   where
-    of_pairs : given ≡ given_of (codes_of variables) (values_of pairs (length (codes_of variables))) variables
-    of_pairs = g ∙ (λ i. given_of (c i) ((a ∙ ap (values_of pairs) (n ∙ ap length c)) i) variables)
+    of_pairs : given ≡ given_of (codes_of variables) (values_of g.pairs (length (codes_of variables))) variables
+    of_pairs = g.values ∙ (λ i. given_of (c i) (values_of g.pairs (length (c i))) variables)
 
 -- the answer of the one list of items is that of the tokens
 pub items_answer : (application : List ℕ) (tokens : List Token) (household : List ℕ) (items : List Item) (variables : List VariableItem) (formulas : List Formula) (result : Result (Option (Vec ℕ Global)) AllocError)

@@ -1,15 +1,36 @@
 //! What variables have before any rule.
-ghost use Rattle.std.specs.Prelude.{◌≡◌, IfOk, slice_index_or};
+ghost use Rattle.std.specs.Prelude.{◌≡◌, ℕ, ℤ, List, IfOk, MatchOption, slice_index_or};
+ghost use Rattle.household.specs.Household.{IsHousehold};
 ghost use Rattle.m_fixed.specs.declared.amount.Value.TheVariants.{Undef};
 ghost use Rattle.first_form.specs.Form.{role_value, given_of};
+ghost use Rattle.first_form.specs.inner.Given.{IsGiven};
 
-use household::Codes;
+use household::{Codes, HouseholdFault, read_household, values};
 use m_ast::{Role, VariableItem};
 use m_fixed::Value;
 use std::alloc::{AllocError, Global};
 
+/// What each variable has before any rule, by the bytes of a household; `None` where they are no household.
+pub fn given_by_household(
+    alloc: Global,
+    variables: &[VariableItem],
+    codes: &Codes,
+    household: &[u8],
+) -> Result<Option<Vec<Value>>, AllocError>
+    ensures { IfOk result (λ o. MatchOption o ((pairs : List (ℕ × ℤ)) → IsHousehold codes.now household.now pairs → ⊥)
+        (λ given. IsGiven codes.now variables.now household.now given.items)) }
+{
+    let household = match read_household(alloc, household, codes) {
+        Ok(household) => household,
+        Err(HouseholdFault::NotBuilt) => return Ok(None),
+        Err(HouseholdFault::Memory) => return Err(AllocError),
+    };
+    let amounts = values(alloc, &household, codes.len())?;
+    Ok(Some(given_values(alloc, variables, codes, &amounts)?))
+}
+
 /// What each variable has before any rule, by what each input is given.
-pub fn given_values(
+fn given_values(
     alloc: Global,
     variables: &[VariableItem],
     codes: &Codes,

@@ -3,11 +3,10 @@ ghost use Rattle.std.specs.Prelude.{◌≡◌, ◌≢◌, ◌≤◌, IfOk, Match
 ghost use Rattle.first_form.specs.Meaning.{Answers, AnswersTokens, IsOutcome};
 ghost use Rattle.first_form.specs.declared.outcome.Outcome.{Outcome};
 
-use crate::given::given_values;
+use crate::given::given_by_household;
 use crate::lines::answer_lines;
 use crate::split::{Sorted, sorted_items};
 use crate::variables::{Declared, declare};
-use household::{HouseholdFault, read_household, values};
 use m_ast::{Formula, Item, VariableItem};
 use m_items::{ParseFault, parse};
 use m_lexer::{LexFault, Token, lex};
@@ -95,13 +94,9 @@ fn answer_of_parts(
     let Some(Declared { names, codes }) = declare(alloc, variables)? else {
         return Ok(None);
     };
-    let household = match read_household(alloc, household, &codes) {
-        Ok(household) => household,
-        Err(HouseholdFault::NotBuilt) => return Ok(None),
-        Err(HouseholdFault::Memory) => return Err(AllocError),
+    let Some(given) = given_by_household(alloc, variables, &codes, household)? else {
+        return Ok(None);
     };
-    let amounts = values(alloc, &household, codes.len())?;
-    let given = given_values(alloc, variables, &codes, &amounts)?;
     let Some(found) = compute(alloc, variables, &names, formulas, &given)? else {
         return Ok(None);
     };
