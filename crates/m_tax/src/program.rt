@@ -53,7 +53,7 @@ pub fn m_tax<R: Threads + Sync, F: Files, S: Source, K: Sink>(
     ensures text { Prints words.now (F.told files.old) (S.left input.old) (K.written out.old) (K.written out.new) result }
 
     // The attempts on files are those of `fetches_of`, at most the last of them failed, and a read fault
-    // is told only there. No file is read further than one byte past its limit.
+    // is told only there. All files together give at most one byte past the limit for each that was tried.
     ensures reading { Reading words.now (F.told files.old) (F.attempts files.old) (F.attempts files.new)
         (S.faults input.old) (S.faults input.new) (K.written out.old) (K.written out.new) result }
     ensures taken { TakesWithin (limit_of words.now) (F.attempts files.old) (F.attempts files.new)
