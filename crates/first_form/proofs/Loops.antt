@@ -5,13 +5,13 @@ use Rattle.std.proofs.lemmas.List.{append-nil, drop_all}
 use Rattle.m_names.specs.Names.{has, AreDistinct}
 use Rattle.m_names.proofs.Distinct.{twice, AreDistinct-added}
 use Rattle.m_fixed.specs.declared.amount.Value.{Value}
-use Rattle.m_ast.specs.declared.formula.Formula.{Formula}
-use Rattle.m_ast.specs.declared.item.Item.{Item}
-use Rattle.m_ast.specs.declared.item.Item.TheVariants.{Variable, Rule, Silent}
-use Rattle.m_ast.specs.declared.variable.VariableItem.{VariableItem}
-use Rattle.m_ast.specs.declared.variable.Role.{Role}
-use Rattle.m_ast.specs.declared.variable.Role.TheVariants.{Input, Computed, Constant}
-use Rattle.micro_m.specs.Formulas.{names_of}
+use Rattle.first_ast.specs.declared.formula.Formula.{Formula}
+use Rattle.first_ast.specs.declared.item.Item.{Item}
+use Rattle.first_ast.specs.declared.item.Item.TheVariants.{Variable, Rule, Silent}
+use Rattle.first_ast.specs.declared.variable.VariableItem.{VariableItem}
+use Rattle.first_ast.specs.declared.variable.Role.{Role}
+use Rattle.first_ast.specs.declared.variable.Role.TheVariants.{Input, Computed, Constant}
+use Rattle.first_values.specs.Formulas.{names_of}
 use Rattle.first_form.specs.Form.{variables_of, formulas_of, code_of, codes_of}
 use Rattle.first_form.specs.Lines.{value_line, is_returned, lines_of}
 

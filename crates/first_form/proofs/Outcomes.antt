@@ -7,15 +7,15 @@ use Rattle.m_lexer.specs.declared.token.Token.{Token}
 use Rattle.m_lexer.specs.declared.token.LexFault.{LexFault}
 use Rattle.m_lexer.specs.Tokens.{Lexes, FirstFault, start_of}
 use Rattle.m_lexer.proofs.OneReading.{one_list, no_list_and_fault}
-use Rattle.m_ast.specs.declared.formula.Formula.{Formula}
-use Rattle.m_ast.specs.declared.item.Item.{Item}
-use Rattle.m_ast.specs.declared.variable.VariableItem.{VariableItem}
-use Rattle.m_items.specs.Grammar.{SpellsItems}
-use Rattle.m_items.proofs.Readings.{items_one}
+use Rattle.first_ast.specs.declared.formula.Formula.{Formula}
+use Rattle.first_ast.specs.declared.item.Item.{Item}
+use Rattle.first_ast.specs.declared.variable.VariableItem.{VariableItem}
+use Rattle.first_items.specs.Grammar.{SpellsItems}
+use Rattle.first_items.proofs.Readings.{items_one}
 use Rattle.household.specs.Household.{IsHousehold, values_of}
 use Rattle.household.proofs.PairLemmas.{same_pairs}
-use Rattle.micro_m.specs.Formulas.{names_of, AreInOrder}
-use Rattle.micro_m.specs.Values.{value_of, environment}
+use Rattle.first_values.specs.Formulas.{names_of, AreInOrder}
+use Rattle.first_values.specs.Values.{value_of, environment}
 use Rattle.first_form.specs.Form.{variables_of, formulas_of, codes_of, given_of, AreDeclared}
 use Rattle.first_form.specs.Lines.{lines_of}
 use Rattle.first_form.specs.inner.Given.{IsGiven}

@@ -5,13 +5,13 @@ use Rattle.m_places.specs.declared.limits.TheConstants.{CELLS}
 use Rattle.m_fixed.specs.declared.amount.Value.{Value}
 use Rattle.m_fixed.specs.declared.amount.Value.TheVariants.{Undef, Num}
 use Rattle.m_names.specs.Names.{has, index_of, AreDistinct}
-use Rattle.m_ast.specs.declared.formula.Formula.{Formula}
-use Rattle.m_ast.specs.declared.item.Item.{Item}
-use Rattle.m_ast.specs.declared.item.Item.TheVariants.{Variable, Rule, Silent}
-use Rattle.m_ast.specs.declared.variable.Role.{Role}
-use Rattle.m_ast.specs.declared.variable.Role.TheVariants.{Input, Computed, Constant}
-use Rattle.m_ast.specs.declared.variable.VariableItem.{VariableItem}
-use Rattle.micro_m.specs.Formulas.{names_of, AreInOrder}
+use Rattle.first_ast.specs.declared.formula.Formula.{Formula}
+use Rattle.first_ast.specs.declared.item.Item.{Item}
+use Rattle.first_ast.specs.declared.item.Item.TheVariants.{Variable, Rule, Silent}
+use Rattle.first_ast.specs.declared.variable.Role.{Role}
+use Rattle.first_ast.specs.declared.variable.Role.TheVariants.{Input, Computed, Constant}
+use Rattle.first_ast.specs.declared.variable.VariableItem.{VariableItem}
+use Rattle.first_values.specs.Formulas.{names_of, AreInOrder}
 
 -- the variables that items declare, in order
 abbrev pub variables_of : List Item → List VariableItem

@@ -4,7 +4,7 @@ use Rattle.m_fixed.specs.declared.amount.Value.{Value}
 use Rattle.m_fixed.specs.declared.amount.Value.TheVariants.{Undef, Num, Over}
 use Rattle.m_fixed.specs.Text.{printed}
 use Rattle.m_names.specs.Names.{has}
-use Rattle.m_ast.specs.declared.variable.VariableItem.{VariableItem}
+use Rattle.first_ast.specs.declared.variable.VariableItem.{VariableItem}
 
 -- how a value stands behind its name
 abbrev pub value_text : Value → List ℕ

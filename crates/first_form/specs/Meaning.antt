@@ -2,14 +2,14 @@
 use Rattle.std.specs.Prelude.{◌≡◌, ℕ, ℤ, List, map, length}
 use Rattle.m_lexer.specs.declared.token.Token.{Token}
 use Rattle.m_lexer.specs.Tokens.{Lexes, start_of}
-use Rattle.m_ast.specs.declared.formula.Formula.{Formula}
-use Rattle.m_ast.specs.declared.item.Item.{Item}
-use Rattle.m_ast.specs.declared.variable.VariableItem.{VariableItem}
+use Rattle.first_ast.specs.declared.formula.Formula.{Formula}
+use Rattle.first_ast.specs.declared.item.Item.{Item}
+use Rattle.first_ast.specs.declared.variable.VariableItem.{VariableItem}
 use Rattle.m_fixed.specs.declared.amount.Value.{Value}
-use Rattle.m_items.specs.Grammar.{SpellsItems}
+use Rattle.first_items.specs.Grammar.{SpellsItems}
 use Rattle.household.specs.Household.{IsHousehold, values_of}
-use Rattle.micro_m.specs.Formulas.{names_of}
-use Rattle.micro_m.specs.Values.{value_of, environment}
+use Rattle.first_values.specs.Formulas.{names_of}
+use Rattle.first_values.specs.Values.{value_of, environment}
 use Rattle.first_form.specs.Form.{variables_of, formulas_of, codes_of, given_of, IsFirstForm}
 use Rattle.first_form.specs.Lines.{lines_of}
 use Rattle.first_form.specs.declared.outcome.Outcome.{Outcome}

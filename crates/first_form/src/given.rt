@@ -6,7 +6,7 @@ ghost use Rattle.first_form.specs.Form.{role_value, given_of};
 ghost use Rattle.first_form.specs.inner.Given.{IsGiven};
 
 use household::{Codes, HouseholdFault, read_household, values};
-use m_ast::{Role, VariableItem};
+use first_ast::{Role, VariableItem};
 use m_fixed::Value;
 use std::alloc::{AllocError, Global};
 

@@ -3,7 +3,7 @@ ghost use Rattle.std.specs.Prelude.{◌≡◌, IfOk, OnOk, ◌++◌, [], if◌th
 ghost use Rattle.first_form.specs.Lines.{value_text, value_line, is_returned, lines_of};
 
 use crate::split::has_name;
-use m_ast::VariableItem;
+use first_ast::VariableItem;
 use m_fixed::{Value, write_amount};
 use std::alloc::{AllocError, Global};
 

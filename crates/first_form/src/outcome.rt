@@ -7,12 +7,12 @@ use crate::given::given_by_household;
 use crate::lines::answer_lines;
 use crate::split::{Sorted, sorted_items};
 use crate::variables::{Declared, declare};
-use m_ast::{Formula, Item, VariableItem};
-use m_items::{ParseFault, parse};
+use first_ast::{Formula, Item, VariableItem};
+use first_items::{ParseFault, parse};
 use m_lexer::{LexFault, Token, lex};
 use m_places::Seq;
 use m_places::limits::FILE_BYTES;
-use micro_m::compute;
+use first_values::compute;
 use std::alloc::{AllocError, Global};
 
 /// What comes of a rule file and a household.

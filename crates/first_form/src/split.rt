@@ -3,7 +3,7 @@ ghost use Rattle.std.specs.Prelude.{◌≡◌, IfOk, OnOk, ◌++◌, if◌then�
 ghost use Rattle.m_names.specs.Names.{has};
 ghost use Rattle.first_form.specs.Form.{variables_of, formulas_of};
 
-use m_ast::{Formula, Item, RuleItem, VariableItem};
+use first_ast::{Formula, Item, RuleItem, VariableItem};
 use m_places::Name;
 use std::alloc::{AllocError, Global};
 

@@ -1,11 +1,11 @@
 //! What variables declare: names that stand once, and the codes of inputs, which do too.
 ghost use Rattle.std.specs.Prelude.{◌≡◌, ◌≤◌, IfOk, IfSome, IfNone, OnOk, ◌++◌, length, MatchOption, MatchBool};
 ghost use Rattle.m_names.specs.Names.{AreDistinct};
-ghost use Rattle.micro_m.specs.Formulas.{names_of};
+ghost use Rattle.first_values.specs.Formulas.{names_of};
 ghost use Rattle.first_form.specs.Form.{code_of, codes_of, AreDeclared};
 
 use household::Codes;
-use m_ast::{Role, VariableItem};
+use first_ast::{Role, VariableItem};
 use m_names::Names;
 use m_places::Name;
 use m_places::limits::CELLS;

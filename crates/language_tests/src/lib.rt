@@ -1,11 +1,7 @@
-//! Tests of the crates of the language, through their public calls: tokens, items and what formulas are
-//! worth. They stand apart from those crates, so that a crate isn't proved a second time with its tests.
+//! Tests of the crates of the language, through their public calls. They stand apart from those
+//! crates, so that a crate isn't proved a second time with its tests.
 #![tactic(auto)]
 
-#[cfg(test)]
-mod formulas;
-#[cfg(test)]
-mod items;
 #[cfg(test)]
 mod threads;
 #[cfg(test)]

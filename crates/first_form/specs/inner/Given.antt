@@ -1,7 +1,7 @@
 -- What a household gives, from its bytes.
 use Rattle.std.specs.Prelude.{◌≡◌, ℕ, ℤ, List, length}
 use Rattle.m_fixed.specs.declared.amount.Value.{Value}
-use Rattle.m_ast.specs.declared.variable.VariableItem.{VariableItem}
+use Rattle.first_ast.specs.declared.variable.VariableItem.{VariableItem}
 use Rattle.household.specs.Household.{IsHousehold, values_of}
 use Rattle.first_form.specs.Form.{given_of}
 

@@ -1,5 +1,5 @@
 use Rattle.std.proofs.Common.{◌++◌, sym, ap, ◌∙◌}
-use Rattle.micro_m.specs.Formulas.{names_of}
+use Rattle.first_values.specs.Formulas.{names_of}
 use Rattle.first_form.proofs.Loops.{drop_next, not_fresh, fresh_next, all_named}
 use Rattle.first_form.proofs.variables.declared_names.Goals as goal
 

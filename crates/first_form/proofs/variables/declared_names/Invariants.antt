@@ -1,6 +1,6 @@
 use Rattle.std.proofs.Common.{◌≡◌, ◌++◌, drop}
 use Rattle.m_names.specs.Names.{AreDistinct}
-use Rattle.micro_m.specs.Formulas.{names_of}
+use Rattle.first_values.specs.Formulas.{names_of}
 use Rattle.first_form.proofs.variables.declared_names.Given as goal
 
 abbrev pub invariant-loop-variable : goal.invariant-loop-variable

@@ -1,5 +1,0 @@
-use Rattle.micro_m.proofs.SolutionLemmas.{one}
-use Rattle.micro_m.proofs.laws.solution_is_one.Goals as goal
-
-pub returns : goal.returns
-returns c = one
