@@ -1,12 +1,10 @@
 //! Tests of the crates that the language stands on, through their public calls: amounts, names, places,
-//! lines, lists, households, and the files and streams of the outside. They stand apart from those
-//! crates, so that a crate isn't proved a second time with its tests.
+//! lines, lists, and the files and streams of the outside. They stand apart from those crates, so that
+//! a crate isn't proved a second time with its tests.
 #![tactic(auto)]
 
 #[cfg(test)]
 mod amounts;
-#[cfg(test)]
-mod households;
 #[cfg(test)]
 mod limits;
 #[cfg(test)]

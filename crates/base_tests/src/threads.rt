@@ -1,5 +1,4 @@
 //! Types that may be sent to other threads and shared with them. That this compiles is the test.
-use household::{Household, HouseholdFault};
 use m_fixed::{Amount, AmountFault, Op, Value};
 use m_list::{ListFault, Listing};
 use m_places::{ErrorKind, Label, Name, Place, Seq};
@@ -19,6 +18,4 @@ fn types_cross_threads() {
     crosses_threads::<Label>();
     crosses_threads::<Listing>();
     crosses_threads::<ListFault>();
-    crosses_threads::<Household>();
-    crosses_threads::<HouseholdFault>();
 }

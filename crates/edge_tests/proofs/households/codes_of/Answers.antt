@@ -2,7 +2,7 @@ use Rattle.std.proofs.Common.{◌∙◌, subst, arith}
 use Rattle.std.proofs.lemmas.List.{take_all}
 use Rattle.m_names.specs.Names.{AreDistinct}
 use Rattle.m_names.proofs.Distinct.{distinct_added}
-use Rattle.base_tests.proofs.households.codes_of.Goals as goal
+use Rattle.edge_tests.proofs.households.codes_of.Goals as goal
 
 pub loop-name-preserved : goal.loop-name-preserved
 loop-name-preserved c =

@@ -1,0 +1,9 @@
+//! Tests of the crates at the edges of the program, through their public calls: what a household's
+//! file says. They stand apart from those crates, so that a crate isn't proved a second time with its
+//! tests.
+#![tactic(auto)]
+
+#[cfg(test)]
+mod households;
+#[cfg(test)]
+mod threads;
