@@ -1,33 +1,73 @@
 #!/bin/sh
-# Starts the built program as a user would, also wrongly, and looks at the line that it prints and at its status.
-# No contract or test of a crate reaches `main` and the files of the system; this does.
+# Starts the program as a user would, also wrongly, and looks at what it prints and at its status. No contract or test of
+# a crate reaches `main` and the files of the system; this does.
 #
-# Prints a line for each row that fails, and the count at the end. The status is 0 where all rows pass.
+# Where ./build has built the program from these sources, the rows run on that one, through ./m_tax. Else they run on the
+# same sources in a trial of the toolchain, which compiles them once for all rows and proves nothing a second time; rows that
+# a trial can't do are left out then. Prints a line for each row that fails, and the count at the end. The status is 0 where
+# all rows pass.
 cd "$(dirname "$0")/.." || exit 1
-program=$PWD/m_tax
+root=$PWD
+program=$root/m_tax
 list=examples/first/rules.list
 household=examples/first/household.csv
 usage="usage: m_tax run|serve LIST DRIVER REQUESTS HOUSEHOLD, batch LIST DRIVER REQUESTS TABLE, compile LIST DRIVER REQUESTS, exec CODEFILE HOUSEHOLD, large N"
+trial="m_tax: this is a trial of the same sources, which are not proved yet; ./build proves and builds the program"
 dir=$(mktemp -d) || exit 1
 trap 'rm -rf "$dir"' EXIT
+mkdir "$dir/cases"
 passed=0
 failed=0
 
-# row STATUS LINE WORD..: the program with these words prints this line and ends with this status.
+is_built() {
+    [ -x out/m_tax ] && [ -z "$(find crates.txt crates/*/src crates/*/specs crates/*/proofs -newer out/built -print | head -n 1)" ]
+}
+if is_built; then way=built; else way=trial; fi
+
+# row STATUS LINE WORD..: the program with these words prints this line and ends with this status. In a trial it becomes a
+# case, which is tried with all others at the end.
 row() {
     status=$1 line=$2
     shift 2
-    "$program" "$@" >"$dir/out" 2>"$dir/err"
-    judge "$?" "$status" "$line" "$*"
+    if [ $way = built ]; then
+        "$program" "$@" </dev/null >"$dir/out" 2>"$dir/err"
+        judge "$?" "$status" "$line" "$*"
+        return
+    fi
+    cases=$((${cases-0} + 1))
+    : >"$dir/cases/$cases"
+    for word in "$@"; do printf '%s\n' "$word"; done >"$dir/cases/$cases.args"
+    printf '%s\n' "$line" >"$dir/cases/$cases.stdout"
+    printf '%s %s\n' "$cases" "$status" >>"$dir/statuses"
 }
 
-# judge SEEN STATUS LINE WORDS: compares a run that was just made.
+# try_cases: compiles the sources once, and tries each case. The files of the examples go along under their names.
+try_cases() {
+    set --
+    for file in examples/first/* examples/chain/*; do
+        [ ! -f "$file" ] || set -- "$@" --data "$file=$root/$file"
+    done
+    (cd crates/m_tax && rt try --cases "$dir/cases" "$@") >"$dir/tried" 2>&1 </dev/null
+    while read -r case status; do
+        if grep -q "^case=$case run=ended status=$status .*output=expected" "$dir/tried"; then
+            passed=$((passed + 1))
+        else
+            failed=$((failed + 1))
+            echo "started: m_tax $(tr '\n' ' ' <"$dir/cases/$case.args"): not status $status and \"$(cat "$dir/cases/$case.stdout")\", but: $(
+                grep "^case=$case " "$dir/tried")"
+        fi
+    done <"$dir/statuses"
+    [ "$failed" -eq 0 ] || tail -n 5 "$dir/tried"
+}
+
+# judge SEEN STATUS LINE WORDS [COMPLAINT]: compares a run that was just made. On standard error it said the complaint, or
+# nothing where there is none.
 judge() {
-    if [ "$1" -eq "$2" ] && [ "$(cat "$dir/out")" = "$3" ] && ! [ -s "$dir/err" ]; then
+    if [ "$1" -eq "$2" ] && [ "$(cat "$dir/out")" = "$3" ] && [ "$(cat "$dir/err")" = "${5-}" ]; then
         passed=$((passed + 1))
     else
         failed=$((failed + 1))
-        echo "started: m_tax $4: status $1 and \"$(head -c 200 "$dir/out")\", not status $2 and \"$3\""
+        echo "started: m_tax $4: status $1 and \"$(head -c 200 "$dir/out")\", not status $2 and \"$3\"; $(head -c 300 "$dir/err")"
     fi
 }
 
@@ -35,9 +75,6 @@ judge() {
 listing() {
     printf 'iliad\n%s\n' "$2" >"$dir/$1"
 }
-
-# The program is built here, where it isn't yet.
-"$program" >/dev/null 2>&1
 
 # The examples, and what the first hour makes of them.
 row 0 "IRN = 1500.5" run $list - - $household
@@ -93,17 +130,51 @@ row 1 "refused file too long /dev/zero" run /dev/zero - - $household
 row 1 "refused file too long /dev/zero" run $list - - /dev/zero
 
 # A standard output that is closed or full: the status says so, whatever the line would have been.
-: >"$dir/out"
-"$program" run $list - - $household 2>"$dir/err" >&-
-judge "$?" 4 "" "run with a closed output"
-"$program" 2>"$dir/err" >&-
-judge "$?" 4 "" "without words, with a closed output"
-if [ -w /dev/full ]; then
-    "$program" run $list - - $household 2>"$dir/err" >/dev/full
-    judge "$?" 4 "" "run into a full device"
-    "$program" run nowhere.list - - $household 2>"$dir/err" >/dev/full
-    judge "$?" 4 "" "a missing list into a full device"
+if [ $way = built ]; then
+    : >"$dir/out"
+    "$program" run $list - - $household 2>"$dir/err" >&-
+    judge "$?" 4 "" "run with a closed output"
+    "$program" 2>"$dir/err" >&-
+    judge "$?" 4 "" "without words, with a closed output"
+    if [ -w /dev/full ]; then
+        "$program" run $list - - $household 2>"$dir/err" >/dev/full
+        judge "$?" 4 "" "run into a full device"
+        "$program" run nowhere.list - - $household 2>"$dir/err" >/dev/full
+        judge "$?" 4 "" "a missing list into a full device"
+    fi
 fi
+[ $way = built ] || try_cases
 
-echo "started: $passed rows passed, $failed failed"
+# The script: through a symbolic link and from another folder, two at once, and words that a trial can't take.
+ln -s "$program" "$dir/linked"
+if [ $way = built ]; then said=; else said=$trial; fi
+(
+    cd examples && "$dir/linked" run first/../../../base.list - - first/household.csv
+) >"$dir/out" 2>"$dir/err" </dev/null
+status=$?
+if [ $way = built ]; then
+    judge "$status" 3 "unreadable first/../../../base.list" "run through a link"
+else
+    judge "$status" 70 "" "run of a file above this folder" "$said
+m_tax: the trial can't take the file first/../../../base.list; ./build proves and builds the program, which can"
+fi
+"$dir/linked" run nowhere.list - - $household >"$dir/second" 2>/dev/null </dev/null &
+"$dir/linked" run $list - - $household >"$dir/out" 2>"$dir/err" </dev/null
+judge "$?" 0 "IRN = 1500.5" "run through a link" "$said"
+wait $!
+status=$?
+cp "$dir/second" "$dir/out" && : >"$dir/err"
+judge "$status" 3 "unreadable nowhere.list" "a second run at once"
+
+# The script beside sources that are newer than the program: it says so, and runs the program that was proved.
+mkdir -p "$dir/old/out" "$dir/old/crates/any/src" "$dir/old/crates/any/specs" "$dir/old/crates/any/proofs"
+cp m_tax "$dir/old/m_tax"
+printf '#!/bin/sh\necho "program: $*"\nexit 6\n' >"$dir/old/out/m_tax"
+chmod +x "$dir/old/out/m_tax"
+touch -d '2000-01-01' "$dir/old/out/built"
+: >"$dir/old/crates.txt"
+"$dir/old/m_tax" run "a b" >"$dir/out" 2>"$dir/err"
+judge "$?" 6 "program: run a b" "sources that are newer" "m_tax: the sources are newer than the program; this is the program as ./build proved it last"
+
+echo "started: $way: $passed rows passed, $failed failed"
 [ "$failed" -eq 0 ]

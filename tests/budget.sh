@@ -1,0 +1,42 @@
+#!/bin/sh
+# The budget of the gate. Edits that must be refused are most of its time: at most 10 in a crate, at most 5 in one that stands
+# on eight or more others, 240 in all. Prints a line for each crate that is over, and a count; the status is 0 where none is.
+#
+# tests/budget.sh FIGURES also looks at the figures that bench/gate/measure.py wrote: the check of a crate takes at most
+# 150 s of CPU for 1,000 lines of code (one of fewer than 200 lines counts as 200), and its tests no more than the crates
+# that they test.
+cd "$(dirname "$0")/.." || exit 1
+figures=${1-/dev/null}
+for crate in $(sed -n 's/^\([a-z][a-z0-9_]*\)[^:#]*:.*/\1/p' crates.txt); do
+    edits=$(find "crates/$crate/must-fail" -name '*.edit' 2>/dev/null | wc -l)
+    lines=$(find "crates/$crate/src" -name '*.rt' ! -name tests.rt -exec cat {} + | wc -l)
+    echo "$crate $edits $lines"
+done | awk -v figures="$figures" '
+    # whether the crates that this one stands on, and theirs, are marked in below
+    function stands_on(crate,    k, n, names) {
+        n = split(uses[crate], names, " ")
+        for (k = 1; k <= n; k++) if (names[k] in uses && !(names[k] in below)) { below[names[k]]; count++; stands_on(names[k]) }
+    }
+    function over(what) { print "budget: " what; failed++ }
+    BEGIN {
+        while ((getline line < "crates.txt") > 0)
+            if (line ~ /^[a-z][a-z0-9_]*[^:#]*:/) { name = line; sub(/[ :].*/, "", name); sub(/^[^:]*:/, "", line); uses[name] = line }
+        while ((getline line < figures) > 0) { split(line, f, " "); check[f[1]] = f[2]; tests[f[1]] = f[3] }
+    }
+    {
+        split("", below); count = 0; stands_on($1)
+        most = count >= 8 ? 5 : 10
+        if ($2 > most) over($1 " has " $2 " must-fail edits, and may have " most)
+        all += $2
+        lines = $3 < 200 ? 200 : $3
+        if ($1 in check && check[$1] > lines * 0.15) over($1 " takes " check[$1] " s of CPU for its check, and may take " lines * 0.15)
+        tested = 0
+        for (name in below) tested += check[name]
+        if ($1 in tests && tests[$1] > tested + check[$1]) over($1 " takes " tests[$1] " s of CPU for its tests, more than what they test: " tested)
+        crates++
+    }
+    END {
+        if (all > 240) over("there are " all " must-fail edits, and may be 240")
+        print "budget: " crates " crates, " all " must-fail edits, " failed + 0 " over"
+        exit failed > 0
+    }'
