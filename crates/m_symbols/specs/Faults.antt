@@ -1,0 +1,85 @@
+-- The fault of a list of items: that of the earliest declaration that has one.
+use Rattle.std.specs.Prelude.{ℕ, ◌+◌, ◌==◌, ◌||◌, nat_lt, List, [], ◌∷◌, ◌++◌, length, map, Option, Some, None, if◌then◌else◌}
+use Rattle.std.specs.List.{filter_map}
+use Rattle.std.specs.Option.{option_map}
+use Rattle.std.specs.Str.{bytes_eq}
+use Rattle.m_places.specs.declared.place.Place.{Place}
+use Rattle.m_places.specs.declared.limits.TheConstants.{TABLE_CELLS, CELLS}
+use Rattle.m_ast.specs.declared.item.Item.{Item}
+use Rattle.m_ast.specs.declared.item.Item.TheVariants.{Variable, Rule, Verif, Error, Silent}
+use Rattle.m_ast.specs.declared.item.ErrorItem.{ErrorItem}
+use Rattle.m_ast.specs.declared.variable.VariableItem.{VariableItem}
+use Rattle.m_ast.specs.Items.{variable_cells, variable_code, variable_size}
+use Rattle.m_symbols.specs.declared.variable.Variable.{Variable as Declaration}
+use Rattle.m_symbols.specs.declared.fault.DeclareFault.{DeclareFault}
+use Rattle.m_symbols.specs.declared.fault.DeclareFault.TheVariants.{DeclaredTwice, AliasTwice, TableSize, TooManyCells}
+use Rattle.m_symbols.specs.Declared.{Declared, declared_by, owners_from}
+
+-- the first of two faults, where there is one
+abbrev pub first_of : Option DeclareFault → Option DeclareFault → Option DeclareFault
+first_of (Some fault) other = Some fault
+first_of None other = other
+
+-- the place beside a name, in a list of names and places
+abbrev pub place_beside : List ℕ → List (List ℕ × Place) → Option Place
+place_beside name [] = None
+place_beside name (n ∷ earlier) = if bytes_eq name n.0 then Some n.1 else place_beside name earlier
+
+-- names of variables, codes of inputs, and names of errors, each with the place of its declaration
+abbrev pub placed_name : Declaration → List ℕ × Place
+placed_name v = (v.item.name, v.item.place)
+
+abbrev pub placed_code : Declaration → Option (List ℕ × Place)
+placed_code v = option_map (λ code. (code, v.item.place)) (variable_code v.item)
+
+abbrev pub placed_error : ErrorItem → List ℕ × Place
+placed_error e = (e.name, e.place)
+
+-- a name that an earlier declaration has
+abbrev pub name_fault : Declared → VariableItem → Option DeclareFault
+name_fault earlier v = option_map (λ place. DeclaredTwice v.name place v.place) (place_beside v.name (map placed_name earlier.variables))
+
+abbrev pub taken_code : List Declaration → Place → Option (List ℕ) → Option DeclareFault
+taken_code earlier here None = None
+taken_code earlier here (Some code) = option_map (λ place. AliasTwice code place here) (place_beside code (filter_map placed_code earlier))
+
+-- a code that an earlier input has
+abbrev pub code_fault : Declared → VariableItem → Option DeclareFault
+code_fault earlier v = taken_code earlier.variables v.place (variable_code v)
+
+abbrev pub wrong_size : Place → Option ℕ → Option DeclareFault
+wrong_size here None = None
+wrong_size here (Some size) = if (size == 0) || nat_lt TABLE_CELLS size then Some (TableSize here) else None
+
+-- a table without cells, or with too many
+abbrev pub size_fault : VariableItem → Option DeclareFault
+size_fault v = wrong_size v.place (variable_size v)
+
+-- cells that are too many with this variable's
+abbrev pub cells_fault : Declared → VariableItem → Option DeclareFault
+cells_fault earlier v = if nat_lt CELLS (length (owners_from 0 earlier.variables) + variable_cells v) then Some (TooManyCells v.place) else None
+
+-- the fault of a variable behind earlier declarations
+abbrev pub variable_fault : Declared → VariableItem → Option DeclareFault
+variable_fault earlier v = first_of (name_fault earlier v) (first_of (code_fault earlier v) (first_of (size_fault v) (cells_fault earlier v)))
+
+-- the fault of an error behind earlier declarations: variables and errors have separate names
+abbrev pub error_fault : Declared → ErrorItem → Option DeclareFault
+error_fault earlier e = option_map (λ place. DeclaredTwice e.name place e.place) (place_beside e.name (map placed_error earlier.errors))
+
+-- the fault of an item behind earlier declarations
+abbrev pub fault_at : Declared → Item → Option DeclareFault
+fault_at earlier (Variable v) = variable_fault earlier v
+fault_at earlier (Error e) = error_fault earlier e
+fault_at earlier (Rule r) = None
+fault_at earlier (Verif v) = None
+fault_at earlier (Silent p) = None
+
+-- the fault of the first of these items that has one, where those before them are given
+abbrev pub fault_behind : List Item → List Item → Option DeclareFault
+fault_behind earlier [] = None
+fault_behind earlier (item ∷ later) = first_of (fault_at (declared_by earlier) item) (fault_behind (earlier ++ item ∷ []) later)
+
+-- The fault of items. `A : .. ; B : .. ; A : .. ;` has `DeclaredTwice A` with the places of the first and the third item.
+abbrev pub first_fault : List Item → Option DeclareFault
+first_fault items = fault_behind [] items

@@ -1,0 +1,38 @@
+use crate::Variable;
+use m_ast::ErrorItem;
+use m_names::Names;
+use std::marker::Model;
+
+/// The variables and errors that rule files declare, with tables in which they are found. Contracts
+/// see the two lists.
+#[derive(Drop)]
+pub struct Symbols {
+    pub(crate) tables: Tables,
+}
+
+/// Declarations in order, and what finds them.
+#[derive(Drop)]
+pub(crate) struct Tables {
+    pub(crate) variables: Vec<Variable>,
+    pub(crate) names: Names,
+    /// The number of the variable of each cell.
+    pub(crate) owners: Vec<u32>,
+    /// The numbers of the variables that are inputs.
+    pub(crate) inputs: Vec<u32>,
+    /// The codes of the inputs.
+    pub(crate) codes: Names,
+    pub(crate) errors: Vec<ErrorItem>,
+    pub(crate) error_names: Names,
+}
+
+impl Model for Symbols {
+    ghost use Rattle.m_symbols.specs.Declared.{Declared};
+
+    ghost Value = { Declared };
+
+    ghost use Rattle.m_symbols.specs.inner.Tables.{declared_in, AreIndexed};
+
+    ghost view = { λ s. declared_in s.tables };
+
+    ghost invariant = { λ s. AreIndexed s.tables };
+}
