@@ -1,0 +1,74 @@
+-- What a list of items declares, in the order of the file: its variables and errors, and of these
+-- the names, codes and kinds.
+use Rattle.std.specs.Prelude.{ℕ, Bool, true, false, List, Option, Some, None}
+use Rattle.std.specs.List.{filter_map}
+use Rattle.m_ast.specs.declared.item.Item.{Item}
+use Rattle.m_ast.specs.declared.item.Item.TheVariants.{Variable, Rule, Verif, Error, Silent}
+use Rattle.m_ast.specs.declared.item.ErrorItem.{ErrorItem}
+use Rattle.m_ast.specs.declared.variable.VariableItem.{VariableItem}
+use Rattle.m_ast.specs.declared.variable.Role.{Role}
+use Rattle.m_ast.specs.declared.variable.Role.TheVariants.{Input, Computed, Constant}
+
+abbrev pub variable_in : Item → Option VariableItem
+variable_in (Variable v) = Some v
+variable_in (Rule r) = None
+variable_in (Verif v) = None
+variable_in (Error e) = None
+variable_in (Silent p) = None
+
+abbrev pub error_in : Item → Option ErrorItem
+error_in (Variable v) = None
+error_in (Rule r) = None
+error_in (Verif v) = None
+error_in (Error e) = Some e
+error_in (Silent p) = None
+
+-- the declared variables
+abbrev pub variables_of : List Item → List VariableItem
+variables_of = filter_map variable_in
+
+-- the declared errors
+abbrev pub errors_of : List Item → List ErrorItem
+errors_of = filter_map error_in
+
+abbrev pub variable_name : VariableItem → List ℕ
+variable_name v = v.name
+
+abbrev pub error_name : ErrorItem → List ℕ
+error_name e = e.name
+
+-- the code of an input, as 1AJ
+abbrev pub code_in : Role → Option (List ℕ)
+code_in (Input code) = Some code
+code_in (Computed size) = None
+code_in (Constant amount) = None
+
+-- the declared size of a table
+abbrev pub size_in : Role → Option ℕ
+size_in (Input code) = None
+size_in (Computed size) = size
+size_in (Constant amount) = None
+
+abbrev pub is_input : Role → Bool
+is_input (Input code) = true
+is_input (Computed size) = false
+is_input (Constant amount) = false
+
+abbrev pub is_constant : Role → Bool
+is_constant (Input code) = false
+is_constant (Computed size) = false
+is_constant (Constant amount) = true
+
+-- how many cells a variable has: a table as many as its size, every other variable one
+abbrev pub cells_in : Option ℕ → ℕ
+cells_in (Some size) = size
+cells_in None = 1
+
+abbrev pub variable_code : VariableItem → Option (List ℕ)
+variable_code v = code_in v.role
+
+abbrev pub variable_size : VariableItem → Option ℕ
+variable_size v = size_in v.role
+
+abbrev pub variable_cells : VariableItem → ℕ
+variable_cells v = cells_in (size_in v.role)

@@ -1,0 +1,4 @@
+pub mod NumberLemmas
+pub mod SlowLemmas
+pub mod TermLemmas
+pub mod TurnLemmas

@@ -1,0 +1,7 @@
+pub mod Bases
+pub mod Failures
+pub mod Reads
+pub mod Trees
+pub mod Values
+pub mod Views
+pub mod inner

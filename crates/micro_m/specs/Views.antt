@@ -1,0 +1,21 @@
+-- The plain data that a term of the program stands for.
+use Rattle.std.specs.Prelude.{List, [], ◌∷◌}
+use Rattle.micro_m.specs.declared.term.MNode.{MNode}
+use Rattle.micro_m.specs.declared.term.MNode.TheVariants.{Lit, Cell, Pick, Apply, Chain}
+use Rattle.micro_m.specs.declared.term.Step.{Step}
+use Rattle.micro_m.specs.Trees.{Tree, lit, cell, pick, apply, chain, Trees, none, more, Steps, end, step}
+
+abbrev pub trees_of : List Tree → Trees
+trees_of [] = none
+trees_of (argument ∷ rest) = more argument (trees_of rest)
+
+abbrev pub steps_of : List Step → Steps
+steps_of [] = end
+steps_of (s ∷ rest) = step s.op s.term (steps_of rest)
+
+abbrev pub tree_of : MNode → Tree
+tree_of (Lit value) = lit value
+tree_of (Cell number) = cell number
+tree_of (Pick first size index) = pick first size index.value
+tree_of (Apply op arguments) = apply op (trees_of arguments.items)
+tree_of (Chain first steps) = chain first.value (steps_of steps.items)

@@ -1,0 +1,20 @@
+//! What a base of rules means: its terms in their final words, and the values of its cells.
+//!
+//! The meaning says nothing of an order: the values are the one solution of the definitions, read as
+//! equations. This crate knows nothing of source text, names of variables, files or printed lines.
+#![tactic(auto)]
+
+mod base;
+mod laws;
+mod slow;
+mod table;
+mod term;
+mod value;
+
+pub use base::{Base, Failure};
+pub use laws::{further_turns_change_nothing, only_reads_matter, solution_is_one, values_solve};
+pub use m_places::{ErrorKind, Label};
+pub use slow::slow_value;
+pub use table::{Picked, pick};
+pub use term::{MNode, MTerm, Step};
+pub use value::{first_failing, term_value};

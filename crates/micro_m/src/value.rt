@@ -1,0 +1,111 @@
+//! The value of a term where the cells have values, and the first check that fails over them.
+
+ghost use Rattle.std.specs.Prelude.{◌≡◌, slice_index_or};
+ghost use Rattle.m_fixed.specs.declared.amount.Value.TheVariants.{Undef};
+ghost use Rattle.micro_m.specs.Views.{trees_of, steps_of};
+ghost use Rattle.micro_m.specs.Values.{environment, term_value, argument_values, folded, applied, picked_value};
+ghost use Rattle.micro_m.specs.Failures.{failure_of, failure_among};
+
+use crate::table::{Picked, pick};
+use crate::{Base, Failure, MNode, MTerm, Step};
+use m_fixed::{Op, Value, apply};
+
+/// The value of a term where each cell has the value at its number, and a cell beyond them is undefined: where the cells 0
+/// and 1 are 10 and 4, that of the cell 0 less the cell 1 is 6. Takes no memory.
+#[cycle(value)]
+pub fn term_value(term: &MTerm, values: &[Value]) -> Value
+    ensures { result ≡ term_value (environment values.now) term.now }
+{
+    match &term.node {
+        MNode::Lit(value) => *value,
+        MNode::Cell(cell) => value_at(values, *cell as usize),
+        MNode::Pick(first, size, index) => {
+            picked_value(pick(*first, *size, term_value(index, values)), values)
+        }
+        MNode::Apply(op, arguments) => applied(*op, arguments, values),
+        MNode::Chain(first, steps) => folded(term_value(first, values), steps, values),
+    }
+}
+
+/// An operator on its arguments. One that is missing is undefined.
+#[cycle(value)]
+fn applied(op: Op, arguments: &[MTerm], values: &[Value]) -> Value
+    ensures { result ≡ applied op (argument_values (environment values.now) (trees_of arguments.now)) }
+{
+    let first = argument_value(arguments, 0, values);
+    let second = argument_value(arguments, 1, values);
+    let third = argument_value(arguments, 2, values);
+    apply(op, first, second, third)
+}
+
+/// The value of the argument at a place, and undefined where there is none.
+#[cycle(value)]
+fn argument_value(arguments: &[MTerm], at: usize, values: &[Value]) -> Value
+    ensures { result ≡ slice_index_or (argument_values (environment values.now) (trees_of arguments.now)) at Undef }
+{
+    match arguments.get(at) {
+        Some(argument) => term_value(argument, values),
+        None => Value::Undef,
+    }
+}
+
+/// A left fold, gone on with from a value so far.
+#[cycle(value)]
+fn folded(so_far: Value, steps: &[Step], values: &[Value]) -> Value
+    ensures { result ≡ folded (environment values.now) so_far (steps_of steps.now) }
+{
+    let mut value = so_far;
+    for step in steps {
+        value = apply(step.op, value, term_value(&step.term, values), Value::Undef);
+    }
+    value
+}
+
+/// The value at a cell's number, and undefined beyond the last.
+pub(crate) fn value_at(values: &[Value], cell: usize) -> Value
+    ensures { result ≡ environment values.now cell }
+{
+    match values.get(cell) {
+        Some(value) => *value,
+        None => Value::Undef,
+    }
+}
+
+fn picked_value(picked: Picked, values: &[Value]) -> Value
+    ensures { result ≡ picked_value (environment values.now) picked }
+{
+    match picked {
+        Picked::Cell(cell) => value_at(values, cell),
+        Picked::Fixed(value) => value,
+    }
+}
+
+/// The first check of a base, in the order of the source, that fails or is over where the cells have these values. Takes no
+/// memory.
+pub fn first_failing(base: &Base, values: &[Value]) -> Option<Failure>
+    ensures { result ≡ failure_among (environment values.now) base.now.checks }
+{
+    for (condition, label, _) in base.checks.as_slice() {
+        if let Some(failure) = failure_of(term_value(condition, values), *label) {
+            return Some(failure);
+        }
+    }
+    None
+}
+
+/// What a check comes to by its condition's value: only a number other than 0 fails, and over is told.
+fn failure_of(condition: Value, label: u32) -> Option<Failure>
+    ensures { result ≡ failure_of condition label }
+{
+    match condition {
+        Value::Undef => None,
+        Value::Over => Some(Failure::Over(label)),
+        Value::Num(amount) => {
+            if amount.millionths() == 0 {
+                None
+            } else {
+                Some(Failure::Failed(label))
+            }
+        }
+    }
+}
