@@ -13,7 +13,7 @@ use Rattle.m_ast.specs.Items.{variable_cells, variable_code, variable_size}
 use Rattle.m_symbols.specs.declared.variable.Variable.{Variable as Declaration}
 use Rattle.m_symbols.specs.declared.fault.DeclareFault.{DeclareFault}
 use Rattle.m_symbols.specs.declared.fault.DeclareFault.TheVariants.{DeclaredTwice, AliasTwice, TableSize, TooManyCells}
-use Rattle.m_symbols.specs.Declared.{Declared, declared_by, owners_from}
+use Rattle.m_symbols.specs.Declarations.{Declared, declared_by, owners_from}
 
 -- the first of two faults, where there is one
 abbrev pub first_of : Option DeclareFault → Option DeclareFault → Option DeclareFault

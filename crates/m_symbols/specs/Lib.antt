@@ -1,3 +1,4 @@
-pub mod Declared
+pub mod Declarations
 pub mod Faults
+pub mod Kinds
 pub mod inner

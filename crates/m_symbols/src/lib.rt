@@ -4,13 +4,13 @@
 //! This crate stands on the trees and on names, and knows neither rules nor households.
 #![tactic(auto)]
 
-mod declare;
+mod declaring;
 mod fault;
 mod lookup;
 mod symbols;
 mod variable;
 
-pub use declare::declare;
+pub use declaring::declare;
 pub use fault::DeclareFault;
 pub use symbols::Symbols;
 pub use variable::Variable;

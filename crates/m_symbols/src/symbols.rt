@@ -26,7 +26,7 @@ pub(crate) struct Tables {
 }
 
 impl Model for Symbols {
-    ghost use Rattle.m_symbols.specs.Declared.{Declared};
+    ghost use Rattle.m_symbols.specs.Declarations.{Declared};
 
     ghost Value = { Declared };
 

@@ -1,7 +1,13 @@
 -- The tables in which look-ups find declarations.
-use Rattle.std.specs.Prelude.{◌≡◌, map}
+use Rattle.std.specs.Prelude.{◌≡◌, ◌≤◌, [], ◌∷◌, ◌++◌, length}
+use Rattle.m_places.specs.declared.limits.TheConstants.{CELLS}
+use Rattle.m_ast.specs.declared.item.Item.{Item}
+use Rattle.m_ast.specs.declared.item.Item.TheVariants.{Variable, Rule, Verif, Error, Silent}
+use Rattle.m_ast.specs.declared.item.ErrorItem.{ErrorItem}
+use Rattle.m_ast.specs.declared.variable.VariableItem.{VariableItem}
+use Rattle.m_ast.specs.Items.{variable_cells}
 use Rattle.m_symbols.specs.declared.symbols.Tables.{Tables}
-use Rattle.m_symbols.specs.Declared.{Declared, names_of, codes_of, owners_from, inputs_from, error_names_of}
+use Rattle.m_symbols.specs.Declarations.{Declared, names_of, codes_of, owners_from, inputs_from, error_names_of}
 
 -- what tables say is declared
 abbrev pub declared_in : Tables → Declared
@@ -14,3 +20,20 @@ pub record AreIndexed (t : Tables) : Type 0 where
   pub owners : t.owners.items ≡ owners_from 0 t.variables.items
   pub inputs : t.inputs.items ≡ inputs_from 0 t.variables.items
   pub error_names : t.error_names ≡ error_names_of t.errors.items
+  pub few : length t.owners.items ≤ CELLS
+
+-- with a further variable, whose first cell comes behind those that are there
+abbrev pub with_variable : Declared → VariableItem → Declared
+with_variable d v = record d { variables = d.variables ++ record { item = v; first_cell = length (owners_from 0 d.variables); cells = variable_cells v } ∷ [] }
+
+-- with a further error
+abbrev pub with_error : Declared → ErrorItem → Declared
+with_error d e = record d { errors = d.errors ++ e ∷ [] }
+
+-- with what a further item declares
+abbrev pub with_item : Declared → Item → Declared
+with_item d (Variable v) = with_variable d v
+with_item d (Error e) = with_error d e
+with_item d (Rule r) = d
+with_item d (Verif v) = d
+with_item d (Silent p) = d

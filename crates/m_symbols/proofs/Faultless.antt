@@ -1,0 +1,55 @@
+-- What follows where a declaration has no fault.
+use Rattle.std.proofs.Common.{◌≡◌, ℕ, ◌+◌, ◌≤◌, Bool, true, false, cond, List, [], ◌∷◌, map, length, refl, ap, arith}
+use Rattle.std.specs.Prelude.{Option, Some, None, IfSome, nat_lt}
+use Rattle.std.specs.List.{filter_map}
+use Rattle.std.specs.Option.{option_map}
+use Rattle.std.proofs.lemmas.Bool.Decides.{nat_tests}
+use Rattle.m_places.specs.declared.place.Place.{Place}
+use Rattle.m_places.specs.declared.limits.TheConstants.{CELLS}
+use Rattle.m_ast.specs.declared.variable.Role.{Role}
+use Rattle.m_ast.specs.declared.variable.Role.TheVariants.{Input, Computed, Constant}
+use Rattle.m_ast.specs.declared.variable.VariableItem.{VariableItem}
+use Rattle.m_ast.specs.declared.item.ErrorItem.{ErrorItem}
+use Rattle.m_ast.specs.Items.{code_in, variable_cells}
+use Rattle.m_names.specs.Names.{has}
+use Rattle.m_symbols.specs.declared.variable.Variable.{Variable}
+use Rattle.m_symbols.specs.declared.fault.DeclareFault.{DeclareFault}
+use Rattle.m_symbols.specs.Declarations.{Declared, names_of, codes_of, error_names_of, owners_from}
+use Rattle.m_symbols.specs.Faults.{first_of, name_fault, code_fault, size_fault, cells_fault, variable_fault, error_fault, taken_code, place_beside, placed_name, placed_code, placed_error}
+use Rattle.m_symbols.proofs.Found.{has-none, has_code-none}
+
+parts : (a b : Option DeclareFault) → first_of a b ≡ None → (a ≡ None) × (b ≡ None)
+parts None b e = (refl, e)
+parts (Some f) b e = (cc, cc)
+
+unmapped : {X Y : Type 0} (f : X → Y) (o : Option X) → option_map f o ≡ None → o ≡ None
+unmapped f None e = refl
+unmapped f (Some x) e = cc
+
+-- its name is new
+pub new_name : (d : Declared) (v : VariableItem) → variable_fault d v ≡ None → has v.name (names_of d.variables) ≡ false
+new_name d v e = has-none (λ (w : Variable). w.item.name) (λ (w : Variable). w.item.place) v.name d.variables (unmapped _ _ (parts (name_fault d v) _ e).0)
+
+pub new_error : (d : Declared) (v : ErrorItem) → error_fault d v ≡ None → has v.name (error_names_of d.errors) ≡ false
+new_error d v e = has-none (λ (w : ErrorItem). w.name) (λ (w : ErrorItem). w.place) v.name d.errors (unmapped _ _ e)
+
+untaken : (r : Role) (vs : List Variable) (here : Place) → taken_code vs here (code_in r) ≡ None → IfSome (code_in r) (λ code. has code (codes_of vs) ≡ false)
+untaken (Input code) vs here e = has_code-none code vs (unmapped _ _ e)
+untaken (Computed size) vs here e = tt
+untaken (Constant amount) vs here e = tt
+
+-- its code is new
+pub new_code : (d : Declared) (v : VariableItem) → variable_fault d v ≡ None → IfSome (code_in v.role) (λ code. has code (codes_of d.variables) ≡ false)
+new_code d v e = untaken v.role d.variables v.place (parts (code_fault d v) _ (parts (name_fault d v) _ e).1).0
+
+unless : (b : Bool) (f : DeclareFault) → cond b (Some f) None ≡ None → b ≡ false
+unless true f e = cc
+unless false f e = refl
+
+not_above : (n : ℕ) → nat_lt CELLS n ≡ false → n ≤ CELLS
+not_above n e = grind (arith, nat_tests)
+
+-- its cells have room
+pub few_cells : (d : Declared) (v : VariableItem) → variable_fault d v ≡ None → length (owners_from 0 d.variables) + variable_cells v ≤ CELLS
+few_cells d v e =
+    not_above _ (unless _ _ (parts (size_fault v) _ (parts (code_fault d v) _ (parts (name_fault d v) _ e).1).1).1)

@@ -1,0 +1,7 @@
+pub mod Added
+pub mod Faultless
+pub mod Found
+pub mod Indexed
+pub mod Numbered
+pub mod Turns
+pub mod Values

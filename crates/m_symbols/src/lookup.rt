@@ -1,0 +1,139 @@
+//! Look-ups, none of which takes memory.
+ghost use Rattle.std.specs.Prelude.{◌≡◌, ◌<◌, Some, length, slice_get, slice_index, IfSome};
+ghost use Rattle.m_names.specs.Names.{index_of};
+ghost use Rattle.m_symbols.specs.Declarations.{names_of, error_names_of, codes_of, owners_from, inputs_from};
+ghost use Rattle.m_symbols.specs.Kinds.{is_in_kind, last_value, has_amount};
+
+use crate::{Symbols, Variable};
+use m_ast::{ErrorItem, Role};
+use m_fixed::Amount;
+use m_places::Name;
+
+impl Symbols {
+    /// How many variables there are.
+    pub fn count(&self) -> u32
+        ensures { result ≡ length self.now.variables }
+    {
+        self.tables.names.len()
+    }
+
+    /// The variable of this number, which is below the count.
+    pub fn variable(&self, v: u32) -> &Variable
+        requires { v < length self.now.variables }
+        ensures { slice_get self.now.variables v ≡ Some result.now }
+    {
+        &self.tables.variables[v as usize]
+    }
+
+    /// The number of the variable of this name.
+    pub fn find(&self, name: &[u8]) -> Option<u32>
+        ensures number { result ≡ index_of name.now (names_of self.now.variables) }
+        ensures within { IfSome result (λ v. v < length self.now.variables) }
+    {
+        self.tables.names.find(name)
+    }
+
+    /// How many cells there are.
+    pub fn cells(&self) -> u32
+        ensures { result ≡ length (owners_from 0 self.now.variables) }
+    {
+        self.tables.owners.len() as u32
+    }
+
+    /// The number of the variable of this cell, which is below the count of cells.
+    pub fn owner(&self, cell: u32) -> u32
+        requires { cell < length (owners_from 0 self.now.variables) }
+        ensures owner { result ≡ slice_index (owners_from 0 self.now.variables) cell }
+        ensures within { result < length self.now.variables }
+    {
+        self.tables.owners[cell as usize]
+    }
+
+    /// How many inputs there are.
+    pub fn inputs(&self) -> u32
+        ensures { result ≡ length (inputs_from 0 self.now.variables) }
+    {
+        self.tables.codes.len()
+    }
+
+    /// The number of the variable that is this input, which is below the count of inputs.
+    pub fn input(&self, n: u32) -> u32
+        requires { n < length (inputs_from 0 self.now.variables) }
+        ensures input { result ≡ slice_index (inputs_from 0 self.now.variables) n }
+        ensures within { result < length self.now.variables }
+    {
+        self.tables.inputs[n as usize]
+    }
+
+    /// The number of the input that has this code.
+    pub fn by_alias(&self, code: &[u8]) -> Option<u32>
+        ensures number { result ≡ index_of code.now (codes_of self.now.variables) }
+        ensures within { IfSome result (λ n. n < length (inputs_from 0 self.now.variables)) }
+    {
+        self.tables.codes.find(code)
+    }
+
+    /// Whether the variable of this number, which is below the count, is an input whose last pair
+    /// with this attribute has one of these values: `avfisc = 1` and 1 or 2, say.
+    pub fn in_kind(&self, v: u32, attribute: &[u8], values: &[Amount]) -> bool
+        requires { v < length self.now.variables }
+        ensures { result ≡ is_in_kind (slice_get self.now.variables v) attribute.now values.now }
+    {
+        let item = &self.variable(v).item;
+        if !matches!(&item.role, Role::Input(_)) {
+            return false;
+        }
+        match last_value(item.pairs.as_slice(), attribute) {
+            Some(value) => has_amount(values, value),
+            None => false,
+        }
+    }
+
+    /// How many errors there are.
+    pub fn errors(&self) -> u32
+        ensures { result ≡ length self.now.errors }
+    {
+        self.tables.error_names.len()
+    }
+
+    /// The error of this number, which is below the count.
+    pub fn error(&self, e: u32) -> &ErrorItem
+        requires { e < length self.now.errors }
+        ensures { slice_get self.now.errors e ≡ Some result.now }
+    {
+        &self.tables.errors[e as usize]
+    }
+
+    /// The number of the error of this name.
+    pub fn find_error(&self, name: &[u8]) -> Option<u32>
+        ensures number { result ≡ index_of name.now (error_names_of self.now.errors) }
+        ensures within { IfSome result (λ e. e < length self.now.errors) }
+    {
+        self.tables.error_names.find(name)
+    }
+}
+
+// The value of the last pair with this attribute.
+fn last_value(pairs: &[(Name, Amount)], attribute: &[u8]) -> Option<Amount>
+    ensures { result ≡ last_value attribute.now pairs.now }
+{
+    let mut last = None;
+    for (name, value) in pairs {
+        if attribute == name.bytes() {
+            last = Some(*value);
+        }
+    }
+    last
+}
+
+// Whether an amount is among amounts.
+fn has_amount(amounts: &[Amount], value: Amount) -> bool
+    ensures { result ≡ has_amount value amounts.now }
+{
+    for amount in amounts {
+        if value.millionths() == amount.millionths() {
+            return true;
+        }
+    }
+    false
+}
