@@ -1,0 +1,8 @@
+//! A text that is given to an output in pieces, as one text, and without memory.
+//!
+//! The crates that print lines stand on this. It knows nothing of what a line says.
+#![tactic(auto)]
+
+mod pieces;
+
+pub use pieces::give_pieces;
