@@ -8,12 +8,12 @@ mod amounts;
 #[cfg(test)]
 mod limits;
 #[cfg(test)]
-mod lines;
-#[cfg(test)]
 mod lists;
 #[cfg(test)]
 mod names;
 #[cfg(test)]
 mod ports;
+#[cfg(test)]
+mod texts;
 #[cfg(test)]
 mod threads;

@@ -4,7 +4,7 @@ use Rattle.std.specs.List.{list_all}
 use Rattle.std.specs.Char.{is_ascii_digit, is_ascii_alphanumeric}
 use Rattle.std.specs.Str.{is_utf8}
 use Rattle.m_places.specs.declared.limits.TheConstants.{FILE_NAME_BYTES, LIST_FILES}
-use Rattle.m_lines.specs.Lines.{lines_of}
+use Rattle.m_text.specs.Lines.{lines_of}
 use Rattle.m_list.specs.declared.listing.Listing.{Listing}
 use Rattle.m_list.specs.declared.listing.ListFault.{ListFault}
 use Rattle.m_list.specs.declared.listing.ListFault.TheVariants.{BadLine, TooManyFiles, Memory}

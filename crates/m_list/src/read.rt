@@ -1,10 +1,10 @@
 ghost use Rattle.std.specs.Prelude.{◌≡◌, ◌+◌, ◌≤◌, ◌<◌, ◌^◌, length, IfOk, IfErr, Ok};
 ghost use Rattle.m_places.specs.declared.limits.TheConstants.{FILE_BYTES};
-ghost use Rattle.m_lines.specs.Lines.{lines_of};
+ghost use Rattle.m_text.specs.Lines.{lines_of};
 ghost use Rattle.m_list.specs.Listing.{list_of, IsCause, is_word, is_word_byte, is_file_line, first_bad_from, files_of, AreTooMany};
 
 use crate::{ListFault, Listing};
-use m_lines::{first_line, is_text};
+use m_text::{first_line, is_text};
 use m_places::limits::{FILE_NAME_BYTES, LIST_FILES};
 use m_places::{Name, Seq};
 use std::alloc::Global;
