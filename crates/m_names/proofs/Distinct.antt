@@ -1,11 +1,13 @@
 -- Distinct names, one after another.
-use Rattle.std.proofs.Common.{◌≡◌, ℕ, ◌+◌, ◌<◌, zero, suc, Bool, true, false, not, cond, List, [], ◌∷◌, ◌++◌, length, take, get_or, refl, sym, subst, ap, ◌∙◌, inl, inr, arith}
+use Rattle.std.proofs.Common.{◌≡◌, ℕ, ◌+◌, ◌<◌, zero, suc, Bool, true, false, not, cond, List, [], ◌∷◌, ◌++◌, length, take, get_or, Some, refl, sym, subst, ap, ◌∙◌, inl, inr, length-take, arith}
 use mathlib.Core.Bool.{◌||◌}
 use Rattle.std.specs.Str.{bytes_eq}
 use Rattle.std.proofs.lemmas.Bool.{or_parts, or_from, or_cases, not-true, false_from_ne_true, false≢true}
-use Rattle.std.proofs.lemmas.List.{take_more}
+use Rattle.std.proofs.lemmas.List.{take_more, get_or_default}
 use Rattle.std.proofs.lemmas.Slice.Eq.{bytes_eq-Decides}
-use Rattle.m_names.specs.Names.{has, AreDistinct}
+use Rattle.m_names.specs.Names.{has, index_of, AreDistinct}
+use Rattle.m_names.specs.Faults.{IsFirstRepeat}
+use Rattle.m_names.proofs.NameLemmas.{index_of-some}
 
 or_right : (b c : Bool) → c ≡ true → (b || c) ≡ true
 or_right true c h = refl
@@ -73,3 +75,25 @@ distinct_added names i {known} {new} {name} {fresh} d l k distinct n f is_fresh 
   e ∙ ap (λ b. cond b (known ++ name ∷ []) known) is_fresh ∙ (λ j. k j ++ n j ∷ []) ∙ sym (take_more names i d l),
   AreDistinct-added known new name fresh is_fresh f e distinct,
 )
+
+not_not : (b : Bool) → not b ≡ false → b ≡ true
+not_not true h = refl
+not_not false h = sym h
+
+-- what is added and isn't new is the first name that stands again
+pub first_repeat : (names : List (List ℕ)) (i earlier later : ℕ) {known : List (List ℕ)} {name : List ℕ} {fresh : Bool} (d : List ℕ) → i < length names → known ≡ take i names → AreDistinct known → name ≡ get_or names i d
+    → later ≡ length known → fresh ≡ not (has name known) → fresh ≡ false → (has name known ≡ true → index_of name known ≡ Some earlier) → IsFirstRepeat names earlier later
+first_repeat names i earlier later {known} {name} {fresh} d l k distinct n e f not_fresh number =
+    let place : later ≡ i = omega (arith, e, ap length k, length-take i names) in
+    let front : known ≡ take later names = k ∙ ap (λ j. take j names) (sym place) in
+    let at : name ≡ get_or names later [] = n ∙ get_or_default names i d [] l ∙ ap (λ j. get_or names j []) (sym place) in
+    record {
+      within = omega (arith, place, l);
+      distinct = subst AreDistinct front distinct;
+      first = (λ j. index_of (sym at j) (sym front j)) ∙ number (not_not (has name known) (sym f ∙ not_fresh));
+    }
+
+-- names of which one stands again aren't distinct
+pub repeat_twice : (names : List (List ℕ)) (earlier later : ℕ) → IsFirstRepeat names earlier later → AreDistinct names → ⊥
+repeat_twice names earlier later r d =
+    false≢true (sym (has-take names later [] d r.within) ∙ (index_of-some (get_or names later []) (take later names) earlier r.first).0)
