@@ -4,8 +4,8 @@ ghost use Rattle.m_names.specs.Names.{AreDistinct};
 ghost use Rattle.first_values.specs.Formulas.{names_of};
 ghost use Rattle.first_form.specs.Form.{code_of, codes_of, AreDeclared};
 
-use household::Codes;
 use first_ast::{Role, VariableItem};
+use household::Codes;
 use m_names::{Names, NamesFault};
 use m_places::Name;
 use m_places::limits::CELLS;

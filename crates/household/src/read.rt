@@ -6,9 +6,9 @@ ghost use Rattle.household.specs.declared.read.HouseholdFault.TheVariants.{Memor
 
 use crate::Codes;
 use m_fixed::{Amount, read_amount};
-use m_text::first_line;
 use m_places::Seq;
 use m_places::limits::ROWS;
+use m_text::first_line;
 use std::alloc::{AllocError, AllocFailed, Global};
 
 /// The amounts of a household.
