@@ -6,8 +6,6 @@
 #[cfg(test)]
 mod amounts;
 #[cfg(test)]
-mod limits;
-#[cfg(test)]
 mod lists;
 #[cfg(test)]
 mod names;
