@@ -1,6 +1,6 @@
 //! The scan of a file: gaps and tokens by turns.
 
-ghost use Rattle.std.specs.Prelude.{◌≡◌, ◌≢◌, ◌≤◌, ◌<◌, ◌+◌, [], IfOk, IfSome, MatchOption, length, drop};
+ghost use Rattle.std.specs.Prelude.{◌≡◌, ◌≤◌, ◌<◌, ◌+◌, [], IfOk, IfSome, MatchOption, length};
 ghost use Rattle.m_places.specs.Refusals.{Outcome};
 ghost use Rattle.m_lexer.specs.declared.token.Kind.TheVariants as kinds;
 ghost use Rattle.m_lexer.specs.declared.fault.LexFault.TheVariants.{Memory, NumberTooGreat};

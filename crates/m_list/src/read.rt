@@ -1,4 +1,4 @@
-ghost use Rattle.std.specs.Prelude.{◌≡◌, ◌+◌, ◌≤◌, ◌<◌, ◌^◌, length, IfOk, Ok, Err};
+ghost use Rattle.std.specs.Prelude.{◌≡◌, ◌+◌, ◌≤◌, ◌<◌, length, IfOk, Ok, Err};
 ghost use Rattle.m_places.specs.declared.limits.TheConstants.{FILE_BYTES};
 ghost use Rattle.m_places.specs.Refusals.{Outcome};
 ghost use Rattle.m_text.specs.Lines.{lines_of};

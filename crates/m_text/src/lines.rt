@@ -1,6 +1,6 @@
 //! The lines of a text, one after another.
 
-ghost use Rattle.std.specs.Prelude.{◌≡◌, ◌+◌, ◌<◌, ◌≤◌, ◌==◌, [], ◌∷◌, length, take, drop, slice_index, IfSome, MatchOption};
+ghost use Rattle.std.specs.Prelude.{◌≡◌, ◌+◌, ◌<◌, ◌==◌, [], ◌∷◌, length, drop, IfSome, MatchOption};
 ghost use Rattle.std.specs.Str.{is_utf8};
 ghost use Rattle.m_text.specs.Lines.{lines_of, without_return};
 

@@ -1,6 +1,6 @@
 //! Words and numbers, which rules and drivers spell alike.
 
-ghost use Rattle.std.specs.Prelude.{◌≡◌, ◌≤◌, ◌<◌, ◌↔◌, IsTrue, length, drop, slice_index, slice_range};
+ghost use Rattle.std.specs.Prelude.{◌≤◌, ◌<◌, ◌↔◌, IsTrue, length, drop, slice_index, slice_range};
 ghost use Rattle.m_text.specs.Bytes.{IsDigit, IsWordByte, RunsTo};
 ghost use Rattle.m_text.specs.Words.{BeginsAt, IsNumber, IsWord, IsWordOrNumber, LongestOf};
 
