@@ -31,7 +31,7 @@ apart : (x : ℕ) (xs : List ℕ) → is_among x xs ≡ false → AllByRecursion
 apart x [] h = tt
 apart x (y ∷ ys) h = let k = or-false (nat_eq x y) (is_among x ys) h in (k.0, apart x ys k.1)
 
-distinct : (xs : List ℕ) → AreDistinct xs → IsDistinct nat_eq xs
+pub distinct : (xs : List ℕ) → AreDistinct xs → IsDistinct nat_eq xs
 unfolding IsDistinct
 distinct [] d = tt
 distinct (x ∷ xs) d = (apart x xs d.0, distinct xs d.1)

@@ -4,12 +4,15 @@
 //! This crate stands on the meaning of a base and knows nothing of source text, names of variables or printed lines.
 #![tactic(auto)]
 
+mod cycle;
 mod fault;
 mod laws;
 mod ordered;
+mod reads;
+mod search;
 mod values;
 
 pub use fault::OrderFault;
 pub use laws::ordered_has_no_cycle;
-pub use ordered::Ordered;
+pub use ordered::{Ordered, order};
 pub use values::{fill_values, first_failure};
