@@ -6,14 +6,12 @@
 #[cfg(test)]
 mod amounts;
 #[cfg(test)]
-mod limits;
-#[cfg(test)]
-mod lines;
-#[cfg(test)]
 mod lists;
 #[cfg(test)]
 mod names;
 #[cfg(test)]
 mod ports;
+#[cfg(test)]
+mod texts;
 #[cfg(test)]
 mod threads;

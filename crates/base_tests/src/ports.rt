@@ -126,6 +126,15 @@ fn output_in_memory_is_full(rt: HostRuntime) -> Result<(), Fail> {
     Ok(())
 }
 
+// So many bytes, of which neighbours and pieces differ.
+fn varied(alloc: Global, count: u32) -> Result<Vec<u8>, AllocError> {
+    let mut bytes = Vec::new(alloc);
+    for number in 0..count {
+        bytes.push((number % 251) as u8)?;
+    }
+    Ok(bytes)
+}
+
 #[test]
 fn files_of_the_system(rt: HostRuntime) -> Result<(), Fail> {
     let alloc = rt.alloc();
@@ -133,21 +142,26 @@ fn files_of_the_system(rt: HostRuntime) -> Result<(), Fail> {
     let process = std::process::id(rt.process());
     let path = format!(in alloc; "{directory}/m_ports_{process}")?;
     let missing = format!(in alloc; "{path}.missing")?;
-    let text = vec![in alloc; 65u8; 20_000]?;
+    let text = varied(alloc, 20_000)?;
     fs::write(&rt, path.as_str(), text.as_slice())?;
-    let rows: [(&[u8], u64, Result<usize, FetchFault>); 6] = [
+    // the last but one has no end: it shows that no more is read than tells that it is too long
+    let rows: [(&[u8], u64, Result<usize, FetchFault>); 8] = [
         (path.as_bytes(), 20_000, Ok(20_000)),
         (path.as_bytes(), u64::MAX, Ok(20_000)),
         (path.as_bytes(), 19_999, Err(FetchFault::TooLong)),
         (missing.as_bytes(), 9, Err(FetchFault::Failed)),
         (directory.as_bytes(), 9, Err(FetchFault::Failed)),
         (&[255], 9, Err(FetchFault::Failed)),
+        (b"/dev/zero", 20_000, Err(FetchFault::TooLong)),
+        (path.as_bytes(), 20_000, Ok(20_000)),
     ];
     let mut files = HostFiles::new(alloc, &rt);
     for (name, limit, want) in rows {
         let got = fetched(&mut files, alloc, name, limit).map(|bytes| bytes.len());
         assert_eq!(rt; got, want, "at {name:?}, {limit}");
     }
+    let got = fetched(&mut files, alloc, path.as_bytes(), 20_000)?;
+    assert!(rt; got.as_slice() == text.as_slice(), "the file's own bytes");
     fs::remove_file(&rt, path.as_str())?;
     Ok(())
 }

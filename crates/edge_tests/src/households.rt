@@ -8,17 +8,7 @@ use std::test::Fail;
 
 /// The codes of these names, which differ.
 fn codes_of(alloc: Global, names: &[Name]) -> Result<Codes, Fail> {
-    let mut known = Names::new(alloc);
-    for name in names {
-        let fresh = known.add(alloc, name.bytes())?;
-        if !fresh {
-            return Err(Fail::from("a code stands twice"));
-        }
-    }
-    if names.len() > 1_000_000 {
-        return Err(Fail::from("too many codes"));
-    }
-    Ok(Codes::new(alloc, names)?)
+    Ok(Codes::new(Names::of(alloc, names)?))
 }
 
 /// Three codes.

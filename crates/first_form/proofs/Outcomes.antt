@@ -4,7 +4,7 @@ use Rattle.std.specs.Prelude.{MatchOption, ◌≢◌}
 use Rattle.std.specs.declared.alloc.AllocError.{AllocError}
 use Rattle.m_fixed.specs.declared.amount.Value.{Value}
 use Rattle.m_lexer.specs.declared.token.Token.{Token}
-use Rattle.m_lexer.specs.declared.token.LexFault.{LexFault}
+use Rattle.m_lexer.specs.declared.fault.LexFault.{LexFault}
 use Rattle.m_lexer.specs.Tokens.{Lexes, FirstFault, start_of}
 use Rattle.m_lexer.proofs.OneReading.{one_list, no_list_and_fault}
 use Rattle.first_ast.specs.declared.formula.Formula.{Formula}
@@ -20,7 +20,7 @@ use Rattle.first_form.specs.Form.{variables_of, formulas_of, codes_of, given_of,
 use Rattle.first_form.specs.Lines.{lines_of}
 use Rattle.first_form.specs.inner.Given.{IsGiven}
 use Rattle.first_form.specs.Meaning.{answer_of, Answers, AnswersTokens, IsAnswer, IsOutcome, lines, syntax, not_built}
-use Rattle.m_lexer.specs.declared.token.LexFault.TheVariants.{Memory as NoMemory}
+use Rattle.m_lexer.specs.declared.fault.LexFault.TheVariants.{Memory as NoMemory}
 use Rattle.first_form.specs.declared.outcome.Outcome.{Outcome}
 use Rattle.first_form.specs.declared.outcome.Outcome.TheVariants.{Lines, Syntax, NotBuilt}
 

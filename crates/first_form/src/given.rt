@@ -5,8 +5,8 @@ ghost use Rattle.m_fixed.specs.declared.amount.Value.TheVariants.{Undef};
 ghost use Rattle.first_form.specs.Form.{role_value, given_of};
 ghost use Rattle.first_form.specs.inner.Given.{IsGiven};
 
-use household::{Codes, HouseholdFault, read_household, values};
 use first_ast::{Role, VariableItem};
+use household::{Codes, HouseholdFault, read_household, values};
 use m_fixed::Value;
 use std::alloc::{AllocError, Global};
 

@@ -2,9 +2,9 @@
 ghost use Rattle.std.specs.Prelude.{◌≡◌, IfOk, OnOk, ◌++◌, [], if◌then◌else◌, length};
 ghost use Rattle.first_form.specs.Lines.{value_text, value_line, is_returned, lines_of};
 
-use crate::split::has_name;
 use first_ast::VariableItem;
 use m_fixed::{Value, write_amount};
+use m_names::has_name;
 use std::alloc::{AllocError, Global};
 
 const RETURNED: &[u8] = b"restituee";

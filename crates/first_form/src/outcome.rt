@@ -9,10 +9,10 @@ use crate::split::{Sorted, sorted_items};
 use crate::variables::{Declared, declare};
 use first_ast::{Formula, Item, VariableItem};
 use first_items::{ParseFault, parse};
+use first_values::compute;
 use m_lexer::{LexFault, Token, lex};
 use m_places::Seq;
 use m_places::limits::FILE_BYTES;
-use first_values::compute;
 use std::alloc::{AllocError, Global};
 
 /// What comes of a rule file and a household.

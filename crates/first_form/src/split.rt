@@ -4,7 +4,7 @@ ghost use Rattle.m_names.specs.Names.{has};
 ghost use Rattle.first_form.specs.Form.{variables_of, formulas_of};
 
 use first_ast::{Formula, Item, RuleItem, VariableItem};
-use m_places::Name;
+use m_names::has_name;
 use std::alloc::{AllocError, Global};
 
 /// The variables of a rule file and the formulas that count, each in order.
@@ -57,16 +57,4 @@ fn add_rule(
         formulas.append(&mut own.into_vec())?;
     }
     Ok(())
-}
-
-/// Whether a name is among names.
-pub fn has_name(names: &[Name], name: &[u8]) -> bool
-    ensures { result ≡ has name.now names.now }
-{
-    for other in names {
-        if name == other.bytes() {
-            return true;
-        }
-    }
-    false
 }

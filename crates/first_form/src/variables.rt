@@ -1,12 +1,12 @@
 //! What variables declare: names that stand once, and the codes of inputs, which do too.
-ghost use Rattle.std.specs.Prelude.{◌≡◌, ◌≤◌, IfOk, IfSome, IfNone, OnOk, ◌++◌, length, MatchOption, MatchBool};
+ghost use Rattle.std.specs.Prelude.{◌≡◌, ◌≤◌, IfOk, IfSome, IfNone, OnOk, ◌++◌, MatchOption};
 ghost use Rattle.m_names.specs.Names.{AreDistinct};
 ghost use Rattle.first_values.specs.Formulas.{names_of};
 ghost use Rattle.first_form.specs.Form.{code_of, codes_of, AreDeclared};
 
-use household::Codes;
 use first_ast::{Role, VariableItem};
-use m_names::Names;
+use household::Codes;
+use m_names::{Names, NamesFault};
 use m_places::Name;
 use m_places::limits::CELLS;
 use std::alloc::{AllocError, Global};
@@ -28,29 +28,27 @@ pub fn declare(alloc: Global, variables: &[VariableItem]) -> Result<Option<Decla
     if variables.len() > CELLS as usize {
         return Ok(None);
     }
-    let Some(names) = declared_names(alloc, variables)? else {
+    let names = variable_names(alloc, variables)?;
+    let Some(names) = distinct(alloc, &names)? else {
         return Ok(None);
     };
     let codes = input_codes(alloc, variables)?;
-    if !are_distinct(alloc, &codes)? {
+    let Some(codes) = distinct(alloc, &codes)? else {
         return Ok(None);
-    }
-    let codes = Codes::new(alloc, &codes)?;
+    };
+    let codes = Codes::new(codes);
     Ok(Some(Declared { names, codes }))
 }
 
-/// The names of variables, or None where one stands twice.
-fn declared_names(alloc: Global, variables: &[VariableItem]) -> Result<Option<Names>, AllocError>
-    ensures { IfOk result (λ o. MatchOption o (AreDistinct (names_of variables.now) → ⊥)
-        (λ names. (names ≡ names_of variables.now) × AreDistinct (names_of variables.now))) }
+/// The names of variables, in order.
+fn variable_names(alloc: Global, variables: &[VariableItem]) -> Result<Vec<Name>, AllocError>
+    ensures { IfOk result (λ names. names.items ≡ names_of variables.now) }
 {
-    let mut names = Names::new(alloc);
+    let mut names = Vec::new(alloc);
     for variable in variables {
-        if !names.add(alloc, variable.name.bytes())? {
-            return Ok(None);
-        }
+        names.push(variable.name.copy(alloc)?)?;
     }
-    Ok(Some(names))
+    Ok(names)
 }
 
 /// The codes of the inputs among variables, in order.
@@ -74,15 +72,14 @@ fn push_code(alloc: Global, codes: &mut Vec<Name>, role: &Role) -> Result<(), Al
     Ok(())
 }
 
-/// Whether no name stands twice.
-fn are_distinct(alloc: Global, names: &[Name]) -> Result<bool, AllocError>
-    ensures { IfOk result (λ distinct. MatchBool distinct (AreDistinct names.now) (AreDistinct names.now → ⊥)) }
+/// Names by their numbers, or None where one stands twice.
+fn distinct(alloc: Global, names: &[Name]) -> Result<Option<Names>, AllocError>
+    ensures { IfOk result (λ o. MatchOption o (AreDistinct names.now → ⊥)
+        (λ known. (known ≡ names.now) × AreDistinct names.now)) }
 {
-    let mut seen = Names::new(alloc);
-    for name in names {
-        if !seen.add(alloc, name.bytes())? {
-            return Ok(false);
-        }
+    match Names::of(alloc, names) {
+        Ok(known) => Ok(Some(known)),
+        Err(NamesFault::Repeated(_, _)) => Ok(None),
+        Err(NamesFault::Memory) => Err(AllocError),
     }
-    Ok(true)
 }

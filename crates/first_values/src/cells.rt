@@ -14,7 +14,7 @@ pub fn find_value(name: &[u8], names: &Names, cells: &[Option<Value>]) -> Option
     ensures { result ≡ look names.now cells.now name.now }
 {
     let number = names.find(name)?;
-    match cells.get(number) {
+    match cells.get(number as usize) {
         Some(cell) => *cell,
         None => None,
     }

@@ -53,6 +53,7 @@ fn first_cells(
         let Some(number) = names.find(formula.target.bytes()) else {
             return Ok(None);
         };
+        let number = number as usize;
         if !may_be_set(&variables[number], cells[number]) {
             return Ok(None);
         }
@@ -76,7 +77,7 @@ fn fill(names: &Names, formula: &Formula, cells: &mut [Option<Value>]) -> bool
     let Some(value) = sum_value(formula.sum.as_slice(), names, cells) else {
         return false;
     };
-    cells[number] = Some(value);
+    cells[number as usize] = Some(value);
     true
 }
 

@@ -6,7 +6,8 @@ use Rattle.m_fixed.specs.declared.amount.Value.{Value}
 use Rattle.m_fixed.specs.declared.amount.Value.TheVariants.{Undef, Num}
 use Rattle.m_fixed.specs.Text.{text_value, amount_read}
 use Rattle.m_names.specs.Names.{index_of}
-use Rattle.m_lines.specs.Lines.{lines_of, carriage_return}
+use Rattle.m_text.specs.Bytes.{carriage_return}
+use Rattle.m_text.specs.Lines.{lines_of}
 
 -- the byte `"`
 abbrev pub quote : ℕ

@@ -1,9 +1,7 @@
-ghost use Rattle.std.specs.Prelude.{◌≡◌, ◌<◌, IfOk, IfSome, length};
-ghost use Rattle.m_names.specs.Names.{index_of, AreDistinct};
+ghost use Rattle.std.specs.Prelude.{◌≡◌, ◌<◌, IfSome, length};
+ghost use Rattle.m_names.specs.Names.{index_of};
 
 use m_names::Names;
-use m_places::Name;
-use std::alloc::{AllocError, Global};
 use std::marker::Model;
 
 /// The codes of the inputs, each with its number: the place of its input among all inputs, from 0.
@@ -14,34 +12,26 @@ pub struct Codes {
 }
 
 impl Model for Codes {
-    ghost use Rattle.std.specs.Prelude.{List, ℕ, ◌<◌, length};
+    ghost use Rattle.std.specs.Prelude.{List, ℕ};
 
     ghost Value = { List (List ℕ) };
 
     ghost view = { λ c. c.names };
-
-    ghost invariant = { λ c. length c.names < 4294967295 };
 }
 
 impl Codes {
-    /// The codes of inputs that have these names, in order. Its only error is want of memory.
-    pub fn new(alloc: Global, names: &[Name]) -> Result<Codes, AllocError>
-        requires distinct { AreDistinct names.now }
-        requires few { length names.now < 4294967295 }
-        ensures { IfOk result (λ c. c ≡ names.now) }
+    /// The codes of inputs, in the order of their numbers. Takes no memory.
+    pub fn new(names: Names) -> Codes
+        ensures { result ≡ names }
     {
-        let mut known = Names::new(alloc);
-        for name in names {
-            known.add(alloc, name.bytes())?;
-        }
-        Ok(Codes { names: known })
+        Codes { names }
     }
 
     /// How many codes there are. Takes no memory.
     pub fn len(&self) -> u32
         ensures { result ≡ length self.now }
     {
-        self.names.len() as u32
+        self.names.len()
     }
 
     /// The number of a code, if there is an input that has it. Takes no memory.
@@ -49,9 +39,6 @@ impl Codes {
         ensures number { result ≡ index_of code.now self.now }
         ensures within { IfSome result (λ number. number < length self.now) }
     {
-        match self.names.find(code) {
-            Some(number) => Some(number as u32),
-            None => None,
-        }
+        self.names.find(code)
     }
 }

@@ -1,14 +1,14 @@
 ghost use Rattle.std.specs.Prelude.{◌≡◌, ◌≢◌, ◌<◌, length, MatchOption, IfOk, IfSome, IsErrOf, ℕ, ℤ, List};
 ghost use Rattle.std.specs.List.{AllByRecursion, list_all};
-ghost use Rattle.m_lines.specs.Lines.{lines_of};
+ghost use Rattle.m_text.specs.Lines.{lines_of};
 ghost use Rattle.household.specs.Household.{IsHousehold, AreRows, IsRow, IsSplit, inputs_of, is_plain, comma};
 ghost use Rattle.household.specs.declared.read.HouseholdFault.TheVariants.{Memory};
 
 use crate::Codes;
 use m_fixed::{Amount, read_amount};
-use m_lines::first_line;
 use m_places::Seq;
 use m_places::limits::ROWS;
+use m_text::first_line;
 use std::alloc::{AllocError, AllocFailed, Global};
 
 /// The amounts of a household.

@@ -1,9 +1,8 @@
 -- From one place of a file to a later one: by a gap, or by a token.
-use Rattle.std.proofs.Common.{◌≡◌, ◌≢◌, ◌==◌, ℕ, ◌+◌, ◌-◌, ◌<◌, ◌≤◌, cond, List, [], ◌∷◌, ◌++◌, length, get_or, drop, count_by, refl, sym, ap, ◌∙◌, subst, arith, inl, inr}
+use Rattle.std.proofs.Common.{◌≡◌, ◌≢◌, ◌==◌, ℕ, ◌+◌, ◌<◌, cond, List, [], ◌∷◌, ◌++◌, length, get_or, drop, count_by, refl, sym, ap, ◌∙◌, subst, arith, inl, inr}
 use Rattle.std.specs.List.{AllByRecursion}
 use Rattle.std.proofs.lemmas.Bool.{cases_lt, cases_eq, ne_eqb}
-use Rattle.std.proofs.lemmas.List.{append_assoc, append-nil, append_cancel_right, drop_more, drop_all, get_or-take, get_or-drop, length-append}
-use Rattle.std.proofs.lemmas.List.Elements.{All-from_recursion}
+use Rattle.std.proofs.lemmas.List.{append_assoc, append-nil, drop_more, drop_all, length-append}
 use Rattle.std.proofs.lemmas.List.Sums.{sum_by-cons, sum_by-append}
 use Rattle.m_places.specs.declared.place.Place.{Place}
 use Rattle.m_lexer.specs.declared.token.Sign.{Sign}
@@ -11,13 +10,14 @@ use Rattle.m_lexer.specs.declared.token.Sign.TheVariants.{Plus, Minus, Star, Sla
 use Rattle.m_lexer.specs.declared.token.Kind.{Kind}
 use Rattle.m_lexer.specs.declared.token.Kind.TheVariants as kinds
 use Rattle.m_lexer.specs.declared.token.Token.{Token}
-use Rattle.m_lexer.specs.declared.token.LexFault.TheVariants.{BadByte, OpenString}
-use Rattle.m_lexer.specs.inner.Runs.{RunsTo}
-use Rattle.m_lexer.specs.Spellings.{IsDigit, IsWordByte, IsBlankByte, IsWord, AreDigits, IsDecimal, IsNumber, sign_spelling, quote, hash, point, line_feed}
+use Rattle.m_lexer.specs.declared.fault.LexFault.TheVariants.{BadByte, OpenString}
+use Rattle.m_text.specs.Bytes.{RunsTo, IsDigit, IsWordByte, IsBlankByte, quote, hash, point, line_feed}
+use Rattle.m_text.specs.Words.{IsNumber, IsWordOrNumber, LongestBetween}
+use Rattle.m_lexer.specs.Spellings.{sign_spelling}
 use Rattle.m_lexer.specs.inner.Steps.{left, byte_at, further, GoesOn, BeginsGap, TokenBetween, NoSign}
 use Rattle.m_lexer.specs.Tokens.{Longest, IsGap, Spells, text, sign, Lexes, gap, token, NoPiece, FirstFault, bad_byte, open_string, behind}
-use Rattle.m_lexer.proofs.Fronts.{part, parts, length-part, all_part, stops_part}
-use Rattle.m_lexer.proofs.Pieces.{longest_blank, longest_comment, longest_quoted, longest_word, longest_whole, longest_decimal, longest_two, longest_one, no_piece, NoTwo, NoDecimals, all_weaker}
+use Rattle.m_text.proofs.Fronts.{part, parts, length-part, all_part, stops_part, all_weaker, all_both}
+use Rattle.m_lexer.proofs.Pieces.{longest_blank, longest_comment, longest_quoted, longest_word_or_number, longest_two, longest_one, no_piece, NoTwo}
 
 -- by nothing, by a gap, by a token, and by one step after another
 pub stays : (bytes : List ℕ) (p : Place) → GoesOn bytes p [] p
@@ -59,13 +59,13 @@ word_line_feeds = all_weaker IsWordByte (λ b. b ≢ line_feed) (λ b h e. omega
 digit_line_feeds : (t : List ℕ) → AllByRecursion IsDigit t → AllByRecursion (λ b. b ≢ line_feed) t
 digit_line_feeds = all_weaker IsDigit (λ b. b ≢ line_feed) (λ b h e. omega arith)
 
-all_both : (P : ℕ → Type 0) (a b : List ℕ) → AllByRecursion P a → AllByRecursion P b → AllByRecursion P (a ++ b)
-all_both P [] b h k = k
-all_both P (x ∷ a) b h k = (h.0, all_both P a b h.1 k)
-
 number_line_feeds : (t : List ℕ) → IsNumber t → AllByRecursion (λ b. b ≢ line_feed) t
 number_line_feeds t (inl h) = digit_line_feeds t h.1
 number_line_feeds t (inr h) = subst (AllByRecursion (λ b. b ≢ line_feed)) (sym h.4) (all_both (λ b. b ≢ line_feed) h.0 (point ∷ h.1) (digit_line_feeds h.0 h.2.1) ((λ e. omega arith), digit_line_feeds h.1 h.3.1))
+
+word_or_number_line_feeds : (t : List ℕ) → IsWordOrNumber t → AllByRecursion (λ b. b ≢ line_feed) t
+word_or_number_line_feeds t (inl h) = word_line_feeds t h.0
+word_or_number_line_feeds t (inr h) = number_line_feeds t h
 
 sign_line_feeds : (s : Sign) → count_by (λ x. x == line_feed) (sign_spelling s) ≡ 0
 sign_line_feeds Plus = refl
@@ -145,82 +145,14 @@ bad_byte_there bytes p h ng nw nq ns =
     let none : NoPiece (a ∷ rest) = no_piece a rest (λ b. ng (inl b)) (λ e. ng (inr e)) nq nw ns.one (no_two bytes p ns.two) in
     subst (λ x. FirstFault p x (BadByte p)) (sym (left_is bytes p a h refl)) (bad_byte nq none)
 
--- a word runs as far as word bytes do, and one of them is no digit
-pub word_between : (bytes : List ℕ) (from end whole : ℕ) → RunsTo IsWordByte bytes from end → RunsTo IsDigit bytes from whole → whole < end → IsWord (part bytes from end)
-word_between bytes from end whole r d h = (all_part IsWordByte bytes from end r, not_digits)
-  where
-    not_digits : AllByRecursion IsDigit (part bytes from end) → ⊥
-    not_digits all =
-        let k : whole < length bytes = omega (arith, r.within) in
-        let l : whole - from < end - from = omega (arith, d.onward) in
-        let m : from + (whole - from) ≡ whole = omega (arith, d.onward) in
-        let x = All-from_recursion IsDigit (part bytes from end) all (whole - from) 0 (omega (arith, length-part bytes from end r.onward r.within)) in
-        let y : get_or (part bytes from end) (whole - from) 0 ≡ get_or bytes whole 0 = get_or-take (end - from) (drop from bytes) (whole - from) 0 l ∙ get_or-drop from bytes (whole - from) 0 ∙ ap (λ n. get_or bytes n 0) m in
-        d.stops k (subst IsDigit y x)
-
-pub word_goes : (bytes : List ℕ) (p : Place) (end : ℕ) (k : Kind) → RunsTo IsWordByte bytes p.byte end → IsWord (part bytes p.byte end) → Spells (part bytes p.byte end) k → TokenBetween bytes p k (further p end 0)
-word_goes bytes p end k r w s =
+-- a word or a number
+pub word_or_number_goes : (bytes : List ℕ) (p : Place) (end : ℕ) (k : Kind) → LongestBetween bytes p.byte end → Spells (part bytes p.byte end) k → TokenBetween bytes p k (further p end 0)
+word_or_number_goes bytes p end k l s =
     let t = part bytes p.byte end in
-    let l = length-part bytes p.byte end r.onward r.within in
-    let onward = r.onward in
+    let onward = l.onward in
+    let m = length-part bytes p.byte end (omega arith) l.within in
     let byte : end ≡ p.byte + length t = omega arith in
-    by_token bytes p (further p end 0) t k
-    (longest_word (left bytes p) t (drop end bytes) (parts bytes p.byte end r.onward) w (stops_part IsWordByte bytes p.byte end r))
-    s
-    (place_behind p t end 0 byte (sym (no_line_feeds t (word_line_feeds t w.0))))
-
-pub number_goes : (bytes : List ℕ) (p : Place) (end : ℕ) (k : Kind) → p.byte < end → end ≤ length bytes → Longest (left bytes p) (part bytes p.byte end) (drop end bytes) → IsNumber (part bytes p.byte end) → Spells (part bytes p.byte end) k → TokenBetween bytes p k (further p end 0)
-number_goes bytes p end k h g l n s =
-    let t = part bytes p.byte end in
-    let m = length-part bytes p.byte end (omega arith) g in
-    let byte : end ≡ p.byte + length t = omega arith in
-    by_token bytes p (further p end 0) t k l s (place_behind p t end 0 byte (sym (no_line_feeds t (number_line_feeds t n))))
-
--- bytes from a digit on
-pub digits_between : (bytes : List ℕ) (from to : ℕ) → from < to → RunsTo IsDigit bytes from to → AreDigits (part bytes from to)
-digits_between bytes from to h r = (some, all_part IsDigit bytes from to r)
-  where
-    some : part bytes from to ≢ []
-    some e = let l = length-part bytes from to r.onward r.within in let m = ap length e in omega arith
-
-pub whole_longest : (bytes : List ℕ) (from to : ℕ) → from < to → RunsTo IsDigit bytes from to → RunsTo IsWordByte bytes from to → NoDecimals (drop to bytes) → Longest (drop from bytes) (part bytes from to) (drop to bytes)
-whole_longest bytes from to h d w short = longest_whole (drop from bytes) (part bytes from to) (drop to bytes) (parts bytes from to d.onward) (digits_between bytes from to h d) (stops_part IsWordByte bytes from to w) short
-
--- no decimals follow at the end, where no point stands, and where no digit stands behind the point
-pub no_point : (bytes : List ℕ) (to : ℕ) → (to < length bytes → get_or bytes to 0 ≢ point) → NoDecimals (drop to bytes)
-no_point bytes to ne c more e k = elim (cases_lt to (length bytes)) [
-  | inl h ↦ let d = drop_more bytes to 0 h in ne h (cc)
-  | inr h ↦ let d = drop_all to bytes h in cc
-]
-
-pub no_digit : (bytes : List ℕ) (to : ℕ) → to < length bytes → (to + 1 < length bytes → IsDigit (get_or bytes (to + 1) 0) → ⊥) → NoDecimals (drop to bytes)
-no_digit bytes to h none c more e k = elim (cases_lt (to + 1) (length bytes)) [
-  | inl g ↦ let d = drop_more bytes to 0 h in let f = drop_more bytes (to + 1) 0 g in let same : c ≡ get_or bytes (to + 1) 0 = cc in none g (subst IsDigit same k)
-  | inr g ↦ let d = drop_more bytes to 0 h in let f = drop_all (to + 1) bytes g in cc
-]
-
--- the bytes from one position to a later one, past a third between them
-part_split : (bytes : List ℕ) (from mid to b : ℕ) → from ≤ mid → mid < to → to ≤ length bytes → get_or bytes mid 0 ≡ b → part bytes from to ≡ part bytes from mid ++ b ∷ part bytes (mid + 1) to
-part_split bytes from mid to b h k g e =
-    let whole : drop from bytes ≡ part bytes from mid ++ drop mid bytes = parts bytes from mid h in
-    let at : drop mid bytes ≡ b ∷ drop (mid + 1) bytes = drop_more bytes mid 0 (omega arith) ∙ ap (λ x. x ∷ drop (mid + 1) bytes) e in
-    let tail : drop (mid + 1) bytes ≡ part bytes (mid + 1) to ++ drop to bytes = parts bytes (mid + 1) to (omega arith) in
-    let front = part bytes from mid in
-    let back = part bytes (mid + 1) to in
-    let join : drop from bytes ≡ (front ++ b ∷ back) ++ drop to bytes = whole ∙ ap (λ x. front ++ x) (at ∙ ap (λ x. b ∷ x) tail) ∙ sym (append_assoc front (b ∷ back) (drop to bytes)) in
-    let all : drop from bytes ≡ part bytes from to ++ drop to bytes = parts bytes from to (omega arith) in
-    append_cancel_right (part bytes from to) (front ++ b ∷ back) (drop to bytes) (sym all ∙ join)
-
-pub decimal_between : (bytes : List ℕ) (from whole to : ℕ) → from < whole → RunsTo IsDigit bytes from whole → whole < length bytes → get_or bytes whole 0 ≡ point → whole + 1 < to → RunsTo IsDigit bytes (whole + 1) to → IsDecimal (part bytes from to)
-decimal_between bytes from whole to h r k e g d = (part bytes from whole, part bytes (whole + 1) to, digits_between bytes from whole h r, digits_between bytes (whole + 1) to g d, part_split bytes from whole to point (omega arith) (omega arith) d.within e)
-
-pub decimal_longest : (bytes : List ℕ) (from whole to : ℕ) → from < whole → RunsTo IsDigit bytes from whole → whole < length bytes → get_or bytes whole 0 ≡ point → whole + 1 < to → RunsTo IsDigit bytes (whole + 1) to → Longest (drop from bytes) (part bytes from to) (drop to bytes)
-decimal_longest bytes from whole to h r k e g d =
-    let split = part_split bytes from whole to point (omega arith) (omega arith) d.within e in
-    let t = part bytes from whole ++ point ∷ part bytes (whole + 1) to in
-    let eq : drop from bytes ≡ t ++ drop to bytes = parts bytes from to (omega arith) ∙ ap (λ x. x ++ drop to bytes) split in
-    subst (λ x. Longest (drop from bytes) x (drop to bytes)) (sym split)
-    (longest_decimal (drop from bytes) (part bytes from whole) (part bytes (whole + 1) to) (drop to bytes) eq (digits_between bytes from whole h r) (digits_between bytes (whole + 1) to g d) (stops_part IsDigit bytes (whole + 1) to d))
+    by_token bytes p (further p end 0) t k (longest_word_or_number bytes p.byte end l) s (place_behind p t end 0 byte (sym (no_line_feeds t (word_or_number_line_feeds t l.longest.piece))))
 
 -- a text, closed and open
 pub text_goes : (bytes : List ℕ) (p : Place) (end : ℕ) → p.byte < length bytes → byte_at bytes p ≡ quote → RunsTo (λ b. b ≢ quote) bytes (p.byte + 1) end → end < length bytes → TokenBetween bytes p (kinds.Text (part bytes (p.byte + 1) end)) (further p (end + 1) (count_by (λ x. x == line_feed) (part bytes (p.byte + 1) end)))

@@ -6,8 +6,8 @@ use Rattle.std.proofs.lemmas.List.Elements.{All-from_recursion}
 use Rattle.std.proofs.lemmas.List.Sums.{sum_by-append}
 use Rattle.m_places.specs.declared.place.Place.{Place}
 use Rattle.m_lexer.specs.declared.token.Token.{Token}
-use Rattle.m_lexer.specs.declared.token.LexFault.{LexFault}
-use Rattle.m_lexer.specs.Spellings.{line_feed}
+use Rattle.m_lexer.specs.declared.fault.LexFault.{LexFault}
+use Rattle.m_text.specs.Bytes.{line_feed}
 use Rattle.m_lexer.specs.Tokens.{Lexes, end, gap, token, FirstFault, bad_byte, open_string, too_great, StandsIn, IsFaultAt, behind}
 
 -- behind one text and then another is behind both

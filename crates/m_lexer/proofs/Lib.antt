@@ -1,4 +1,3 @@
-pub mod Fronts
 pub mod Going
 pub mod InPlace
 pub mod Named

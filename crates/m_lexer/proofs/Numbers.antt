@@ -8,7 +8,8 @@ use Rattle.m_fixed.specs.Text.{is_digits, only_digits, millionths_of, number_val
 use Rattle.m_fixed.specs.declared.read.AmountFault.{AmountFault}
 use Rattle.m_fixed.specs.declared.read.AmountFault.TheVariants.{NotAnAmount, TooGreat}
 use Rattle.m_fixed.proofs.Numbers.{number_value-digits, number_value-decimals, text_value-number}
-use Rattle.m_lexer.specs.Spellings.{IsDigit, AreDigits, IsNumber}
+use Rattle.m_text.specs.Bytes.{IsDigit}
+use Rattle.m_text.specs.Words.{AreDigits, IsNumber}
 
 only_digits_test : (t : List ℕ) → AllByRecursion IsDigit t → only_digits t ≡ true
 only_digits_test [] h = refl

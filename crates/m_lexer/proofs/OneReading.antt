@@ -6,10 +6,15 @@ use Rattle.m_places.specs.declared.place.Place.{Place}
 use Rattle.m_lexer.specs.declared.token.Kind.{Kind}
 use Rattle.m_lexer.specs.declared.token.Kind.TheVariants as kinds
 use Rattle.m_lexer.specs.declared.token.Token.{Token}
-use Rattle.m_lexer.specs.declared.token.LexFault.{LexFault}
-use Rattle.m_lexer.specs.Spellings.{IsWordByte, IsBlankByte, IsWord, IsNumber, quote, hash, point}
+use Rattle.m_lexer.specs.declared.fault.LexFault.{LexFault}
+use Rattle.m_text.specs.Bytes.{IsWordByte, IsBlankByte, quote, hash, point}
+use Rattle.m_text.specs.Words.{IsWord, IsNumber}
+use Rattle.m_lexer.specs.Spellings.{IsPiece}
 use Rattle.m_lexer.specs.Tokens.{Longest, IsGap, IsTooGreat, Spells, word, key, number, text, sign, Lexes, end, gap, token, NoPiece, FirstFault, bad_byte, open_string, too_great, behind}
-use Rattle.m_lexer.proofs.Pieces.{IsMark, first, blank_first, comment_first, word_first, number_first, quoted_first, sign_first, after_quote, not_empty, one_longest, all_left, all_right, point_is_none}
+use Rattle.m_text.proofs.Fronts.{all_left, all_right}
+use Rattle.m_text.proofs.Longest.{one_longest}
+use Rattle.m_text.proofs.Spelled.{first, word_first, number_first, point_is_none}
+use Rattle.m_lexer.proofs.Pieces.{IsMark, blank_first, comment_first, quoted_first, sign_first, after_quote, not_empty}
 use Rattle.m_lexer.proofs.Named.{one_sign, one_key}
 
 -- a gap is no token
@@ -104,16 +109,16 @@ one_list p bytes tokens others end (token {t = t} {rest = r} l s d) = absurd (no
 one_list p bytes tokens others (gap {t = t} {rest = r} l g d) end = absurd (no_longest [] t r none_at_end l)
 one_list p bytes tokens others (token {t = t} {rest = r} l s d) end = absurd (no_longest [] t r none_at_end l)
 one_list p bytes tokens others (gap {t = t} {rest = r} l g d) (gap {t = u} {rest = v} m h d') =
-    let q = one_longest bytes u v t r m l in
+    let q = one_longest IsPiece bytes u v t r m l in
     one_list (behind t p) r tokens others d (lexes_moved p u t v r others q.0 q.1 d')
 one_list p bytes tokens others (gap {t = t} {rest = r} l g d) (token {t = u} {rest = v} {kind = k} m s d') =
-    let q = one_longest bytes u v t r m l in
+    let q = one_longest IsPiece bytes u v t r m l in
     absurd (gap_or_token t k g (subst (λ x. Spells x k) q.0 s))
 one_list p bytes tokens others (token {t = t} {rest = r} {kind = k} l s d) (gap {t = u} {rest = v} m g d') =
-    let q = one_longest bytes u v t r m l in
+    let q = one_longest IsPiece bytes u v t r m l in
     absurd (gap_or_token t k (subst IsGap q.0 g) s)
 one_list p bytes tokens others (token {t = t} {rest = r} {kind = k} {tokens = ts} l s d) (token {t = u} {rest = v} {kind = k'} {tokens = us} m s' d') =
-    let q = one_longest bytes u v t r m l in
+    let q = one_longest IsPiece bytes u v t r m l in
     let same = one_kind t k k' s (subst (λ x. Spells x k') q.0 s') in
     let rest = one_list (behind t p) r ts us d (lexes_moved p u t v r us q.0 q.1 d') in
     λ i. record { kind = same i; place = p } ∷ rest i
@@ -126,20 +131,20 @@ no_list_and_fault p bytes tokens fault end (token {t = t} {rest = r} l s d) = no
 no_list_and_fault p bytes tokens fault (gap {t = t} {rest = r} l g d) (bad_byte ne none) = no_longest bytes t r none l
 no_list_and_fault p bytes tokens fault (gap {t = t} {rest = r} l g d) (open_string i e h) = no_longest bytes t r (none_at_open bytes i e h) l
 no_list_and_fault p bytes tokens fault (gap {t = t} {rest = r} l g d) (too_great {t = u} {rest = v} m h) =
-    gap_or_number t g (subst IsNumber (one_longest bytes u v t r m l).0 h.0)
+    gap_or_number t g (subst IsNumber (one_longest IsPiece bytes u v t r m l).0 h.0)
 no_list_and_fault p bytes tokens fault (gap {t = t} {rest = r} l g d) (gap {t = u} {rest = v} m h d') =
-    let q = one_longest bytes u v t r m l in
+    let q = one_longest IsPiece bytes u v t r m l in
     no_list_and_fault (behind t p) r tokens fault d (fault_moved p u t v r fault q.0 q.1 d')
 no_list_and_fault p bytes tokens fault (gap {t = t} {rest = r} l g d) (token {t = u} {rest = v} {kind = k} m s d') =
-    gap_or_token t k g (subst (λ x. Spells x k) (one_longest bytes u v t r m l).0 s)
+    gap_or_token t k g (subst (λ x. Spells x k) (one_longest IsPiece bytes u v t r m l).0 s)
 no_list_and_fault p bytes tokens fault (token {t = t} {rest = r} l s d) (bad_byte ne none) = no_longest bytes t r none l
 no_list_and_fault p bytes tokens fault (token {t = t} {rest = r} l s d) (open_string i e h) = no_longest bytes t r (none_at_open bytes i e h) l
 no_list_and_fault p bytes tokens fault (token {t = t} {rest = r} {kind = k} l s d) (too_great {t = u} {rest = v} m h) =
-    great_or_token t k (subst IsTooGreat (one_longest bytes u v t r m l).0 h) s
+    great_or_token t k (subst IsTooGreat (one_longest IsPiece bytes u v t r m l).0 h) s
 no_list_and_fault p bytes tokens fault (token {t = t} {rest = r} {kind = k} l s d) (gap {t = u} {rest = v} m g d') =
-    gap_or_token t k (subst IsGap (one_longest bytes u v t r m l).0 g) s
+    gap_or_token t k (subst IsGap (one_longest IsPiece bytes u v t r m l).0 g) s
 no_list_and_fault p bytes tokens fault (token {t = t} {rest = r} {kind = k} {tokens = ts} l s d) (token {t = u} {rest = v} {kind = k'} m s' d') =
-    let q = one_longest bytes u v t r m l in
+    let q = one_longest IsPiece bytes u v t r m l in
     no_list_and_fault (behind t p) r ts fault d (fault_moved p u t v r fault q.0 q.1 d')
 
 pub one_first_fault : (p : Place) (bytes : List ℕ) (fault other : LexFault) → FirstFault p bytes fault → FirstFault p bytes other → fault ≡ other
@@ -156,21 +161,21 @@ one_first_fault p bytes f o (open_string i e h) (token {t = t} {rest = r} l s d)
 one_first_fault p bytes f o (too_great {t = t} {rest = r} l g) (bad_byte ne none) = absurd (no_longest _ t r none l)
 one_first_fault p bytes f o (too_great {t = t} {rest = r} l g) (open_string i e h) = absurd (no_longest bytes t r (none_at_open bytes i e h) l)
 one_first_fault p bytes f o (too_great l g) (too_great l' g') = refl
-one_first_fault p bytes f o (too_great {t = t} {rest = r} l h) (gap {t = u} {rest = v} m g d) = absurd (gap_or_number u g (subst IsNumber (one_longest bytes t r u v l m).0 h.0))
-one_first_fault p bytes f o (too_great {t = t} {rest = r} l h) (token {t = u} {rest = v} {kind = k} m s d) = absurd (great_or_token u k (subst IsTooGreat (one_longest bytes t r u v l m).0 h) s)
+one_first_fault p bytes f o (too_great {t = t} {rest = r} l h) (gap {t = u} {rest = v} m g d) = absurd (gap_or_number u g (subst IsNumber (one_longest IsPiece bytes t r u v l m).0 h.0))
+one_first_fault p bytes f o (too_great {t = t} {rest = r} l h) (token {t = u} {rest = v} {kind = k} m s d) = absurd (great_or_token u k (subst IsTooGreat (one_longest IsPiece bytes t r u v l m).0 h) s)
 one_first_fault p bytes f o (gap {t = t} {rest = r} l g d) (bad_byte ne none) = absurd (no_longest _ t r none l)
 one_first_fault p bytes f o (gap {t = t} {rest = r} l g d) (open_string i e h) = absurd (no_longest bytes t r (none_at_open bytes i e h) l)
-one_first_fault p bytes f o (gap {t = u} {rest = v} m g d) (too_great {t = t} {rest = r} l h) = absurd (gap_or_number u g (subst IsNumber (one_longest bytes t r u v l m).0 h.0))
+one_first_fault p bytes f o (gap {t = u} {rest = v} m g d) (too_great {t = t} {rest = r} l h) = absurd (gap_or_number u g (subst IsNumber (one_longest IsPiece bytes t r u v l m).0 h.0))
 one_first_fault p bytes f o (gap {t = t} {rest = r} l g d) (gap {t = u} {rest = v} m h d') =
-    let q = one_longest bytes u v t r m l in
+    let q = one_longest IsPiece bytes u v t r m l in
     one_first_fault (behind t p) r f o d (fault_moved p u t v r o q.0 q.1 d')
 one_first_fault p bytes f o (gap {t = t} {rest = r} l g d) (token {t = u} {rest = v} {kind = k} m s d') =
-    absurd (gap_or_token t k g (subst (λ x. Spells x k) (one_longest bytes u v t r m l).0 s))
+    absurd (gap_or_token t k g (subst (λ x. Spells x k) (one_longest IsPiece bytes u v t r m l).0 s))
 one_first_fault p bytes f o (token {t = t} {rest = r} l s d) (bad_byte ne none) = absurd (no_longest _ t r none l)
 one_first_fault p bytes f o (token {t = t} {rest = r} l s d) (open_string i e h) = absurd (no_longest bytes t r (none_at_open bytes i e h) l)
-one_first_fault p bytes f o (token {t = u} {rest = v} {kind = k} m s d) (too_great {t = t} {rest = r} l h) = absurd (great_or_token u k (subst IsTooGreat (one_longest bytes t r u v l m).0 h) s)
+one_first_fault p bytes f o (token {t = u} {rest = v} {kind = k} m s d) (too_great {t = t} {rest = r} l h) = absurd (great_or_token u k (subst IsTooGreat (one_longest IsPiece bytes t r u v l m).0 h) s)
 one_first_fault p bytes f o (token {t = t} {rest = r} {kind = k} l s d) (gap {t = u} {rest = v} m g d') =
-    absurd (gap_or_token t k (subst IsGap (one_longest bytes u v t r m l).0 g) s)
+    absurd (gap_or_token t k (subst IsGap (one_longest IsPiece bytes u v t r m l).0 g) s)
 one_first_fault p bytes f o (token {t = t} {rest = r} l s d) (token {t = u} {rest = v} m s' d') =
-    let q = one_longest bytes u v t r m l in
+    let q = one_longest IsPiece bytes u v t r m l in
     one_first_fault (behind t p) r f o d (fault_moved p u t v r o q.0 q.1 d')

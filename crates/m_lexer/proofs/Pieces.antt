@@ -1,42 +1,26 @@
 -- What the first byte of a piece says of it, and which pieces are the longest.
-use Rattle.std.proofs.Common.{◌≡◌, ◌≢◌, ◌⊎◌, ℕ, ◌≤◌, List, [], ◌∷◌, ◌++◌, length, get_or, refl, sym, ap, ◌∙◌, subst, arith, lit≤, inl, inr}
+use Rattle.std.proofs.Common.{◌≡◌, ◌≢◌, ◌⊎◌, ℕ, ◌≤◌, List, [], ◌∷◌, ◌++◌, length, drop, refl, sym, ap, ◌∙◌, subst, arith, lit≤, inl, inr}
 use Rattle.std.specs.List.{AllByRecursion}
 use Rattle.m_lexer.specs.declared.token.Sign.{Sign}
 use Rattle.m_lexer.specs.declared.token.Sign.TheVariants.{Plus, Minus, Star, Slash, Equal, NotEqual, Less, LessEqual, Greater, GreaterEqual, OpenParen, CloseParen, OpenBracket, CloseBracket, Comma, Semicolon, Colon, Range}
-use Rattle.m_lexer.specs.Spellings.{IsDigit, IsWordByte, IsBlankByte, IsBlank, IsComment, IsWord, AreDigits, IsDecimal, IsNumber, IsQuoted, sign_spelling, IsPiece, blank, comment, word, number, text, sign, quote, hash, point, line_feed}
+use Rattle.m_text.specs.Bytes.{IsWordByte, IsBlankByte, quote, hash, line_feed}
+use Rattle.m_text.specs.Words.{IsComment, IsWordOrNumber, IsQuoted, LongestBetween}
+use Rattle.m_lexer.specs.Spellings.{IsBlank, sign_spelling, IsPiece, blank, comment, word, number, text, sign}
 use Rattle.m_lexer.specs.Tokens.{Longest, NoPiece}
-use Rattle.std.proofs.lemmas.Bool.{cases_lt}
 use Rattle.std.proofs.lemmas.List.{append_assoc}
-use Rattle.m_lexer.proofs.Fronts.{Stops, one_front, longer, not_next, same_length}
+use Rattle.m_text.proofs.Fronts.{Stops, one_front, not_next, part, all_right}
+use Rattle.m_text.proofs.Longest.{longest_from, longest_among}
+use Rattle.m_text.proofs.Spelled.{first, first_append, word_first, number_first}
 
 -- the bytes that signs begin with
 abbrev pub IsMark : ℕ → Type 0
 IsMark b = (b ≡ 33) ⊎ (((40 ≤ b) × (b ≤ 47)) ⊎ (((58 ≤ b) × (b ≤ 62)) ⊎ ((b ≡ 91) ⊎ (b ≡ 93))))
-
-abbrev pub first : List ℕ → ℕ
-first t = get_or t 0 0
 
 pub blank_first : (t : List ℕ) → IsBlank t → IsBlankByte (first t) × (length t ≡ 1)
 blank_first t h = subst (λ t. IsBlankByte (first t) × (length t ≡ 1)) (sym h.2) (h.1, refl)
 
 pub comment_first : (t : List ℕ) → IsComment t → first t ≡ hash
 comment_first t h = ap first h.2
-
-pub word_first : (t : List ℕ) → IsWord t → IsWordByte (first t)
-word_first [] h = absurd (h.1 tt)
-word_first (b ∷ t) h = h.0.0
-
-pub number_first : (t : List ℕ) → IsNumber t → IsDigit (first t)
-number_first t (inl h) = digits_first t h.0 h.1
-  where
-    digits_first : (t : List ℕ) → t ≢ [] → AllByRecursion IsDigit t → IsDigit (first t)
-    digits_first [] ne h = absurd (ne refl)
-    digits_first (b ∷ t) ne h = h.0
-number_first t (inr h) = digits_first t h.0 _ h.2.0 h.2.1 h.4
-  where
-    digits_first : (t w x : List ℕ) → w ≢ [] → AllByRecursion IsDigit w → t ≡ w ++ x → IsDigit (first t)
-    digits_first t [] x ne h e = absurd (ne refl)
-    digits_first t (b ∷ w) x ne h e = subst IsDigit (sym (ap first e)) h.0
 
 pub quoted_first : (t inside : List ℕ) → IsQuoted t inside → first t ≡ quote
 quoted_first t inside h = ap first h.1
@@ -121,7 +105,7 @@ after_mark t (text inside h) e = let k = quoted_first t inside h in absurd (omeg
 after_mark t (sign s h) e = (s, h)
 
 -- what begins with a letter, a digit or `_` is a word or a number
-pub after_word_byte : (t : List ℕ) → IsPiece t → IsWordByte (first t) → IsWord t ⊎ IsNumber t
+pub after_word_byte : (t : List ℕ) → IsPiece t → IsWordByte (first t) → IsWordOrNumber t
 after_word_byte t (blank h) e = let k = (blank_first t h).0 in absurd (omega arith)
 after_word_byte t (comment h) e = let k = comment_first t h in absurd (omega arith)
 after_word_byte t (word h) e = inl h
@@ -138,58 +122,14 @@ not_empty (number h) = let k = number_first [] h in omega arith
 not_empty (text inside h) = let k = quoted_first [] inside h in omega arith
 not_empty (sign s h) = let k = sign_first [] s h in omega arith
 
--- a piece is the longest if none goes on from it
-pub longest_from : (bytes t rest : List ℕ) → bytes ≡ t ++ rest → IsPiece t → ((c : ℕ) (more v : List ℕ) → rest ≡ c ∷ (more ++ v) → IsPiece (t ++ c ∷ more) → ⊥) → Longest bytes t rest
-longest_from bytes t rest e p none = record { parts = e; piece = p; longest = most }
-  where
-    most : (u v : List ℕ) → bytes ≡ u ++ v → IsPiece u → length u ≤ length t
-    most u v f q = elim (cases_lt (length t) (length u)) [
-      | inl h ↦ let w = longer t rest u v (sym e ∙ f) h in absurd (none w.0 w.1 v w.3 (subst IsPiece w.2 q))
-      | inr h ↦ h
-    ]
-
--- the longest piece is one
-pub one_longest : (bytes t r u v : List ℕ) → Longest bytes t r → Longest bytes u v → (t ≡ u) × (r ≡ v)
-one_longest bytes t r u v a b =
-    let le : length t ≤ length u = b.longest t r a.parts a.piece in
-    let ge : length u ≤ length t = a.longest u v b.parts b.piece in
-    same_length t r u v (sym a.parts ∙ b.parts) (omega arith)
-
--- elements of one kind
-pub all_left : (P : ℕ → Type 0) (a b : List ℕ) → AllByRecursion P (a ++ b) → AllByRecursion P a
-all_left P [] b h = tt
-all_left P (x ∷ a) b h = (h.0, all_left P a b h.1)
-
-pub all_right : (P : ℕ → Type 0) (a b : List ℕ) → AllByRecursion P (a ++ b) → AllByRecursion P b
-all_right P [] b h = h
-all_right P (x ∷ a) b h = all_right P a b h.1
-
-pub all_weaker : (P Q : ℕ → Type 0) → ((b : ℕ) → P b → Q b) → (a : List ℕ) → AllByRecursion P a → AllByRecursion Q a
-all_weaker P Q w [] h = tt
-all_weaker P Q w (x ∷ a) h = (w x h.0, all_weaker P Q w a h.1)
-
-digits_are_word_bytes : (a : List ℕ) → AllByRecursion IsDigit a → AllByRecursion IsWordByte a
-digits_are_word_bytes = all_weaker IsDigit IsWordByte (λ b h. inr (inl h))
-
-pub point_is_none : IsWordByte point → ⊥
-point_is_none h = omega arith
-
-first_append : (t u : List ℕ) → (t ≡ [] → ⊥) → first (t ++ u) ≡ first t
-first_append [] u ne = absurd (ne refl)
-first_append (b ∷ t) u ne = refl
-
-head_of : (t : List ℕ) → (t ≢ []) → (b : ℕ) × (u : List ℕ) × (t ≡ b ∷ u)
-head_of [] ne = absurd (ne refl)
-head_of (b ∷ u) ne = (b, u, refl)
-
 pub longest_blank : (bytes : List ℕ) (b : ℕ) (rest : List ℕ) → bytes ≡ b ∷ rest → IsBlankByte b → Longest bytes (b ∷ []) rest
-longest_blank bytes b rest e h = longest_from bytes (b ∷ []) rest e (blank (b, h, refl)) none
+longest_blank bytes b rest e h = longest_from IsPiece bytes (b ∷ []) rest e (blank (b, h, refl)) none
   where
     none : (c : ℕ) (more v : List ℕ) → rest ≡ c ∷ (more ++ v) → IsPiece (b ∷ c ∷ more) → ⊥
     none c more v f p = let k = (blank_first (b ∷ c ∷ more) (after_blank (b ∷ c ∷ more) p h)).1 in omega arith
 
 pub longest_comment : (bytes inside rest : List ℕ) → bytes ≡ hash ∷ (inside ++ rest) → AllByRecursion (λ b. b ≢ line_feed) inside → Stops (λ b. b ≢ line_feed) rest → Longest bytes (hash ∷ inside) rest
-longest_comment bytes inside rest e h stops = longest_from bytes (hash ∷ inside) rest e (comment (inside, h, refl)) none
+longest_comment bytes inside rest e h stops = longest_from IsPiece bytes (hash ∷ inside) rest e (comment (inside, h, refl)) none
   where
     none : (c : ℕ) (more v : List ℕ) → rest ≡ c ∷ (more ++ v) → IsPiece (hash ∷ (inside ++ c ∷ more)) → ⊥
     none c more v f p =
@@ -199,7 +139,7 @@ longest_comment bytes inside rest e h stops = longest_from bytes (hash ∷ insid
         not_next (λ b. b ≢ line_feed) rest c (more ++ v) f stops (all_right (λ b. b ≢ line_feed) inside (c ∷ more) all).0
 
 pub longest_quoted : (bytes inside rest : List ℕ) → bytes ≡ (quote ∷ (inside ++ quote ∷ [])) ++ rest → AllByRecursion (λ b. b ≢ quote) inside → Longest bytes (quote ∷ (inside ++ quote ∷ [])) rest
-longest_quoted bytes inside rest e h = longest_from bytes (quote ∷ (inside ++ quote ∷ [])) rest e (text inside (h, refl)) none
+longest_quoted bytes inside rest e h = longest_from IsPiece bytes (quote ∷ (inside ++ quote ∷ [])) rest e (text inside (h, refl)) none
   where
     none : (c : ℕ) (more v : List ℕ) → rest ≡ c ∷ (more ++ v) → IsPiece (quote ∷ ((inside ++ quote ∷ []) ++ c ∷ more)) → ⊥
     none c more v f p =
@@ -209,88 +149,31 @@ longest_quoted bytes inside rest e h = longest_from bytes (quote ∷ (inside ++ 
         let x = q.1 in
         cc
 
-pub longest_word : (bytes t rest : List ℕ) → bytes ≡ t ++ rest → IsWord t → Stops IsWordByte rest → Longest bytes t rest
-longest_word bytes t rest e h stops = longest_from bytes t rest e (word h) none
+-- the longest word or number is the longest piece: what begins with its first byte is a word or a number too
+pub longest_word_or_number : (bytes : List ℕ) (from end : ℕ) → LongestBetween bytes from end → Longest (drop from bytes) (part bytes from end) (drop end bytes)
+longest_word_or_number bytes from end l = longest_among IsWordOrNumber IsPiece (drop from bytes) t (drop end bytes) l.longest (piece t l.longest.piece) same
   where
-    ne : t ≢ []
-    ne f = h.1 (subst (AllByRecursion IsDigit) (sym f) tt)
+    t : List ℕ
+    t = part bytes from end
 
-    not_number : (c : ℕ) (more : List ℕ) → (IsWordByte c → ⊥) → IsNumber (t ++ c ∷ more) → ⊥
-    not_number c more outside (inl q) = h.1 (all_left IsDigit t (c ∷ more) q.1)
-    not_number c more outside (inr q) =
-        let w = one_front IsWordByte t q.0 (c ∷ more) (point ∷ q.1) h.0 (digits_are_word_bytes q.0 q.2.1) outside point_is_none q.4 in
-        h.1 (subst (AllByRecursion IsDigit) (sym w.0) q.2.1)
+    piece : (t : List ℕ) → IsWordOrNumber t → IsPiece t
+    piece t (inl h) = word h
+    piece t (inr h) = number h
 
-    none : (c : ℕ) (more v : List ℕ) → rest ≡ c ∷ (more ++ v) → IsPiece (t ++ c ∷ more) → ⊥
-    none c more v f p =
-        let outside = not_next IsWordByte rest c (more ++ v) f stops in
-        elim (after_word_byte (t ++ c ∷ more) p (subst IsWordByte (sym (first_append t (c ∷ more) ne)) (word_first t h))) [
-          | inl q ↦ outside (all_right IsWordByte t (c ∷ more) q.0).0
-          | inr q ↦ not_number c more outside q
-        ]
+    begins : (t : List ℕ) → IsWordOrNumber t → IsWordByte (first t)
+    begins t (inl h) = word_first t h
+    begins t (inr h) = inr (inl (number_first t h))
 
--- a point and a digit do not come next
-abbrev pub NoDecimals : List ℕ → Type 0
-NoDecimals rest = (c : ℕ) (more : List ℕ) → rest ≡ point ∷ c ∷ more → IsDigit c → ⊥
+    some : (u : List ℕ) → IsPiece u → u ≢ []
+    some u p e = not_empty (subst IsPiece e p)
 
-pub longest_whole : (bytes t rest : List ℕ) → bytes ≡ t ++ rest → AreDigits t → Stops IsWordByte rest → NoDecimals rest → Longest bytes t rest
-longest_whole bytes t rest e h stops short = longest_from bytes t rest e (number (inl h)) none
-  where
-    not_number : (c : ℕ) (more v : List ℕ) → rest ≡ c ∷ (more ++ v) → (IsWordByte c → ⊥) → IsNumber (t ++ c ∷ more) → ⊥
-    not_number c more v f outside (inl q) = outside (inr (inl (all_right IsDigit t (c ∷ more) q.1).0))
-    not_number c more v f outside (inr q) =
-        let w = one_front IsWordByte t q.0 (c ∷ more) (point ∷ q.1) (digits_are_word_bytes t h.1) (digits_are_word_bytes q.0 q.2.1) outside point_is_none q.4 in
-        let d = head_of q.1 q.3.0 in
-        let x = w.1 in
-        let y = d.2 in
-        let at_point : c ≡ point = cc in
-        let behind : more ≡ d.0 ∷ d.1 = cc in
-        let digit : AllByRecursion IsDigit (d.0 ∷ d.1) = subst (AllByRecursion IsDigit) y q.3.1 in
-        short d.0 (d.1 ++ v) (f ∙ (λ i. at_point i ∷ (behind i ++ v))) digit.0
-
-    none : (c : ℕ) (more v : List ℕ) → rest ≡ c ∷ (more ++ v) → IsPiece (t ++ c ∷ more) → ⊥
-    none c more v f p =
-        let outside = not_next IsWordByte rest c (more ++ v) f stops in
-        elim (after_word_byte (t ++ c ∷ more) p (subst IsWordByte (sym (first_append t (c ∷ more) h.0)) (inr (inl (number_first t (inl h)))))) [
-          | inl q ↦ outside (all_right IsWordByte t (c ∷ more) q.0).0
-          | inr q ↦ not_number c more v f outside q
-        ]
-
-pub longest_decimal : (bytes whole decimals rest : List ℕ) → bytes ≡ (whole ++ point ∷ decimals) ++ rest → AreDigits whole → AreDigits decimals → Stops IsDigit rest → Longest bytes (whole ++ point ∷ decimals) rest
-longest_decimal bytes whole decimals rest e h k stops = longest_from bytes (whole ++ point ∷ decimals) rest e (number (inr d)) none
-  where
-    d : IsDecimal (whole ++ point ∷ decimals)
-    d = (whole, decimals, h, k, refl)
-
-    ne : (whole ++ point ∷ decimals) ≢ []
-    ne f =
-        let b = head_of whole h.0 in
-        let g = b.2 in
-        let k : whole ++ point ∷ decimals ≡ b.0 ∷ (b.1 ++ point ∷ decimals) = ap (λ w. w ++ point ∷ decimals) g in
-        cc
-
-    at_point : (P : ℕ → Type 0) (c : ℕ) (more : List ℕ) → AllByRecursion P ((whole ++ point ∷ decimals) ++ c ∷ more) → P point
-    at_point P c more q = (all_right P whole (point ∷ decimals) (all_left P (whole ++ point ∷ decimals) (c ∷ more) q)).0
-
-    not_number : (c : ℕ) (more : List ℕ) → (IsDigit c → ⊥) → IsNumber ((whole ++ point ∷ decimals) ++ c ∷ more) → ⊥
-    not_number c more outside (inl q) = point_is_none (inr (inl (at_point IsDigit c more q.1)))
-    not_number c more outside (inr q) =
-        let g : whole ++ (point ∷ (decimals ++ c ∷ more)) ≡ q.0 ++ point ∷ q.1 = sym (append_assoc whole (point ∷ decimals) (c ∷ more)) ∙ q.4 in
-        let w = one_front IsDigit whole q.0 (point ∷ (decimals ++ c ∷ more)) (point ∷ q.1) h.1 q.2.1 (λ x. point_is_none (inr (inl x))) (λ x. point_is_none (inr (inl x))) g in
-        let x = w.1 in
-        let same : q.1 ≡ decimals ++ c ∷ more = cc in
-        outside (all_right IsDigit decimals (c ∷ more) (subst (AllByRecursion IsDigit) same q.3.1)).0
-
-    none : (c : ℕ) (more v : List ℕ) → rest ≡ c ∷ (more ++ v) → IsPiece ((whole ++ point ∷ decimals) ++ c ∷ more) → ⊥
-    none c more v f p =
-        let outside = not_next IsDigit rest c (more ++ v) f stops in
-        elim (after_word_byte ((whole ++ point ∷ decimals) ++ c ∷ more) p (subst IsWordByte (sym (first_append (whole ++ point ∷ decimals) (c ∷ more) ne)) (inr (inl (number_first (whole ++ point ∷ decimals) (inr d)))))) [
-          | inl q ↦ point_is_none (at_point IsWordByte c more q.0)
-          | inr q ↦ not_number c more outside q
-        ]
+    same : (u others : List ℕ) → drop from bytes ≡ u ++ others → IsPiece u → IsWordOrNumber u
+    same u others e p =
+        let at : first t ≡ first u = sym (first_append t (drop end bytes) (some t (piece t l.longest.piece))) ∙ ap first (sym l.longest.parts ∙ e) ∙ first_append u others (some u p) in
+        after_word_byte u p (subst IsWordByte at (begins t l.longest.piece))
 
 pub longest_two : (bytes : List ℕ) (a b : ℕ) (rest : List ℕ) (s : Sign) → bytes ≡ a ∷ b ∷ rest → sign_spelling s ≡ a ∷ b ∷ [] → Longest bytes (a ∷ b ∷ []) rest
-longest_two bytes a b rest s e h = longest_from bytes (a ∷ b ∷ []) rest e (sign s (sym h)) none
+longest_two bytes a b rest s e h = longest_from IsPiece bytes (a ∷ b ∷ []) rest e (sign s (sym h)) none
   where
     none : (c : ℕ) (more v : List ℕ) → rest ≡ c ∷ (more ++ v) → IsPiece (a ∷ b ∷ c ∷ more) → ⊥
     none c more v f p =
@@ -304,7 +187,7 @@ abbrev pub NoTwo : ℕ → List ℕ → Type 0
 NoTwo a rest = (c : ℕ) (more : List ℕ) → rest ≡ c ∷ more → (s : Sign) → sign_spelling s ≡ a ∷ c ∷ [] → ⊥
 
 pub longest_one : (bytes : List ℕ) (a : ℕ) (rest : List ℕ) (s : Sign) → bytes ≡ a ∷ rest → sign_spelling s ≡ a ∷ [] → NoTwo a rest → Longest bytes (a ∷ []) rest
-longest_one bytes a rest s e h short = longest_from bytes (a ∷ []) rest e (sign s (sym h)) none
+longest_one bytes a rest s e h short = longest_from IsPiece bytes (a ∷ []) rest e (sign s (sym h)) none
   where
     two : (c : ℕ) (more v : List ℕ) → rest ≡ c ∷ (more ++ v) → (w : Sign) → a ∷ c ∷ more ≡ sign_spelling w → ⊥
     two c [] v f w g = short c v f w (sym g)

@@ -1,70 +1,15 @@
--- What gaps and tokens are spelled by, as lists of bytes.
-use Rattle.std.specs.Prelude.{◌≡◌, ◌≢◌, ◌⊎◌, ℕ, ◌≤◌, List, [], ◌∷◌, ◌++◌, codes}
-use Rattle.std.specs.List.{AllByRecursion}
+-- What gaps and tokens are spelled by, as lists of bytes. Words, numbers, quoted texts and comments are those of m_text.
+use Rattle.std.specs.Prelude.{◌≡◌, ℕ, List, [], ◌∷◌, codes}
+use Rattle.m_text.specs.Bytes.{IsBlankByte}
+use Rattle.m_text.specs.Words.{IsComment, IsNumber, IsQuoted, IsWord}
 use Rattle.m_lexer.specs.declared.token.Key.{Key}
 use Rattle.m_lexer.specs.declared.token.Key.TheVariants.{Regle, Verif, Application, Enchaineur, Si, Alors, Sinon, Finsi, Erreur, Saisie, Calculee, Const, Tableau, Alias, TypeKey, Pour, Un, Dans, Et, Ou, Non, Somme, Present, Positif, PositifOuNul, Null, Arr, Inf, Abs, Max, Min, Anomalie, Discordance, Informative, X}
 use Rattle.m_lexer.specs.declared.token.Sign.{Sign}
 use Rattle.m_lexer.specs.declared.token.Sign.TheVariants.{Plus, Minus, Star, Slash, Equal, NotEqual, Less, LessEqual, Greater, GreaterEqual, OpenParen, CloseParen, OpenBracket, CloseBracket, Comma, Semicolon, Colon, Range}
 
--- a line ends at this byte
-abbrev pub line_feed : ℕ
-line_feed = 10
-
--- the byte `"`
-abbrev pub quote : ℕ
-quote = 34
-
--- the byte `#`
-abbrev pub hash : ℕ
-hash = 35
-
--- the byte `.`
-abbrev pub point : ℕ
-point = 46
-
--- a letter of ASCII: `A` to `Z`, `a` to `z`
-abbrev pub IsLetter : ℕ → Type 0
-IsLetter b = ((65 ≤ b) × (b ≤ 90)) ⊎ ((97 ≤ b) × (b ≤ 122))
-
--- `0` to `9`
-abbrev pub IsDigit : ℕ → Type 0
-IsDigit b = (48 ≤ b) × (b ≤ 57)
-
--- a letter, a digit or `_`
-abbrev pub IsWordByte : ℕ → Type 0
-IsWordByte b = IsLetter b ⊎ (IsDigit b ⊎ (b ≡ 95))
-
--- a space, a tab, a carriage return or a line feed
-abbrev pub IsBlankByte : ℕ → Type 0
-IsBlankByte b = (b ≡ 32) ⊎ ((b ≡ 9) ⊎ ((b ≡ 13) ⊎ (b ≡ line_feed)))
-
 -- one blank byte
 abbrev pub IsBlank : List ℕ → Type 0
 IsBlank t = (b : ℕ) × IsBlankByte b × (t ≡ b ∷ [])
-
--- `#` and bytes of any kind, but no line feed
-abbrev pub IsComment : List ℕ → Type 0
-IsComment t = (bytes : List ℕ) × AllByRecursion (λ b. b ≢ line_feed) bytes × (t ≡ hash ∷ bytes)
-
--- letters, digits and `_`, not digits alone: `REV`, `1AJ`, `1_000`, `_`
-abbrev pub IsWord : List ℕ → Type 0
-IsWord t = AllByRecursion IsWordByte t × (AllByRecursion IsDigit t → ⊥)
-
--- one or more digits: `08`
-abbrev pub AreDigits : List ℕ → Type 0
-AreDigits t = (t ≢ []) × AllByRecursion IsDigit t
-
--- digits, a point and digits: `2.50`
-abbrev pub IsDecimal : List ℕ → Type 0
-IsDecimal t = (whole decimals : List ℕ) × AreDigits whole × AreDigits decimals × (t ≡ whole ++ point ∷ decimals)
-
--- digits, optionally with a point and digits
-abbrev pub IsNumber : List ℕ → Type 0
-IsNumber t = AreDigits t ⊎ IsDecimal t
-
--- the bytes inside, of any kind but a quote, between two quotes: `""`, `"n"`
-abbrev pub IsQuoted : List ℕ → List ℕ → Type 0
-IsQuoted t inside = AllByRecursion (λ b. b ≢ quote) inside × (t ≡ quote ∷ (inside ++ quote ∷ []))
 
 -- the spelling of each sign
 abbrev pub sign_spelling : Sign → List ℕ

@@ -1,5 +1,5 @@
 -- The tokens of a file, and its first fault.
-use Rattle.std.specs.Prelude.{◌≡◌, ◌≢◌, ◌⊎◌, ◌==◌, ℕ, ℤ, Ok, Err, ◌≤◌, ◌+◌, List, [], ◌∷◌, ◌++◌, length, count_by}
+use Rattle.std.specs.Prelude.{◌≡◌, ◌≢◌, ◌⊎◌, ◌==◌, ℕ, ℤ, Ok, Err, ◌+◌, List, [], ◌∷◌, ◌++◌, length, count_by}
 use Rattle.std.specs.List.{AllByRecursion}
 use Rattle.m_fixed.specs.Text.{text_value, amount_read}
 use Rattle.m_fixed.specs.declared.read.AmountFault.TheVariants.{TooGreat}
@@ -8,10 +8,12 @@ use Rattle.m_lexer.specs.declared.token.Key.{Key}
 use Rattle.m_lexer.specs.declared.token.Kind.{Kind}
 use Rattle.m_lexer.specs.declared.token.Kind.TheVariants as kinds
 use Rattle.m_lexer.specs.declared.token.Token.{Token}
-use Rattle.m_lexer.specs.declared.token.LexFault.{LexFault}
-use Rattle.m_lexer.specs.declared.token.LexFault.TheVariants.{BadByte, OpenString, NumberTooGreat, Memory}
+use Rattle.m_lexer.specs.declared.fault.LexFault.{LexFault}
+use Rattle.m_lexer.specs.declared.fault.LexFault.TheVariants.{BadByte, OpenString, NumberTooGreat, Memory}
 use Rattle.m_lexer.specs.declared.token.Sign.{Sign}
-use Rattle.m_lexer.specs.Spellings.{IsPiece, IsBlank, IsComment, IsWord, IsNumber, IsQuoted, sign_spelling, key_spelling, quote, line_feed}
+use Rattle.m_text.specs.Bytes.{quote, line_feed}
+use Rattle.m_text.specs.Words.{IsComment, IsWord, IsNumber, IsQuoted, LongestOf}
+use Rattle.m_lexer.specs.Spellings.{IsPiece, IsBlank, sign_spelling, key_spelling}
 
 -- where a file begins: at byte 0, on line 1
 abbrev pub start_of : ℕ → Place
@@ -24,10 +26,8 @@ behind t p = record { file = p.file; byte = p.byte + length t; line = p.line + c
 
 -- t is the longest piece at the front of bytes, and rest stands behind it: of `sinon 1` it is
 -- `sinon`, with ` 1` behind it
-pub record Longest (bytes t rest : List ℕ) : Type 0 where
-  pub parts : bytes ≡ t ++ rest
-  pub piece : IsPiece t
-  pub longest : (u others : List ℕ) → bytes ≡ u ++ others → IsPiece u → length u ≤ length t
+abbrev pub Longest : List ℕ → List ℕ → List ℕ → Type 0
+Longest bytes t rest = LongestOf IsPiece bytes t rest
 
 -- what stands between tokens
 abbrev pub IsGap : List ℕ → Type 0

@@ -4,7 +4,7 @@
 ghost use Rattle.std.specs.Prelude.{◌≡◌, ◌++◌, ℕ, List, All};
 ghost use Rattle.m_places.specs.declared.place.Place.{Place};
 ghost use Rattle.m_lexer.specs.declared.token.Token.{Token};
-ghost use Rattle.m_lexer.specs.declared.token.LexFault.{LexFault};
+ghost use Rattle.m_lexer.specs.declared.fault.LexFault.{LexFault};
 ghost use Rattle.m_lexer.specs.Tokens.{Lexes, FirstFault, StandsIn, IsFaultAt, behind};
 
 /// The same bytes have one list of tokens.

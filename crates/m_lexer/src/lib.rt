@@ -5,13 +5,14 @@
 //! nothing of files on a disk or of M's grammar.
 #![tactic(auto)]
 
+mod fault;
 mod keys;
 mod laws;
-mod runs;
 mod scan;
 mod signs;
 mod token;
 
+pub use fault::LexFault;
 pub use laws::{fault_in_place, no_list_and_fault, one_first_fault, one_list, tokens_in_place};
 pub use scan::lex;
-pub use token::{Key, Kind, LexFault, Sign, Token};
+pub use token::{Key, Kind, Sign, Token};

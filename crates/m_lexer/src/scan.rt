@@ -1,37 +1,23 @@
 //! The scan of a file: gaps and tokens by turns.
 
-ghost use Rattle.std.specs.Prelude.{◌≡◌, ◌≢◌, ◌≤◌, ◌<◌, ◌+◌, [], IfOk, IfErr, IfSome, MatchOption, length, drop, slice_range};
+ghost use Rattle.std.specs.Prelude.{◌≡◌, ◌≤◌, ◌<◌, ◌+◌, [], IfOk, IfSome, MatchOption, length};
+ghost use Rattle.m_places.specs.Refusals.{Outcome};
 ghost use Rattle.m_lexer.specs.declared.token.Kind.TheVariants as kinds;
-ghost use Rattle.m_lexer.specs.declared.token.LexFault.TheVariants.{Memory, NumberTooGreat};
-ghost use Rattle.m_lexer.specs.inner.Runs.{RunsTo};
-ghost use Rattle.m_lexer.specs.Spellings.{IsDigit, IsWordByte, IsWord, IsNumber, quote};
+ghost use Rattle.m_lexer.specs.declared.fault.LexFault.TheVariants.{Memory, NumberTooGreat};
+ghost use Rattle.m_text.specs.Bytes.{IsWordByte, quote};
+ghost use Rattle.m_text.specs.Words.{IsWord, IsNumber};
 ghost use Rattle.m_lexer.specs.inner.Steps.{left, byte_at, IsPlaceIn, further, GoesOn, BeginsGap, TokenBetween, NoSign};
-ghost use Rattle.m_lexer.specs.Tokens.{Longest, Lexes, FirstFault, IsTooGreat, Spells, start_of};
+ghost use Rattle.m_lexer.specs.Tokens.{Lexes, FirstFault, IsTooGreat, Spells, start_of};
 
+use crate::fault::LexFault;
 use crate::keys::key_of;
-use crate::runs::{digits_end, is_word_byte, line_end, line_feeds, quote_end, word_end};
 use crate::signs::{one_byte_sign, two_byte_sign};
-use crate::token::{Kind, LexFault, Sign, Token};
+use crate::token::{Kind, Sign, Token};
 use m_fixed::{AmountFault, read_amount};
 use m_places::limits::FILE_BYTES;
 use m_places::{Name, Place};
-use std::alloc::{AllocError, AllocFailed, Global};
-
-impl From<AllocError> for LexFault {
-    ghost from_gives = { λ _ f. f ≡ Memory };
-
-    fn from(_e: AllocError) -> LexFault {
-        LexFault::Memory
-    }
-}
-
-impl<T: Drop> From<AllocFailed<T>> for LexFault {
-    ghost from_gives = { λ _ f. f ≡ Memory };
-
-    fn from(_e: AllocFailed<T>) -> LexFault {
-        LexFault::Memory
-    }
-}
+use m_text::{WordOrNumber, is_word_byte, line_end, line_feeds, quote_end, word_or_number};
+use std::alloc::{AllocError, Global};
 
 /// The tokens of a rule file, whose number in the list is `file`, or its first fault.
 ///
@@ -40,8 +26,9 @@ impl<T: Drop> From<AllocFailed<T>> for LexFault {
 /// and their names alone.
 pub fn lex(alloc: Global, bytes: &[u8], file: u32) -> Result<Vec<Token>, LexFault>
     requires { length bytes.now ≤ FILE_BYTES }
-    ensures ok { IfOk result (λ tokens. Lexes (start_of file) bytes.now tokens.items) }
-    ensures err { IfErr result (λ fault. fault ≢ Memory → FirstFault (start_of file) bytes.now fault) }
+    ensures outcome { Outcome Memory result
+        (λ tokens. Lexes (start_of file) bytes.now tokens.items)
+        (FirstFault (start_of file) bytes.now) }
 {
     let mut tokens = Vec::new(alloc);
     let mut place = after_gaps(
@@ -119,8 +106,9 @@ fn kind_at(alloc: Global, bytes: &[u8], place: Place) -> Result<(Kind, Place), L
     requires no_gap { BeginsGap (byte_at bytes.now place) → ⊥ }
     ensures there { IfOk result (λ r. IsPlaceIn bytes.now r.1) }
     ensures onward { IfOk result (λ r. place.byte < r.1.byte) }
-    ensures ok { IfOk result (λ r. TokenBetween bytes.now place r.0 r.1) }
-    ensures err { IfErr result (λ fault. fault ≢ Memory → FirstFault place (left bytes.now place) fault) }
+    ensures outcome { Outcome Memory result
+        (λ r. TokenBetween bytes.now place r.0 r.1)
+        (FirstFault place (left bytes.now place)) }
 {
     let first = bytes[place.byte as usize];
     if is_word_byte(first) {
@@ -143,39 +131,21 @@ fn word_or_number_at(alloc: Global, bytes: &[u8], place: Place) -> Result<(Kind,
     requires word_byte { IsWordByte (byte_at bytes.now place) }
     ensures there { IfOk result (λ r. IsPlaceIn bytes.now r.1) }
     ensures onward { IfOk result (λ r. place.byte < r.1.byte) }
-    ensures ok { IfOk result (λ r. TokenBetween bytes.now place r.0 r.1) }
-    ensures err { IfErr result (λ fault. fault ≢ Memory → FirstFault place (left bytes.now place) fault) }
+    ensures outcome { Outcome Memory result
+        (λ r. TokenBetween bytes.now place r.0 r.1)
+        (FirstFault place (left bytes.now place)) }
 {
     let from = place.byte as usize;
-    let end = word_end(bytes, from);
-    let whole = digits_end(bytes, from);
-    if whole < end {
-        let kind = word_kind(alloc, &bytes[from..end])?;
-        return Ok((kind, further(place, end, 0)));
-    }
-    let end = number_end(bytes, from, end);
-    let kind = number_kind(alloc, &bytes[from..end], place)?;
-    Ok((kind, further(place, end, 0)))
-}
-
-// Where a number ends whose whole part stands between two positions: behind its decimals, where a
-// point and a digit follow.
-fn number_end(bytes: &[u8], from: usize, whole: usize) -> usize
-    requires some { from < whole }
-    requires digits { RunsTo IsDigit bytes.now from whole }
-    requires apart { RunsTo IsWordByte bytes.now from whole }
-    ensures onward { from < result }
-    ensures within { result ≤ length bytes.now }
-    ensures number { IsNumber (slice_range bytes.now from result) }
-    ensures longest { Longest (drop from bytes.now) (slice_range bytes.now from result) (drop result bytes.now) }
-{
-    if whole < bytes.len() && bytes[whole] == b'.' {
-        let end = digits_end(bytes, whole + 1);
-        if whole + 1 < end {
-            return end;
+    match word_or_number(bytes, from) {
+        WordOrNumber::Word(end) => {
+            let kind = word_kind(alloc, &bytes[from..end])?;
+            Ok((kind, further(place, end, 0)))
+        }
+        WordOrNumber::Number(end) => {
+            let kind = number_kind(alloc, &bytes[from..end], place)?;
+            Ok((kind, further(place, end, 0)))
         }
     }
-    whole
 }
 
 // What a word is: reserved, or not.
@@ -192,8 +162,9 @@ fn word_kind(alloc: Global, text: &[u8]) -> Result<Kind, AllocError>
 // What a number is: its amount and its spelling.
 fn number_kind(alloc: Global, text: &[u8], place: Place) -> Result<Kind, LexFault>
     requires { IsNumber text.now }
-    ensures ok { IfOk result (Spells text.now) }
-    ensures err { IfErr result (λ fault. fault ≢ Memory → (fault ≡ NumberTooGreat place) × IsTooGreat text.now) }
+    ensures outcome { Outcome Memory result
+        (Spells text.now)
+        (λ fault. (fault ≡ NumberTooGreat place) × IsTooGreat text.now) }
 {
     match read_amount(text) {
         Ok(amount) => Ok(Kind::Number(amount, Name::new(alloc, text)?)),
@@ -209,8 +180,9 @@ fn text_at(alloc: Global, bytes: &[u8], place: Place) -> Result<(Kind, Place), L
     requires at_quote { byte_at bytes.now place ≡ quote }
     ensures there { IfOk result (λ r. IsPlaceIn bytes.now r.1) }
     ensures onward { IfOk result (λ r. place.byte < r.1.byte) }
-    ensures ok { IfOk result (λ r. TokenBetween bytes.now place r.0 r.1) }
-    ensures err { IfErr result (λ fault. fault ≢ Memory → FirstFault place (left bytes.now place) fault) }
+    ensures outcome { Outcome Memory result
+        (λ r. TokenBetween bytes.now place r.0 r.1)
+        (FirstFault place (left bytes.now place)) }
 {
     let from = place.byte as usize + 1;
     let end = quote_end(bytes, from);

@@ -85,16 +85,3 @@ pub struct Token {
     pub kind: Kind,
     pub place: Place,
 }
-
-/// Why a file has no tokens: its first fault.
-#[derive(Clone, Copy, Debug, PartialEq, Eq)]
-pub enum LexFault {
-    /// A byte at which no token begins.
-    BadByte(Place),
-    /// The opening quote of a text that isn't closed before the end of the file.
-    OpenString(Place),
-    /// A number above 10000000000000 after it is rounded at the sixth decimal.
-    NumberTooGreat(Place),
-    /// Want of memory.
-    Memory,
-}

@@ -1,64 +1,53 @@
--- What a list file says.
-use Rattle.std.specs.Prelude.{◌≡◌, ℕ, ◌+◌, ◌<◌, ◌==◌, ◌||◌, ◌&&◌, Bool, not, nat_le, List, [], ◌∷◌, length, Option, Some, None, Result, Ok, Err, if◌then◌else◌}
-use Rattle.std.specs.List.{list_all}
-use Rattle.std.specs.Char.{is_ascii_digit, is_ascii_alphanumeric}
-use Rattle.std.specs.Str.{is_utf8}
+-- What a list file says, and why one is refused.
+use Rattle.std.specs.Prelude.{◌≡◌, ◌+◌, ◌<◌, ◌≤◌, ℕ, List, [], ◌∷◌, ◌++◌, length}
+use Rattle.std.specs.List.{AllByRecursion}
+use Rattle.std.specs.Str.{IsUtf8}
 use Rattle.m_places.specs.declared.limits.TheConstants.{FILE_NAME_BYTES, LIST_FILES}
-use Rattle.m_lines.specs.Lines.{lines_of}
+use Rattle.m_text.specs.Lines.{lines_of}
+use Rattle.m_text.specs.Words.{IsWord}
 use Rattle.m_list.specs.declared.listing.Listing.{Listing}
-use Rattle.m_list.specs.declared.listing.ListFault.{ListFault}
-use Rattle.m_list.specs.declared.listing.ListFault.TheVariants.{BadLine, TooManyFiles, Memory}
-
--- a letter, a digit or `_`
-abbrev pub is_word_byte : ℕ → Bool
-is_word_byte byte = is_ascii_alphanumeric byte || byte == 95
-
--- a word of M, reserved or not: letters, digits and `_`, one or more, and not digits alone. `iliad`,
--- `1AJ` and `regle` are words, and `2020` is none
-abbrev pub is_word : List ℕ → Bool
-is_word text = list_all is_word_byte text && not (list_all is_ascii_digit text)
+use Rattle.m_list.specs.declared.fault.ListFault.{ListFault}
+use Rattle.m_list.specs.declared.fault.ListFault.TheVariants.{BadLine, TooManyFiles, Memory}
+use Rattle.m_list.specs.Files.{files_of}
+-- What a list file says, or the fault for which it is refused, as a function of its bytes. The relations below say what it
+-- means, and the laws `list_says` and `one_reading` that they and it are one.
+pub use Rattle.m_list.specs.inner.Reading.{list_of}
 
 -- a line behind the first: the name of a file, or nothing
-abbrev pub is_file_line : List ℕ → Bool
-is_file_line line = nat_le (length line) FILE_NAME_BYTES && is_utf8 line
+abbrev pub IsFileLine : List ℕ → Type 0
+IsFileLine line = (length line ≤ FILE_NAME_BYTES) × IsUtf8 line
 
--- the number of the first bad line, where the first of these has this number
-abbrev pub first_bad_from : ℕ → List (List ℕ) → Option ℕ
-first_bad_from number [] = None
-first_bad_from number (line ∷ lines) = if is_file_line line then first_bad_from (number + 1) lines else Some number
+-- The lines are an application, a word of M that may be a reserved one, and lines of files.
+pub record AreGood (application : List ℕ) (others lines : List (List ℕ)) : Type 0 where
+  pub parts : lines ≡ application ∷ others
+  pub word : IsWord application
+  pub names : AllByRecursion IsFileLine others
 
--- the files of the lines behind the first: those that aren't empty
-abbrev pub files_of : List (List ℕ) → List (List ℕ)
-files_of [] = []
-files_of (line ∷ lines) = if length line == 0 then files_of lines else line ∷ files_of lines
+-- The first bad line of a list has this number, from 1: the first, where it is missing or no word, or a later one that is
+-- no line of files, behind lines that are good. `iliad\r` is bad at line 1.
+pub data IsFirstBad : List (List ℕ) → ℕ → Type 0 where
+  missing : IsFirstBad [] 1
+  no_word : {line : List ℕ} {lines : List (List ℕ)} → (IsWord line → ⊥) → IsFirstBad (line ∷ lines) 1
+  no_name : {lines : List (List ℕ)} {number : ℕ} (application bad : List ℕ) (good others : List (List ℕ)) → AreGood application good (application ∷ good) → (IsFileLine bad → ⊥)
+      → lines ≡ application ∷ (good ++ bad ∷ others) → number ≡ 2 + length good → IsFirstBad lines number
 
--- files that are too many, as far as a fault says so
-abbrev pub AreTooMany : List (List ℕ) → ListFault → Type 0
-AreTooMany files (BadLine number) = ⊥
-AreTooMany files TooManyFiles = LIST_FILES < length files
-AreTooMany files Memory = Unit {0}
+-- A list file says this: the first line is the application, and the others that aren't empty are the files, not too many.
+-- `iliad\n\na.m` says the application `iliad` and the file `a.m`.
+pub record IsListing (bytes : List ℕ) (listing : Listing) : Type 0 where
+  pub others : List (List ℕ)
+  pub good : AreGood listing.application others (lines_of bytes)
+  pub files : listing.files ≡ files_of others
+  pub few : length listing.files ≤ LIST_FILES
 
--- a listing that has so many files as a list may have, or a refusal
-abbrev pub listed : List ℕ → List (List ℕ) → Result Listing ListFault
-listed application files = if nat_le (length files) LIST_FILES then Ok (record { application = application; files = files }) else Err TooManyFiles
+-- the lines are good, and have more files than a list may have
+pub record AreTooMany (lines : List (List ℕ)) : Type 0 where
+  pub application : List ℕ
+  pub others : List (List ℕ)
+  pub good : AreGood application others lines
+  pub many : LIST_FILES < length (files_of others)
 
--- what the lines behind the first say, by their first bad line
-abbrev pub files_read : List ℕ → List (List ℕ) → Option ℕ → Result Listing ListFault
-files_read application lines (Some number) = Err (BadLine number)
-files_read application lines None = listed application (files_of lines)
-
--- what the lines say: the first is the application, and the others are files
-abbrev pub lines_read : List (List ℕ) → Result Listing ListFault
-lines_read [] = Err (BadLine 1)
-lines_read (application ∷ lines) = if is_word application then files_read application lines (first_bad_from 2 lines) else Err (BadLine 1)
-
--- What a list file says, or the fault for which it is refused. `iliad\n\na.m` says the application
--- `iliad` and the file `a.m`, and `iliad\r` is bad at line 1.
-abbrev pub list_of : List ℕ → Result Listing ListFault
-list_of bytes = lines_read (lines_of bytes)
-
--- a fault that isn't want of memory is the file's
-abbrev pub IsCause : Result Listing ListFault → ListFault → Type 0
-IsCause read Memory = Unit {0}
-IsCause read (BadLine number) = read ≡ Err (BadLine number)
-IsCause read TooManyFiles = read ≡ Err TooManyFiles
+-- why a list file is refused: its first bad line, or where no line is bad, too many files
+abbrev pub IsListFault : List ℕ → ListFault → Type 0
+IsListFault bytes (BadLine number) = IsFirstBad (lines_of bytes) number
+IsListFault bytes TooManyFiles = AreTooMany (lines_of bytes)
+IsListFault bytes Memory = ⊥

@@ -1,12 +1,16 @@
-ghost use Rattle.std.specs.Prelude.{◌≡◌, ◌+◌, ◌≤◌, ◌<◌, ◌^◌, length, IfOk, IfErr, Ok};
+ghost use Rattle.std.specs.Prelude.{◌≡◌, ◌+◌, ◌≤◌, ◌<◌, length, IfOk, Ok, Err};
 ghost use Rattle.m_places.specs.declared.limits.TheConstants.{FILE_BYTES};
-ghost use Rattle.m_lines.specs.Lines.{lines_of};
-ghost use Rattle.m_list.specs.Listing.{list_of, IsCause, is_word, is_word_byte, is_file_line, first_bad_from, files_of, AreTooMany};
+ghost use Rattle.m_places.specs.Refusals.{Outcome};
+ghost use Rattle.m_text.specs.Lines.{lines_of};
+ghost use Rattle.m_list.specs.declared.fault.ListFault.TheVariants.{Memory, TooManyFiles};
+ghost use Rattle.m_list.specs.Files.{files_of};
+ghost use Rattle.m_list.specs.Listing.{list_of};
+ghost use Rattle.m_list.specs.inner.Reading.{is_word, is_file_line, first_bad_from};
 
 use crate::{ListFault, Listing};
-use m_lines::{first_line, is_text};
 use m_places::limits::{FILE_NAME_BYTES, LIST_FILES};
 use m_places::{Name, Seq};
+use m_text::{first_line, is_text, is_word};
 use std::alloc::Global;
 
 /// Reads a list file. Line 1 is the application, a word of M, which may be a reserved one. Each
@@ -15,13 +19,14 @@ use std::alloc::Global;
 /// `iliad\na.m\n` lists the application `iliad` and the file `a.m`.
 pub fn read_list(alloc: Global, bytes: &[u8]) -> Result<Listing, ListFault>
     requires { length bytes.now ≤ FILE_BYTES }
-    ensures listing { IfOk result (λ listing. list_of bytes.now ≡ Ok listing) }
-    ensures fault { IfErr result (IsCause (list_of bytes.now)) }
+    ensures outcome { Outcome Memory result
+        (λ listing. list_of bytes.now ≡ Ok listing)
+        (λ fault. list_of bytes.now ≡ Err fault) }
 {
     let Some((application, rest)) = first_line(bytes) else {
         return Err(ListFault::BadLine(1));
     };
-    if !is_word(application) {
+    if !is_application(application) {
         return Err(ListFault::BadLine(1));
     }
     if let Some(number) = first_bad_line(rest) {
@@ -35,20 +40,14 @@ pub fn read_list(alloc: Global, bytes: &[u8]) -> Result<Listing, ListFault>
     })
 }
 
-/// Whether a text is a word of M, reserved or not.
-fn is_word(text: &[u8]) -> bool
+// Whether a text is a word of M, reserved or not.
+fn is_application(text: &[u8]) -> bool
     ensures { result ≡ is_word text.now }
 {
-    text.iter().all(|byte| is_word_byte(*byte)) && !text.iter().all(|byte| byte.is_ascii_digit())
+    is_word(text)
 }
 
-fn is_word_byte(byte: u8) -> bool
-    ensures { result ≡ is_word_byte byte }
-{
-    byte.is_ascii_alphanumeric() || byte == b'_'
-}
-
-/// The number of the first line that is no file line, where these are the lines from line 2 on.
+// The number of the first line that is no file line, where these are the lines from line 2 on.
 fn first_bad_line(bytes: &[u8]) -> Option<u32>
     requires { length bytes.now ≤ FILE_BYTES }
     ensures { result ≡ first_bad_from 2 (lines_of bytes.now) }
@@ -65,18 +64,19 @@ fn first_bad_line(bytes: &[u8]) -> Option<u32>
     None
 }
 
-/// Whether a line is a file's name, or empty.
+// Whether a line is a file's name, or empty.
 fn is_file_line(line: &[u8]) -> bool
     ensures { result ≡ is_file_line line.now }
 {
     line.len() <= FILE_NAME_BYTES && is_text(line)
 }
 
-/// The names of the lines that aren't empty.
+// The names of the lines that aren't empty.
 fn read_files(alloc: Global, bytes: &[u8]) -> Result<Vec<Name>, ListFault>
-    ensures files { IfOk result (λ files. files.items ≡ files_of (lines_of bytes.now)) }
+    ensures outcome { Outcome Memory result
+        (λ files. files.items ≡ files_of (lines_of bytes.now))
+        (λ fault. (fault ≡ TooManyFiles) × (LIST_FILES < length (files_of (lines_of bytes.now)))) }
     ensures few { IfOk result (λ files. length files.items ≤ LIST_FILES) }
-    ensures many { IfErr result (AreTooMany (files_of (lines_of bytes.now))) }
 {
     let mut files = Vec::new(alloc);
     let mut rest = bytes;

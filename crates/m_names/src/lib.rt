@@ -10,4 +10,4 @@ mod key;
 mod names;
 
 pub use fault::NamesFault;
-pub use names::Names;
+pub use names::{Names, has_name};

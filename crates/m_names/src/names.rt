@@ -103,3 +103,15 @@ impl Names {
         Ok((number as u32, fresh))
     }
 }
+
+/// Whether a name is among names. Takes no memory, and looks at them one after the other.
+pub fn has_name(names: &[Name], name: &[u8]) -> bool
+    ensures { result ≡ has name.now names.now }
+{
+    for other in names {
+        if name == other.bytes() {
+            return true;
+        }
+    }
+    false
+}

@@ -1,4 +1,5 @@
-//! The limits of the program, each named once.
+//! The limits of the program, each named once, with a law that states each as a number.
+ghost use Rattle.std.specs.Prelude.{◌≡◌};
 
 /// The most bytes of a list, rule, driver, request, household or table file.
 pub const FILE_BYTES: u64 = 16_777_216;
@@ -50,3 +51,24 @@ pub const INPUT_BYTES: u64 = 1_099_511_627_776;
 
 /// The greatest number of `large N`.
 pub const LARGE: u32 = 100_000;
+
+/// Each limit is the number that the documents state.
+pub fn limits_are()
+    ensures file_bytes { FILE_BYTES ≡ 16777216 }
+    ensures rule_bytes { RULE_BYTES ≡ 67108864 }
+    ensures code_file_bytes { CODE_FILE_BYTES ≡ 1073741824 }
+    ensures list_files { LIST_FILES ≡ 1024 }
+    ensures file_name_bytes { FILE_NAME_BYTES ≡ 4096 }
+    ensures bracket_depth { BRACKET_DEPTH ≡ 256 }
+    ensures driver_level { DRIVER_LEVEL ≡ 64 }
+    ensures loop_instances { LOOP_INSTANCES ≡ 10000 }
+    ensures parts { PARTS ≡ 2000000 }
+    ensures cells { CELLS ≡ 1000000 }
+    ensures table_cells { TABLE_CELLS ≡ 1024 }
+    ensures driver_weight { DRIVER_WEIGHT ≡ 4000000 }
+    ensures requests { REQUESTS ≡ 100000 }
+    ensures rows { ROWS ≡ 100000 }
+    ensures session_line_bytes { SESSION_LINE_BYTES ≡ 4096 }
+    ensures input_bytes { INPUT_BYTES ≡ 1099511627776 }
+    ensures large { LARGE ≡ 100000 }
+{}

@@ -5,7 +5,7 @@
 ghost use Rattle.std.specs.Prelude.{◌≡◌, ◌⊎◌, ℕ, ◌+◌, ◌≤◌, List, ◌++◌, Option, length, IfOk, IsErrOf};
 ghost use Rattle.m_ports.specs.declared.files.Attempt.{Attempt};
 ghost use Rattle.m_ports.specs.declared.files.FetchFault.TheVariants.{Memory};
-ghost use Rattle.m_ports.specs.Counts.{RoseByMore};
+ghost use Rattle.m_ports.specs.Counts.{RoseBy, RoseByMore};
 ghost use Rattle.m_ports.specs.Files.{attempt_of, Holds, HoldsMoreThan, IsMissing, IsRefused};
 
 use m_places::Name;
@@ -70,6 +70,9 @@ pub trait Files {
         ensures took_more { IsErrOf result FetchFault.TooLong → RoseByMore limit (taken self.old) (taken self.new) }
 
         ensures same { told self.new ≡ told self.old }
+
+        // What is given was taken: the count of taken bytes rose by the file's length at least.
+        ensures counted_whole { IfOk result (λ bytes. RoseBy (length bytes.items) (taken self.old) (taken self.new)) }
 
         // No more is taken than shows that a file is too long, whatever the answer is.
         ensures counted { taken self.old ≤ taken self.new }

@@ -1,10 +1,14 @@
 //! Real files and streams as files, inputs and outputs: thin adapters, which tell nothing of content.
 //!
-//! What a real file, pipe or terminal holds is known to no contract, so these are the trusted edge.
-//! Every error that the system gives is a fault, also one that std's own loops would try again.
-ghost use Rattle.std.specs.Prelude.{◌≡◌, ◌<◌, ◌≤◌, ◌+◌, [], length, IfOk, IfSome, OnErr, IsErrOf};
+//! What a real file, pipe or terminal holds is known to no contract, so these are the trusted edge: of
+//! content the contracts speak only over a reader or a writer that tells its own bytes. The counts are
+//! what an adapter counts of its own calls, and not what the system did. Every error that the system
+//! gives is a fault, also one that std's own loops would try again.
+ghost use Rattle.std.specs.Prelude.{◌≡◌, ◌<◌, ◌≤◌, ◌+◌, [], ◌++◌, false, length, IfOk, IfSome, OnErr, IsErrOf};
+ghost use Rattle.std.specs.Str.{is_utf8};
 ghost use Rattle.std.specs.Io.KnownBytes.{ReadConsumes, WriteAppends};
-ghost use Rattle.m_ports.specs.Counts.{Rose, RoseByMore, faults_after};
+ghost use Rattle.m_ports.specs.Files.{attempt_of, Holds, IsMissing, IsRefused};
+ghost use Rattle.m_ports.specs.Counts.{Rose, RoseBy, RoseByMore, faults_after};
 
 use crate::counts::count_up;
 use crate::files::note;
@@ -66,6 +70,7 @@ fn read_whole<R: Read>(
     ensures within { IfOk result (λ bytes. length bytes.items ≤ limit) }
     ensures too_long { IsErrOf result FetchFault.TooLong → IfSome (R.remaining reader.old) (λ content. limit < length content) }
     ensures took_more { IsErrOf result FetchFault.TooLong → RoseByMore limit taken.old taken.new }
+    ensures counted_whole { IfOk result (λ bytes. RoseBy (length bytes.items) taken.old taken.new) }
     ensures counted { taken.old ≤ taken.new }
     ensures bounded { taken.new ≤ taken.old + (limit + 1) }
 {
@@ -99,7 +104,9 @@ fn read_file<H: rt::Files>(
     taken: &mut u64,
 ) -> Result<Vec<u8>, FetchFault>
     ensures within { IfOk result (λ bytes. length bytes.items ≤ limit) }
+    ensures not_text { is_utf8 name.now ≡ false → IsErrOf result FetchFault.Failed }
     ensures took_more { IsErrOf result FetchFault.TooLong → RoseByMore limit taken.old taken.new }
+    ensures counted_whole { IfOk result (λ bytes. RoseBy (length bytes.items) taken.old taken.new) }
     ensures counted { taken.old ≤ taken.new }
     ensures bounded { taken.new ≤ taken.old + (limit + 1) }
 {
@@ -121,7 +128,19 @@ impl<'a, H: rt::Files> Files for HostFiles<'a, H> {
 
     ghost taken = { λ s. s.taken };
 
-    fn fetch(&mut self, alloc: Global, name: &Name, limit: u64) -> Result<Vec<u8>, FetchFault> {
+    /// Opens the file of this path and reads it to its end, or one byte past the limit. A name that
+    /// isn't UTF-8 is refused.
+    fn fetch(&mut self, alloc: Global, name: &Name, limit: u64) -> Result<Vec<u8>, FetchFault>
+        ensures attempt { self.new.attempts.items ≡ self.old.attempts.items ++ attempt_of name.now result }
+        ensures whole { IfOk result (λ bytes. Holds None name.now bytes.items) }
+        ensures within { IfOk result (λ bytes. length bytes.items ≤ limit) }
+        ensures missing { IsMissing None name.now → IsRefused result }
+        ensures not_text { is_utf8 name.now ≡ false → IsRefused result }
+        ensures took_more { IsErrOf result FetchFault.TooLong → RoseByMore limit self.old.taken self.new.taken }
+        ensures counted_whole { IfOk result (λ bytes. RoseBy (length bytes.items) self.old.taken self.new.taken) }
+        ensures counted { self.old.taken ≤ self.new.taken }
+        ensures bounded { self.new.taken ≤ self.old.taken + (limit + 1) }
+    {
         let copy = name.copy(alloc)?;
         let answer = read_file(self.rt, alloc, name.bytes(), limit, &mut self.taken);
         note(&mut self.attempts, copy, answer)
@@ -139,7 +158,8 @@ pub struct HostSource<R> {
 impl<R: Read> HostSource<R> {
     /// The input that this reader gives. It takes no memory.
     pub fn new(reader: R) -> HostSource<R>
-        ensures { ⟦<HostSource<R> as Source>⟧.faults result ≡ 0 }
+        ensures reader { result.reader ≡ reader }
+        ensures faults { ⟦<HostSource<R> as Source>⟧.faults result ≡ 0 }
     {
         HostSource { reader, faults: 0 }
     }
@@ -183,7 +203,8 @@ pub struct HostSink<W> {
 impl<W: Write> HostSink<W> {
     /// The output that this writer takes. It takes no memory.
     pub fn new(writer: W) -> HostSink<W>
-        ensures { ⟦<HostSink<W> as Sink>⟧.faults result ≡ 0 }
+        ensures writer { result.writer ≡ writer }
+        ensures faults { ⟦<HostSink<W> as Sink>⟧.faults result ≡ 0 }
     {
         HostSink { writer, faults: 0 }
     }

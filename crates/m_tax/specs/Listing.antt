@@ -2,7 +2,7 @@
 use Rattle.std.specs.Prelude.{ℕ, List, [], ◌∷◌, Option, Some, None, Result, Ok, Err}
 use Rattle.m_list.specs.Listing.{list_of}
 use Rattle.m_list.specs.declared.listing.Listing.{Listing}
-use Rattle.m_list.specs.declared.listing.ListFault.{ListFault}
+use Rattle.m_list.specs.declared.fault.ListFault.{ListFault}
 pub use Rattle.m_tax.specs.declared.listing.OneFile.{OneFile}
 
 -- the only file of files

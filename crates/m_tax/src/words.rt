@@ -2,7 +2,7 @@
 ghost use Rattle.std.specs.Prelude.{◌≡◌, MatchOption, None, Some, ◌&&◌};
 ghost use Rattle.m_tax.specs.Command.{command_of, run, is_none};
 
-use m_lines::is_text;
+use m_text::is_text;
 use m_places::{Name, Word};
 
 /// The names of a run's files.

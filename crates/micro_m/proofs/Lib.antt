@@ -1,4 +1,5 @@
 pub mod NumberLemmas
+pub mod PositionLemmas
 pub mod SlowLemmas
 pub mod TermLemmas
 pub mod TurnLemmas

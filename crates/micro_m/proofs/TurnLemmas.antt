@@ -1,5 +1,5 @@
 -- Values with turns on a base without cycles: each chain of reads ends within as many turns as there are definitions.
-use Rattle.std.proofs.Common.{◌≡◌, ℕ, zero, suc, ◌+◌, ◌<◌, ◌≤◌, Bool, true, false, cond, nat_eq, List, [], ◌∷◌, length, map, Option, Some, None, refl, ap, sym, ◌∙◌, subst, add-one, arith}
+use Rattle.std.proofs.Common.{◌≡◌, ℕ, zero, suc, ◌+◌, ◌<◌, ◌≤◌, true, false, cond, nat_eq, List, [], ◌∷◌, length, map, Option, Some, None, refl, ap, sym, ◌∙◌, subst, add-one, arith}
 use mathlib.Core.Bool.{◌||◌}
 use Rattle.std.specs.Option.{option_map_or, IsSomeAnd}
 use Rattle.std.proofs.Math.ListN.{length-map}
@@ -8,10 +8,10 @@ use Rattle.micro_m.specs.declared.base.Base.{Base}
 use Rattle.micro_m.specs.Bases.{Definition, is_among, AreDistinct, targets_of, definition_among, definition_of}
 use Rattle.micro_m.specs.Values.{Environment, term_value, value_in, value_of, IsSolution}
 use Rattle.micro_m.specs.Reads.{TermReads, Reads, LeadsTo, IsCycle, HasNoCycle}
-use Rattle.micro_m.proofs.NumberLemmas.{same, itself, cases, or-true, length-le_from_among}
+use Rattle.micro_m.proofs.NumberLemmas.{clash, same, itself, cases, or-true, length-le_from_among}
 use Rattle.micro_m.proofs.TermLemmas.{term_value-same}
 
-option_cases : {X : Type 0} (o : Option X) {P : Type 0} → (o ≡ None → P) → ((x : X) → o ≡ Some x → P) → P
+pub option_cases : {X : Type 0} (o : Option X) {P : Type 0} → (o ≡ None → P) → ((x : X) → o ≡ Some x → P) → P
 option_cases None n s = n refl
 option_cases (Some x) n s = s x refl
 
@@ -56,9 +56,6 @@ closes base x y back (p ∷ ps) leads path distinct ds apart here = cases (nat_e
     (λ (t : nat_eq q p ≡ true). absurd (clash (subst (λ n. is_among n ps ≡ true) (same q p t) h) ds.0))
     (λ (g : nat_eq q p ≡ false). ap (λ b. b || is_among q (y ∷ back)) g ∙ apart q (or-true (nat_eq q p) (is_among q ps) h)))
     (ap (λ b. b || is_among x (p ∷ ps)) (sym f) ∙ here))
-  where
-    clash : {b : Bool} → b ≡ true → b ≡ false → ⊥
-    clash t f = cc
 
 -- what is read by a path doesn't stand on it, if there is no cycle
 pub off-path : (base : Base) (x : ℕ) (ps : List ℕ) → HasNoCycle base → Path base x ps → AreDistinct ps → is_among x ps ≡ false
@@ -71,9 +68,6 @@ off-path base x (p ∷ ps) free path ds = cases (is_among x (p ∷ ps))
     (λ (g : nat_eq q p ≡ false). ap (λ b. b || false) g)) t in
     absurd (free found.0 found.1))
     (λ (f : is_among x (p ∷ ps) ≡ false). f)
-  where
-    clash : {b : Bool} → b ≡ true → b ≡ false → ⊥
-    clash t f = cc
 
 -- ---- values
 

@@ -3,9 +3,10 @@ use Rattle.std.specs.Prelude.{◌≡◌, ◌≢◌, ◌⊎◌, ℕ, ◌+◌, ◌
 use Rattle.m_places.specs.declared.place.Place.{Place}
 use Rattle.m_lexer.specs.declared.token.Kind.{Kind}
 use Rattle.m_lexer.specs.declared.token.Token.{Token}
-use Rattle.m_lexer.specs.declared.token.LexFault.{LexFault}
+use Rattle.m_lexer.specs.declared.fault.LexFault.{LexFault}
 use Rattle.m_lexer.specs.declared.token.Sign.{Sign}
-use Rattle.m_lexer.specs.Spellings.{IsBlankByte, hash, sign_spelling}
+use Rattle.m_text.specs.Bytes.{IsBlankByte, hash}
+use Rattle.m_lexer.specs.Spellings.{sign_spelling}
 use Rattle.m_lexer.specs.Tokens.{Lexes, FirstFault}
 
 -- what stands from a place to the end of the file

@@ -22,18 +22,18 @@ returns-in_default-clause-none c =
 
 pub bounds-variables-number : goal.bounds-variables-number
 bounds-variables-number c =
-    let found : index_of c.formula-item.result.target (names_of c.args.variables.now) ≡ Some c.in-Some.number = cc in
+    let found : index_of c.formula-item.result.target (names_of c.args.variables.now) ≡ Some c.in-Some.number = (λ i. index_of (sym c.bytes.ensures i) (sym c.requires.names i)) ∙ sym c.find.ensures.number ∙ c.in-Some.is in
     number_within c.args.variables.now c.formula-item.result.target c.in-Some.number found
 
 pub offset_bounds-variables-number : goal.offset_bounds-variables-number
 offset_bounds-variables-number c =
-    let found : index_of c.formula-item.result.target (names_of c.args.variables.now) ≡ Some c.in-Some.number = cc in
+    let found : index_of c.formula-item.result.target (names_of c.args.variables.now) ≡ Some c.in-Some.number = (λ i. index_of (sym c.bytes.ensures i) (sym c.requires.names i)) ∙ sym c.find.ensures.number ∙ c.in-Some.is in
     omega (arith, number_within c.args.variables.now c.formula-item.result.target c.in-Some.number found)
 
 pub index-requires : goal.index-requires
 index-requires c =
     let vs = c.args.variables.now in
-    let found : index_of c.formula-item.result.target (names_of vs) ≡ Some c.in-Some.number = cc in
+    let found : index_of c.formula-item.result.target (names_of vs) ≡ Some c.in-Some.number = (λ i. index_of (sym c.bytes.ensures i) (sym c.requires.names i)) ∙ sym c.find.ensures.number ∙ c.in-Some.is in
     let within : c.in-Some.number < length vs = number_within vs c.formula-item.result.target c.in-Some.number found in
     let long : length c.loop-formula.cells.items ≡ length vs = ap length c.loop-formula.invariant.cells ∙ length-cells vs _ _ in
     omega (arith, c.loop-formula.cells.ok.0)
@@ -41,7 +41,7 @@ index-requires c =
 pub index_mut-requires : goal.index_mut-requires
 index_mut-requires c =
     let vs = c.args.variables.now in
-    let found : index_of c.formula-item.result.target (names_of vs) ≡ Some c.in-Some.number = cc in
+    let found : index_of c.formula-item.result.target (names_of vs) ≡ Some c.in-Some.number = (λ i. index_of (sym c.bytes.ensures i) (sym c.requires.names i)) ∙ sym c.find.ensures.number ∙ c.in-Some.is in
     let within : c.in-Some.number < length vs = number_within vs c.formula-item.result.target c.in-Some.number found in
     let long : length c.loop-formula.cells.items ≡ length vs = ap length c.loop-formula.invariant.cells ∙ length-cells vs _ _ in
     omega (arith, c.loop-formula.cells.ok.0)
@@ -53,7 +53,7 @@ returns-then-not-may_be_set-clause-none c =
     let i = c.loop-formula.formula-index in
     let d = c.formula-item.result in
     let left = left-at fs i d c.loop-formula-test.true c.formula-item.is in
-    let found : index_of c.formula-item.result.target (names_of vs) ≡ Some c.in-Some.number = cc in
+    let found : index_of c.formula-item.result.target (names_of vs) ≡ Some c.in-Some.number = (λ i. index_of (sym c.bytes.ensures i) (sym c.requires.names i)) ∙ sym c.find.ensures.number ∙ c.in-Some.is in
     let told = may_be_set-is (targets_of (take i fs)) (environment (names_of vs) c.args.given.now) vs c.formula-item.result.target c.in-Some.number c.index-variables-number.result c.loop-formula.cells.items c.index.result.now c.requires.distinct found c.loop-formula.invariant.cells c.index-variables-number.is c.index.ensures in
     refused-set vs fs i d _ left (sym told ∙ sym c.if-not-may_be_set.ensures)
 
@@ -64,7 +64,7 @@ loop-formula-preserved c =
     let i = c.loop-formula.formula-index in
     let d = c.formula-item.result in
     let given = environment (names_of vs) c.args.given.now in
-    let found : index_of c.formula-item.result.target (names_of vs) ≡ Some c.in-Some.number = cc in
+    let found : index_of c.formula-item.result.target (names_of vs) ≡ Some c.in-Some.number = (λ i. index_of (sym c.bytes.ensures i) (sym c.requires.names i)) ∙ sym c.find.ensures.number ∙ c.in-Some.is in
     let done = done-at fs i d c.loop-formula-test.true c.formula-item.is in
     let told = may_be_set-is (targets_of (take i fs)) given vs c.formula-item.result.target c.in-Some.number c.index-variables-number.result c.loop-formula.cells.items c.index.result.now c.requires.distinct found c.loop-formula.invariant.cells c.index-variables-number.is c.index.ensures in
     let free = both (has c.formula-item.result.target (computed_of vs)) (not (has c.formula-item.result.target (targets_of (take i fs)))) (sym told ∙ sym c.if-not-may_be_set.ensures) in

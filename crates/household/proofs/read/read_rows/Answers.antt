@@ -1,7 +1,7 @@
 use Rattle.std.proofs.Common.{◌≡◌, ◌<◌, [], ◌∷◌, ◌++◌, List, ℕ, ℤ, length, set, true, false, sym, ap, subst, ◌∙◌, arith}
 use Rattle.std.specs.List.{AllByRecursion}
 use Rattle.std.proofs.lemmas.List.{length-set, length_push}
-use Rattle.m_lines.specs.Lines.{lines_of}
+use Rattle.m_text.specs.Lines.{lines_of}
 use Rattle.household.specs.Household.{AreDifferent, inputs_of}
 use Rattle.household.proofs.PairLemmas.{IsFront, IsFront-more, IsFront-all, Marks, Marks-push, AreDifferent-push, AllByRecursion-push, inputs_of-push, has_number-read, no_rows_from_line, no_rows_from_twice}
 use Rattle.household.proofs.read.read_rows.Goals as goal

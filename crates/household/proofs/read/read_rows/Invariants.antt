@@ -1,7 +1,7 @@
 use Rattle.std.proofs.Common.{◌≡◌, ◌<◌, ◌≤◌, length}
 use Rattle.std.specs.List.{AllByRecursion}
 use Rattle.m_places.specs.declared.limits.TheConstants.{ROWS}
-use Rattle.m_lines.specs.Lines.{lines_of}
+use Rattle.m_text.specs.Lines.{lines_of}
 use Rattle.household.specs.Household.{AreDifferent, inputs_of}
 use Rattle.household.proofs.PairLemmas.{IsFront, Marks}
 use Rattle.household.proofs.read.read_rows.Given as goal

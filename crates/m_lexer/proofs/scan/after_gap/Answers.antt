@@ -1,5 +1,5 @@
 use Rattle.std.proofs.Common.{◌≡◌, ℕ, ◌⊎◌, refl, inl, inr, arith}
-use Rattle.m_lexer.specs.Spellings.{IsBlankByte}
+use Rattle.m_text.specs.Bytes.{IsBlankByte}
 use Rattle.m_lexer.proofs.Going.{blank_goes, no_line_feed, comment_goes}
 use Rattle.m_lexer.proofs.scan.after_gap.Goals as goal
 

@@ -3,8 +3,8 @@ use Rattle.std.proofs.lemmas.List.{drop_all, append-nil}
 use Rattle.m_lexer.specs.Tokens.{Lexes, end}
 use Rattle.m_lexer.proofs.scan.lex.Goals as goal
 
-pub returns-clause-ok : goal.returns-clause-ok
-returns-clause-ok c =
+pub returns : goal.returns
+returns c =
     let q = c.loop-place.place in
     let none : drop q.byte c.args.bytes.now ≡ [] = drop_all q.byte c.args.bytes.now (omega (arith, c.loop-place-test.false)) in
-    rw append-nil at (c.loop-place.invariant.steps.lists [] (subst (λ x. Lexes q x []) (sym none) end))
+    record { outcome = rw append-nil at (c.loop-place.invariant.steps.lists [] (subst (λ x. Lexes q x []) (sym none) end)) }

@@ -1,22 +1,18 @@
-use Rattle.m_lexer.specs.Tokens.{too_great}
-use Rattle.m_lexer.proofs.Going.{word_between, word_goes, number_goes}
 use Rattle.std.proofs.lemmas.Result.{err_from_is_err_and}
+use Rattle.m_lexer.specs.Tokens.{too_great}
+use Rattle.m_lexer.proofs.Going.{word_or_number_goes}
+use Rattle.m_lexer.proofs.Pieces.{longest_word_or_number}
 use Rattle.m_lexer.proofs.scan.word_or_number_at.Goals as goal
 
-pub word_kind-requires : goal.word_kind-requires
-word_kind-requires c = word_between c.args.bytes.now c.args.place.byte _ _ c.word_end-end.ensures c.digits_end-whole.ensures c.if-whole-end.true
+pub returns-in_err-kind-in-Number-clause-outcome : goal.returns-in_err-kind-in-Number-clause-outcome
+returns-in_err-kind-in-Number-clause-outcome c =
+    let p = err_from_is_err_and c.from_residual-in_err-kind-in-Number.result c.from_residual-in_err-kind-in-Number.ensures.1 in
+    rw (p.1, p.2) (λ ne. let q = c.in_err-kind-in-Number.ensures.outcome ne in rw q.0 (too_great (longest_word_or_number c.args.bytes.now c.args.place.byte c.in-Number.end c.in-Number.ensures.0) q.1))
 
-pub returns-then-whole-end-clause-ok : goal.returns-then-whole-end-clause-ok
-returns-then-whole-end-clause-ok c =
-    rw c.further.ensures (word_goes c.args.bytes.now c.args.place _ _ c.word_end-end.ensures
-    (word_between c.args.bytes.now c.args.place.byte _ _ c.word_end-end.ensures c.digits_end-whole.ensures c.if-whole-end.true)
-    c.in_ok-kind.ensures)
+pub returns-in_ok-kind-in-Word-clause-outcome : goal.returns-in_ok-kind-in-Word-clause-outcome
+returns-in_ok-kind-in-Word-clause-outcome c =
+    rw c.further.ensures (word_or_number_goes c.args.bytes.now c.args.place c.in-Word.end _ c.in-Word.ensures.0 c.in_ok-kind-in-Word.ensures)
 
-pub returns-in_err-kind-2-clause-err : goal.returns-in_err-kind-2-clause-err
-returns-in_err-kind-2-clause-err c =
-    let p = err_from_is_err_and c.from_residual-in_err-kind-2.result c.from_residual-in_err-kind-2.ensures.1 in
-    rw (p.1, p.2) (λ ne. let q = c.in_err-kind-2.ensures.err ne in rw q.0 (too_great c.number_end-end.ensures.longest q.1))
-
-pub returns-clause-ok : goal.returns-clause-ok
-returns-clause-ok c =
-    rw c.further-2.ensures (number_goes c.args.bytes.now c.args.place _ _ c.number_end-end.ensures.onward c.number_end-end.ensures.within c.number_end-end.ensures.longest c.number_end-end.ensures.number c.in_ok-kind-2.ensures.ok)
+pub returns-in_ok-kind-in-Number-clause-outcome : goal.returns-in_ok-kind-in-Number-clause-outcome
+returns-in_ok-kind-in-Number-clause-outcome c =
+    rw c.further-in-Number.ensures (word_or_number_goes c.args.bytes.now c.args.place c.in-Number.end _ c.in-Number.ensures.0 c.in_ok-kind-in-Number.ensures.outcome)

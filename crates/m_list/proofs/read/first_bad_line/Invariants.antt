@@ -1,6 +1,6 @@
 use Rattle.std.proofs.Common.{◌≡◌, ◌+◌, ◌≤◌, length}
-use Rattle.m_lines.specs.Lines.{lines_of}
-use Rattle.m_list.specs.Listing.{first_bad_from}
+use Rattle.m_text.specs.Lines.{lines_of}
+use Rattle.m_list.specs.inner.Reading.{first_bad_from}
 use Rattle.m_list.proofs.read.first_bad_line.Given as goal
 
 abbrev pub invariant-loop-line : goal.invariant-loop-line

@@ -1,7 +1,7 @@
 use Rattle.std.proofs.Common.{◌≡◌, ◌≤◌, ◌++◌, length}
 use Rattle.m_places.specs.declared.limits.TheConstants.{LIST_FILES}
-use Rattle.m_lines.specs.Lines.{lines_of}
-use Rattle.m_list.specs.Listing.{files_of}
+use Rattle.m_text.specs.Lines.{lines_of}
+use Rattle.m_list.specs.Files.{files_of}
 use Rattle.m_list.proofs.read.read_files.Given as goal
 
 abbrev pub invariant-loop-line : goal.invariant-loop-line

@@ -1,6 +1,0 @@
-use Rattle.std.proofs.Common.{◌≡◌, drop}
-use Rattle.m_names.specs.Names.{has}
-use Rattle.first_form.proofs.split.has_name.Given as goal
-
-abbrev pub invariant-loop-other : goal.invariant-loop-other
-invariant-loop-other l = has l.name l.names ≡ has l.name (drop l.other-index l.names)

@@ -1,6 +1,0 @@
-use Rattle.std.proofs.Common.{ℕ, ◌≤◌, ◌<◌, get_or}
-use Rattle.m_lexer.specs.Spellings.{IsWordByte}
-use Rattle.m_lexer.proofs.runs.word_end.Given as goal
-
-abbrev pub invariant-loop-end : goal.invariant-loop-end
-invariant-loop-end l = (k : ℕ) → l.from ≤ k → k < l.end → IsWordByte (get_or l.bytes k 0)

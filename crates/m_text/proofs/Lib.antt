@@ -1,0 +1,4 @@
+pub mod Fronts
+pub mod LineLemmas
+pub mod Longest
+pub mod Spelled

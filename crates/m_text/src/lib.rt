@@ -1,0 +1,13 @@
+//! Bytes and texts: kinds of bytes, words and numbers of M, and the lines of a text.
+//!
+//! The list, the requests, the household, the rules and the driver are read by it. This crate stands
+//! on nothing but `std`, and knows neither tokens nor what lines say. It takes no memory.
+#![tactic(auto)]
+
+mod lines;
+mod runs;
+mod words;
+
+pub use lines::{first_line, is_text};
+pub use runs::{digits_end, is_word_byte, line_end, line_feeds, quote_end, word_end};
+pub use words::{WordOrNumber, is_word, word_or_number};

@@ -1,0 +1,47 @@
+//! The lines of a text, one after another.
+
+ghost use Rattle.std.specs.Prelude.{◌≡◌, ◌+◌, ◌<◌, ◌==◌, [], ◌∷◌, length, drop, IfSome, MatchOption};
+ghost use Rattle.std.specs.Str.{is_utf8};
+ghost use Rattle.m_text.specs.Lines.{lines_of, without_return};
+
+use crate::runs::line_end;
+
+/// The first line of a text and what stands behind its line feed; `None` where the text is empty.
+/// A carriage return right before the line feed is dropped. Takes no memory.
+///
+/// `first_line(b"iliad\r\na.m")` is the line `iliad` and the rest `a.m`.
+pub fn first_line(bytes: &[u8]) -> Option<(&[u8], &[u8])>
+    ensures first { MatchOption result (bytes.now ≡ []) (λ r. lines_of bytes.now ≡ r.0.now ∷ lines_of r.1.now) }
+    ensures shorter { IfSome result (λ r. length r.1.now < length bytes.now) }
+{
+    if bytes.is_empty() {
+        return None;
+    }
+    let end = line_end(bytes, 0);
+    if end == bytes.len() {
+        return Some((bytes, &bytes[end..]));
+    }
+    Some((without_return(&bytes[..end]), &bytes[end + 1..]))
+}
+
+// A line without the carriage return at its end, if it has one.
+fn without_return(line: &[u8]) -> &[u8]
+    ensures { result.now ≡ without_return line.now }
+{
+    if line.is_empty() {
+        return line;
+    }
+    let last = line.len() - 1;
+    if line[last] == b'\r' {
+        &line[..last]
+    } else {
+        line
+    }
+}
+
+/// Whether a text is UTF-8. Takes no memory.
+pub fn is_text(bytes: &[u8]) -> bool
+    ensures { result ≡ is_utf8 bytes.now }
+{
+    std::str::from_utf8(bytes).is_ok()
+}

@@ -1,0 +1,5 @@
+pub mod Tokens
+pub mod Steps
+pub mod Texts
+pub mod OneReading
+pub mod Numbers

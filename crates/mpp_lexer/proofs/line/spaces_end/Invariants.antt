@@ -1,0 +1,6 @@
+use Rattle.std.proofs.Common.{◌≡◌, ℕ, ◌≤◌, ◌<◌, get_or}
+use Rattle.mpp_lexer.specs.Tokens.{space}
+use Rattle.mpp_lexer.proofs.line.spaces_end.Given as goal
+
+abbrev pub invariant-loop-end : goal.invariant-loop-end
+invariant-loop-end l = (k : ℕ) → l.from ≤ k → k < l.end → get_or l.line k 0 ≡ space

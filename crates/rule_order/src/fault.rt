@@ -1,0 +1,32 @@
+//! Why a base has no order.
+
+ghost use Rattle.std.specs.Prelude.{◌≡◌};
+ghost use Rattle.rule_order.specs.declared.fault.OrderFault.TheVariants.{Memory};
+
+use m_places::Seq;
+use std::alloc::{AllocError, AllocFailed};
+
+/// Why a base has no order.
+#[derive(Drop)]
+pub enum OrderFault {
+    /// Distinct cells, each reading the next and the last the first, beginning with the least number.
+    Cycle(Seq<u32>),
+    /// There was no memory.
+    Memory,
+}
+
+impl From<AllocError> for OrderFault {
+    ghost from_gives = { λ _ f. f ≡ Memory };
+
+    fn from(_error: AllocError) -> OrderFault {
+        OrderFault::Memory
+    }
+}
+
+impl<T: Drop> From<AllocFailed<T>> for OrderFault {
+    ghost from_gives = { λ _ f. f ≡ Memory };
+
+    fn from(_error: AllocFailed<T>) -> OrderFault {
+        OrderFault::Memory
+    }
+}

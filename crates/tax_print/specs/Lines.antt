@@ -1,0 +1,70 @@
+-- The lines of an answer, each with its line feed.
+use Rattle.std.specs.Prelude.{ℕ, ◌<◌, ◌≤◌, List, [], ◌∷◌, ◌++◌, length, codes, decimal, slice_get}
+use Rattle.std.specs.Option.{option_map_or}
+use Rattle.text_pieces.specs.Pieces.{joined}
+use Rattle.m_fixed.specs.declared.amount.Value.{Value}
+use Rattle.m_fixed.specs.declared.amount.Value.TheVariants.{Undef, Num, Over as OverValue}
+use Rattle.m_fixed.specs.Text.{printed}
+use Rattle.m_places.specs.declared.verification.ErrorKind.{ErrorKind}
+use Rattle.m_places.specs.declared.verification.ErrorKind.TheVariants.{Anomalie, Discordance, Informative}
+use Rattle.flat_code.specs.declared.answer.Answer.{Answer}
+use Rattle.flat_code.specs.declared.answer.Answer.TheVariants.{Values, Stopped}
+use Rattle.flat_code.specs.declared.answer.Stop.{Stop}
+use Rattle.flat_code.specs.declared.face.Face.{Face}
+use Rattle.flat_code.specs.declared.face.FaceLabel.{FaceLabel}
+use Rattle.flat_code.specs.Answers.{Cause, failed, over, over_driver, Told, values, stopped, label_number, cause_of, told_of}
+
+-- the end of each line
+abbrev pub line_feed : List ℕ
+line_feed = 10 ∷ []
+
+-- the line of a name and its value: `IRN = 1500.5`, `IRN undefined`, `IRN over`
+abbrev pub value_line : List ℕ → Value → List ℕ
+value_line name Undef = joined (name ∷ codes " undefined" ∷ line_feed ∷ [])
+value_line name (Num amount) = joined (name ∷ codes " = " ∷ printed amount ∷ line_feed ∷ [])
+value_line name OverValue = joined (name ∷ codes " over" ∷ line_feed ∷ [])
+
+-- the line of the name with this number
+abbrev pub output_line : List (List ℕ) → ℕ → Value → List ℕ
+output_line names k value = option_map_or (λ name. value_line name value) (slice_get names k) []
+
+-- the lines of names and their values, in order
+abbrev pub values_lines : List (List ℕ) → List Value → List ℕ
+values_lines (name ∷ names) (v ∷ vs) = value_line name v ++ values_lines names vs
+values_lines _ _ = []
+
+-- the word of an error's kind
+abbrev pub kind_text : ErrorKind → List ℕ
+kind_text Anomalie = codes "anomalie"
+kind_text Discordance = codes "discordance"
+kind_text Informative = codes "informative"
+
+-- the lines of what ended a run: of a failed verification its number, its error and the error's kind, and
+-- in a line of its own the error's text
+abbrev pub cause_lines : Cause → List ℕ
+cause_lines (failed label) =
+    joined (codes "failed " ∷ label.verif ∷ codes " " ∷ label.error ∷ codes " " ∷ kind_text label.kind ∷ line_feed ∷ label.text ∷ line_feed ∷ [])
+cause_lines (over label) = joined (codes "over verification " ∷ label.verif ∷ codes " " ∷ label.error ∷ line_feed ∷ [])
+cause_lines (over_driver line) = joined (codes "over driver line " ∷ decimal line ∷ line_feed ∷ [])
+
+-- The lines of what a household is told, where these are the names of what was asked for.
+abbrev pub told_lines : List (List ℕ) → Told → List ℕ
+told_lines names (values vs) = values_lines names vs
+told_lines names (stopped cause) = cause_lines cause
+
+-- the lines of a stop at one of these labels
+abbrev pub stop_lines : List FaceLabel → Stop → List ℕ
+stop_lines labels stop = option_map_or (λ label. cause_lines (cause_of stop label)) (slice_get labels (label_number stop)) []
+
+-- The lines of an answer: it is read through the face, and told.
+abbrev pub answer_lines : Face → Answer → List ℕ
+answer_lines face answer = option_map_or (told_lines face.outputs) (told_of face.labels answer) []
+
+-- the lines of a household of a table: its label, and then its answer
+abbrev pub household_lines : List ℕ → Face → Answer → List ℕ
+household_lines label face answer = joined (codes "household " ∷ label ∷ line_feed ∷ []) ++ answer_lines face answer
+
+-- an answer's numbers are within those of the face
+abbrev pub IsWithin : Face → Answer → Type 0
+IsWithin face (Values vs) = length vs ≤ length face.outputs
+IsWithin face (Stopped stop) = label_number stop < length face.labels

@@ -1,0 +1,48 @@
+ghost use Rattle.std.specs.Prelude.{◌≤◌, length};
+ghost use Rattle.text_pieces.specs.Giving.{Gives};
+ghost use Rattle.tax_print.specs.Lines.{IsWithin, answer_lines, household_lines, values_lines};
+
+use crate::stop::print_stop;
+use crate::value::print_value;
+use flat_code::{Answer, Face};
+use m_fixed::Value;
+use m_places::Name;
+use m_ports::{Failed, Sink};
+use text_pieces::give_pieces;
+
+/// Writes the lines of an answer: one for each output, in order, or those of what ended the run. On a
+/// failure a prefix of the lines was appended. It takes no memory.
+pub fn print_answer<K: Sink>(face: &Face, answer: &Answer, out: &mut K) -> Result<(), Failed>
+    requires { IsWithin face.now answer.now }
+    ensures { Gives K.written K.faults out.old out.new result (answer_lines face.now answer.now) }
+{
+    match answer {
+        Answer::Values(values) => print_all(face.outputs.as_slice(), values.as_slice(), out),
+        Answer::Stopped(stop) => print_stop(face, *stop, out),
+    }
+}
+
+/// Writes the lines of a household of a table: `household dupont`, and then those of its answer. On a
+/// failure a prefix of the lines was appended. It takes no memory.
+pub fn print_household<K: Sink>(
+    label: &Name,
+    face: &Face,
+    answer: &Answer,
+    out: &mut K,
+) -> Result<(), Failed>
+    requires { IsWithin face.now answer.now }
+    ensures { Gives K.written K.faults out.old out.new result (household_lines label.now face.now answer.now) }
+{
+    give_pieces(out, &[b"household ", label.bytes(), b"\n"])?;
+    print_answer(face, answer, out)
+}
+
+fn print_all<K: Sink>(names: &[Name], values: &[Value], out: &mut K) -> Result<(), Failed>
+    requires { length values.now ≤ length names.now }
+    ensures { Gives K.written K.faults out.old out.new result (values_lines names.now values.now) }
+{
+    for (k, value) in values.iter().enumerate() {
+        print_value(names[k].bytes(), *value, out)?;
+    }
+    Ok(())
+}

@@ -1,0 +1,97 @@
+ghost use Rattle.std.specs.Prelude.{◌∷◌, [], ◌<◌, ◌≡◌, length, codes, decimal};
+ghost use Rattle.text_pieces.specs.Giving.{Gives};
+ghost use Rattle.text_pieces.specs.Pieces.{joined};
+ghost use Rattle.flat_code.specs.Answers.{label_number, cause_of, failed, over};
+ghost use Rattle.tax_print.specs.Lines.{line_feed, kind_text, cause_lines, stop_lines};
+
+use flat_code::{Face, FaceLabel, Stop};
+use itoa::Buffer;
+use m_places::{ErrorKind, Label};
+use m_ports::{Failed, Sink};
+use text_pieces::give_pieces;
+
+/// Writes the lines of what ended a run: `failed 2000 A20 anomalie` and the error's text in a line of its
+/// own, `over verification 2000 A20`, or `over driver line 2`. On a failure a prefix of the lines was
+/// appended. It takes no memory.
+pub fn print_stop<K: Sink>(face: &Face, stop: Stop, out: &mut K) -> Result<(), Failed>
+    requires { label_number stop < length face.now.labels }
+    ensures { Gives K.written K.faults out.old out.new result (stop_lines face.now.labels stop) }
+{
+    let number = number_of(stop);
+    print_cause(&face.labels.as_slice()[number as usize], stop, out)
+}
+
+fn number_of(stop: Stop) -> u32
+    ensures { result ≡ label_number stop }
+{
+    match stop {
+        Stop::Failed(label) => label,
+        Stop::Over(label) => label,
+    }
+}
+
+fn print_cause<K: Sink>(label: &FaceLabel, stop: Stop, out: &mut K) -> Result<(), Failed>
+    ensures { Gives K.written K.faults out.old out.new result (cause_lines (cause_of stop label.now)) }
+{
+    match label {
+        FaceLabel::Verif(label) => match stop {
+            Stop::Failed(_) => print_failed(label, out),
+            Stop::Over(_) => print_over(label, out),
+        },
+        FaceLabel::DriverLine(line) => print_driver_line(*line, out),
+    }
+}
+
+fn print_failed<K: Sink>(label: &Label, out: &mut K) -> Result<(), Failed>
+    ensures { Gives K.written K.faults out.old out.new result (cause_lines (failed label.now)) }
+{
+    let verif = label.verif.bytes();
+    let error = label.error.bytes();
+    let text = label.text.bytes();
+    give_failed(verif, error, kind_text(label.kind), text, out)
+}
+
+fn give_failed<'a, K: Sink>(
+    verif: &'a [u8],
+    error: &'a [u8],
+    kind: &'a [u8],
+    text: &'a [u8],
+    out: &mut K,
+) -> Result<(), Failed>
+    ensures { Gives K.written K.faults out.old out.new result
+        (joined (codes "failed " ∷ verif.now ∷ codes " " ∷ error.now ∷ codes " " ∷ kind.now ∷ line_feed ∷ text.now ∷ line_feed ∷ [])) }
+{
+    give_pieces(
+        out,
+        &[
+            b"failed ", verif, b" ", error, b" ", kind, b"\n", text, b"\n",
+        ],
+    )
+}
+
+fn print_over<K: Sink>(label: &Label, out: &mut K) -> Result<(), Failed>
+    ensures { Gives K.written K.faults out.old out.new result (cause_lines (over label.now)) }
+{
+    let verif = label.verif.bytes();
+    let error = label.error.bytes();
+    give_pieces(out, &[b"over verification ", verif, b" ", error, b"\n"])
+}
+
+fn print_driver_line<K: Sink>(line: u32, out: &mut K) -> Result<(), Failed>
+    ensures { Gives K.written K.faults out.old out.new result
+        (joined (codes "over driver line " ∷ decimal line ∷ line_feed ∷ [])) }
+{
+    let mut buffer = Buffer::new();
+    let digits = buffer.format(line).as_bytes();
+    give_pieces(out, &[b"over driver line ", digits, b"\n"])
+}
+
+fn kind_text(kind: ErrorKind) -> &'static [u8]
+    ensures { result.now ≡ kind_text kind }
+{
+    match kind {
+        ErrorKind::Anomalie => b"anomalie",
+        ErrorKind::Discordance => b"discordance",
+        ErrorKind::Informative => b"informative",
+    }
+}

@@ -1,0 +1,45 @@
+ghost use Rattle.std.specs.Prelude.{◌∷◌, [], ◌<◌, length, codes};
+ghost use Rattle.text_pieces.specs.Giving.{Gives};
+ghost use Rattle.text_pieces.specs.Pieces.{joined};
+ghost use Rattle.m_fixed.specs.Text.{printed};
+ghost use Rattle.tax_print.specs.Lines.{line_feed, output_line, value_line};
+
+use flat_code::Face;
+use m_fixed::{Amount, Value, write_amount};
+use m_ports::{Failed, Sink};
+use text_pieces::give_pieces;
+
+/// Writes the line of the output with this number, which has this value: `IRN = 1500.5`,
+/// `IRN undefined` or `IRN over`, with its line feed. On a failure a prefix of the line was appended.
+/// It takes no memory.
+pub fn print_values<K: Sink>(face: &Face, k: u32, v: Value, out: &mut K) -> Result<(), Failed>
+    requires { k < length face.now.outputs }
+    ensures { Gives K.written K.faults out.old out.new result (output_line face.now.outputs k v) }
+{
+    print_value(face.outputs.as_slice()[k as usize].bytes(), v, out)
+}
+
+/// Writes the line of a name and its value.
+pub(crate) fn print_value<K: Sink>(name: &[u8], value: Value, out: &mut K) -> Result<(), Failed>
+    ensures { Gives K.written K.faults out.old out.new result (value_line name.now value) }
+{
+    match value {
+        Value::Undef => give_pieces(out, &[name, b" undefined\n"]),
+        Value::Num(amount) => print_amount(name, amount, out),
+        Value::Over => give_pieces(out, &[name, b" over\n"]),
+    }
+}
+
+fn print_amount<K: Sink>(name: &[u8], amount: Amount, out: &mut K) -> Result<(), Failed>
+    ensures { Gives K.written K.faults out.old out.new result (joined (name.now ∷ codes " = " ∷ printed amount ∷ line_feed ∷ [])) }
+{
+    let mut room = [0; 32];
+    let length = write_amount(amount, &mut room);
+    give_amount(name, &room[..length], out)
+}
+
+fn give_amount<'a, K: Sink>(name: &'a [u8], amount: &'a [u8], out: &mut K) -> Result<(), Failed>
+    ensures { Gives K.written K.faults out.old out.new result (joined (name.now ∷ codes " = " ∷ amount.now ∷ line_feed ∷ [])) }
+{
+    give_pieces(out, &[name, b" = ", amount, b"\n"])
+}

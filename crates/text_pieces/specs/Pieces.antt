@@ -1,0 +1,13 @@
+-- The text that pieces make.
+use Rattle.std.specs.Prelude.{ℕ, List, [], ◌∷◌, ◌++◌}
+use Rattle.std.specs.Borrow.{Bor}
+
+-- The pieces one behind the other: of `REV`, ` = ` and `1.5` the text `REV = 1.5`.
+abbrev pub joined : List (List ℕ) → List ℕ
+joined [] = []
+joined (piece ∷ pieces) = piece ++ joined pieces
+
+-- the same of pieces that are lent
+abbrev pub text_of : List (Bor (List ℕ)) → List ℕ
+text_of [] = []
+text_of (piece ∷ pieces) = piece.now ++ text_of pieces
