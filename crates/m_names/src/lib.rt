@@ -10,4 +10,5 @@ mod key;
 mod names;
 
 pub use fault::NamesFault;
+pub use key::{Key, NamesDigest};
 pub use names::{Names, has_name};

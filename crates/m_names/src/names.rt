@@ -30,13 +30,22 @@ impl Model for Names {
 impl Names {
     /// No names. Takes no memory.
     ///
-    /// Where strangers choose the names, `Names::of` takes them all at once: names that are added
-    /// one by one are hashed under a key that anyone can know.
+    /// Where strangers choose the names, `Names::of` takes them all at once, and `Names::under` is
+    /// given a key that was made of them: other names are hashed under a key that anyone can know.
     pub fn new(alloc: Global) -> Names
         ensures { result ≡ [] }
     {
         Names {
             known: IndexSet::with_hasher(alloc, Key::of(&[])),
+        }
+    }
+
+    /// No names, of which those that will be added are hashed under this key. Takes no memory.
+    pub fn under(alloc: Global, key: Key) -> Names
+        ensures { result ≡ [] }
+    {
+        Names {
+            known: IndexSet::with_hasher(alloc, key),
         }
     }
 

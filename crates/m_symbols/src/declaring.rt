@@ -11,7 +11,7 @@ ghost use Rattle.m_symbols.specs.inner.Tables.{declared_in, AreIndexed, with_var
 use crate::symbols::Tables;
 use crate::{DeclareFault, Symbols, Variable};
 use m_ast::{ErrorItem, Item, Role, VariableItem};
-use m_names::Names;
+use m_names::{Key, Names, NamesDigest};
 use m_places::Place;
 use m_places::limits::{CELLS, TABLE_CELLS};
 use std::alloc::{AllocError, Global};
@@ -26,26 +26,44 @@ pub fn declare(alloc: Global, items: &[Item]) -> Result<Symbols, DeclareFault>
         (λ symbols. (first_fault items.now ≡ None) × (symbols ≡ declared_by items.now))
         (λ fault. first_fault items.now ≡ Some fault) }
 {
-    let mut tables = no_tables(alloc);
+    let mut tables = no_tables(alloc, key_of(items));
     for item in items {
         declare_item(alloc, item, &mut tables)?;
     }
     Ok(Symbols { tables })
 }
 
+// A key that is made of all names and codes, so that nobody can choose them to collide.
+fn key_of(items: &[Item]) -> Key {
+    let mut digest = NamesDigest::new();
+    for item in items {
+        match item {
+            Item::Variable(variable) => {
+                digest.take(variable.name.bytes());
+                if let Role::Input(code) = &variable.role {
+                    digest.take(code.bytes());
+                }
+            }
+            Item::Error(error) => digest.take(error.name.bytes()),
+            Item::Rule(_) | Item::Verif(_) | Item::Silent(_) => {}
+        }
+    }
+    digest.key()
+}
+
 // Tables of no declarations.
-fn no_tables(alloc: Global) -> Tables
+fn no_tables(alloc: Global, key: Key) -> Tables
     ensures none { declared_in result ≡ declared_by [] }
     ensures indexed { AreIndexed result }
 {
     Tables {
         variables: Vec::new(alloc),
-        names: Names::new(alloc),
+        names: Names::under(alloc, key),
         owners: Vec::new(alloc),
         inputs: Vec::new(alloc),
-        codes: Names::new(alloc),
+        codes: Names::under(alloc, key),
         errors: Vec::new(alloc),
-        error_names: Names::new(alloc),
+        error_names: Names::under(alloc, key),
     }
 }
 
