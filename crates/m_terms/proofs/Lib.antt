@@ -1,0 +1,11 @@
+pub mod Chains
+pub mod Exits
+pub mod Depths
+pub mod DepthLaws
+pub mod Sound
+pub mod Passes
+pub mod Complete
+pub mod HeaderLaws
+pub mod MemberLaws
+pub mod TermLaws
+pub mod Answered

@@ -1,0 +1,57 @@
+-- What the public calls say: which term, or which header, stands between two positions of the tokens.
+use Rattle.std.specs.Prelude.{ℕ, ◌<◌, List, drop, Option, Some, None, length}
+use Rattle.m_lexer.specs.declared.token.Token.{Token}
+use Rattle.m_lexer.specs.declared.token.Kind.{Kind}
+use Rattle.m_lexer.specs.declared.token.Kind.TheVariants.{Key, Sign}
+use Rattle.m_lexer.specs.declared.token.Key.TheVariants.{Alors, Sinon, Finsi}
+use Rattle.m_lexer.specs.declared.token.Sign.TheVariants.{CloseParen, CloseBracket, Comma, Semicolon, Colon}
+use Rattle.m_places.specs.declared.limits.TheConstants.{BRACKET_DEPTH}
+use Rattle.m_ast.specs.Syntax.{Syntax}
+use Rattle.m_ast.specs.declared.header.Header.{Header}
+use Rattle.m_terms.specs.Tokens.{First, is_sign}
+use Rattle.m_terms.specs.Headers.{SpellsHeader}
+use Rattle.m_terms.specs.Grammar.{SpellsExpr, SpellsInner}
+
+-- expr: a term in which brackets and conditionals stand at most 256 deep inside of one another
+abbrev pub SpellsTerm : Syntax → List Token → List Token → Type 0
+SpellsTerm = SpellsExpr (SpellsInner BRACKET_DEPTH)
+
+-- what may follow a term: `;` `)` `]` `,` `alors` `sinon` `finsi`
+abbrev pub follows_of : Kind → Option (Unit {0})
+follows_of (Sign Semicolon) = Some tt
+follows_of (Sign CloseParen) = Some tt
+follows_of (Sign CloseBracket) = Some tt
+follows_of (Sign Comma) = Some tt
+follows_of (Key Alors) = Some tt
+follows_of (Key Sinon) = Some tt
+follows_of (Key Finsi) = Some tt
+follows_of _ = None
+
+abbrev pub follows : Token → Option (Unit {0})
+follows t = follows_of t.kind
+
+-- these tokens begin with one of which the table says something
+abbrev pub BeginsBy : (Token → Option (Unit {0})) → List Token → Type 0
+BeginsBy table ts = (rest : List Token) × First table tt ts rest
+
+-- The tokens from one position to a later one spell the term, and a token that may follow a term stands there: in the tokens
+-- of `A + 1 ;` the term `A + 1` stands from 0 to 3.
+pub record TermStands (tokens : List Token) (from : ℕ) (term : Syntax) (to : ℕ) : Type 0 where
+  pub onward : from < to
+  pub within : to < length tokens
+  pub spelled : SpellsTerm term (drop from tokens) (drop to tokens)
+  pub closed : BeginsBy follows (drop to tokens)
+
+-- The tokens from one position to a later one spell the header, and `:` stands there.
+pub record HeaderStands (tokens : List Token) (from : ℕ) (header : Header) (to : ℕ) : Type 0 where
+  pub onward : from < to
+  pub within : to < length tokens
+  pub spelled : SpellsHeader header (drop from tokens) (drop to tokens)
+  pub closed : BeginsBy (is_sign Colon) (drop to tokens)
+
+-- no term, and no header, stands from this position on
+abbrev pub NoTermStands : List Token → ℕ → Type 0
+NoTermStands tokens from = (term : Syntax) (to : ℕ) → TermStands tokens from term to → ⊥
+
+abbrev pub NoHeaderStands : List Token → ℕ → Type 0
+NoHeaderStands tokens from = (header : Header) (to : ℕ) → HeaderStands tokens from header to → ⊥

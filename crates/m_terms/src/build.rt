@@ -1,0 +1,66 @@
+//! Terms in boxes, each made of its parts.
+ghost use Rattle.std.specs.Prelude.{◌≡◌, IfOk};
+ghost use Rattle.m_ast.specs.View.{syntax_of};
+ghost use Rattle.m_terms.specs.Grammar.{one, two, three, gathered};
+
+use m_ast::{Link, Node, Term, made};
+use m_fixed::Op;
+use std::alloc::{AllocError, Global};
+
+/// A node in a box.
+pub fn boxed(alloc: Global, node: Node) -> Result<Box<Term>, AllocError>
+    ensures { IfOk result (λ t. t.value ≡ syntax_of node) }
+{
+    Ok(Box::new(alloc, made(node))?)
+}
+
+/// An operator on one term.
+pub fn applied(alloc: Global, op: Op, a: Box<Term>) -> Result<Box<Term>, AllocError>
+    ensures { IfOk result (λ t. t.value ≡ one op a.value) }
+{
+    let mut arguments = Vec::with_capacity(alloc, 1)?;
+    arguments.push(Box::into_inner(a))?;
+    boxed(alloc, Node::Apply(op, arguments))
+}
+
+/// An operator on two terms.
+pub fn applied_to_two(
+    alloc: Global,
+    op: Op,
+    a: Box<Term>,
+    b: Box<Term>,
+) -> Result<Box<Term>, AllocError>
+    ensures { IfOk result (λ t. t.value ≡ two op a.value b.value) }
+{
+    let mut arguments = Vec::with_capacity(alloc, 2)?;
+    arguments.push(Box::into_inner(a))?;
+    arguments.push(Box::into_inner(b))?;
+    boxed(alloc, Node::Apply(op, arguments))
+}
+
+/// An operator on three terms.
+pub fn applied_to_three(
+    alloc: Global,
+    op: Op,
+    a: Box<Term>,
+    b: Box<Term>,
+    c: Box<Term>,
+) -> Result<Box<Term>, AllocError>
+    ensures { IfOk result (λ t. t.value ≡ three op a.value b.value c.value) }
+{
+    let mut arguments = Vec::with_capacity(alloc, 3)?;
+    arguments.push(Box::into_inner(a))?;
+    arguments.push(Box::into_inner(b))?;
+    arguments.push(Box::into_inner(c))?;
+    boxed(alloc, Node::Apply(op, arguments))
+}
+
+/// A first operand and what is joined to it: where nothing is, the operand.
+pub fn chained(alloc: Global, first: Box<Term>, links: Vec<Link>) -> Result<Box<Term>, AllocError>
+    ensures { IfOk result (λ t. t.value ≡ gathered first.value links.items) }
+{
+    if links.is_empty() {
+        return Ok(first);
+    }
+    boxed(alloc, Node::Chain(first, links))
+}

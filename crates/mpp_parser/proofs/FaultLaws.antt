@@ -1,0 +1,59 @@
+-- Bytes spell at most one driver, and have no fault where they spell one.
+use Rattle.std.proofs.Common.{◌≡◌, ℕ, List, [], ◌∷◌, Result, Ok, Err, refl, subst, arith}
+use Rattle.m_places.specs.Refusals.{Outcome}
+use Rattle.m_text.specs.Lines.{lines_of}
+use Rattle.mpp_lexer.specs.declared.piece.Line.{Line}
+use Rattle.mpp_lexer.specs.declared.fault.DriverFault.{DriverFault}
+use Rattle.mpp_lexer.specs.declared.fault.DriverFault.TheVariants.{DriverToken, DriverTooDeep, DriverSyntax, Memory}
+use Rattle.mpp_lexer.proofs.OneReading.{one_list, lines_or_fault}
+use Rattle.mpp_parser.specs.declared.command.Driver.{Driver}
+use Rattle.mpp_parser.specs.declared.command.Function.{Function}
+use Rattle.mpp_parser.specs.Depths.{FirstTooDeep, here, later, Shallow, none, next}
+use Rattle.mpp_parser.specs.Drivers.{SpellsDriver, IsLongest}
+use Rattle.mpp_parser.specs.Faults.{HasLines, IsDriver, StopsAt, IsLineFault, IsFault}
+use Rattle.mpp_parser.specs.inner.Blocks.{functions_at}
+use Rattle.mpp_parser.proofs.DriverLaws.{one_driver, driver_read, driver_longest}
+
+-- what the reading of lines is
+pub read_all : (ls : List Line) (fs : List Function) (rest : List Line) → functions_at ls ≡ (fs, rest) → rest ≡ [] → SpellsDriver (record { functions = fs }) ls []
+read_all ls fs rest e f = subst (λ r. SpellsDriver (record { functions = fs }) ls r) f (subst (λ (x : List Function × List Line). SpellsDriver (record { functions = x.0 }) ls x.1) e (driver_read ls))
+
+pub read_stops : (ls : List Line) (fs : List Function) (rest : List Line) (l : Line) (others : List Line) → functions_at ls ≡ (fs, rest) → rest ≡ l ∷ others → StopsAt ls l.number
+read_stops ls fs rest l others e f = record {
+  driver = record { functions = fs };
+  line = l;
+  others = others;
+  spelled = subst (λ r. SpellsDriver (record { functions = fs }) ls r) f (subst (λ (x : List Function × List Line). SpellsDriver (record { functions = x.0 }) ls x.1) e (driver_read ls));
+  longest = subst (λ r. IsLongest ls r) f (subst (λ (x : List Function × List Line). IsLongest ls x.1) e (driver_longest ls));
+  numbered = refl;
+}
+
+pub one_driver_of : (bytes : List ℕ) (d e : Driver) → IsDriver bytes d → IsDriver bytes e → d ≡ e
+one_driver_of bytes d e a b =
+    let same = one_list 1 (lines_of bytes) b.lines a.lines b.lexed a.lexed in
+    one_driver a.lines [] d e a.spelled (subst (λ ls. SpellsDriver e ls []) same b.spelled) (λ x r m. omega arith)
+
+shallow_or_deep : {earlier ls : List Line} {n : ℕ} → Shallow earlier ls → FirstTooDeep earlier ls n → ⊥
+shallow_or_deep none d = elim d [ ]
+shallow_or_deep (next e s) (here f) = cc
+shallow_or_deep (next e s) (later f d) = shallow_or_deep s d
+
+pub driver_or_fault : (bytes : List ℕ) (d : Driver) (fault : DriverFault) → IsDriver bytes d → IsFault bytes fault → ⊥
+driver_or_fault bytes d (DriverToken n) a f = lines_or_fault 1 (lines_of bytes) a.lines n a.lexed f
+driver_or_fault bytes d (DriverTooDeep n) a f =
+    let same = one_list 1 (lines_of bytes) a.lines f.0 a.lexed f.1 in
+    shallow_or_deep (subst (Shallow []) same a.shallow) f.2
+driver_or_fault bytes d (DriverSyntax n) a f =
+    let same = one_list 1 (lines_of bytes) a.lines f.0 a.lexed f.1 in
+    let stop = f.3 in
+    let short = stop.longest d [] (subst (λ ls. SpellsDriver d ls []) same a.spelled) in
+    omega arith
+driver_or_fault bytes d Memory a f = f
+
+-- what holds of the lines of bytes holds of the bytes
+pub of_bytes : (bytes : List ℕ) (ls : List Line) (result : Result Driver DriverFault) → HasLines bytes ls → Outcome Memory result (λ driver. Shallow [] ls × SpellsDriver driver ls []) (IsLineFault ls) → Outcome Memory result (IsDriver bytes) (IsFault bytes)
+of_bytes bytes ls (Ok d) h o = record { lines = ls; lexed = h; shallow = o.0; spelled = o.1 }
+of_bytes bytes ls (Err (DriverToken n)) h o = λ ne. absurd (o ne)
+of_bytes bytes ls (Err (DriverTooDeep n)) h o = λ ne. (ls, h, o ne)
+of_bytes bytes ls (Err (DriverSyntax n)) h o = λ ne. (ls, h, (o ne).0, (o ne).1)
+of_bytes bytes ls (Err Memory) h o = λ ne. ne refl

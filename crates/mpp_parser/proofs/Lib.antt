@@ -1,0 +1,13 @@
+pub mod Digits
+pub mod Chains
+pub mod Exits
+pub mod Sound
+pub mod Complete
+pub mod Expressions
+pub mod Sentences
+pub mod BlockLaws
+pub mod CommandLaws
+pub mod DriverLaws
+pub mod Manys
+pub mod OuterLaws
+pub mod FaultLaws

@@ -1,0 +1,10 @@
+pub mod Keywords
+pub mod Trees
+pub mod TermView
+pub mod Commands
+pub mod CommandView
+pub mod Grammar
+pub mod inner
+pub mod Depths
+pub mod Drivers
+pub mod Faults

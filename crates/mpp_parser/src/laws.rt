@@ -1,0 +1,24 @@
+//! What holds of the definitions: bytes spell one driver or have faults, and not both.
+
+ghost use Rattle.std.specs.Prelude.{◌≡◌, ℕ, List};
+ghost use Rattle.mpp_lexer.specs.declared.fault.DriverFault.{DriverFault};
+ghost use Rattle.mpp_lexer.specs.declared.piece.Line.{Line};
+ghost use Rattle.mpp_parser.specs.declared.command.Driver.{Driver};
+ghost use Rattle.mpp_parser.specs.Drivers.{SpellsDriver, IsLongest};
+ghost use Rattle.mpp_parser.specs.Faults.{IsDriver, IsFault};
+
+/// The longest front of the lines that spells a driver spells one alone.
+pub fn one_longest_driver()
+    ensures { (ls rest : List Line) (d e : Driver) →
+        SpellsDriver d ls rest → SpellsDriver e ls rest → IsLongest ls rest → d ≡ e }
+{}
+
+/// The bytes spell at most one driver.
+pub fn one_driver()
+    ensures { (bytes : List ℕ) (d e : Driver) → IsDriver bytes d → IsDriver bytes e → d ≡ e }
+{}
+
+/// Bytes that spell a driver have no fault.
+pub fn no_driver_and_fault()
+    ensures { (bytes : List ℕ) (d : Driver) (fault : DriverFault) → IsDriver bytes d → IsFault bytes fault → ⊥ }
+{}
