@@ -19,7 +19,7 @@ same() {
 
 # Crates: the index, the folders, and the table of ARCHITECTURE under "The crates, and what each may not know".
 sed -n 's/^\([a-z][a-z0-9_]*\)[^:#]*:.*/\1/p' crates.txt | sort >"$room/index"
-for folder in crates/*/; do basename "$folder"; done | sort >"$room/folders"
+git ls-files crates | cut -d/ -f2 | sort -u >"$room/folders"
 awk '/^## /{in_table = /^## The crates/} in_table && /^\| [a-z][a-z0-9_]* \|/{print $2}' docs/ARCHITECTURE.md | sort >"$room/table"
 same "crates.txt and the folders of crates" "$room/index" "$room/folders"
 same "crates.txt and the table of crates in ARCHITECTURE" "$room/index" "$room/table"
