@@ -9,3 +9,4 @@ pub mod HeaderLaws
 pub mod MemberLaws
 pub mod TermLaws
 pub mod Answered
+pub mod Shallow

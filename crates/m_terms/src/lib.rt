@@ -14,4 +14,4 @@ mod reads;
 
 pub use depth::depth_fault;
 pub use fault::TermFault;
-pub use reads::{one_header, one_term, read_header, read_term};
+pub use reads::{one_header, one_term, read_header, read_term, shallow_terms};

@@ -1,5 +1,5 @@
 //! The public readers, from positions to trees and positions.
-ghost use Rattle.std.specs.Prelude.{◌≡◌, ℕ, ◌≤◌, length, List, drop, Result, Err};
+ghost use Rattle.std.specs.Prelude.{◌≡◌, ℕ, ◌≤◌, length, List, drop, None};
 ghost use Rattle.m_lexer.specs.declared.token.Token.{Token};
 ghost use Rattle.m_lexer.specs.declared.token.Sign.TheVariants.{Colon};
 ghost use Rattle.m_places.specs.Refusals.{Outcome};
@@ -7,6 +7,9 @@ ghost use Rattle.m_ast.specs.Syntax.{Syntax};
 ghost use Rattle.m_ast.specs.declared.header.Header.{Header};
 ghost use Rattle.m_terms.specs.declared.fault.TermFault.TheVariants.{Memory};
 ghost use Rattle.m_terms.specs.Tokens.{is_sign};
+ghost use Rattle.m_terms.specs.Depth.{first_too_deep};
+ghost use Rattle.m_terms.specs.Grammar.{SpellsExpr, SpellsInner};
+ghost use Rattle.m_places.specs.declared.limits.TheConstants.{BRACKET_DEPTH};
 ghost use Rattle.m_terms.specs.Headers.{SpellsHeader};
 ghost use Rattle.m_terms.specs.Terms.{SpellsTerm, BeginsBy, follows, TermStands, HeaderStands, NoTermStands, NoHeaderStands};
 
@@ -65,4 +68,10 @@ pub fn one_term()
 /// The tokens spell at most one header that ends before a `:`.
 pub fn one_header()
     ensures { (h k : Header) (ts r s : List Token) → SpellsHeader h ts r → BeginsBy (is_sign Colon) r → SpellsHeader k ts s → BeginsBy (is_sign Colon) s → (h ≡ k) × (r ≡ s) }
+{}
+
+/// Where no token is too deep, each term that is spelled has its brackets and conditionals at most
+/// 256 deep: `read_term` leaves none out.
+pub fn shallow_terms()
+    ensures { (tokens : List Token) (from d : ℕ) (t : Syntax) (rest : List Token) → first_too_deep BRACKET_DEPTH 0 tokens ≡ None → SpellsExpr (SpellsInner d) t (drop from tokens) rest → SpellsTerm t (drop from tokens) rest }
 {}
