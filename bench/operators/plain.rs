@@ -48,6 +48,49 @@ fn truth(test: bool) -> Option<i128> {
     Some(if test { 1_000_000 } else { 0 })
 }
 
+/// Digits by `parse::<i64>`, and digits written into a room from its end.
+fn timed_texts(xs: &[i128]) {
+    let texts: Vec<String> = xs.iter().map(|x| x.to_string()).collect();
+    let (mut write, mut read) = (u128::MAX, u128::MAX);
+    for _ in 0..5 {
+        let start = Instant::now();
+        let mut total = 0u64;
+        for _ in 0..TURNS {
+            for x in xs {
+                total = total.wrapping_add(written(black_box(*x as i64)));
+            }
+        }
+        write = write.min(start.elapsed().as_nanos());
+        black_box(total);
+        let start = Instant::now();
+        let mut total = 0;
+        for _ in 0..TURNS {
+            for text in &texts {
+                total = folded(total, black_box(text).parse::<i64>().ok().map(i128::from));
+            }
+        }
+        read = read.min(start.elapsed().as_nanos());
+        black_box(total);
+    }
+    println!("write {write}\nread {read}");
+}
+
+fn written(x: i64) -> u64 {
+    let mut room = [0u8; 20];
+    let mut at = 20;
+    let mut rest = x.unsigned_abs();
+    loop {
+        at -= 1;
+        room[at] = b'0' + (rest % 10) as u8;
+        rest /= 10;
+        if rest == 0 {
+            break;
+        }
+    }
+    black_box(&room);
+    20 - at as u64
+}
+
 fn main() {
     let (xs, ys) = (amounts(1), amounts(2));
     timed("Add", &xs, &ys, |x, y| x.checked_add(y));
@@ -79,4 +122,5 @@ fn main() {
     timed("Truth", &xs, &ys, |x, _| truth(x != 0));
     timed("Choose", &xs, &ys, |x, y| Some(if x != 0 { y } else { x }));
     timed("At", &xs, &ys, |x, y| truth(x / 1_000_000 == y / 1_000_000));
+    timed_texts(&xs);
 }

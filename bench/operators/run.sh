@@ -1,23 +1,35 @@
 #!/bin/sh
-# Times each operator of m_fixed beside the plain i128 operation, in one run on this machine, and
-# prints a table of nanoseconds for one operation. Needs rt and rustc; leaves nothing behind.
+# Times each operator of m_fixed, and reading and writing an amount, beside plain Rust, in one run on
+# this machine, and prints tables of nanoseconds for one operation. With the top of an older clone as
+# its argument it times that one too, by turns. Needs rt and rustc; leaves nothing behind.
+#
+#   run.sh [OLDER_CLONE]
+#
+# With WORK set to a folder it builds there and keeps what it built.
 set -eu
 here=$(cd "$(dirname "$0")" && pwd)
 top=$(cd "$here/../.." && pwd)
-work=$(mktemp -d)
-trap 'rm -rf "$work"' EXIT
+older=$(cd "${1:-$top}" && pwd)
+work=${WORK:-$(mktemp -d)}
+[ -n "${WORK:-}" ] || trap 'rm -rf "$work"' EXIT
 
-mkdir -p "$work/crates/timer/src"
-printf 'm_fixed:\ntimer: m_fixed\n' >"$work/crates.txt"
-mkdir -p "$work/crates/m_fixed"
-cp -r "$top/crates/m_fixed/src" "$top/crates/m_fixed/specs" "$top/crates/m_fixed/proofs" "$work/crates/m_fixed/"
-cat >"$work/crates/timer/src/main.rt" <<'PROGRAM'
+# timer NAME TOP: builds the timing program over the m_fixed of a clone.
+timer() {
+    mkdir -p "$work/$1/crates/timer/src" "$work/$1/crates/m_fixed"
+    printf 'm_fixed:\ntimer: m_fixed\n' >"$work/$1/crates.txt"
+    rm -rf "$work/$1/crates/m_fixed/src"
+    cp -r "$2/crates/m_fixed/src" "$2/crates/m_fixed/specs" "$2/crates/m_fixed/proofs" "$work/$1/crates/m_fixed/"
+    cp "$work/main.rt" "$work/$1/crates/timer/src/main.rt"
+    (cd "$work/$1/crates/timer" && rt run) >"$work/$1.first" 2>"$work/rt.log" || { tail -20 "$work/rt.log"; exit 1; }
+}
+
+cat >"$work/main.rt" <<'PROGRAM'
 //! Times a million of each operator, five times. Prints `NAME NANOSECONDS`, the least time.
 #![tactic(auto)]
 
 ghost use Rattle.std.specs.Prelude.{ℕ};
 
-use m_fixed::{Amount, Op, Value, apply};
+use m_fixed::{Amount, Op, Value, apply, read_amount, write_amount};
 use std::alloc::{AllocError, Global};
 use std::io;
 use std::time::Instant;
@@ -33,12 +45,25 @@ fn value(millionths: i128) -> Value {
     }
 }
 
-fn values(alloc: Global, seed: u64) -> Result<Vec<Value>, AllocError> {
+/// Amounts of up to 550,000 units.
+fn usual(alloc: Global, seed: u64) -> Result<Vec<Value>, AllocError> {
     let mut all = Vec::new(alloc);
     let mut state = seed;
     for _ in 0..1_000 {
         state = next(state);
         all.push(value((state >> 24) as i128 - 549_755_813_888))?;
+    }
+    Ok(all)
+}
+
+/// Amounts of up to the greatest one.
+fn great(alloc: Global, seed: u64) -> Result<Vec<Value>, AllocError> {
+    let mut all = Vec::new(alloc);
+    let mut state = seed;
+    for _ in 0..1_000 {
+        state = next(state);
+        let size = (state >> 1) as i128;
+        all.push(value(if size % 2 == 0 { size } else { -size }))?;
     }
     Ok(all)
 }
@@ -50,68 +75,28 @@ fn folded(total: u64, given: Value) -> u64 {
     }
 }
 
-fn run<F: Fn(Value, Value) -> Value>(xs: &[Value], ys: &[Value], f: &F) -> u64
-    requires { F.IsAlwaysCallable f.now }
-{
+OWN_RUNS
+
+fn run_any(op: Op, xs: &[Value], ys: &[Value]) -> u64 {
     let mut total = 0;
     for _ in 0..1_000 {
         for (x, y) in xs.iter().zip(ys) {
-            total = folded(total, f(*x, *y));
+            total = folded(total, apply(op, *x, *y, Value::Undef));
         }
     }
     total
 }
 
-/// The least time of five, in nanoseconds.
-fn timed<F: Fn(Value, Value) -> Value>(rt: &HostRuntime, name: &str, xs: &[Value], ys: &[Value], f: F) -> io::Result<()>
-    requires { F.IsAlwaysCallable f }
-{
+/// The least time of five, in nanoseconds. The operator is known in the function that is timed, or is data.
+fn timed(rt: &HostRuntime, op: Op, known: bool, xs: &[Value], ys: &[Value]) -> io::Result<()> {
     let mut best = u128::MAX;
     let mut total = 0;
     for _ in 0..5 {
         let start = Instant::now(rt)?;
-        total ^= run(xs, ys, &f);
+        total ^= if known { run_known(op, xs, ys) } else { run_any(op, xs, ys) };
         best = best.min(start.elapsed(rt)?.as_nanos());
     }
-    println!(rt; "{name} {best} {total}")?;
-    Ok(())
-}
-
-fn group_1(rt: &HostRuntime, xs: &[Value], ys: &[Value]) -> io::Result<()> {
-    timed(rt, "Add", xs, ys, |x: Value, y: Value| apply(Op::Add, x, y, Value::Undef))?;
-    timed(rt, "Sub", xs, ys, |x: Value, y: Value| apply(Op::Sub, x, y, Value::Undef))?;
-    timed(rt, "Mul", xs, ys, |x: Value, y: Value| apply(Op::Mul, x, y, Value::Undef))?;
-    timed(rt, "Div", xs, ys, |x: Value, y: Value| apply(Op::Div, x, y, Value::Undef))?;
-    timed(rt, "Neg", xs, ys, |x: Value, y: Value| apply(Op::Neg, x, y, Value::Undef))?;
-    timed(rt, "Eq", xs, ys, |x: Value, y: Value| apply(Op::Eq, x, y, Value::Undef))?;
-    timed(rt, "Ne", xs, ys, |x: Value, y: Value| apply(Op::Ne, x, y, Value::Undef))?;
-    timed(rt, "Lt", xs, ys, |x: Value, y: Value| apply(Op::Lt, x, y, Value::Undef))?;
-    timed(rt, "Le", xs, ys, |x: Value, y: Value| apply(Op::Le, x, y, Value::Undef))?;
-    Ok(())
-}
-
-fn group_2(rt: &HostRuntime, xs: &[Value], ys: &[Value]) -> io::Result<()> {
-    timed(rt, "Gt", xs, ys, |x: Value, y: Value| apply(Op::Gt, x, y, Value::Undef))?;
-    timed(rt, "Ge", xs, ys, |x: Value, y: Value| apply(Op::Ge, x, y, Value::Undef))?;
-    timed(rt, "And", xs, ys, |x: Value, y: Value| apply(Op::And, x, y, Value::Undef))?;
-    timed(rt, "Or", xs, ys, |x: Value, y: Value| apply(Op::Or, x, y, Value::Undef))?;
-    timed(rt, "Not", xs, ys, |x: Value, y: Value| apply(Op::Not, x, y, Value::Undef))?;
-    timed(rt, "Present", xs, ys, |x: Value, y: Value| apply(Op::Present, x, y, Value::Undef))?;
-    timed(rt, "Abs", xs, ys, |x: Value, y: Value| apply(Op::Abs, x, y, Value::Undef))?;
-    timed(rt, "Positive", xs, ys, |x: Value, y: Value| apply(Op::Positive, x, y, Value::Undef))?;
-    timed(rt, "PositiveOrNull", xs, ys, |x: Value, y: Value| apply(Op::PositiveOrNull, x, y, Value::Undef))?;
-    Ok(())
-}
-
-fn group_3(rt: &HostRuntime, xs: &[Value], ys: &[Value]) -> io::Result<()> {
-    timed(rt, "Null", xs, ys, |x: Value, y: Value| apply(Op::Null, x, y, Value::Undef))?;
-    timed(rt, "Arr", xs, ys, |x: Value, y: Value| apply(Op::Arr, x, y, Value::Undef))?;
-    timed(rt, "Inf", xs, ys, |x: Value, y: Value| apply(Op::Inf, x, y, Value::Undef))?;
-    timed(rt, "Max", xs, ys, |x: Value, y: Value| apply(Op::Max, x, y, Value::Undef))?;
-    timed(rt, "Min", xs, ys, |x: Value, y: Value| apply(Op::Min, x, y, Value::Undef))?;
-    timed(rt, "Truth", xs, ys, |x: Value, y: Value| apply(Op::Truth, x, y, Value::Undef))?;
-    timed(rt, "Choose", xs, ys, |x: Value, y: Value| apply(Op::Choose, x, y, Value::Undef))?;
-    timed(rt, "At", xs, ys, |x: Value, y: Value| apply(Op::At, x, y, Value::Undef))?;
+    println!(rt; "{op:?} {best} {total}")?;
     Ok(())
 }
 
@@ -121,26 +106,128 @@ static OPERATORS: [Op; 26] = [
     Op::Truth, Op::Choose, Op::At,
 ];
 
-fn main(rt: HostRuntime) -> io::Result<()> {
-    let xs = values(rt.alloc(), 1)?;
-    let ys = values(rt.alloc(), 2)?;
-    group_1(&rt, xs.as_slice(), ys.as_slice())?;
-    group_2(&rt, xs.as_slice(), ys.as_slice())?;
-    group_3(&rt, xs.as_slice(), ys.as_slice())?;
+fn all(rt: &HostRuntime, known: bool, xs: &[Value], ys: &[Value]) -> io::Result<()> {
     for op in &OPERATORS {
-        timed(&rt, "any", xs.as_slice(), ys.as_slice(), |x: Value, y: Value| apply(*op, x, y, Value::Undef))?;
+        timed(rt, *op, known, xs, ys)?;
     }
     Ok(())
 }
-PROGRAM
-(cd "$work/crates/timer" && rt run) >"$work/operators.txt" 2>"$work/rt.log" || { tail -20 "$work/rt.log"; exit 1; }
-rustc -O -o "$work/plain" "$here/plain.rs"
-"$work/plain" >"$work/plain.txt"
 
-echo "| Operator | apply, ns | with the operator as data, ns | plain i128, ns | times |"
-echo "|---|---|---|---|---|"
-awk 'FILENAME ~ /plain/ { plain[$1] = $2; next }
-    $1 == "any" { data[++seen] = $2; next }
-    { name[++count] = $1; known[count] = $2 }
-    END { for (i = 1; i <= count; i++) printf "| %s | %.2f | %.2f | %.2f | %.1f |\n", name[i], known[i] / 1e6, data[i] / 1e6, plain[name[i]] / 1e6, known[i] / plain[name[i]] }' \
-    "$work/plain.txt" "$work/operators.txt"
+fn run_written(xs: &[Value], room: &mut [u8; 32]) -> u64 {
+    let mut total = 0u64;
+    for _ in 0..1_000 {
+        for x in xs {
+            if let Value::Num(amount) = x {
+                total = total.wrapping_add(write_amount(*amount, room) as u64);
+            }
+        }
+    }
+    total
+}
+
+fn time_written(rt: &HostRuntime, xs: &[Value]) -> io::Result<()> {
+    let mut best = u128::MAX;
+    let mut total = 0;
+    let mut room = [b'0'; 32];
+    for _ in 0..5 {
+        let start = Instant::now(rt)?;
+        total ^= run_written(xs, &mut room);
+        best = best.min(start.elapsed(rt)?.as_nanos());
+    }
+    let minus = room[0] == b'-';
+    println!(rt; "write {best} {total} {minus}")?;
+    Ok(())
+}
+
+fn texts(alloc: Global, xs: &[Value]) -> Result<Vec<Vec<u8>>, AllocError> {
+    let mut all = Vec::new(alloc);
+    for x in xs {
+        let mut room = [0; 32];
+        let mut text = Vec::new(alloc);
+        if let Value::Num(amount) = x {
+            let end = write_amount(*amount, &mut room);
+            for i in 0..32 {
+                if i < end {
+                    text.push(room[i])?;
+                }
+            }
+        }
+        all.push(text)?;
+    }
+    Ok(all)
+}
+
+fn run_read(texts: &[Vec<u8>]) -> u64 {
+    let mut total = 0u64;
+    for _ in 0..1_000 {
+        for text in texts {
+            if let Ok(amount) = read_amount(text.as_slice()) {
+                total = folded(total, Value::Num(amount));
+            }
+        }
+    }
+    total
+}
+
+fn time_read(rt: &HostRuntime, xs: &[Value]) -> io::Result<()> {
+    let texts = texts(rt.alloc(), xs)?;
+    let mut best = u128::MAX;
+    let mut total = 0;
+    for _ in 0..5 {
+        let start = Instant::now(rt)?;
+        total ^= run_read(texts.as_slice());
+        best = best.min(start.elapsed(rt)?.as_nanos());
+    }
+    println!(rt; "read {best} {total}")?;
+    Ok(())
+}
+
+fn main(rt: HostRuntime) -> io::Result<()> {
+    let xs = usual(rt.alloc(), 1)?;
+    let ys = usual(rt.alloc(), 2)?;
+    all(&rt, true, xs.as_slice(), ys.as_slice())?;
+    all(&rt, false, xs.as_slice(), ys.as_slice())?;
+    time_written(&rt, xs.as_slice())?;
+    time_read(&rt, xs.as_slice())?;
+    println!(rt; "great 0 0")?;
+    let xs = great(rt.alloc(), 1)?;
+    let ys = great(rt.alloc(), 2)?;
+    all(&rt, true, xs.as_slice(), ys.as_slice())?;
+    Ok(())
+}
+PROGRAM
+
+# The operators, as functions that know theirs.
+operators=$(sed -n 's/^    \([A-Z][A-Za-z]*\),$/\1/p' "$top/crates/m_fixed/src/operator.rt")
+for op in $operators; do
+    cat <<RUN
+fn run_$(echo "$op" | tr A-Z a-z)(xs: &[Value], ys: &[Value]) -> u64 {
+    let mut total = 0;
+    for _ in 0..1_000 {
+        for (x, y) in xs.iter().zip(ys) {
+            total = folded(total, apply(Op::$op, *x, *y, Value::Undef));
+        }
+    }
+    total
+}
+
+RUN
+done >"$work/runs"
+{
+    cat "$work/runs"
+    echo 'fn run_known(op: Op, xs: &[Value], ys: &[Value]) -> u64 {'
+    echo '    match op {'
+    for op in $operators; do echo "        Op::$op => run_$(echo "$op" | tr A-Z a-z)(xs, ys),"; done
+    echo '    }'
+    echo '}'
+} >"$work/own_runs"
+sed -i -e "/^OWN_RUNS$/{r $work/own_runs" -e 'd}' "$work/main.rt"
+timer new "$top"
+if [ "$older" = "$top" ]; then cp -r "$work/new" "$work/old"; else timer old "$older"; fi
+rustc -O -o "$work/plain" "$here/plain.rs"
+for turn in 1 2 3; do
+    "$work/plain" >"$work/plain.$turn"
+    "$work/old/crates/timer/out/timer" >"$work/old.$turn"
+    "$work/new/crates/timer/out/timer" >"$work/new.$turn"
+done
+python3 "$here/table.py" "$work"

@@ -1,13 +1,17 @@
 //! An amount and a value. Contracts see an amount as its whole number of millionths.
-ghost use Rattle.std.specs.Prelude.{◌≡◌, SomeIff, pos, ◌≤◌, unsigned_abs};
+ghost use Rattle.std.specs.Prelude.{◌≡◌, SomeIff, pos, ◌≤◌, unsigned_abs, neg_ℤ};
 ghost use Rattle.std.specs.Int.{is_negative};
-ghost use Rattle.m_fixed.specs.Amounts.{IsAmount, most};
+ghost use Rattle.m_fixed.specs.Amounts.{IsAmount, unit, most};
 ghost use Rattle.m_fixed.specs.Rounding.{signed};
+ghost use Rattle.m_fixed.specs.Operators.{bounded};
 
 use std::marker::Model;
 
+/// One unit, in millionths.
+pub(crate) const UNIT: u64 = 1_000_000;
+
 /// The greatest absolute value of an amount, in millionths.
-const MOST: i128 = 10_000_000_000_000_000_000;
+pub(crate) const MOST: u64 = 10_000_000_000_000_000_000;
 
 /// An amount: a whole number of millionths, at most 10^19 of them above or below zero.
 #[derive(Clone, Copy, Debug, PartialEq, Eq)]
@@ -34,7 +38,7 @@ impl Amount {
     pub fn new(millionths: i128) -> Option<Amount>
         ensures { SomeIff result (IsAmount millionths) millionths }
     {
-        if millionths < -MOST || millionths > MOST {
+        if millionths.unsigned_abs() > MOST as u128 {
             return None;
         }
         Some(Amount { millionths })
@@ -45,6 +49,42 @@ impl Amount {
         ensures { result ≡ pos 0 }
     {
         Amount { millionths: 0 }
+    }
+
+    /// One unit.
+    pub(crate) fn one() -> Amount
+        ensures { result ≡ pos unit }
+    {
+        Amount {
+            millionths: UNIT as i128,
+        }
+    }
+
+    /// As much on the other side of zero.
+    pub(crate) fn negated(self) -> Amount
+        ensures { result ≡ neg_ℤ self }
+    {
+        Amount {
+            millionths: -self.millionths,
+        }
+    }
+
+    /// As much, and not below zero.
+    pub(crate) fn absolute(self) -> Amount
+        ensures { result ≡ pos (unsigned_abs self) }
+    {
+        Amount {
+            millionths: self.millionths.abs(),
+        }
+    }
+
+    /// It as a value. An amount is never beyond the greatest one.
+    pub(crate) fn value(self) -> Value
+        ensures { result ≡ bounded self }
+    {
+        Value::Num(Amount {
+            millionths: self.millionths,
+        })
     }
 
     /// So many millionths, below zero or not.

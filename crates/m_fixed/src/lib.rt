@@ -5,6 +5,7 @@
 #![tactic(auto)]
 
 mod amount;
+mod divide;
 pub mod laws;
 mod operator;
 mod read;

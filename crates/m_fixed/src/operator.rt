@@ -75,6 +75,20 @@ pub fn arity(op: Op) -> u8
         | Op::Inf
         | Op::Truth => 1,
         Op::Choose => 3,
-        _ => 2,
+        Op::Add
+        | Op::Sub
+        | Op::Mul
+        | Op::Div
+        | Op::Eq
+        | Op::Ne
+        | Op::Lt
+        | Op::Le
+        | Op::Gt
+        | Op::Ge
+        | Op::And
+        | Op::Or
+        | Op::Max
+        | Op::Min
+        | Op::At => 2,
     }
 }

@@ -6,6 +6,7 @@ ghost use Rattle.m_fixed.specs.Rounding.{nearest};
 ghost use Rattle.m_fixed.specs.Text.{text_value, without_minus, amount_read, number_value, number_read, is_digits, only_digits, before_point, behind_point, millionths_of};
 
 use crate::Amount;
+use crate::amount::{MOST, UNIT};
 
 /// Why a text is not read as an amount.
 #[derive(Clone, Copy, Debug, PartialEq, Eq)]
@@ -16,14 +17,8 @@ pub enum AmountFault {
     TooGreat,
 }
 
-/// One unit, in millionths.
-const UNIT: u64 = 1_000_000;
-
 /// More whole units than any amount has.
 const UNITS_ABOVE: u64 = 10_000_000_000_001;
-
-/// The most millionths of an amount.
-const MOST: u64 = 10_000_000_000_000_000_000;
 
 /// The amount that a text spells: a minus or nothing, digits, and behind a point decimals. It is
 /// rounded at the sixth decimal, halves away from zero: `-0.1234565` is -0.123457.

@@ -1,14 +1,10 @@
-//! What each operator gives. All arithmetic stays within `i128` and `u128`.
-ghost use Rattle.std.specs.Prelude.{◌≡◌, if◌then◌else◌, ◌≤◌, ◌≢◌, ℕ, pos, unsigned_abs, ◌*ℤ◌, ◌+ℤ◌, ◌-ℤ◌, neg_ℤ, int_div, ◌^◌, ◌<◌, not, IsTrue};
-ghost use Rattle.std.specs.Int.{is_negative, int_div_euclid};
-ghost use Rattle.m_fixed.specs.Amounts.{IsAmount, unit, most};
-ghost use Rattle.m_fixed.specs.Rounding.{rounded, signed, nearest};
-ghost use Rattle.m_fixed.specs.Operators.{op_value, of_one, of_two, chosen, truth_of, bounded, counts_undefined_as_zero, result_of, truth, cut, floor, units, quotient, is_zero};
+//! What each operator gives.
+ghost use Rattle.std.specs.Prelude.{◌≡◌, if◌then◌else◌};
+ghost use Rattle.std.specs.Int.{int_min, int_max};
+ghost use Rattle.m_fixed.specs.Operators.{op_value, of_one, of_two, chosen, truth_of, bounded, counts_undefined_as_zero, result_of, truth};
 
+use crate::divide::{cut, nearest_units, product, quotient, units_not_above};
 use crate::{Amount, Op, Value};
-
-/// One unit, in millionths.
-const UNIT: i128 = 1_000_000;
 
 /// What the operator gives: of `Op::Div`, 2 and 3 units it is 0.666667, of `Op::Add`, 2 units and
 /// undefined it is 2 units. Arguments past its arity are ignored.
@@ -62,8 +58,8 @@ fn truth_value(a: Value) -> Value
     ensures { result ≡ truth_of a }
 {
     match a {
-        Value::Num(x) => number(as_number(x.millionths() != 0)),
-        Value::Undef | Value::Over => number(0),
+        Value::Num(x) => truth(x.millionths() != 0),
+        Value::Undef | Value::Over => truth(false),
     }
 }
 
@@ -75,12 +71,12 @@ fn apply_one(op: Op, a: Value) -> Value
         Value::Over => Value::Over,
         Value::Undef => {
             if op == Op::Present {
-                number(0)
+                truth(false)
             } else {
                 Value::Undef
             }
         }
-        Value::Num(x) => bounded(result_of(op, x, Amount::zero())),
+        Value::Num(x) => of_numbers(op, x, Amount::zero()),
     }
 }
 
@@ -98,7 +94,7 @@ fn apply_two(op: Op, a: Value, b: Value) -> Value
         Value::Num(x) => match b {
             Value::Over => Value::Over,
             Value::Undef => with_one_undefined(op, x, Amount::zero()),
-            Value::Num(y) => bounded(result_of(op, x, y)),
+            Value::Num(y) => of_numbers(op, x, y),
         },
     }
 }
@@ -108,8 +104,62 @@ fn with_one_undefined(op: Op, x: Amount, y: Amount) -> Value
     ensures { result ≡ (if counts_undefined_as_zero op then bounded (result_of op x y) else Value.Undef) }
 {
     match op {
-        Op::Add | Op::Sub | Op::Or | Op::Max | Op::Min => bounded(result_of(op, x, y)),
-        _ => Value::Undef,
+        Op::Add | Op::Sub | Op::Or | Op::Max | Op::Min => of_numbers(op, x, y),
+        Op::Mul
+        | Op::Div
+        | Op::Neg
+        | Op::Eq
+        | Op::Ne
+        | Op::Lt
+        | Op::Le
+        | Op::Gt
+        | Op::Ge
+        | Op::And
+        | Op::Not
+        | Op::Present
+        | Op::Abs
+        | Op::Positive
+        | Op::PositiveOrNull
+        | Op::Null
+        | Op::Arr
+        | Op::Inf
+        | Op::Truth
+        | Op::Choose
+        | Op::At => Value::Undef,
+    }
+}
+
+/// What the operator gives of two numbers; one of one argument looks at the first.
+fn of_numbers(op: Op, x: Amount, y: Amount) -> Value
+    ensures { result ≡ bounded (result_of op x y) }
+{
+    let (a, b) = (x.millionths(), y.millionths());
+    match op {
+        Op::Add => bounded(a + b),
+        Op::Sub => bounded(a - b),
+        Op::Mul => bounded(product(a, b)),
+        Op::Div => bounded(quotient(a, b)),
+        Op::Neg => x.negated().value(),
+        Op::Eq => truth(a == b),
+        Op::Ne => truth(a != b),
+        Op::Lt => truth(a < b),
+        Op::Le => truth(a <= b),
+        Op::Gt => truth(a > b),
+        Op::Ge => truth(a >= b),
+        Op::And => truth(a != 0 && b != 0),
+        Op::Or => truth(a != 0 || b != 0),
+        Op::Not | Op::Null => truth(a == 0),
+        Op::Present => truth(true),
+        Op::Abs => x.absolute().value(),
+        Op::Positive => truth(a > 0),
+        Op::PositiveOrNull => truth(a >= 0),
+        Op::Arr => bounded(nearest_units(x)),
+        Op::Inf => bounded(units_not_above(x)),
+        Op::Max => greater(x, y).value(),
+        Op::Min => lesser(x, y).value(),
+        Op::Truth => truth(a != 0),
+        Op::Choose => y.value(),
+        Op::At => truth(cut(x) == cut(y)),
     }
 }
 
@@ -123,136 +173,32 @@ fn bounded(millionths: i128) -> Value
     }
 }
 
-/// An amount as a value.
-fn number(millionths: i128) -> Value
-    requires { IsAmount millionths }
-    ensures { result ≡ Value.Num millionths }
+/// 1 for true and 0 for false.
+fn truth(test: bool) -> Value
+    ensures value { result ≡ Value.Num (truth test) }
+    ensures bounded { result ≡ bounded (truth test) }
 {
-    match Amount::new(millionths) {
-        Some(amount) => Value::Num(amount),
-        None => Value::Over,
-    }
+    Value::Num(if test { Amount::one() } else { Amount::zero() })
 }
 
-/// 1 for true and 0 for false, in millionths.
-fn as_number(test: bool) -> i128
-    ensures value { result ≡ truth test }
-    ensures bound { IsAmount result }
+/// The greater of two amounts.
+fn greater(x: Amount, y: Amount) -> Amount
+    ensures { result ≡ int_max x y }
 {
-    if test { UNIT } else { 0 }
-}
-
-/// What the operator gives of two numbers, in millionths; one of one argument looks at the first.
-fn result_of(op: Op, x: Amount, y: Amount) -> i128
-    ensures { result ≡ result_of op x y }
-{
-    let (x, y) = (x.millionths(), y.millionths());
-    match op {
-        Op::Add => x + y,
-        Op::Sub => x - y,
-        Op::Mul => rounded(product(x, y), UNIT),
-        Op::Div => quotient(x, y),
-        Op::Neg => -x,
-        Op::Eq => as_number(x == y),
-        Op::Ne => as_number(x != y),
-        Op::Lt => as_number(x < y),
-        Op::Le => as_number(x <= y),
-        Op::Gt => as_number(x > y),
-        Op::Ge => as_number(x >= y),
-        Op::And => as_number(x != 0 && y != 0),
-        Op::Or => as_number(x != 0 || y != 0),
-        Op::Not | Op::Null => as_number(x == 0),
-        Op::Present => UNIT,
-        Op::Abs => x.abs(),
-        Op::Positive => as_number(x > 0),
-        Op::PositiveOrNull => as_number(x >= 0),
-        Op::Arr => nearest_units(x),
-        Op::Inf => units_not_above(x + 1),
-        Op::Max => x.max(y),
-        Op::Min => x.min(y),
-        Op::Truth => as_number(x != 0),
-        Op::Choose => y,
-        Op::At => as_number(cut(x) == cut(y)),
-    }
-}
-
-/// The product of two amounts, in millionths of millionths: at most 10^38, and so below 2^127.
-fn product(x: i128, y: i128) -> i128
-    requires x_in { IsAmount x }
-    requires y_in { IsAmount y }
-    ensures value { result ≡ x *ℤ y }
-    ensures bound { unsigned_abs result ≤ 10 ^ 38 }
-{
-    x * y
-}
-
-/// `n / d` rounded to the nearest, halves away from zero.
-fn rounded(n: i128, d: i128) -> i128
-    requires n_small { unsigned_abs n ≤ 10 ^ 38 }
-    requires d_small { unsigned_abs d ≤ 2 ^ 64 }
-    requires not_zero { 0 < unsigned_abs d }
-    ensures { result ≡ rounded n d }
-{
-    let (size, by) = (n.unsigned_abs(), d.unsigned_abs());
-    signed((n < 0) != (d < 0), nearest(size, by))
-}
-
-/// `n / d` rounded to the nearest, halves up.
-fn nearest(n: u128, d: u128) -> u128
-    requires n_small { n ≤ 10 ^ 38 }
-    requires d_small { d ≤ 2 ^ 64 }
-    requires not_zero { 0 < d }
-    ensures value { result ≡ nearest n d }
-    ensures bound { result ≤ n }
-{
-    (2 * n + d) / (2 * d)
-}
-
-/// A size with a sign.
-fn signed(negative: bool, size: u128) -> i128
-    requires { size ≤ 10 ^ 38 }
-    ensures { result ≡ signed negative size }
-{
-    if negative {
-        -(size as i128)
+    if y.millionths() < x.millionths() {
+        x
     } else {
-        size as i128
+        y
     }
 }
 
-/// `x / y` in millionths, and 0 where y is 0.
-fn quotient(x: i128, y: i128) -> i128
-    requires x_in { IsAmount x }
-    requires y_in { IsAmount y }
-    ensures { result ≡ quotient x y }
+/// The lesser of two amounts.
+fn lesser(x: Amount, y: Amount) -> Amount
+    ensures { result ≡ int_min x y }
 {
-    if y == 0 {
-        0
+    if y.millionths() < x.millionths() {
+        y
     } else {
-        rounded(product(x, UNIT), y)
+        x
     }
-}
-
-/// Whole units, moved by 0.50005 away from zero and cut.
-fn nearest_units(x: i128) -> i128
-    requires { IsAmount x }
-    ensures { result ≡ result_of Op.Arr x (pos 0) }
-{
-    let moved = if x < 0 { x - 500_050 } else { x + 500_050 };
-    moved / UNIT * UNIT
-}
-
-/// The whole units that are not above so many millionths.
-fn units_not_above(x: i128) -> i128
-    requires { unsigned_abs x ≤ 10 ^ 38 }
-    ensures { result ≡ units (floor x) }
-{
-    x.div_euclid(UNIT) * UNIT
-}
-
-/// How many whole units there are, cut toward zero.
-fn cut(x: i128) -> i128
-    ensures { result ≡ cut x }
-{
-    x / UNIT
 }

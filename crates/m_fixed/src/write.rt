@@ -4,9 +4,7 @@ ghost use Rattle.m_fixed.specs.Amounts.{most};
 ghost use Rattle.m_fixed.specs.Text.{printed, size_text, fraction_text, decimals_of, Writes};
 
 use crate::Amount;
-
-/// One unit, in millionths.
-const UNIT: u64 = 1_000_000;
+use crate::amount::UNIT;
 
 /// Writes the one printed form of an amount into the front of the room, as `-1.5005`, and answers its
 /// length. What stands behind it in the room stays.
