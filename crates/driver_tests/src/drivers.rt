@@ -1,6 +1,8 @@
 //! Drivers that are read, and the lines at which others are refused.
+use m_fixed::Op;
 use mpp_lexer::DriverFault;
-use mpp_parser::parse_driver;
+use mpp_parser::{CommandNode, DNode, DTerm, Driver, Kind, parse_driver};
+use std::alloc::{AllocError, Global};
 use std::test::Fail;
 
 // Texts that are drivers, with the number of their functions.
@@ -100,4 +102,106 @@ fn faults(rt: HostRuntime) {
             "in {text:?}"
         );
     }
+}
+
+// A function of so many conditions, each in the block of the one before, and a command in the last.
+fn nested(alloc: Global, conditions: usize) -> Result<Vec<u8>, AllocError> {
+    let mut text = Vec::from_slice(alloc, b"f():\n")?;
+    for level in 0..conditions {
+        for _ in 0..level {
+            text.push(b' ')?;
+        }
+        text.extend_from_slice(b" if A:\n")?;
+    }
+    for _ in 0..conditions {
+        text.push(b' ')?;
+    }
+    text.extend_from_slice(b" A = 1\n")?;
+    Ok(text)
+}
+
+// A command whose term stands in so many brackets.
+fn in_brackets(alloc: Global, brackets: usize) -> Result<Vec<u8>, AllocError> {
+    let mut text = Vec::from_slice(alloc, b"f():\n A = ")?;
+    for _ in 0..brackets {
+        text.push(b'(')?;
+    }
+    text.push(b'1')?;
+    for _ in 0..brackets {
+        text.push(b')')?;
+    }
+    Ok(text)
+}
+
+#[test]
+fn depths(rt: HostRuntime) -> Result<(), Fail> {
+    let text = nested(rt.alloc(), 63)?;
+    assert!(rt; text.len() < 65_536);
+    assert!(rt; parse_driver(rt.alloc(), &text).is_ok());
+    let text = nested(rt.alloc(), 64)?;
+    assert!(rt; text.len() < 65_536);
+    assert_eq!(rt;
+        parse_driver(rt.alloc(), &text).err(),
+        Some(DriverFault::DriverTooDeep(66))
+    );
+    let text = in_brackets(rt.alloc(), 256)?;
+    assert!(rt; text.len() < 65_536);
+    assert!(rt; parse_driver(rt.alloc(), &text).is_ok());
+    let text = in_brackets(rt.alloc(), 257)?;
+    assert!(rt; text.len() < 65_536);
+    assert_eq!(rt;
+        parse_driver(rt.alloc(), &text).err(),
+        Some(DriverFault::DriverTooDeep(2))
+    );
+    Ok(())
+}
+
+fn first_command(driver: &Driver) -> Option<&CommandNode> {
+    let function = driver.functions.as_slice().first()?;
+    let command = function.body.as_slice().first()?;
+    Some(&command.node)
+}
+
+// Whether a term is the negation of an equation whose right side is a chain of two further operands.
+fn is_negated_equation(term: &DTerm) -> bool {
+    let DNode::Apply(Op::Not, whole) = &term.node else {
+        return false;
+    };
+    let Some(equation) = whole.first() else {
+        return false;
+    };
+    let DNode::Apply(Op::Eq, sides) = &equation.node else {
+        return false;
+    };
+    let Some(right) = sides.last() else {
+        return false;
+    };
+    match &right.node {
+        DNode::Chain(_, links) => links.len() == 2,
+        _ => false,
+    }
+}
+
+#[test]
+fn trees(rt: HostRuntime) -> Result<(), Fail> {
+    let driver = parse_driver(rt.alloc(), b"f():\n  A = not B == C - D - 1")?;
+    assert!(rt;
+        matches!(first_command(&driver), Some(CommandNode::Set(2, _, term)) if is_negated_equation(term))
+    );
+    let driver = parse_driver(
+        rt.alloc(),
+        b"f():\n\n  partition with taxbenefit:\n    del A",
+    )?;
+    assert!(rt;
+        matches!(first_command(&driver), Some(CommandNode::Partition(3, Kind::Attribute(name, values), block)) if name.bytes() == b"avfisc".as_slice() && values.as_slice().len() == 2 && block.len() == 1)
+    );
+    // The `else` belongs to the `if` at its own indentation.
+    let driver = parse_driver(
+        rt.alloc(),
+        b"f():\n if A:\n  if B:\n   del A\n else:\n  del B\n  del C",
+    )?;
+    assert!(rt;
+        matches!(first_command(&driver), Some(CommandNode::If(2, _, block, other)) if block.len() == 1 && other.len() == 2)
+    );
+    Ok(())
 }
