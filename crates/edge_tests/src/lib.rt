@@ -1,9 +1,15 @@
 //! Tests of the crates at the edges of the program, through their public calls: what a household's
-//! file says. They stand apart from those crates, so that a crate isn't proved a second time with its
-//! tests.
+//! file says, and what is printed. They stand apart from those crates, so that a crate isn't proved a
+//! second time with its tests.
 #![tactic(auto)]
 
 #[cfg(test)]
+mod answers;
+#[cfg(test)]
+mod faults;
+#[cfg(test)]
 mod households;
+#[cfg(test)]
+mod large;
 #[cfg(test)]
 mod threads;

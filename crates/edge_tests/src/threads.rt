@@ -1,4 +1,5 @@
 //! Types that may be sent to other threads and shared with them. That this compiles is the test.
+use flat_code::{Answer, Face, FaceLabel, Stop};
 use household::{Household, HouseholdFault};
 
 fn crosses_threads<T: Send + Sync>() {}
@@ -7,4 +8,8 @@ fn crosses_threads<T: Send + Sync>() {}
 fn types_cross_threads() {
     crosses_threads::<Household>();
     crosses_threads::<HouseholdFault>();
+    crosses_threads::<Stop>();
+    crosses_threads::<Answer>();
+    crosses_threads::<FaceLabel>();
+    crosses_threads::<Face>();
 }

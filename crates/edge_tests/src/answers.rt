@@ -1,0 +1,132 @@
+//! The lines of answers, as they are printed.
+use flat_code::{Face, FaceLabel, Stop};
+use m_fixed::{Amount, Value};
+use m_places::{ErrorKind, Label, Name, Seq};
+use m_ports::{MemSink, Sink};
+use std::alloc::Global;
+use std::test::Fail;
+use tax_print::{print_stop, print_values};
+
+/// Fails, naming what was wanted, where anything else was printed.
+fn check(alloc: Global, given: bool, out: &MemSink, lines: &str) -> Result<(), Fail> {
+    if given && out.written() == lines.as_bytes() {
+        return Ok(());
+    }
+    let text = str::from_utf8(out.written()).unwrap_or("no text");
+    Err(Fail::from(format!(in alloc; "{lines} is printed as {text}")?))
+}
+
+fn label(
+    alloc: Global,
+    verif: &[u8],
+    error: &[u8],
+    kind: ErrorKind,
+    text: &[u8],
+) -> Result<FaceLabel, Fail> {
+    let verif = Name::new(alloc, verif)?;
+    let error = Name::new(alloc, error)?;
+    let text = Name::new(alloc, text)?;
+    Ok(FaceLabel::Verif(Label {
+        verif,
+        error,
+        kind,
+        text,
+    }))
+}
+
+/// Three verifications and a line of the driver.
+fn labels(alloc: Global) -> Result<Seq<FaceLabel>, Fail> {
+    let mut labels = Vec::new(alloc);
+    labels.push(label(
+        alloc,
+        b"2000",
+        b"A20",
+        ErrorKind::Anomalie,
+        b"A:20:00:revenu nul:N",
+    )?)?;
+    labels.push(label(alloc, b"010", b"D1", ErrorKind::Discordance, b"")?)?;
+    labels.push(label(alloc, b"7", b"I7", ErrorKind::Informative, b"I:7:\xE9")?)?;
+    labels.push(FaceLabel::DriverLine(2))?;
+    Ok(Seq::from_vec(labels))
+}
+
+/// A face with the outputs IRN, T[1] and MARG.
+fn face(alloc: Global) -> Result<Face, Fail> {
+    let mut outputs = Vec::new(alloc);
+    for name in ["IRN", "T[1]", "MARG"] {
+        outputs.push(Name::new(alloc, name.as_bytes())?)?;
+    }
+    let labels = labels(alloc)?;
+    Ok(Face {
+        inputs: Seq::from_vec(Vec::new(alloc)),
+        labels,
+        outputs: Seq::from_vec(outputs),
+    })
+}
+
+fn number(millionths: i128) -> Value {
+    match Amount::new(millionths) {
+        Some(amount) => Value::Num(amount),
+        None => Value::Over,
+    }
+}
+
+#[test]
+fn lines_of_values(rt: HostRuntime) -> Result<(), Fail> {
+    let alloc = rt.alloc();
+    let face = face(alloc)?;
+    for (k, value, line) in [
+        (0, number(1_500_500_000), "IRN = 1500.5\n"),
+        (0, number(0), "IRN = 0\n"),
+        (0, Value::Undef, "IRN undefined\n"),
+        (0, Value::Over, "IRN over\n"),
+        (1, number(10_000_000), "T[1] = 10\n"),
+        (1, number(-1_500_500), "T[1] = -1.5005\n"),
+        (1, Value::Undef, "T[1] undefined\n"),
+        (2, number(100_000), "MARG = 0.1\n"),
+        (
+            2,
+            number(10_000_000_000_000_000_000),
+            "MARG = 10000000000000\n",
+        ),
+    ] {
+        if face.outputs.as_slice().len() != 3 {
+            return Err(Fail::from("three outputs"));
+        }
+        let mut out = MemSink::new(alloc, 5, Vec::new(alloc))?;
+        let given = print_values(&face, k, value, &mut out).is_ok();
+        check(alloc, given, &out, line)?;
+    }
+    Ok(())
+}
+
+#[test]
+fn lines_of_stops(rt: HostRuntime) -> Result<(), Fail> {
+    let alloc = rt.alloc();
+    let face = face(alloc)?;
+    if face.labels.as_slice().len() != 4 {
+        return Err(Fail::from("four labels"));
+    }
+    for (stop, lines) in [
+        (
+            Stop::Failed(0),
+            "failed 2000 A20 anomalie\nA:20:00:revenu nul:N\n",
+        ),
+        (Stop::Over(0), "over verification 2000 A20\n"),
+        (Stop::Failed(1), "failed 010 D1 discordance\n\n"),
+        (Stop::Over(2), "over verification 7 I7\n"),
+        (Stop::Over(3), "over driver line 2\n"),
+        (Stop::Failed(3), "over driver line 2\n"),
+    ] {
+        let mut out = MemSink::new(alloc, 5, Vec::new(alloc))?;
+        let given = print_stop(&face, stop, &mut out).is_ok();
+        check(alloc, given, &out, lines)?;
+    }
+    let mut out = MemSink::new(alloc, 5, Vec::new(alloc))?;
+    assert!(rt; print_stop(&face, Stop::Failed(2), &mut out).is_ok());
+    assert_eq!(rt;
+        out.written(),
+        b"failed 7 I7 informative\nI:7:\xE9\n".as_slice()
+    );
+    Ok(())
+}

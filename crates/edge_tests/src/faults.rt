@@ -1,0 +1,279 @@
+//! The line of each fault, as it is printed.
+use fault_lines::{
+    CodeFault, DriverFault, DriverNameFault, Fault, NameFault, PlaceFault, RowFault, give_fault,
+};
+use m_places::{Name, Place};
+use m_ports::{MemSink, Sink};
+use std::alloc::Global;
+use std::test::Fail;
+
+/// Fails, naming the line, where a fault prints anything else.
+fn check(alloc: Global, fault: Fault<'_>, line: &str) -> Result<(), Fail> {
+    let mut out = MemSink::new(alloc, 7, Vec::new(alloc))?;
+    let given = give_fault(fault, &mut out).is_ok();
+    if given && out.written() == line.as_bytes() {
+        return Ok(());
+    }
+    let text = str::from_utf8(out.written()).unwrap_or("no text");
+    Err(Fail::from(format!(in alloc; "{line} is printed as {text}")?))
+}
+
+fn place(byte: u32, line: u32) -> Place {
+    Place {
+        file: 0,
+        byte,
+        line,
+    }
+}
+
+#[test]
+fn faults_of_words_and_files(rt: HostRuntime) -> Result<(), Fail> {
+    let alloc = rt.alloc();
+    let rows = [
+        (
+            Fault::Usage,
+            "usage: m_tax run|serve LIST DRIVER REQUESTS HOUSEHOLD, batch LIST DRIVER REQUESTS TABLE, compile LIST DRIVER REQUESTS, exec CODEFILE HOUSEHOLD, large N\n",
+        ),
+        (Fault::NotBuilt, "refused not built\n"),
+        (Fault::NoTokens, "refused syntax\n"),
+        (Fault::ListLine(1), "refused list line 1\n"),
+        (
+            Fault::ListLine(4_294_967_295),
+            "refused list line 4294967295\n",
+        ),
+        (Fault::TooManyFiles, "refused too many files\n"),
+        (
+            Fault::FileTooLong(b"/dev/zero"),
+            "refused file too long /dev/zero\n",
+        ),
+        (Fault::InputTooLong, "refused input too long\n"),
+        (Fault::Unreadable(b"c.m"), "unreadable c.m\n"),
+        (Fault::UnreadableInput, "unreadable input\n"),
+    ];
+    for (fault, line) in rows {
+        check(alloc, fault, line)?;
+    }
+    Ok(())
+}
+
+#[test]
+fn faults_at_places(rt: HostRuntime) -> Result<(), Fail> {
+    let alloc = rt.alloc();
+    let rows = [
+        (
+            PlaceFault::BadByte,
+            "refused a.m line 1 byte 43: bad byte\n",
+        ),
+        (
+            PlaceFault::OpenString,
+            "refused a.m line 1 byte 43: open string\n",
+        ),
+        (
+            PlaceFault::NumberTooGreat,
+            "refused a.m line 1 byte 43: number too great\n",
+        ),
+        (
+            PlaceFault::TooDeep,
+            "refused a.m line 1 byte 43: too deep\n",
+        ),
+        (PlaceFault::Syntax, "refused a.m line 1 byte 43: syntax\n"),
+        (
+            PlaceFault::TableSize,
+            "refused a.m line 1 byte 43: table size\n",
+        ),
+        (
+            PlaceFault::TooManyCells,
+            "refused a.m line 1 byte 43: too many cells\n",
+        ),
+        (
+            PlaceFault::BadRange,
+            "refused a.m line 1 byte 43: bad range\n",
+        ),
+        (
+            PlaceFault::LoopTooLarge,
+            "refused a.m line 1 byte 43: loop too large\n",
+        ),
+        (
+            PlaceFault::UnboundIndex,
+            "refused a.m line 1 byte 43: unbound index\n",
+        ),
+        (
+            PlaceFault::TooManyParts,
+            "refused a.m line 1 byte 43: too many parts\n",
+        ),
+    ];
+    for (fault, line) in rows {
+        check(alloc, Fault::AtPlace(b"a.m", place(43, 1), fault), line)?;
+    }
+    check(
+        alloc,
+        Fault::AtPlace(b"a.m", place(0, 67_108_864), PlaceFault::TooDeep),
+        "refused a.m line 67108864 byte 0: too deep\n",
+    )
+}
+
+#[test]
+fn faults_about_names(rt: HostRuntime) -> Result<(), Fail> {
+    let alloc = rt.alloc();
+    let rows = [
+        (
+            NameFault::DeclaredTwice,
+            "refused b.m line 5 byte 154: declared twice REVC\n",
+        ),
+        (
+            NameFault::AliasTwice,
+            "refused b.m line 5 byte 154: alias twice REVC\n",
+        ),
+        (
+            NameFault::UnknownName,
+            "refused b.m line 5 byte 154: unknown name REVC\n",
+        ),
+        (
+            NameFault::NotATable,
+            "refused b.m line 5 byte 154: not a table REVC\n",
+        ),
+        (
+            NameFault::IsATable,
+            "refused b.m line 5 byte 154: is a table REVC\n",
+        ),
+        (
+            NameFault::BadTarget,
+            "refused b.m line 5 byte 154: bad target REVC\n",
+        ),
+        (
+            NameFault::DefinedTwice,
+            "refused b.m line 5 byte 154: defined twice REVC\n",
+        ),
+        (
+            NameFault::UnknownError,
+            "refused b.m line 5 byte 154: unknown error REVC\n",
+        ),
+    ];
+    for (fault, line) in rows {
+        check(
+            alloc,
+            Fault::AtName(b"b.m", place(154, 5), fault, b"REVC"),
+            line,
+        )?;
+    }
+    check(
+        alloc,
+        Fault::AtName(b"a.m", place(72, 3), NameFault::DefinedTwice, b"T[1]"),
+        "refused a.m line 3 byte 72: defined twice T[1]\n",
+    )
+}
+
+#[test]
+fn faults_of_drivers(rt: HostRuntime) -> Result<(), Fail> {
+    let alloc = rt.alloc();
+    let rows = [
+        (
+            Fault::DriverLine(3, DriverFault::BadToken),
+            "refused driver line 3: bad token\n",
+        ),
+        (
+            Fault::DriverLine(65, DriverFault::TooDeep),
+            "refused driver line 65: too deep\n",
+        ),
+        (
+            Fault::DriverLine(1, DriverFault::Syntax),
+            "refused driver line 1: syntax\n",
+        ),
+        (
+            Fault::DriverName(4, DriverNameFault::FunctionTwice, b"f"),
+            "refused driver line 4: function twice f\n",
+        ),
+        (
+            Fault::DriverName(2, DriverNameFault::Unknown, b"REVC"),
+            "refused driver line 2: unknown REVC\n",
+        ),
+        (
+            Fault::DriverName(2, DriverNameFault::BadTarget, b"SEUIL"),
+            "refused driver line 2: bad target SEUIL\n",
+        ),
+        (Fault::NoMain, "refused driver: no main\n"),
+        (
+            Fault::DriverTooLarge(4_000_001),
+            "refused driver too large 4000001\n",
+        ),
+        (
+            Fault::DriverTooLarge(18_446_744_073_709_551_615),
+            "refused driver too large 18446744073709551615\n",
+        ),
+        (Fault::RequestLine(1), "refused requests line 1\n"),
+        (Fault::TooManyRequests, "refused too many requests\n"),
+    ];
+    for (fault, line) in rows {
+        check(alloc, fault, line)?;
+    }
+    Ok(())
+}
+
+#[test]
+fn faults_in_rings(rt: HostRuntime) -> Result<(), Fail> {
+    let alloc = rt.alloc();
+    let mut cells = Vec::new(alloc);
+    for name in [b"IRN", b"TOT"] {
+        cells.push(Name::new(alloc, name)?)?;
+    }
+    let mut functions = Vec::new(alloc);
+    for name in [b"f", b"g"] {
+        functions.push(Name::new(alloc, name)?)?;
+    }
+    check(alloc, Fault::Cycle(&cells), "refused cycle IRN TOT\n")?;
+    check(alloc, Fault::Cycle(&functions), "refused cycle f g\n")?;
+    check(
+        alloc,
+        Fault::DriverRecursion(&functions),
+        "refused driver recursion f g\n",
+    )
+}
+
+#[test]
+fn faults_of_households_and_code(rt: HostRuntime) -> Result<(), Fail> {
+    let alloc = rt.alloc();
+    let rows = [
+        (Fault::HouseholdHeader, "refused household: bad header\n"),
+        (Fault::TooManyRows, "refused household: too many rows\n"),
+        (
+            Fault::HouseholdLine(2, RowFault::BadRow),
+            "refused household line 2: bad row\n",
+        ),
+        (
+            Fault::HouseholdLine(2, RowFault::UnknownCode),
+            "refused household line 2: unknown code\n",
+        ),
+        (
+            Fault::HouseholdLine(2, RowFault::BadAmount),
+            "refused household line 2: bad amount\n",
+        ),
+        (
+            Fault::HouseholdLine(3, RowFault::CodeTwice),
+            "refused household line 3: code twice\n",
+        ),
+        (Fault::CodeHeader, "refused code: bad header\n"),
+        (
+            Fault::CodeLine(6, CodeFault::BadLine),
+            "refused code line 6: bad line\n",
+        ),
+        (
+            Fault::CodeLine(7, CodeFault::ReadBeforeWrite),
+            "refused code line 7: read before write\n",
+        ),
+    ];
+    for (fault, line) in rows {
+        check(alloc, fault, line)?;
+    }
+    Ok(())
+}
+
+/// A line whose third write fails ends with what the first two gave.
+#[test]
+fn faults_that_are_cut(rt: HostRuntime) -> Result<(), Fail> {
+    let alloc = rt.alloc();
+    let mut out = MemSink::new(alloc, 1, vec![in alloc; 3]?)?;
+    let given = give_fault(Fault::ListLine(2), &mut out).is_ok();
+    assert!(rt; !given);
+    assert_eq!(rt; out.written(), b"re".as_slice());
+    Ok(())
+}
