@@ -3,6 +3,8 @@ pub mod Chains
 pub mod Exits
 pub mod Sound
 pub mod Complete
+pub mod Levels
+pub mod Cells
 pub mod Expressions
 pub mod Sentences
 pub mod BlockLaws

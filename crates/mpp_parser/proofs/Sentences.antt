@@ -17,7 +17,8 @@ use Rattle.mpp_parser.specs.Grammar.{is, Chain, ended, further, SpellsCell, plai
 use Rattle.mpp_parser.specs.inner.Reading.{sign_at, cell_rest_at, bracket_at, cell_at, term_at, called_at, cells_at, call_at, command_rest_at, function_rest_at, named_at, partition_at, worded_at, sentence_at, whole, line_at, ReadsAll}
 use Rattle.mpp_parser.proofs.Sound.{Each, absent, here, bind_each, choose_each, sign_each, Sound, chain_sound}
 use Rattle.mpp_parser.proofs.Complete.{Below, chain_complete}
-use Rattle.mpp_parser.proofs.Expressions.{key_each, word_each, cell_rest_sound, cell_sound, cell_shrinks, cell_complete, kind_sound, kind_complete, until_sound, until_complete, term_sound, term_shrinks, term_complete}
+use Rattle.mpp_parser.proofs.Cells.{key_each, word_each, cell_rest_sound, cell_sound, cell_shrinks, cell_complete, kind_sound, kind_complete}
+use Rattle.mpp_parser.proofs.Expressions.{until_sound, until_complete, term_sound, term_shrinks, term_complete}
 
 -- What is read is spelled so.
 called_sound : (c : CellName) (cs : List CellName) (ts us : List DriverPiece) → SpellsCells (c ∷ cs) ts us → Each (λ (s : Sentence × List DriverPiece). SpellsSentence s.0 ts s.1) (called_at (c ∷ cs) us)
