@@ -1,9 +1,9 @@
 //! An amount and a value. Contracts see an amount as its whole number of millionths.
 ghost use Rattle.std.specs.Prelude.{◌≡◌, SomeIff, pos, ◌≤◌, unsigned_abs, neg_ℤ};
 ghost use Rattle.std.specs.Int.{is_negative};
-ghost use Rattle.m_fixed.specs.Amounts.{IsAmount, unit, most};
+ghost use Rattle.m_fixed.specs.Amounts.{IsAmount, most};
 ghost use Rattle.m_fixed.specs.Rounding.{signed};
-ghost use Rattle.m_fixed.specs.Operators.{bounded};
+ghost use Rattle.m_fixed.specs.Operators.{bounded, truth};
 
 use std::marker::Model;
 
@@ -51,12 +51,12 @@ impl Amount {
         Amount { millionths: 0 }
     }
 
-    /// One unit.
-    pub(crate) fn one() -> Amount
-        ensures { result ≡ pos unit }
+    /// One unit where the test holds, and else 0. It takes no branch: tests are hard to foresee.
+    pub(crate) fn of_test(test: bool) -> Amount
+        ensures { result ≡ truth test }
     {
         Amount {
-            millionths: UNIT as i128,
+            millionths: (test as u64 * UNIT) as i128,
         }
     }
 

@@ -178,7 +178,7 @@ fn truth(test: bool) -> Value
     ensures value { result ≡ Value.Num (truth test) }
     ensures bounded { result ≡ bounded (truth test) }
 {
-    Value::Num(if test { Amount::one() } else { Amount::zero() })
+    Value::Num(Amount::of_test(test))
 }
 
 /// The greater of two amounts.
