@@ -21,7 +21,7 @@ echo "bench_terms: m_terms m_lexer m_ast m_places anyhow" >>"$work/repository/cr
 cp "$root/HANDLES" "$work/repository/"
 driver=$work/repository/crates/bench_terms
 mkdir -p "$driver/src"
-cp "$here/main.rt" "$driver/src/main.rt"
+cp "$here/main.rt.txt" "$driver/src/main.rt"
 for kind in dense base nests; do
     python3 "$here/generate.py" "$kind" "$room" "$work/$kind.m"
 done
