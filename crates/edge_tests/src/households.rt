@@ -12,7 +12,7 @@ fn codes_of(alloc: Global, names: &[Name]) -> Result<Codes, Fail> {
 }
 
 /// Three codes.
-fn three_codes(alloc: Global) -> Result<Codes, Fail> {
+pub fn three_codes(alloc: Global) -> Result<Codes, Fail> {
     let mut names = Vec::new(alloc);
     for text in [b"1AJ", b"C08", b"2AA"] {
         names.push(Name::new(alloc, text)?)?;
@@ -30,24 +30,37 @@ fn codes(rt: HostRuntime) -> Result<(), Fail> {
     Ok(())
 }
 
+/// Households, and the inputs and millionths of their pairs.
+const HOUSEHOLDS: [(&[u8], &[(u32, i128)]); 14] = [
+    (b"code,amount\n1AJ,2500.5\n", &[(0, 2_500_500_000)]),
+    (b"code,amount", &[]),
+    (b"code,amount\n", &[]),
+    (
+        b"code,amount\n2AA,-0.1234565\n1AJ,03",
+        &[(2, -123_457), (0, 3_000_000)],
+    ),
+    (
+        b"code,amount\nC08,10000000000000.0000004",
+        &[(1, 10_000_000_000_000_000_000)],
+    ),
+    (b"code,amount\nC08,-0", &[(1, 0)]),
+    (b"code,amount\r\n1AJ,1\r\n", &[(0, 1_000_000)]),
+    (b"code,amount\r1AJ,1\r", &[(0, 1_000_000)]),
+    (b"\n\ncode,amount\n\n1AJ,1\n\n", &[(0, 1_000_000)]),
+    (b"\xef\xbb\xbfcode,amount\n1AJ,1", &[(0, 1_000_000)]),
+    (b"\"code\",\"amount\"\n\"1AJ\",\"1\"\n", &[(0, 1_000_000)]),
+    (b"code,amount\n1AJ,\"1", &[(0, 1_000_000)]),
+    (b"code,amount\n\"1A\"J,1", &[(0, 1_000_000)]),
+    (
+        b"code,amount\nC08,3\n1AJ,1\n2AA,2",
+        &[(1, 3_000_000), (0, 1_000_000), (2, 2_000_000)],
+    ),
+];
+
 #[test]
 fn households(rt: HostRuntime) -> Result<(), Fail> {
     let codes = three_codes(rt.alloc())?;
-    let rows: [(&[u8], &[(u32, i128)]); 6] = [
-        (b"code,amount\n1AJ,2500.5\n", &[(0, 2_500_500_000)]),
-        (b"code,amount", &[]),
-        (b"code,amount\n", &[]),
-        (
-            b"code,amount\n2AA,-0.1234565\n1AJ,03",
-            &[(2, -123_457), (0, 3_000_000)],
-        ),
-        (
-            b"code,amount\nC08,10000000000000.0000004",
-            &[(1, 10_000_000_000_000_000_000)],
-        ),
-        (b"code,amount\nC08,-0", &[(1, 0)]),
-    ];
-    for (bytes, pairs) in rows {
+    for (bytes, pairs) in HOUSEHOLDS {
         let household = read_household(rt.alloc(), bytes, &codes)?;
         let read = household.pairs.as_slice();
         assert_eq!(rt; read.len(), pairs.len(), "{bytes:?}");
@@ -59,29 +72,79 @@ fn households(rt: HostRuntime) -> Result<(), Fail> {
     Ok(())
 }
 
+/// Refused households, and the first fault of each.
+const REFUSED: [(&[u8], HouseholdFault); 40] = [
+    (b"", HouseholdFault::BadHeader),
+    (b"\n\n", HouseholdFault::BadHeader),
+    (b"code;amount\n1AJ,1\n", HouseholdFault::BadHeader),
+    (b"code,amount \n", HouseholdFault::BadHeader),
+    (b"code, amount\n", HouseholdFault::BadHeader),
+    (b"Code,amount\n", HouseholdFault::BadHeader),
+    (b"code\n", HouseholdFault::BadHeader),
+    (b"code,amount,\n", HouseholdFault::BadHeader),
+    (b"amount,code\n", HouseholdFault::BadHeader),
+    (b"1AJ,1\n", HouseholdFault::BadHeader),
+    (
+        b"\xef\xbb\xbf\xef\xbb\xbfcode,amount\n",
+        HouseholdFault::BadHeader,
+    ),
+    (b"code,amount\n1AJ\n", HouseholdFault::BadRow(2)),
+    (b"code,amount\n1AJ,1,2\n", HouseholdFault::BadRow(2)),
+    (b"code,amount\n1AJ,1,\n", HouseholdFault::BadRow(2)),
+    (b"code,amount\n\"1AJ,1\"\n", HouseholdFault::BadRow(2)),
+    (b"code,amount\n \n", HouseholdFault::BadRow(2)),
+    (b"code,amount\n1AJ,1\nC08", HouseholdFault::BadRow(3)),
+    (b"code,amount\n9ZZ,1\n", HouseholdFault::UnknownCode(2)),
+    (b"code,amount\n1aj,1\n", HouseholdFault::UnknownCode(2)),
+    (b"code,amount\n 1AJ,1\n", HouseholdFault::UnknownCode(2)),
+    (b"code,amount\n,1\n", HouseholdFault::UnknownCode(2)),
+    (
+        b"code,amount\ncode,amount\n",
+        HouseholdFault::UnknownCode(2),
+    ),
+    (
+        b"code,amount\n\"1AJ\n\",1\n",
+        HouseholdFault::UnknownCode(2),
+    ),
+    (b"code,amount\n1AJ,x\n", HouseholdFault::BadAmount(2)),
+    (b"code,amount\n1AJ, 1\n", HouseholdFault::BadAmount(2)),
+    (b"code,amount\n1AJ,\n", HouseholdFault::BadAmount(2)),
+    (b"code,amount\n1AJ,.5\n", HouseholdFault::BadAmount(2)),
+    (b"code,amount\n1AJ,1.\n", HouseholdFault::BadAmount(2)),
+    (b"code,amount\n1AJ,+1\n", HouseholdFault::BadAmount(2)),
+    (b"code,amount\n1AJ,1e3\n", HouseholdFault::BadAmount(2)),
+    (b"code,amount\n1AJ,\"1,5\"\n", HouseholdFault::BadAmount(2)),
+    (
+        b"code,amount\n1AJ,10000000000000.0000005\n",
+        HouseholdFault::BadAmount(2),
+    ),
+    (b"code,amount\n1AJ,1\n1AJ,1\n", HouseholdFault::CodeTwice(3)),
+    (
+        b"code,amount\n1AJ,1\n2AA,1\n1AJ,1\n2AA,x\n",
+        HouseholdFault::CodeTwice(4),
+    ),
+    // several faults in one record, and in several
+    (b"code,amount\n9ZZ,x,\n", HouseholdFault::BadRow(2)),
+    (b"code,amount\n9ZZ,x\n", HouseholdFault::UnknownCode(2)),
+    (b"code,amount\n1AJ,1\n1AJ,x\n", HouseholdFault::BadAmount(3)),
+    (b"code,amount\n1AJ,x\n9ZZ\n", HouseholdFault::BadAmount(2)),
+    // blank lines are no records, and a record may have several lines
+    (
+        b"\ncode,amount\r\n\r\n\n1AJ,x\n",
+        HouseholdFault::BadAmount(2),
+    ),
+    (
+        b"code,amount\n1AJ,1\n\"C\n\n08\",1\n9ZZ,1\n",
+        HouseholdFault::UnknownCode(3),
+    ),
+];
+
 #[test]
 fn refusals(rt: HostRuntime) -> Result<(), Fail> {
     let codes = three_codes(rt.alloc())?;
-    let rows: [&[u8]; 15] = [
-        b"",
-        b"\ncode,amount\n",
-        b"code;amount\n1AJ,1\n",
-        b"code,amount \n",
-        b"code,amount\r\n1AJ,1\r\n",
-        b"code,amount\n\"1AJ\",1\n",
-        b"code,amount\n1AJ\n",
-        b"code,amount\n\n1AJ,1\n",
-        b"code,amount\n9ZZ,1\n",
-        b"code,amount\n1AJ,1\n1AJ,1\n",
-        b"code,amount\n1AJ,1,2\n",
-        b"code,amount\n1AJ,x\n",
-        b"code,amount\n1AJ, 1\n",
-        b"code,amount\n1AJ,\n",
-        b"code,amount\n1AJ,10000000000000.0000005\n",
-    ];
-    for bytes in rows {
+    for (bytes, wanted) in REFUSED {
         let fault = read_household(rt.alloc(), bytes, &codes).err();
-        assert_eq!(rt; fault, Some(HouseholdFault::NotBuilt), "{bytes:?}");
+        assert_eq!(rt; fault, Some(wanted), "{bytes:?}");
     }
     Ok(())
 }
@@ -117,12 +180,23 @@ fn many_rows(alloc: Global, count: u32) -> Result<(Codes, String), Fail> {
 
 #[test]
 fn as_many_rows_as_there_may_be(rt: HostRuntime) -> Result<(), Fail> {
-    let (codes, text) = many_rows(rt.alloc(), 100_000)?;
+    let (codes, mut text) = many_rows(rt.alloc(), 100_000)?;
+    text.push_str("\n\n")?;
     let household = read_household(rt.alloc(), text.as_bytes(), &codes)?;
     assert_eq!(rt; household.pairs.as_slice().len(), 100_000);
 
-    let (codes, text) = many_rows(rt.alloc(), 100_001)?;
+    // a row more, however bad it is
+    text.push_str("9ZZ,x\n")?;
     let fault = read_household(rt.alloc(), text.as_bytes(), &codes).err();
-    assert_eq!(rt; fault, Some(HouseholdFault::NotBuilt));
+    assert_eq!(rt; fault, Some(HouseholdFault::TooManyRows));
+    Ok(())
+}
+
+#[test]
+fn a_fault_in_the_last_row_that_there_may_be(rt: HostRuntime) -> Result<(), Fail> {
+    let (codes, mut text) = many_rows(rt.alloc(), 99_999)?;
+    text.push_str("C0,1\nC0,1\n")?;
+    let fault = read_household(rt.alloc(), text.as_bytes(), &codes).err();
+    assert_eq!(rt; fault, Some(HouseholdFault::CodeTwice(100_001)));
     Ok(())
 }

@@ -1,5 +1,5 @@
-//! Tests of the crates at the edges of the program, through their public calls: what a household's
-//! file says, and what is printed. They stand apart from those crates, so that a crate isn't proved a
+//! Tests of the crates at the edges of the program, through their public calls: what the files of
+//! households and tables say, and what is printed. They stand apart from those crates, so that a crate isn't proved a
 //! second time with its tests.
 #![tactic(auto)]
 
@@ -11,5 +11,9 @@ mod faults;
 mod households;
 #[cfg(test)]
 mod large;
+#[cfg(test)]
+mod records;
+#[cfg(test)]
+mod tables;
 #[cfg(test)]
 mod threads;

@@ -1,6 +1,6 @@
 //! Types that may be sent to other threads and shared with them. That this compiles is the test.
 use flat_code::{Answer, Face, FaceLabel, Stop};
-use household::{Household, HouseholdFault};
+use household::{Household, HouseholdFault, Row};
 
 fn crosses_threads<T: Send + Sync>() {}
 
@@ -8,6 +8,7 @@ fn crosses_threads<T: Send + Sync>() {}
 fn types_cross_threads() {
     crosses_threads::<Household>();
     crosses_threads::<HouseholdFault>();
+    crosses_threads::<Row>();
     crosses_threads::<Stop>();
     crosses_threads::<Answer>();
     crosses_threads::<FaceLabel>();

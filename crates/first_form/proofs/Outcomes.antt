@@ -12,8 +12,9 @@ use Rattle.first_ast.specs.declared.item.Item.{Item}
 use Rattle.first_ast.specs.declared.variable.VariableItem.{VariableItem}
 use Rattle.first_items.specs.Grammar.{SpellsItems}
 use Rattle.first_items.proofs.Readings.{items_one}
-use Rattle.household.specs.Household.{IsHousehold, values_of}
-use Rattle.household.proofs.PairLemmas.{same_pairs}
+use Rattle.household.specs.Household.{household_of, values_of}
+use Rattle.household.specs.declared.fault.HouseholdFault.{HouseholdFault}
+use Rattle.household.specs.declared.fault.HouseholdFault.TheVariants.{Memory as NoRoom}
 use Rattle.first_values.specs.Formulas.{names_of, AreInOrder}
 use Rattle.first_values.specs.Values.{value_of, environment}
 use Rattle.first_form.specs.Form.{variables_of, formulas_of, codes_of, given_of, AreDeclared}
@@ -26,8 +27,8 @@ use Rattle.first_form.specs.declared.outcome.Outcome.TheVariants.{Lines, Syntax,
 
 -- bytes that are no household have no answer
 pub no_household : (variables : List VariableItem) (formulas : List Formula) (household : List ℕ) (codes : List (List ℕ)) → codes ≡ codes_of variables
-    → ((pairs : List (ℕ × ℤ)) → IsHousehold codes household pairs → ⊥) → (text : List ℕ) → Answers variables formulas household text → ⊥
-no_household variables formulas household codes e none text a = none a.pairs (subst (λ (c : List (List ℕ)). IsHousehold c household a.pairs) (sym e) a.spelled)
+    → ((pairs : List (ℕ × ℤ)) → household_of codes household ≡ Ok pairs → ⊥) → (text : List ℕ) → Answers variables formulas household text → ⊥
+no_household variables formulas household codes e none text a = none a.pairs (subst (λ (c : List (List ℕ)). household_of c household ≡ Ok a.pairs) (sym e) a.spelled)
 
 -- the lines of the values that were found are the answer
 pub found_answer : (variables : List VariableItem) (formulas : List Formula) (household : List ℕ) (codes : List (List ℕ)) (given found : List Value) (text : List ℕ)
@@ -37,7 +38,7 @@ pub found_answer : (variables : List VariableItem) (formulas : List Formula) (ho
 found_answer variables formulas household codes given found text declared in_order c g f t = record {
   form = record { declared = declared; in_order = in_order };
   pairs = g.pairs;
-  spelled = subst (λ (x : List (List ℕ)). IsHousehold x household g.pairs) c g.spelled;
+  spelled = subst (λ (x : List (List ℕ)). household_of x household ≡ Ok g.pairs) c g.spelled;
   lines = t ∙ ap (lines_of variables) (f ∙ (λ i. map (λ v. value_of formulas (environment (names_of variables) (of_pairs i)) v.name) variables));
 }
   where
@@ -72,7 +73,8 @@ no_outcome application rules household tokens l none =
 -- one answer of the same variables and formulas
 one_answer : (variables : List VariableItem) (formulas : List Formula) (household one other : List ℕ) → Answers variables formulas household one → Answers variables formulas household other → one ≡ other
 one_answer variables formulas household one other a b =
-    let same : a.pairs ≡ b.pairs = same_pairs a.spelled b.spelled in
+    let both : Ok a.pairs ≡ Ok b.pairs = sym a.spelled ∙ b.spelled in
+    let same : a.pairs ≡ b.pairs = cc in
     a.lines ∙ ap (λ p. lines_of variables (answer_of variables formulas p)) same ∙ sym b.lines
 
 -- one answer of the same bytes
@@ -95,3 +97,10 @@ one_outcome application rules household one other (syntax none) (not_built token
 one_outcome application rules household one other (not_built tokens l none) (lines {text = u} b) = absurd (none u b)
 one_outcome application rules household one other (not_built tokens l none) (syntax also) = absurd (also tokens l)
 one_outcome application rules household one other (not_built tokens l none) (not_built others k also) = refl
+
+-- bytes with a fault say no pairs
+pub no_pairs : {T : Type 0} (codes : List (List ℕ)) (household : List ℕ) (fault : HouseholdFault) (P : T → Type 0) (result : Result (Option T) AllocError) → (fault ≢ NoRoom → household_of codes household ≡ Err fault)
+    → IfOk result (λ o. o ≡ None) → IfOk result (λ o. fault ≢ NoRoom) → IfOk result (λ o. MatchOption o ((pairs : List (ℕ × ℤ)) → household_of codes household ≡ Ok pairs → ⊥) P)
+no_pairs codes household fault P (Ok None) f e m = λ pairs h. let other : Ok pairs ≡ Err fault = sym h ∙ f m in cc
+no_pairs codes household fault P (Ok (Some t)) f e m = cc e
+no_pairs codes household fault P (Err error) f e m = tt

@@ -1,5 +1,5 @@
 -- What is answered to a household by a rule file of the first form.
-use Rattle.std.specs.Prelude.{◌≡◌, ℕ, ℤ, List, map, length}
+use Rattle.std.specs.Prelude.{◌≡◌, ℕ, ℤ, List, map, length, Ok}
 use Rattle.m_lexer.specs.declared.token.Token.{Token}
 use Rattle.m_lexer.specs.Tokens.{Lexes, start_of}
 use Rattle.first_ast.specs.declared.formula.Formula.{Formula}
@@ -7,7 +7,7 @@ use Rattle.first_ast.specs.declared.item.Item.{Item}
 use Rattle.first_ast.specs.declared.variable.VariableItem.{VariableItem}
 use Rattle.m_fixed.specs.declared.amount.Value.{Value}
 use Rattle.first_items.specs.Grammar.{SpellsItems}
-use Rattle.household.specs.Household.{IsHousehold, values_of}
+use Rattle.household.specs.Household.{household_of, values_of}
 use Rattle.first_values.specs.Formulas.{names_of}
 use Rattle.first_values.specs.Values.{value_of, environment}
 use Rattle.first_form.specs.Form.{variables_of, formulas_of, codes_of, given_of, IsFirstForm}
@@ -28,7 +28,7 @@ answer_of variables formulas pairs = map (λ variable. value_of formulas (enviro
 pub record Answers (variables : List VariableItem) (formulas : List Formula) (household text : List ℕ) : Type 0 where
   pub form : IsFirstForm variables formulas
   pub pairs : List (ℕ × ℤ)
-  pub spelled : IsHousehold (codes_of variables) household pairs
+  pub spelled : household_of (codes_of variables) household ≡ Ok pairs
   pub lines : text ≡ lines_of variables (answer_of variables formulas pairs)
 
 -- The answer of an application's rules to a household, where tokens spell the items of the rule file.

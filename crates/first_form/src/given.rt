@@ -1,6 +1,7 @@
 //! What variables have before any rule.
-ghost use Rattle.std.specs.Prelude.{◌≡◌, ℕ, ℤ, List, IfOk, MatchOption, slice_index_or};
-ghost use Rattle.household.specs.Household.{IsHousehold};
+ghost use Rattle.std.specs.Prelude.{◌≡◌, ◌≢◌, ℕ, ℤ, List, Ok, None, IfOk, MatchOption, slice_index_or};
+ghost use Rattle.household.specs.Household.{household_of};
+ghost use Rattle.household.specs.declared.fault.HouseholdFault.{HouseholdFault};
 ghost use Rattle.m_fixed.specs.declared.amount.Value.TheVariants.{Undef};
 ghost use Rattle.first_form.specs.Form.{role_value, given_of};
 ghost use Rattle.first_form.specs.inner.Given.{IsGiven};
@@ -17,16 +18,26 @@ pub fn given_by_household(
     codes: &Codes,
     household: &[u8],
 ) -> Result<Option<Vec<Value>>, AllocError>
-    ensures { IfOk result (λ o. MatchOption o ((pairs : List (ℕ × ℤ)) → IsHousehold codes.now household.now pairs → ⊥)
+    ensures { IfOk result (λ o. MatchOption o ((pairs : List (ℕ × ℤ)) → household_of codes.now household.now ≡ Ok pairs → ⊥)
         (λ given. IsGiven codes.now variables.now household.now given.items)) }
 {
     let household = match read_household(alloc, household, codes) {
         Ok(household) => household,
-        Err(HouseholdFault::NotBuilt) => return Ok(None),
-        Err(HouseholdFault::Memory) => return Err(AllocError),
+        Err(fault) => return no_household(fault),
     };
     let amounts = values(alloc, &household, codes.len())?;
     Ok(Some(given_values(alloc, variables, codes, &amounts)?))
+}
+
+/// What comes of a household with this fault.
+fn no_household(fault: HouseholdFault) -> Result<Option<Vec<Value>>, AllocError>
+    ensures none { IfOk result (λ o. o ≡ None) }
+    ensures fault { IfOk result (λ _. fault ≢ HouseholdFault.Memory) }
+{
+    match fault {
+        HouseholdFault::Memory => Err(AllocError),
+        _ => Ok(None),
+    }
 }
 
 /// What each variable has before any rule, by what each input is given.

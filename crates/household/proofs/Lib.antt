@@ -1,3 +1,6 @@
-pub mod PairLemmas
-pub mod RowLemmas
+pub mod CellLemmas
+pub mod ColumnLemmas
+pub mod InputLemmas
+pub mod LawLemmas
+pub mod LeftLemmas
 pub mod ValueLemmas

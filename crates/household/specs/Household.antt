@@ -1,68 +1,99 @@
 -- What a household's file says, and what it gives each input.
-use Rattle.std.specs.Prelude.{◌≡◌, ◌≢◌, ℕ, ◌≤◌, ◌==◌, Bool, not, ◌&&◌, IsTrue, List, [], ◌∷◌, ◌++◌, map, length, Some, Ok, ℤ, codes, if◌then◌else◌}
-use Rattle.std.specs.List.{AllByRecursion, AllZip, list_all, range_with_len}
+use Rattle.std.specs.Prelude.{◌≡◌, ◌≢◌, ℕ, ◌+◌, ◌<◌, ◌≤◌, ◌==◌, Bool, true, false, nat_le, ◌&&◌, List, [], ◌∷◌, map, length, Option, Some, None, Result, Ok, Err, ℤ, codes, if◌then◌else◌}
+use Rattle.std.specs.Str.{bytes_eq}
+use Rattle.std.specs.List.{AllByRecursion, AllZip, list_any, range_with_len}
 use Rattle.m_places.specs.declared.limits.TheConstants.{ROWS}
 use Rattle.m_fixed.specs.declared.amount.Value.{Value}
 use Rattle.m_fixed.specs.declared.amount.Value.TheVariants.{Undef, Num}
+use Rattle.m_fixed.specs.declared.read.AmountFault.{AmountFault}
 use Rattle.m_fixed.specs.Text.{text_value, amount_read}
 use Rattle.m_names.specs.Names.{index_of}
-use Rattle.m_text.specs.Bytes.{carriage_return}
-use Rattle.m_text.specs.Lines.{lines_of}
-
--- the byte `"`
-abbrev pub quote : ℕ
-quote = 34
-
--- the byte `,`
-abbrev pub comma : ℕ
-comma = 44
-
--- a byte that a household may have: any but a quote and a carriage return
-abbrev pub is_plain : ℕ → Bool
-is_plain byte = not (byte == quote) && not (byte == carriage_return)
-
--- the first line of a household
-abbrev pub header : List ℕ
-header = codes "code,amount"
-
--- a text is what stands before its first comma, the comma, and what stands behind it
-pub record IsSplit (text before behind : List ℕ) : Type 0 where
-  pub parts : text ≡ before ++ comma ∷ behind
-  pub first : AllByRecursion (λ byte. byte ≢ comma) before
-
--- A row: the code of an input, a comma, and an amount. It gives the input's number and the amount,
--- in millionths. `inputs` are the codes by their numbers: where `1AJ` has the number 0, the row
--- `1AJ,2500.5` gives 0 and 2500500000.
-pub record IsRow (inputs : List (List ℕ)) (row : List ℕ) (pair : ℕ × ℤ) : Type 0 where
-  pub code : List ℕ
-  pub amount : List ℕ
-  pub split : IsSplit row code amount
-  pub known : index_of code inputs ≡ Some pair.0
-  pub spelled : amount_read (text_value amount) ≡ Ok pair.1
+use Rattle.household.specs.declared.fault.HouseholdFault.{HouseholdFault}
+use Rattle.household.specs.declared.fault.HouseholdFault.TheVariants.{BadHeader, TooManyRows, BadRow, UnknownCode, BadAmount, CodeTwice}
+use Rattle.household.specs.InTurn.{if_read, in_turn}
+use Rattle.household.specs.Records.{records_of}
 
 -- the inputs of pairs
 abbrev pub inputs_of : List (ℕ × ℤ) → List ℕ
 inputs_of pairs = map (λ pair. pair.0) pairs
+
+-- whether a number stands among numbers
+abbrev pub is_among : ℕ → List ℕ → Bool
+is_among number numbers = list_any (λ other. other == number) numbers
+
+-- the number of the record behind the header and so many rows, where the header's is 1
+abbrev pub line_behind : ℕ → ℕ
+line_behind rows = rows + 2
+
+-- what a known or unknown code and what is read of an amount say, in the record with this number
+abbrev pub pair_said : ℕ → Option ℕ → Result ℤ AmountFault → Result (ℕ × ℤ) HouseholdFault
+pair_said line None amount = Err (UnknownCode line)
+pair_said line (Some input) (Err why) = Err (BadAmount line)
+pair_said line (Some input) (Ok millionths) = Ok (input, millionths)
+
+-- What the fields of the record with this number say: the code of an input and an amount. `inputs` are
+-- the codes by their numbers: where `1AJ` has the number 0, the fields `1AJ` and `2500.5` say the pair
+-- of 0 and 2500500000.
+abbrev pub pair_of : List (List ℕ) → ℕ → List (List ℕ) → Result (ℕ × ℤ) HouseholdFault
+pair_of inputs line (code ∷ amount ∷ []) = pair_said line (index_of code inputs) (amount_read (text_value amount))
+pair_of inputs line _ = Err (BadRow line)
+
+-- a pair whose input may not stand in the pairs before it
+abbrev pub new_pair : ℕ → List (ℕ × ℤ) → ℕ × ℤ → Result (ℕ × ℤ) HouseholdFault
+new_pair line before pair = if is_among pair.0 (inputs_of before) then Err (CodeTwice line) else Ok pair
+
+-- What a row says behind rows that gave these pairs. The first of these faults that it has decides: it
+-- is one row too many, it hasn't two fields, its code is unknown, its amount is none, its code stands
+-- in a row before it.
+abbrev pub row_of : List (List ℕ) → List (ℕ × ℤ) → List (List ℕ) → Result (ℕ × ℤ) HouseholdFault
+row_of inputs before fields =
+    if nat_le ROWS (length before) then Err TooManyRows
+    else if_read (new_pair (line_behind (length before)) before) (pair_of inputs (line_behind (length before)) fields)
+
+-- whether these fields are the first record of a household: `code` and `amount`
+abbrev pub is_header : List (List ℕ) → Bool
+is_header (code ∷ amount ∷ []) = bytes_eq code (codes "code") && bytes_eq amount (codes "amount")
+is_header _ = false
+
+-- what the records of a household say
+abbrev pub household_read : List (List ℕ) → List (List (List ℕ)) → Result (List (ℕ × ℤ)) HouseholdFault
+household_read inputs [] = Err BadHeader
+household_read inputs (first ∷ rows) = if is_header first then in_turn (row_of inputs) [] rows else Err BadHeader
+
+-- What the bytes of a household say: its pairs of an input's number and an amount, in the order of the
+-- file, or the fault for which it is refused. Where `1AJ` has the number 0, `code,amount` and `1AJ,2500.5`
+-- say the one pair of 0 and 2500500000, and `1AJ,x` in the second line says the bad amount of record 2.
+abbrev pub household_of : List (List ℕ) → List ℕ → Result (List (ℕ × ℤ)) HouseholdFault
+household_of inputs bytes = household_read inputs (records_of bytes)
 
 -- no number stands twice
 abbrev pub AreDifferent : List ℕ → Type 0
 AreDifferent [] = Unit {0}
 AreDifferent (number ∷ numbers) = AllByRecursion (λ other. other ≢ number) numbers × AreDifferent numbers
 
--- lines that are rows, one for each pair and in order; no input stands twice, and they are not too
--- many
-pub record AreRows (inputs lines : List (List ℕ)) (pairs : List (ℕ × ℤ)) : Type 0 where
-  pub in_order : AllZip (IsRow inputs) lines pairs
+-- The inputs of pairs are inputs of so many, and none stands twice.
+pub record AreInputs (inputs : ℕ) (pairs : List (ℕ × ℤ)) : Type 0 where
+  pub known : AllByRecursion (λ input. input < inputs) (inputs_of pairs)
+  pub once : AreDifferent (inputs_of pairs)
+
+-- A row of a household by itself: the code of an input and an amount, which say this pair.
+pub record IsRow (inputs fields : List (List ℕ)) (pair : ℕ × ℤ) : Type 0 where
+  pub code : List ℕ
+  pub amount : List ℕ
+  pub two : fields ≡ code ∷ amount ∷ []
+  pub known : index_of code inputs ≡ Some pair.0
+  pub spelled : amount_read (text_value amount) ≡ Ok pair.1
+
+-- The bytes are a household with these pairs: the records are a header and a row for each pair, in
+-- order; no input stands twice, and the rows are not too many.
+pub record IsHousehold (inputs : List (List ℕ)) (bytes : List ℕ) (pairs : List (ℕ × ℤ)) : Type 0 where
+  pub first : List (List ℕ)
+  pub rows : List (List (List ℕ))
+  pub records : records_of bytes ≡ first ∷ rows
+  pub header : is_header first ≡ true
+  pub in_order : AllZip (IsRow inputs) rows pairs
   pub once : AreDifferent (inputs_of pairs)
   pub few : length pairs ≤ ROWS
-
--- The bytes are a household in its plain form, and these are its pairs of an input's number and an
--- amount: no quote and no carriage return, a header, and then a row for each pair.
-pub record IsHousehold (inputs : List (List ℕ)) (bytes : List ℕ) (pairs : List (ℕ × ℤ)) : Type 0 where
-  pub plain : IsTrue (list_all is_plain bytes)
-  pub rows : List (List ℕ)
-  pub lines : lines_of bytes ≡ header ∷ rows
-  pub spelled : AreRows inputs rows pairs
 
 -- what pairs give an input: the amount of the first pair with its number, and nothing without one
 abbrev pub value_at : List (ℕ × ℤ) → ℕ → Value

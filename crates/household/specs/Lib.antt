@@ -1,1 +1,6 @@
+pub mod InTurn
+pub mod Records
 pub mod Household
+pub mod Table
+pub mod Refusals
+pub mod inner

@@ -1,13 +1,20 @@
-//! Households: which input has which amount.
+//! Households and tables of households: which input has which amount.
 //!
-//! This crate reads the bytes of a household's file. It knows the codes of the inputs and what an
-//! amount is, and doesn't know what is computed from them.
+//! This crate reads the bytes of a household's or a table's file, on the crate `csv`. It knows the codes
+//! of the inputs and what an amount is, and doesn't know what is computed from them.
 #![tactic(auto)]
 
 mod amounts;
 mod codes;
+mod fault;
+pub mod laws;
+mod marks;
 mod read;
+pub mod records;
+mod table;
 
 pub use amounts::values;
 pub use codes::Codes;
-pub use read::{Household, HouseholdFault, one_household, read_household};
+pub use fault::HouseholdFault;
+pub use read::{Household, read_household};
+pub use table::{Row, read_table};

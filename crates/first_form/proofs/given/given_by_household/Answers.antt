@@ -1,8 +1,8 @@
-use Rattle.std.proofs.Common.{Err, ap}
+use Rattle.first_form.proofs.Outcomes.{no_pairs}
 use Rattle.first_form.proofs.given.given_by_household.Goals as goal
 
-pub returns-in-Err-NotBuilt : goal.returns-in-Err-NotBuilt
-returns-in-Err-NotBuilt c = c.in-Err-NotBuilt.ensures.not_built (ap Err c.in-Err-NotBuilt.field-0-is)
+pub returns-in-Err : goal.returns-in-Err
+returns-in-Err c = no_pairs c.args.codes.now c.args.household.now c.in-Err.fault _ _ c.in-Err.ensures.outcome c.no_household.ensures.none c.no_household.ensures.fault
 
 pub values-requires : goal.values-requires
-values-requires c = rw c.len.ensures c.in-Ok.ensures.known
+values-requires c = rw c.len.ensures c.in-Ok.ensures.inputs.known

@@ -1,0 +1,135 @@
+#!/bin/sh
+# Times the reading of households and tables beside a plain hand-written reader in Rust (plain.rs) with the
+# same checks, on the same bytes in the same run. It prints the tables of RESULTS.md. It needs the
+# toolchain's `rt`, and `rustc`, `awk` and GNU `time`.
+#
+#     sh bench/household/run.sh
+set -eu
+here=$(cd "$(dirname "$0")" && pwd)
+root=$(cd "$here/../.." && pwd)
+work=$(mktemp -d "${TMPDIR:-/tmp}/bench_household.XXXXXX")
+trap 'rm -rf "$work"' EXIT
+
+for rows in 50000 100000; do
+    for kind in household table; do
+        sh "$here/generate.sh" "$kind" "$rows" "$work/$kind.$rows.csv"
+    done
+done
+rustc -O -o "$work/plain" "$here/plain.rs" 2>"$work/rustc.log" || { cat "$work/rustc.log" >&2; exit 1; }
+
+# The reader runs in a program of its own, proved and built in a copy of the repository.
+crates=$(sed -n 's/^household: *//p' "$root/crates.txt")
+mkdir -p "$work/repository/crates"
+: >"$work/repository/crates.txt"
+copy() {
+    [ -d "$root/crates/$1" ] && [ ! -d "$work/repository/crates/$1" ] || return 0
+    for below in $(sed -n "s/^$1: *//p" "$root/crates.txt"); do
+        copy "$below"
+    done
+    mkdir "$work/repository/crates/$1"
+    for part in src specs proofs; do
+        if [ -d "$root/crates/$1/$part" ]; then
+            cp -r "$root/crates/$1/$part" "$work/repository/crates/$1/"
+        fi
+    done
+    grep "^$1:" "$root/crates.txt" >>"$work/repository/crates.txt"
+}
+for crate in $crates household; do
+    copy "$crate"
+done
+driver=$work/repository/crates/bench_household
+mkdir -p "$driver/src"
+echo 'bench_household: household m_names m_places anyhow' >>"$work/repository/crates.txt"
+cp "$root/HANDLES" "$work/repository/"
+cat >"$driver/src/main.rt" <<'DRIVER'
+//! Reads a household or a table five times, and prints the count of rows and the microseconds.
+#![tactic(auto)]
+
+use anyhow::Result;
+use household::{Codes, read_household, read_table};
+use m_names::Names;
+use m_places::Name;
+use std::alloc::Global;
+use std::time::Instant;
+use std::{env, fs};
+
+/// The codes C0 to C99999.
+fn many_codes(alloc: Global) -> Result<Option<Codes>> {
+    let mut names = Vec::new(alloc);
+    for k in 0..100_000 {
+        let code = format!(in alloc; "C{k}")?;
+        names.push(Name::new(alloc, code.as_bytes())?)?;
+    }
+    match Names::of(alloc, &names) {
+        Ok(names) => Ok(Some(Codes::new(names))),
+        Err(_) => Ok(None),
+    }
+}
+
+/// How many rows a household or a table has, and none where it is refused.
+fn count_rows(alloc: Global, kind: &str, bytes: &[u8], codes: &Codes) -> usize {
+    if kind == "household" {
+        match read_household(alloc, bytes, codes) {
+            Ok(household) => household.pairs.as_slice().len(),
+            Err(_) => 0,
+        }
+    } else {
+        match read_table(alloc, bytes, codes) {
+            Ok(rows) => rows.as_slice().len(),
+            Err(_) => 0,
+        }
+    }
+}
+
+fn main(rt: HostRuntime) -> Result<()> {
+    let words = env::args(&rt)?;
+    if words.len() != 3 {
+        return Ok(());
+    }
+    let bytes = fs::read(&rt, words[2].as_str())?;
+    let Some(codes) = many_codes(rt.alloc())? else {
+        return Ok(());
+    };
+    for _ in 0..5 {
+        let start = Instant::now(&rt)?;
+        let count = count_rows(rt.alloc(), words[1].as_str(), &bytes, &codes);
+        let took = start.elapsed(&rt)?.as_micros();
+        println!(rt; "{count} {took}")?;
+    }
+    Ok(())
+}
+DRIVER
+(cd "$driver" && rt run >"$work/rt.log" 2>&1) || { cat "$work/rt.log" >&2; exit 1; }
+
+# The least time of a program's five runs in milliseconds, its megabytes a second, its peak memory, and
+# that memory for each byte read, less what the program has with an empty file of the kind.
+row() {
+    name=$1
+    kind=$2
+    file=$3
+    shift 3
+    case "$kind" in
+    household) echo 'code,amount' >"$work/empty" ;;
+    table) echo 'name' >"$work/empty" ;;
+    esac
+    /usr/bin/time -f '%M' -o "$work/least" "$@" "$kind" "$work/empty" >/dev/null
+    /usr/bin/time -f '%M' -o "$work/peak" "$@" "$kind" "$file" >"$work/times"
+    awk -v name="$name" -v size="$(wc -c <"$file")" -v peak="$(cat "$work/peak")" -v least="$(cat "$work/least")" '
+        NR == 1 || $2 < best { best = $2; count = $1 }
+        END {
+            printf "| %s | %d | %.1f | %.0f | %.0f | %.1f |\n", name, count, best / 1e3, size / best, peak / 1024, (peak - least) * 1024 / size
+        }' "$work/times"
+}
+
+for kind in household table; do
+    for rows in 50000 100000; do
+        file=$work/$kind.$rows.csv
+        echo "### A $kind of $rows rows, $(wc -c <"$file") bytes"
+        echo
+        echo '| Program | Rows | Milliseconds | MB/s | Peak MiB | Bytes of memory for a byte |'
+        echo '|---|---|---|---|---|---|'
+        row 'the proved reader' "$kind" "$file" "$driver/out/bench_household"
+        row 'plain reader' "$kind" "$file" "$work/plain"
+        echo
+    done
+done

@@ -1,0 +1,79 @@
+-- The inputs of pairs: they are known, and none stands twice.
+use Rattle.std.proofs.Common.{◌≡◌, ◌≢◌, ℕ, ℤ, ◌<◌, List, [], ◌∷◌, ◌++◌, length, Option, Some, None, Result, Ok, Err, Bool, true, false, cond, eqb, leb, refl, sym, subst, ap, ◌∙◌}
+use Rattle.std.proofs.lemmas.Bool.{eqb-false, or_parts}
+use Rattle.std.proofs.lemmas.List.{map_push}
+use Rattle.std.specs.List.{AllByRecursion}
+use Rattle.m_places.specs.declared.limits.TheConstants.{ROWS}
+use Rattle.m_fixed.specs.declared.read.AmountFault.{AmountFault}
+use Rattle.m_fixed.specs.Text.{text_value, amount_read}
+use Rattle.m_names.specs.Names.{index_of}
+use Rattle.m_names.proofs.NameLemmas.{index_of-some}
+use Rattle.household.specs.InTurn.{in_turn, if_read}
+use Rattle.household.specs.Household.{AreDifferent, AreInputs, inputs_of, is_among, line_behind, new_pair, pair_of, pair_said, row_of}
+
+pub AllByRecursion-push : {X : Type 0} (P : X → Type 0) (xs : List X) (x : X) → AllByRecursion P xs → P x → AllByRecursion P (xs ++ x ∷ [])
+AllByRecursion-push P [] x h p = (p, tt)
+AllByRecursion-push P (y ∷ ys) x h p = (h.0, AllByRecursion-push P ys x h.1 p)
+
+pub AreDifferent-push : (ms : List ℕ) (n : ℕ) → is_among n ms ≡ false → AreDifferent ms → AreDifferent (ms ++ n ∷ [])
+AreDifferent-push [] n e h = (tt, tt)
+AreDifferent-push (m ∷ ms) n e h =
+    let parts = or_parts (eqb m n) (is_among n ms) e in
+    (AllByRecursion-push (λ other. other ≢ m) ms n h.0 (λ same. eqb-false m n parts.0 (sym same)), AreDifferent-push ms n parts.1 h.1)
+
+pub inputs_of-push : (pairs : List (ℕ × ℤ)) (pair : ℕ × ℤ) → inputs_of (pairs ++ pair ∷ []) ≡ inputs_of pairs ++ pair.0 ∷ []
+inputs_of-push pairs pair = map_push (λ p. p.0) pairs pair
+
+-- one more pair, of a known input that isn't there
+AreInputs-push : (n : ℕ) (pairs : List (ℕ × ℤ)) (pair : ℕ × ℤ) → AreInputs n pairs → pair.0 < n → is_among pair.0 (inputs_of pairs) ≡ false → AreInputs n (pairs ++ pair ∷ [])
+AreInputs-push n pairs pair h l e = record {
+  known = subst (AllByRecursion (λ input. input < n)) (sym (inputs_of-push pairs pair)) (AllByRecursion-push (λ input. input < n) (inputs_of pairs) pair.0 h.known l);
+  once = subst AreDifferent (sym (inputs_of-push pairs pair)) (AreDifferent-push (inputs_of pairs) pair.0 e h.once);
+}
+
+-- a choice that isn't an error is the other
+pub other_than_error : {T E : Type 0} (b : Bool) (e : E) (r : Result T E) (t : T) → cond b (Err e) r ≡ Ok t → (b ≡ false) × (r ≡ Ok t)
+other_than_error true e r t h = cc
+other_than_error false e r t h = (refl, h)
+
+pub read_before : {B C F : Type 0} (next : B → Result C F) (r : Result B F) (c : C) → if_read next r ≡ Ok c → (b : B) × (r ≡ Ok b) × (next b ≡ Ok c)
+read_before next (Ok b) c h = (b, refl, h)
+read_before next (Err e) c h = cc h
+
+-- the input of a pair is known
+said_known : (n line : ℕ) (o : Option ℕ) (r : Result ℤ AmountFault) (pair : ℕ × ℤ) → pair_said line o r ≡ Ok pair → ((i : ℕ) → o ≡ Some i → i < n) → pair.0 < n
+said_known n line None r pair h k = cc h
+said_known n line (Some i) (Err why) pair h k = cc h
+said_known n line (Some i) (Ok z) pair h k = let same : i ≡ pair.0 = cc in subst (λ (j : ℕ). j < n) same (k i refl)
+
+pair_known : (inputs : List (List ℕ)) (line : ℕ) (fields : List (List ℕ)) (pair : ℕ × ℤ) → pair_of inputs line fields ≡ Ok pair → pair.0 < length inputs
+pair_known inputs line [] pair h = cc h
+pair_known inputs line (code ∷ []) pair h = cc h
+pair_known inputs line (code ∷ amount ∷ []) pair h = said_known (length inputs) line (index_of code inputs) (amount_read (text_value amount)) pair h (λ i e. (index_of-some code inputs i e).1)
+pair_known inputs line (code ∷ amount ∷ more ∷ rest) pair h = cc h
+
+-- what a row that is read says
+pub row_parts : (inputs : List (List ℕ)) (before : List (ℕ × ℤ)) (fields : List (List ℕ)) (pair : ℕ × ℤ) → row_of inputs before fields ≡ Ok pair
+    → (leb ROWS (length before) ≡ false) × (pair_of inputs (line_behind (length before)) fields ≡ Ok pair) × (is_among pair.0 (inputs_of before) ≡ false)
+row_parts inputs before fields pair h =
+    let line = line_behind (length before) in
+    let a = other_than_error (leb ROWS (length before)) _ (if_read (new_pair line before) (pair_of inputs line fields)) pair h in
+    let b = read_before (new_pair line before) (pair_of inputs line fields) pair a.1 in
+    let d = other_than_error (is_among b.0.0 (inputs_of before)) _ (Ok b.0) pair b.2 in
+    let same : b.0 ≡ pair = cc d.1 in
+    (a.0, b.1 ∙ ap Ok same, subst (λ (p : ℕ × ℤ). is_among p.0 (inputs_of before) ≡ false) same d.0)
+
+-- what each value that is read keeps, all do
+pub turns_keep : {A B F : Type 0} (read : List B → A → Result B F) (Q : List B → Type 0) → ((before : List B) (thing : A) (value : B) → Q before → read before thing ≡ Ok value → Q (before ++ value ∷ []))
+    → (before : List B) (things : List A) (values : List B) → Q before → in_turn read before things ≡ Ok values → Q values
+turns_keep read Q keeps before [] values q h = let same : before ≡ values = cc in subst Q same q
+turns_keep read Q keeps before (thing ∷ things) values q h =
+    let r = read_before (λ value. in_turn read (before ++ value ∷ []) things) (read before thing) values h in
+    turns_keep read Q keeps (before ++ r.0 ∷ []) things values (keeps before thing r.0 q r.1) r.2
+
+-- the pairs of a household are of its inputs
+pub household_inputs : (inputs : List (List ℕ)) (rows : List (List (List ℕ))) (pairs : List (ℕ × ℤ)) → in_turn (row_of inputs) [] rows ≡ Ok pairs → AreInputs (length inputs) pairs
+household_inputs inputs rows pairs h =
+    turns_keep (row_of inputs) (AreInputs (length inputs))
+    (λ before fields pair q e. let p = row_parts inputs before fields pair e in AreInputs-push (length inputs) before pair q (pair_known inputs _ fields pair p.1) p.2)
+    [] rows pairs (record { known = tt; once = tt }) h

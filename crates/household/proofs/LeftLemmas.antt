@@ -1,0 +1,113 @@
+-- What a reader has left, from read to read.
+use Rattle.std.proofs.Common.{◌≡◌, ℕ, ◌+◌, ◌<◌, ◌≤◌, zero, suc, List, [], ◌∷◌, ◌++◌, length, Option, Some, None, Bool, true, false, get_or, refl, sym, ap, subst, inl, ◌∙◌, arith, cond}
+use Rattle.std.specs.Borrow.{Bor}
+use Rattle.csv.specs.Machine.{Read, step, is_end, ends_at_end, fields_after, field_after, next_record}
+use Rattle.csv.specs.Reading.{ReadRecord, Reached, default_config, strip_bom, records_from, records_next}
+use Rattle.csv.specs.Records.{field_at}
+use Rattle.csv.specs.declared.parser.State.{State}
+use Rattle.csv.specs.declared.parser.State.TheVariants as st
+use Rattle.csv.specs.declared.reader.Reader.{Reader}
+use Rattle.csv.proofs.ReadFacts.{rows-end, rows-more}
+use Rattle.household.specs.Records.{records_of}
+use Rattle.household.specs.inner.Left.{records_from_state, known_records, IsReading, IsNext}
+
+-- the records from a state on
+abbrev behind : State → List ℕ → List (List (List ℕ))
+behind s bytes = records_from_state s [] [] bytes
+
+-- they are the next record and those behind it
+next_and_behind : (s : State) (fields : List (List ℕ)) (field bytes : List ℕ) → records_from_state s fields field bytes ≡ records_next behind (next_record default_config s fields field bytes)
+unfolding next_record
+next_and_behind s fields field [] =
+    elim (ends_at_end s) as (λ b. cond b ((fields ++ field ∷ []) ∷ []) [] ≡ records_next behind (cond b (Some (fields ++ field ∷ [], st.StartRecord, [])) None)) [ true ↦ refl | false ↦ refl ]
+next_and_behind s fields field (c ∷ rest) =
+    let s2 = (step default_config s c).0 in
+    let act = (step default_config s c).1 in
+    let more = next_and_behind s2 (fields_after act fields field) (field_after act c field) rest in
+    elim (is_end act) as (λ b. cond b (fields_after act fields field ∷ behind s2 rest) (records_from_state s2 (fields_after act fields field) (field_after act c field) rest)
+    ≡ records_next behind (cond b (Some (fields_after act fields field, s2, rest)) (next_record default_config s2 (fields_after act fields field) (field_after act c field) rest))) [ true ↦ refl | false ↦ more ]
+
+-- what a choice leaves is no longer than both of what it is made of
+takes_by : (b : Bool) (q p : Read) (o : Option Read) (n : ℕ) → length q.2 ≤ n → (o ≡ Some p → length p.2 ≤ n) → cond b (Some q) o ≡ Some p → length p.2 ≤ n
+takes_by true q p o n l h e = let same : q ≡ p = cc in omega (arith, ap (λ (r : Read). length r.2) same)
+takes_by false q p o n l h e = h e
+
+-- a record takes at least one byte, where there is one
+next_takes : (s : State) (fields : List (List ℕ)) (field : List ℕ) (c : ℕ) (rest : List ℕ) (p : Read) → next_record default_config s fields field (c ∷ rest) ≡ Some p → length p.2 ≤ length rest
+unfolding next_record
+next_takes s fields field c [] p e =
+    let s2 = (step default_config s c).0 in
+    let act = (step default_config s c).1 in
+    takes_by (is_end act) (fields_after act fields field, s2, []) p (next_record default_config s2 (fields_after act fields field) (field_after act c field) []) 0 (omega arith)
+    (λ f. takes_by (ends_at_end s2) (fields_after act fields field ++ (field_after act c field ∷ []), st.StartRecord, []) p None 0 (omega arith) (λ g. cc g) f) e
+next_takes s fields field c (d ∷ rest) p e =
+    let s2 = (step default_config s c).0 in
+    let act = (step default_config s c).1 in
+    takes_by (is_end act) (fields_after act fields field, s2, d ∷ rest) p (next_record default_config s2 (fields_after act fields field) (field_after act c field) (d ∷ rest)) (length (d ∷ rest)) (omega arith)
+    (λ f. let shorter = next_takes s2 (fields_after act fields field) (field_after act c field) d rest p f in omega arith) e
+
+-- nothing is left behind the end of a text
+behind_end : (n : ℕ) → records_from default_config n st.StartRecord [] ≡ []
+unfolding next_record records_from
+behind_end zero = refl
+behind_end (suc n) = refl
+
+same_next : (n : ℕ) (o : Option Read) → ((p : Read) → o ≡ Some p → records_from default_config n p.1 p.2 ≡ behind p.1 p.2) → records_next (records_from default_config n) o ≡ records_next behind o
+same_next n None h = refl
+same_next n (Some p) h = ap (λ rs. p.0 ∷ rs) (h p refl)
+
+at_end : (b : Bool) (q p : Read) → cond b (Some q) None ≡ Some p → q ≡ p
+at_end true q p e = cc
+at_end false q p e = cc
+
+-- with turns enough the crate's records are these
+enough : (n : ℕ) (s : State) (bytes : List ℕ) → length bytes < n → records_from default_config n s bytes ≡ behind s bytes
+unfolding next_record records_from
+enough zero s bytes l = absurd (omega arith)
+enough (suc n) s [] l =
+    same_next n (next_record default_config s [] [] []) (λ p e.
+    let same = at_end (ends_at_end s) ([] ∷ [], st.StartRecord, []) p e in
+    subst (λ (q : Read). records_from default_config n q.1 q.2 ≡ behind q.1 q.2) same (behind_end n))
+    ∙ sym (next_and_behind s [] [] [])
+enough (suc n) s (c ∷ rest) l =
+    same_next n (next_record default_config s [] [] (c ∷ rest)) (λ p e. let shorter = next_takes s [] [] c rest p e in enough n p.1 p.2 (omega arith))
+    ∙ sym (next_and_behind s [] [] (c ∷ rest))
+
+-- all records are those behind the byte order mark
+pub records_are_left : (bytes : List ℕ) → known_records st.StartRecord (Some (strip_bom bytes)) ≡ records_of bytes
+records_are_left bytes = sym (enough (length (strip_bom bytes) + 1) st.StartRecord (strip_bom bytes) (omega arith))
+
+-- the bytes that a reader of bytes in memory may read
+abbrev bytes_of : Bor (List ℕ) → Option (List ℕ)
+bytes_of bytes = Some bytes.now
+
+-- a record that was read is the next
+read_more : (old new : Reader (Bor (List ℕ))) (fields : List (List ℕ)) → IsReading old → ReadRecord bytes_of old new true fields → new.first ≡ true → IsNext old true fields new
+unfolding Reached
+read_more old new fields is read first =
+    let m = rows-more bytes_of old new fields default_config old.state is.rest is.rest [] is.config is.known (refl, refl) read in (
+      record { trims_nothing = read.3 ∙ is.trims_nothing; ready = inl first; config = read.2 ∙ is.config; rest = m.0; known = m.1 },
+      ap (known_records old.state) is.known ∙ next_and_behind old.state [] [] is.rest ∙ ap (records_next behind) m.2.1 ∙ (λ i. sym m.2.2 i ∷ behind (m.2.3.0 i) (m.2.3.1 i)) ∙ ap (λ (o : Option (List ℕ)). fields ∷ known_records new.state o) (sym m.1),
+    )
+
+-- and where none was, nothing is left
+read_none : (old new : Reader (Bor (List ℕ))) (fields : List (List ℕ)) → IsReading old → ReadRecord bytes_of old new false fields → IsNext old false fields new
+read_none old new fields is read =
+    ap (known_records old.state) is.known ∙ next_and_behind old.state [] [] is.rest ∙ ap (records_next behind) (rows-end bytes_of old new fields default_config is.rest is.config is.known read)
+
+pub read_next : (old new : Reader (Bor (List ℕ))) (found : Bool) (fields : List (List ℕ)) → IsReading old → ReadRecord bytes_of old new found fields → new.first ≡ true → IsNext old found fields new
+read_next old new true fields is read first = read_more old new fields is read first
+read_next old new false fields is read first = read_none old new fields is read
+
+-- the field at a place, and nothing where there is none
+pub field_there : (fields : List (List ℕ)) (place : ℕ) (field : List ℕ) → field_at fields place ≡ Some field → field ≡ get_or fields place []
+unfolding field_at
+field_there [] place field e = cc
+field_there (f ∷ fields) zero field e = cc
+field_there (f ∷ fields) (suc place) field e = field_there fields place field e
+
+pub no_field_there : (fields : List (List ℕ)) (place : ℕ) → field_at fields place ≡ None → get_or fields place [] ≡ []
+unfolding field_at
+no_field_there [] place e = refl
+no_field_there (f ∷ fields) zero e = cc
+no_field_there (f ∷ fields) (suc place) e = no_field_there fields place e

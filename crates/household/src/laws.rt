@@ -1,0 +1,24 @@
+//! What the readings of households and tables come to, said of their records.
+ghost use Rattle.std.specs.Prelude.{◌≡◌, ℕ, ℤ, List, Ok, Err};
+ghost use Rattle.household.specs.Household.{IsHousehold, household_of};
+ghost use Rattle.household.specs.Refusals.{IsRefusedHousehold, IsRefusedTable};
+ghost use Rattle.household.specs.Table.{table_of};
+ghost use Rattle.household.specs.declared.fault.HouseholdFault.{HouseholdFault};
+
+/// Bytes say the pairs of a household exactly where their records are a header and a row for each pair, no
+/// input stands twice and the rows are not too many. So bytes say their pairs in one way.
+pub fn one_household()
+    ensures sound { (inputs : List (List ℕ)) (bytes : List ℕ) (pairs : List (ℕ × ℤ)) → household_of inputs bytes ≡ Ok pairs → IsHousehold inputs bytes pairs }
+    ensures whole { (inputs : List (List ℕ)) (bytes : List ℕ) (pairs : List (ℕ × ℤ)) → IsHousehold inputs bytes pairs → household_of inputs bytes ≡ Ok pairs }
+{}
+
+/// A household is refused for the first of its records that has a fault.
+pub fn first_fault()
+    ensures { (inputs : List (List ℕ)) (bytes : List ℕ) (fault : HouseholdFault) → household_of inputs bytes ≡ Err fault → IsRefusedHousehold inputs bytes fault }
+{}
+
+/// A table is refused for the first of its records that has a fault, and in the first for the first of its
+/// codes that has one.
+pub fn first_table_fault()
+    ensures { (inputs : List (List ℕ)) (bytes : List ℕ) (fault : HouseholdFault) → table_of inputs bytes ≡ Err fault → IsRefusedTable inputs bytes fault }
+{}

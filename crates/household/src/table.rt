@@ -1,0 +1,164 @@
+ghost use Rattle.std.specs.Prelude.{◌≡◌, ◌+◌, [], drop, length, nat_le, IfOk, Ok, Err};
+ghost use Rattle.std.specs.List.{AllByRecursion, list_all};
+ghost use Rattle.csv.specs.Records.{fields_of};
+ghost use Rattle.m_places.specs.Refusals.{Outcome};
+ghost use Rattle.household.specs.InTurn.{in_turn};
+ghost use Rattle.household.specs.Household.{AreInputs};
+ghost use Rattle.m_fixed.specs.Text.{text_value, amount_read};
+ghost use Rattle.household.specs.Table.{amount_said, cells_read, column_of, is_label, is_table_header, labelled, table_of, table_row};
+ghost use Rattle.household.specs.inner.Left.{IsReading, left_of};
+ghost use Rattle.household.specs.declared.fault.HouseholdFault.TheVariants.{Memory};
+
+use crate::marks::mark;
+use crate::records::{field_at, next_line, next_record, records_of};
+use crate::{Codes, Household, HouseholdFault};
+use csv::{ByteRecord, Reader};
+use m_fixed::{Amount, read_amount};
+use m_places::{Name, Seq};
+use std::alloc::Global;
+
+/// A row of a table: a household with a label.
+#[derive(Drop)]
+pub struct Row {
+    pub label: Name,
+    pub household: Household,
+}
+
+/// Reads a table: records set apart by commas, of which the first is `name` and codes of inputs, and
+/// each other a label and an amount or nothing for each code, as `dupont,2500.5,`.
+pub fn read_table(alloc: Global, bytes: &[u8], codes: &Codes) -> Result<Seq<Row>, HouseholdFault>
+    ensures outcome { Outcome Memory result (λ rows. table_of codes.now bytes.now ≡ Ok rows) (λ fault. table_of codes.now bytes.now ≡ Err fault) }
+    ensures inputs { IfOk result (λ rows. AllByRecursion (λ row. AreInputs (length codes.now) row.household.pairs) rows) }
+{
+    let mut records = records_of(alloc, bytes);
+    let mut row = ByteRecord::new(alloc);
+    if !next_record(&mut records, &mut row)? {
+        return Err(HouseholdFault::BadHeader);
+    }
+    if !is_header(&row) {
+        return Err(HouseholdFault::BadHeader);
+    }
+    let columns = read_columns(alloc, &row, codes)?;
+    let rows = read_rows(alloc, &mut records, &mut row, &columns)?;
+    Ok(Seq::from_vec(rows))
+}
+
+// Whether a record is the first of a table.
+fn is_header(row: &ByteRecord) -> bool
+    ensures { result ≡ is_table_header (fields_of row.now) }
+{
+    field_at(row, 0) == b"name".as_slice()
+}
+
+// The inputs of a table's columns, by its first record.
+fn read_columns(alloc: Global, row: &ByteRecord, codes: &Codes) -> Result<Vec<u32>, HouseholdFault>
+    ensures { Outcome Memory result (λ columns. in_turn (column_of codes.now) [] (drop 1 (fields_of row.now)) ≡ Ok columns.items) (λ fault. in_turn (column_of codes.now) [] (drop 1 (fields_of row.now)) ≡ Err fault) }
+{
+    let mut marked = vec![in alloc; false; codes.len() as usize]?;
+    let mut columns = Vec::new(alloc);
+    for place in 1..row.len() {
+        let Some(input) = codes.find(field_at(row, place)) else {
+            return Err(HouseholdFault::UnknownCode(1));
+        };
+        if !mark(&mut marked, input) {
+            return Err(HouseholdFault::CodeTwice(1));
+        }
+        columns.push(input)?;
+    }
+    Ok(columns)
+}
+
+// The rows that are left.
+fn read_rows(
+    alloc: Global,
+    records: &mut Reader<&[u8]>,
+    row: &mut ByteRecord,
+    columns: &[u32],
+) -> Result<Vec<Row>, HouseholdFault>
+    requires { IsReading records.old }
+    ensures { Outcome Memory result (λ rows. in_turn (table_row columns.now) [] (left_of records.old) ≡ Ok rows.items) (λ fault. in_turn (table_row columns.now) [] (left_of records.old) ≡ Err fault) }
+{
+    let mut rows = Vec::new(alloc);
+    while next_record(records, row)? {
+        let line = next_line(rows.len())?;
+        rows.push(read_row(alloc, row, line, columns)?)?;
+    }
+    Ok(rows)
+}
+
+// The row that the record with this number says.
+fn read_row(
+    alloc: Global,
+    row: &ByteRecord,
+    line: u32,
+    columns: &[u32],
+) -> Result<Row, HouseholdFault>
+    ensures { Outcome Memory result (λ read. labelled line columns.now (fields_of row.now) ≡ Ok read) (λ fault. labelled line columns.now (fields_of row.now) ≡ Err fault) }
+{
+    let label = field_at(row, 0);
+    if row.len() != columns.len() + 1 || !is_label(label) {
+        return Err(HouseholdFault::BadRow(line));
+    }
+    let pairs = read_cells(alloc, row, line, columns)?;
+    Ok(Row {
+        label: Name::new(alloc, label)?,
+        household: Household {
+            pairs: Seq::from_vec(pairs),
+        },
+    })
+}
+
+// Whether a text may be a label: it isn't empty, and no byte of it is below 32.
+fn is_label(text: &[u8]) -> bool
+    ensures { result ≡ is_label text.now }
+{
+    !text.is_empty() && is_printable(text)
+}
+
+// Whether no byte of a text is below 32.
+fn is_printable(text: &[u8]) -> bool
+    ensures { result ≡ list_all (nat_le 32) text.now }
+{
+    text.iter().all(|byte| *byte >= 32)
+}
+
+// The pairs of a record's cells.
+fn read_cells(
+    alloc: Global,
+    row: &ByteRecord,
+    line: u32,
+    columns: &[u32],
+) -> Result<Vec<(u32, Amount)>, HouseholdFault>
+    requires { length (fields_of row.now) ≡ length columns.now + 1 }
+    ensures { Outcome Memory result (λ pairs. cells_read line [] columns.now (drop 1 (fields_of row.now)) ≡ Ok pairs.items) (λ fault. cells_read line [] columns.now (drop 1 (fields_of row.now)) ≡ Err fault) }
+{
+    let mut pairs = Vec::with_capacity(alloc, count_filled(row))?;
+    for column in 0..columns.len() {
+        let cell = field_at(row, column + 1);
+        if !cell.is_empty() {
+            pairs.push(read_cell(cell, columns[column], line)?)?;
+        }
+    }
+    Ok(pairs)
+}
+
+// The pair of a cell that isn't empty, below a column of this input.
+fn read_cell(cell: &[u8], input: u32, line: u32) -> Result<(u32, Amount), HouseholdFault>
+    ensures { result ≡ amount_said line input (amount_read (text_value cell.now)) }
+{
+    match read_amount(cell) {
+        Ok(amount) => Ok((input, amount)),
+        Err(_) => Err(HouseholdFault::BadAmount(line)),
+    }
+}
+
+// How many cells of a record aren't empty, so that a row takes no more memory than its pairs.
+fn count_filled(row: &ByteRecord) -> usize {
+    let mut count: usize = 0;
+    for place in 1..row.len() {
+        if !field_at(row, place).is_empty() {
+            count += 1;
+        }
+    }
+    count
+}
