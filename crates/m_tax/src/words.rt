@@ -2,8 +2,8 @@
 ghost use Rattle.std.specs.Prelude.{◌≡◌, MatchOption, None, Some, ◌&&◌};
 ghost use Rattle.m_tax.specs.Command.{command_of, run, is_none};
 
-use m_text::is_text;
 use m_places::{Name, Word};
+use m_text::is_text;
 
 /// The names of a run's files.
 #[derive(Clone, Copy)]

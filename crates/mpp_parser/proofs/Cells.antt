@@ -166,4 +166,3 @@ module _ {A : Type 0} (R : A → List DriverPiece → List DriverPiece → Type 
   pub enclosed_complete : (S : List DriverPiece → Type 0) → Complete S R p → {x : A} {ts rest : List DriverPiece} → R x ts (Sign CloseParen ∷ rest) → S (Sign CloseParen ∷ rest) → enclosed_at p (Sign OpenParen ∷ ts) ≡ Some (x, rest)
   unfolding enclosed_at
   enclosed_complete S complete d h = rw (complete _ _ _ d h) refl
-

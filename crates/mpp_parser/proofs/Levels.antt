@@ -113,4 +113,3 @@ or_closed (Some _) h = refl
 pub disjunction_closed : (ts : List DriverPiece) → Below 1 ts → open_at disjunction ts ≡ None
 disjunction_closed (Word w ∷ ts) h = rw (or_closed (keyword_of w) h) refl
 disjunction_closed _ h = refl
-
