@@ -1,23 +1,10 @@
-//! The program: its words, the order in which it fetches files, and what it prints.
-//!
-//! `m_tax` in `program` is the one call that `main` makes, and carries the program's theorem. It
-//! knows files, input and output only as the traits of `m_ports`. `main` hands it the real ones.
+//! The program: `main` alone, which hands the words, the real files, the real input and the real output to `m_tax` of
+//! `m_commands`. That call carries the program's theorem.
 #![tactic(auto)]
 
-mod lines;
-mod listing;
-mod program;
-mod reply;
-mod run;
-mod status;
-#[cfg(test)]
-mod tests;
-mod words;
-
+use m_commands::{Status, m_tax};
 use m_places::{Name, Word};
 use m_ports::{HostFiles, HostSink, HostSource};
-use program::m_tax;
-use status::Status;
 use std::alloc::AllocError;
 use std::env;
 use std::process::ExitCode;

@@ -1,0 +1,6 @@
+//! Tests of the commands, through the top call: what no plain row can have. The rows themselves are those of the
+//! program `rows`.
+#![tactic(auto)]
+
+#[cfg(test)]
+mod commands;

@@ -1,0 +1,8 @@
+pub mod Answers
+pub mod Clauses
+pub mod Faults
+pub mod Gathers
+pub mod OneOutput
+pub mod Reading
+pub mod Taken
+pub mod Valid

@@ -1,0 +1,34 @@
+use Rattle.m_plan.specs.Views.{input_view}
+use Rattle.m_commands.proofs.Clauses.{text_of, writing_of}
+use Rattle.m_commands.proofs.Faults.{printed_of, write_fault_of, write_told_of, memory_of, usage_of}
+use Rattle.m_commands.proofs.Reading.{reading_of}
+use Rattle.m_commands.proofs.Taken.{taken_of}
+use Rattle.m_commands.proofs.Valid.{complete_of}
+use Rattle.m_commands.proofs.program.m_tax.Goals as goal
+
+pub returns-clause-text : goal.returns-clause-text
+returns-clause-text g c = text_of _ _ _ (input_view g.S.Source.left g.S.Source.faults c.args.input.now) _ _ _ c.perform.ensures
+
+pub returns-clause-reading : goal.returns-clause-reading
+returns-clause-reading g c = reading_of _ _ _ (input_view g.S.Source.left g.S.Source.faults c.args.input.now) (input_view g.S.Source.left g.S.Source.faults c.args.input.now) _ _ _ c.perform.ensures
+
+pub returns-clause-taken : goal.returns-clause-taken
+returns-clause-taken g c = taken_of _ _ _ _ _ _ c.perform.ensures
+
+pub returns-clause-write_fault : goal.returns-clause-write_fault
+returns-clause-write_fault g c = write_fault_of _ _ _ (printed_of _ _ _ _ _ _ c.perform.ensures)
+
+pub returns-clause-write_told : goal.returns-clause-write_told
+returns-clause-write_told g c = write_told_of _ _ _ (printed_of _ _ _ _ _ _ c.perform.ensures)
+
+pub returns-clause-writing : goal.returns-clause-writing
+returns-clause-writing g c = writing_of _ _ _ (input_view g.S.Source.left g.S.Source.faults c.args.input.now) _ _ _ c.perform.ensures
+
+pub returns-clause-memory : goal.returns-clause-memory
+returns-clause-memory g c = λ e early. memory_of _ _ _ (printed_of _ _ _ _ _ _ c.perform.ensures) e
+
+pub returns-clause-completeness : goal.returns-clause-completeness
+returns-clause-completeness g c = complete_of _ _ _ (input_view g.S.Source.left g.S.Source.faults c.args.input.now) (input_view g.S.Source.left g.S.Source.faults c.args.input.now) _ _ _ c.perform.ensures
+
+pub returns-clause-usage : goal.returns-clause-usage
+returns-clause-usage g c = usage_of _ _ _ _ _ _ c.perform.ensures

@@ -1,0 +1,66 @@
+-- What a call of the program has read and written, clause by clause, from the views before and after it.
+use Rattle.std.specs.Prelude.{◌≡◌, ◌⊎◌, ℕ, true, List, ◌++◌, Some, None}
+use Rattle.std.specs.Io.KnownBytes.{append_known}
+use Rattle.m_ports.specs.Counts.{Rose}
+use Rattle.m_ports.specs.Files.{failed_count}
+use Rattle.m_ports.specs.Sink.{AppendsPrefix}
+use Rattle.m_ports.specs.declared.files.Attempt.{Attempt}
+use Rattle.m_plan.specs.Attempts.{BeginsWith, names_tried, NoneFailed, LastFailed}
+use Rattle.fault_lines.specs.Lines.{unreadable_line}
+use Rattle.m_plan.specs.Status.{IsFaultless, IsComplete}
+use Rattle.m_plan.specs.Views.{Disk, FilesView, InputView, OutputView}
+use Rattle.m_plan.specs.declared.status.Status.{Status}
+use Rattle.m_plan.specs.declared.status.Status.TheVariants.{Usage, ReadFault, WriteFault, Memory}
+use Rattle.m_commands.specs.Command.{command_of, reads_input}
+use Rattle.m_commands.specs.Output.{fetches_of, Output, IsValid}
+
+-- what is known of the input, where the command reads it
+abbrev pub IsTyped : List (List ℕ) → InputView → List ℕ → Type 0
+IsTyped words input typed = reads_input words ≡ true → input.left ≡ Some typed
+
+-- Where the files and the input are told and nothing failed, the text that is appended and the status
+-- are an `Output`.
+abbrev pub PrintsOutput : List (List ℕ) → FilesView → InputView → OutputView → OutputView → Status → Type 0
+PrintsOutput words files input old new status =
+    (disk : Disk) (typed : List ℕ) → files.told ≡ Some disk → IsTyped words input typed → IsFaultless status
+    → (text : List ℕ) × (new.written ≡ append_known old.written text) × Output words disk typed text status
+
+-- The attempts that a call made. Where the files are told, their names are fetched in the order of
+-- `fetches_of`. At most the last of them failed, and then the status says so, or that writing did.
+-- `ReadFault` comes only there or where a fault of the input rose, and the line that tells of an
+-- unreadable file names it.
+pub record Reading (words : List (List ℕ)) (before after : FilesView) (heard told : InputView) (old new : OutputView) (status : Status) : Type 0 where
+  pub made : List Attempt
+  pub appended : after.attempts ≡ before.attempts ++ made
+  pub in_order : (disk : Disk) → before.told ≡ Some disk → BeginsWith (fetches_of words disk) (names_tried made)
+  pub at_most_last : NoneFailed made ⊎ ((name : List ℕ) × LastFailed made name)
+  pub failed : (name : List ℕ) → LastFailed made name → (status ≡ ReadFault) ⊎ (status ≡ WriteFault)
+  pub cause : status ≡ ReadFault → ((name : List ℕ) × LastFailed made name × (new.written ≡ append_known old.written (unreadable_line name)))
+      ⊎ ((reads_input words ≡ true) × Rose heard.faults told.faults)
+
+-- a text that a call writes if no write fails: an output, or the line of the file that can't be read
+pub data IsWhole (words : List (List ℕ)) (disk : Disk) (typed : List ℕ) (before after : FilesView) (text : List ℕ) : Type 0 where
+  output : {status : Status} → Output words disk typed text status → IsWhole words disk typed before after text
+  unreadable : {made : List Attempt} {name : List ℕ} → after.attempts ≡ before.attempts ++ made → LastFailed made name → text ≡ unreadable_line name → IsWhole words disk typed before after text
+
+-- Where the files and the input are told and a write failed, what is appended is the front of a whole text.
+abbrev pub WritesFront : List (List ℕ) → FilesView → FilesView → InputView → OutputView → OutputView → Status → Type 0
+WritesFront words before after input old new status =
+    (disk : Disk) (typed : List ℕ) → before.told ≡ Some disk → IsTyped words input typed → status ≡ WriteFault
+    → (text : List ℕ) × IsWhole words disk typed before after text × AppendsPrefix old.written new.written text
+
+-- no read and no write failed
+abbrev pub NothingFailed : FilesView → FilesView → InputView → InputView → OutputView → OutputView → Type 0
+NothingFailed before after heard told old new =
+    (Rose (failed_count before.attempts) (failed_count after.attempts) → ⊥) × (Rose heard.faults told.faults → ⊥) × (Rose old.faults new.faults → ⊥)
+
+-- What is valid is answered, unless a read, a write or memory failed.
+abbrev pub AnswersValid : List (List ℕ) → FilesView → FilesView → InputView → InputView → OutputView → OutputView → Status → Type 0
+AnswersValid words before after heard told old new status =
+    (disk : Disk) → before.told ≡ Some disk → IsValid words disk → NothingFailed before after heard told old new → IsComplete status
+
+-- The usage line is printed only for words that are no command, and for these always but where a write
+-- or memory failed.
+pub record IsToldUsage (words : List (List ℕ)) (status : Status) : Type 0 where
+  pub only : status ≡ Usage → command_of words ≡ None
+  pub always : command_of words ≡ None → (status ≡ Usage) ⊎ (status ≡ WriteFault) ⊎ (status ≡ Memory)

@@ -1,0 +1,5 @@
+pub mod Answer
+pub mod Clauses
+pub mod Command
+pub mod Output
+pub mod inner

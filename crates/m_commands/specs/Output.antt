@@ -1,0 +1,33 @@
+-- What is fetched and what is printed for these words, files and input.
+use Rattle.std.specs.Prelude.{◌≡◌, ℕ, List, [], Some, None}
+use Rattle.std.specs.Option.{option_map_or}
+use Rattle.fault_lines.specs.Lines.{usage_line}
+use Rattle.m_plan.specs.Plan.{end_of, gathered, refused, names_fetched}
+use Rattle.m_plan.specs.Views.{Disk}
+use Rattle.m_plan.specs.declared.status.Status.{Status}
+use Rattle.m_plan.specs.declared.status.Status.TheVariants.{Refused, Usage}
+use Rattle.m_commands.specs.Answer.{Replies, HasAnswer}
+use Rattle.m_commands.specs.Command.{command_of, plan_of}
+use Rattle.m_commands.specs.declared.command.Command.{Command}
+use Rattle.m_commands.specs.declared.work.Work.{Work}
+
+-- The names that are fetched, in order, up to the first that is missing or past its limit.
+abbrev pub fetches_of : List (List ℕ) → Disk → List (List ℕ)
+fetches_of words disk = option_map_or (λ command. names_fetched disk (plan_of command)) (command_of words) []
+
+-- The text that is printed and the status, where nothing fails: the usage line for words that are no command,
+-- the line by which the command's plan is refused, or what the command answers with what it gathered.
+pub data Output (words : List (List ℕ)) (disk : Disk) (typed : List ℕ) : List ℕ → Status → Type 0 where
+  usage : command_of words ≡ None → Output words disk typed usage_line Usage
+  refuses : {line : List ℕ} (command : Command) → command_of words ≡ Some command → end_of disk (plan_of command) ≡ refused line → Output words disk typed line Refused
+  answers : {text : List ℕ} {status : Status} (command : Command) (work : Work) → command_of words ≡ Some command → end_of disk (plan_of command) ≡ gathered work
+      → Replies work typed text status → Output words disk typed text status
+
+-- Words and files for which a command has all that it wants: its files are there and keep their limits, its plan isn't
+-- refused, and what it gathers has an answer.
+pub record IsValid (words : List (List ℕ)) (disk : Disk) : Type 0 where
+  pub command : Command
+  pub is_command : command_of words ≡ Some command
+  pub work : Work
+  pub gathers : end_of disk (plan_of command) ≡ gathered work
+  pub answer : HasAnswer work

@@ -1,0 +1,91 @@
+//! The top call.
+ghost use Rattle.std.specs.Prelude.{◌≡◌, ◌<◌, ℕ, List, false};
+ghost use Rattle.m_ports.specs.Counts.{Rose};
+ghost use Rattle.m_plan.specs.Attempts.{TakesWithin};
+ghost use Rattle.m_plan.specs.Views.{Disk, files_view, input_view, output_view};
+ghost use Rattle.m_plan.specs.declared.status.Status.{Status};
+ghost use Rattle.m_commands.specs.Command.{limit_of, reads_input, writes_early};
+ghost use Rattle.m_commands.specs.Clauses.{PrintsOutput, Reading, WritesFront, AnswersValid, IsToldUsage};
+ghost use Rattle.m_commands.specs.Output.{Output};
+ghost use Rattle.m_commands.specs.inner.Courses.{Course};
+
+use crate::answer::answer;
+use crate::command::command_of;
+use crate::gather::gather;
+use fault_lines::Fault;
+use m_places::Word;
+use m_plan::{Status, print_fault, tell};
+use m_ports::{Files, Sink, Source};
+use std::alloc::Global;
+use std::thread::Threads;
+
+/// Does the command that the words are.
+fn perform<F: Files, K: Sink>(alloc: Global, words: &[Word], files: &mut F, out: &mut K) -> Status
+    ensures { Course words.now (files_view F.told F.attempts F.taken files.old) (files_view F.told F.attempts F.taken files.new)
+        (output_view K.written K.faults out.old) (output_view K.written K.faults out.new) result }
+{
+    let Ok(command) = command_of(alloc, words) else {
+        return Status::Memory;
+    };
+    let Some(command) = command else {
+        return print_fault(out, Fault::Usage, Status::Usage);
+    };
+    match gather(alloc, files, &command) {
+        Ok(work) => answer(alloc, &work, out),
+        Err(ending) => tell(out, &ending),
+    }
+}
+
+/// Does the command that the words are: fetches its files, and prints its answer.
+///
+/// The words are those behind the program's name. All that is printed, faults too, goes to `out`.
+pub fn m_tax<R: Threads + Sync, F: Files, S: Source, K: Sink>(
+    rt: &R,
+    alloc: Global,
+    words: &[Word],
+    files: &mut F,
+    input: &mut S,
+    out: &mut K,
+) -> Status
+    // Where the files and the input are told, and neither reading, writing nor memory failed, the text
+    // that is appended and the status are an `Output` of the words and the files.
+    ensures text { PrintsOutput words.now (files_view F.told F.attempts F.taken files.old) (input_view S.left S.faults input.old)
+        (output_view K.written K.faults out.old) (output_view K.written K.faults out.new) result }
+
+    // The attempts on files are those of `fetches_of`, at most the last of them failed, and a read fault
+    // is told only there. All files together give at most one byte past the limit for each that was tried.
+    ensures reading { Reading words.now (files_view F.told F.attempts F.taken files.old) (files_view F.told F.attempts F.taken files.new)
+        (input_view S.left S.faults input.old) (input_view S.left S.faults input.new)
+        (output_view K.written K.faults out.old) (output_view K.written K.faults out.new) result }
+    ensures taken { TakesWithin (limit_of words.now) (files_view F.told F.attempts F.taken files.old)
+        (files_view F.told F.attempts F.taken files.new) result }
+    ensures input_left { reads_input words.now ≡ false → S.left input.new ≡ S.left input.old }
+    ensures input_faults { reads_input words.now ≡ false → S.faults input.new ≡ S.faults input.old }
+
+    // A write fault is told only where one happened and always where one did, and what was written is
+    // the front of a text.
+    ensures write_fault { result ≡ Status.WriteFault → Rose (K.faults out.old) (K.faults out.new) }
+    ensures write_told { K.faults out.old < K.faults out.new → result ≡ Status.WriteFault }
+    ensures writing { WritesFront words.now (files_view F.told F.attempts F.taken files.old) (files_view F.told F.attempts F.taken files.new)
+        (input_view S.left S.faults input.old) (output_view K.written K.faults out.old) (output_view K.written K.faults out.new) result }
+
+    // Without memory nothing was written, but by a command that writes before all its work is done.
+    ensures memory { result ≡ Status.Memory → writes_early words.now ≡ false → K.written out.new ≡ K.written out.old }
+
+    // What is valid is answered, unless a read, a write or memory failed.
+    ensures completeness { AnswersValid words.now (files_view F.told F.attempts F.taken files.old) (files_view F.told F.attempts F.taken files.new)
+        (input_view S.left S.faults input.old) (input_view S.left S.faults input.new)
+        (output_view K.written K.faults out.old) (output_view K.written K.faults out.new) result }
+
+    // The usage line is printed exactly for words that are no command.
+    ensures usage { IsToldUsage words.now result }
+{
+    perform(alloc, words, files, out)
+}
+
+/// The same words, files and input have one output: one text and one status. It holds of each command, and will of
+/// those to come, but for two refusals of rule bases that show one cycle or one recursion of several.
+pub fn one_output()
+    ensures { (words : List (List ℕ)) (disk : Disk) (typed one other : List ℕ) (status outcome : Status) →
+        Output words disk typed one status → Output words disk typed other outcome → (one ≡ other) × (status ≡ outcome) }
+{}

@@ -1,0 +1,10 @@
+-- The line of each refusal that ends a command before it has its files.
+use Rattle.std.specs.Prelude.{ℕ, List}
+use Rattle.fault_lines.specs.Lines.{not_built_line, too_long_line}
+use Rattle.m_plan.specs.declared.refusal.Refusal.{Refusal}
+use Rattle.m_plan.specs.declared.refusal.Refusal.TheVariants.{NotBuilt, FileTooLong}
+
+-- the line of a refusal: of the file `a.m` past its limit `refused file too long a.m`
+abbrev pub refusal_line : Refusal → List ℕ
+refusal_line NotBuilt = not_built_line
+refusal_line (FileTooLong name) = too_long_line name

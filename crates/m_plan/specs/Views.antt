@@ -1,0 +1,35 @@
+-- What contracts see of the outside at one time: of the files, of the input and of the output.
+use Rattle.std.specs.Prelude.{ℕ, List, Option}
+use Rattle.m_ports.specs.declared.files.Attempt.{Attempt}
+
+-- the bytes of each file that there is: `a.m` may have some, and another name none
+abbrev pub Disk : Type 0
+Disk = List ℕ → Option (List ℕ)
+
+-- the files: what they hold, where they tell it, the attempts on them, and how many bytes were taken
+pub record FilesView : Type 0 where
+  pub told : Option Disk
+  pub attempts : List Attempt
+  pub taken : ℕ
+
+-- the input: the bytes that are left, where it tells them, and how often it failed
+pub record InputView : Type 0 where
+  pub left : Option (List ℕ)
+  pub faults : ℕ
+
+-- the output: the bytes that were written, where it tells them, and how often it failed
+pub record OutputView : Type 0 where
+  pub written : Option (List ℕ)
+  pub faults : ℕ
+
+-- the view of files, by the ghost members of `Files`
+abbrev pub files_view : {F : Type 0} → (F → Option Disk) → (F → List Attempt) → (F → ℕ) → F → FilesView
+files_view told attempts taken files = record { told = told files; attempts = attempts files; taken = taken files }
+
+-- the view of an input, by the ghost members of `Source`
+abbrev pub input_view : {S : Type 0} → (S → Option (List ℕ)) → (S → ℕ) → S → InputView
+input_view left faults input = record { left = left input; faults = faults input }
+
+-- the view of an output, by the ghost members of `Sink`
+abbrev pub output_view : {K : Type 0} → (K → Option (List ℕ)) → (K → ℕ) → K → OutputView
+output_view written faults out = record { written = written out; faults = faults out }

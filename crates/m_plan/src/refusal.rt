@@ -1,0 +1,27 @@
+ghost use Rattle.std.specs.Prelude.{◌≡◌};
+ghost use Rattle.fault_lines.specs.Lines.{fault_line};
+ghost use Rattle.m_plan.specs.Refusals.{refusal_line};
+
+use fault_lines::Fault;
+use m_places::Name;
+
+/// Why the input is refused before a command has its files.
+#[derive(Drop)]
+pub enum Refusal {
+    /// A form that isn't built yet.
+    NotBuilt,
+    /// The file of this name is past its limit.
+    FileTooLong(Name),
+}
+
+impl Refusal {
+    /// The fault that is told. It takes no memory.
+    pub fn fault(&self) -> Fault<'_>
+        ensures { fault_line result ≡ refusal_line self.now }
+    {
+        match self {
+            Refusal::NotBuilt => Fault::NotBuilt,
+            Refusal::FileTooLong(name) => Fault::FileTooLong(name.bytes()),
+        }
+    }
+}

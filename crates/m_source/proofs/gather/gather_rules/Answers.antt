@@ -1,0 +1,31 @@
+use Rattle.m_source.proofs.Rules.{resumes_first, rules_turn, rules_end, rules_stop, rules_whole, within_push}
+use Rattle.std.proofs.Common.{sym, subst}
+use Rattle.m_source.specs.Source.{AreWithin}
+use Rattle.m_source.proofs.gather.gather_rules.Goals as goal
+
+pub loop-name-init : goal.loop-name-init
+loop-name-init g c = record { resumes = resumes_first _ _ _ c.new-texts.ensures.items; within = subst AreWithin (sym c.new-texts.ensures.items) tt }
+
+pub loop-name-preserved : goal.loop-name-preserved
+loop-name-preserved g c = record {
+  resumes = rules_turn c.args.names.now c.loop-name.name-index _ _ _ _ _ _ _ _ _ _ _ _ c.loop-name-test.true c.name-item.is c.min.ensures c.in_ok-name.ensures c.as_slice.ensures c.in_ok-push.ensures.items
+      c.loop-name.invariant.resumes c.in_ok-bytes.ensures.along;
+  within = within_push _ _ _ _ _ c.in_ok-push.ensures.items c.min.ensures c.loop-name.invariant.within c.in_ok-bytes.ensures.within;
+}
+
+pub returns-in_err-bytes-clause-along : goal.returns-in_err-bytes-clause-along
+returns-in_err-bytes-clause-along g c =
+    rules_end c.args.names.now c.loop-name.name-index _ _ _ _ _ _ _ _ _ _ c.loop-name-test.true c.name-item.is c.min.ensures c.loop-name.invariant.resumes c.in_err-bytes.ensures.along c.from_residual.ensures.1
+
+pub returns-in_err-name-clause-along : goal.returns-in_err-name-clause-along
+returns-in_err-name-clause-along g c =
+    rules_stop c.args.names.now c.loop-name.name-index _ _ _ _ _ _ _ _ _ _ c.loop-name-test.true c.name-item.is c.min.ensures c.loop-name.invariant.resumes c.in_ok-bytes.ensures.along
+    c.from_residual-in_err-name.ensures.1
+
+pub returns-in_err-push-clause-along : goal.returns-in_err-push-clause-along
+returns-in_err-push-clause-along g c =
+    rules_stop c.args.names.now c.loop-name.name-index _ _ _ _ _ _ _ _ _ _ c.loop-name-test.true c.name-item.is c.min.ensures c.loop-name.invariant.resumes c.in_ok-bytes.ensures.along
+    c.from_residual-in_err-push.ensures.1
+
+pub returns-clause-along : goal.returns-clause-along
+returns-clause-along g c = rules_whole c.args.names.now c.loop-name.name-index _ _ _ _ _ _ c.loop-name-test.false c.from_vec.ensures c.loop-name.invariant.resumes

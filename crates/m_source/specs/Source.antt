@@ -1,0 +1,52 @@
+-- What a source is gathered from: the list, the rule files that it names, the driver and the requests.
+use Rattle.std.specs.Prelude.{ℕ, ◌-◌, ◌≤◌, Bool, List, [], ◌∷◌, length, min, Option, Some, None, Result, Ok, Err, if◌then◌else◌, codes}
+use Rattle.std.specs.Str.{bytes_eq}
+use Rattle.m_places.specs.declared.limits.TheConstants.{FILE_BYTES, RULE_BYTES}
+use Rattle.m_list.specs.Listing.{list_of}
+use Rattle.m_list.specs.declared.listing.Listing.{Listing}
+use Rattle.m_list.specs.declared.fault.ListFault.{ListFault}
+use Rattle.m_plan.specs.Plan.{Plan, done, refuses, file_plan, and_then}
+use Rattle.fault_lines.specs.Lines.{not_built_line}
+use Rattle.m_source.specs.declared.source.Source.{Source}
+use Rattle.m_source.specs.declared.source.SourceNames.{SourceNames}
+use Rattle.rule_text.specs.declared.Text.{Text}
+
+-- `-` in the place of a driver or of requests: there is none
+abbrev pub is_none : List ℕ → Bool
+is_none name = bytes_eq name (codes "-")
+
+-- what the list says, or its refusal
+abbrev pub listed : Result Listing ListFault → Plan Listing
+listed (Ok listing) = done listing
+listed (Err fault) = refuses not_built_line
+
+-- the list is fetched, and read
+abbrev pub list_plan : List ℕ → Plan Listing
+list_plan name = and_then (file_plan name FILE_BYTES) (λ bytes. listed (list_of bytes))
+
+-- The rule files are fetched in order. Each may have as many bytes as any file, and no more than those before it
+-- have left over for all together.
+abbrev pub rules_plan : (left : ℕ) → List (List ℕ) → Plan (List Text)
+rules_plan left [] = done []
+rules_plan left (name ∷ names) =
+    and_then (file_plan name (min FILE_BYTES left)) (λ bytes. and_then (rules_plan (left - length bytes) names) (λ texts. done (record { name = name; bytes = bytes } ∷ texts)))
+
+-- a driver or requests, where there are any
+abbrev pub optional_plan : List ℕ → Plan (Option (List ℕ))
+optional_plan name = if is_none name then done None else and_then (file_plan name FILE_BYTES) (λ bytes. done (Some bytes))
+
+-- behind the rule files come the driver and the requests
+abbrev pub parts_plan : SourceNames → List ℕ → List Text → Plan Source
+parts_plan names application texts =
+    and_then (optional_plan names.driver) (λ driver. and_then (optional_plan names.requests)
+    (λ requests. done (record { application = application; texts = texts; driver = driver; requests = requests })))
+
+-- A source is gathered in this order: the list, its rule files, the driver, the requests.
+abbrev pub source_plan : SourceNames → Plan Source
+source_plan names =
+    and_then (list_plan names.list) (λ listing. and_then (rules_plan RULE_BYTES listing.files) (λ texts. parts_plan names listing.application texts))
+
+-- no rule file has more bytes than a file may have
+abbrev pub AreWithin : List Text → Type 0
+AreWithin [] = Unit {0}
+AreWithin (text ∷ texts) = (length text.bytes ≤ FILE_BYTES) × AreWithin texts

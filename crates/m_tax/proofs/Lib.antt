@@ -1,5 +1,0 @@
-pub mod Clauses
-pub mod OneOutput
-pub mod Steps
-pub mod Valid
-pub mod Writes

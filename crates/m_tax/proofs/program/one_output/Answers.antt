@@ -1,5 +1,0 @@
-use Rattle.m_tax.proofs.OneOutput.{one_output}
-use Rattle.m_tax.proofs.program.one_output.Goals as goal
-
-pub returns : goal.returns
-returns c = λ words disk typed one other status outcome a b. one_output words disk typed one other status outcome a b
