@@ -4,9 +4,11 @@ ghost use Rattle.m_names.specs.Names.{index_of};
 ghost use Rattle.m_symbols.specs.Declarations.{names_of, error_names_of, codes_of, owners_from, inputs_from};
 ghost use Rattle.m_symbols.specs.Kinds.{is_in_kind, last_value, has_amount};
 
+use crate::symbols::Tables;
 use crate::{Symbols, Variable};
 use m_ast::{ErrorItem, Role};
 use m_fixed::Amount;
+use m_names::Names;
 use m_places::Name;
 
 impl Symbols {
@@ -71,6 +73,16 @@ impl Symbols {
         ensures within { IfSome result (λ n. n < length (inputs_from 0 self.now.variables)) }
     {
         self.tables.codes.find(code)
+    }
+
+    /// The codes of the inputs, numbered as the inputs are: what households are read by. All else that was
+    /// declared is dropped.
+    pub fn into_codes(self) -> Names
+        ensures { result ≡ codes_of self.variables }
+    {
+        let Symbols { tables } = self;
+        let Tables { codes, .. } = tables;
+        codes
     }
 
     /// Whether the variable of this number, which is below the count, is an input whose last pair
