@@ -1,0 +1,45 @@
+-- What a household is told: the whole driver, from its inputs to what was asked for.
+use Rattle.std.specs.Prelude.{ℕ, ◌+◌, List, [], ◌∷◌, ◌++◌, map, replicate, slice_index_or, if◌then◌else◌}
+use Rattle.m_fixed.specs.declared.amount.Value.{Value}
+use Rattle.m_fixed.specs.declared.amount.Value.TheVariants.{Undef, Num}
+use Rattle.m_ast.specs.declared.variable.Role.{Role}
+use Rattle.m_ast.specs.declared.variable.Role.TheVariants.{Input, Computed, Constant}
+use Rattle.m_ast.specs.Items.{is_input}
+use Rattle.m_symbols.specs.declared.variable.Variable.{Variable}
+use Rattle.m_symbols.specs.Declarations.{Declared}
+use Rattle.micro_m.specs.declared.base.Base.{Base}
+use Rattle.micro_m.specs.Values.{environment}
+use Rattle.flat_code.specs.Answers.{Told, values, stopped}
+use Rattle.driver_core.specs.declared.program.Core.{Core}
+use Rattle.driver_core.specs.Meaning.{Env, Outcome, goes, stops, run_of}
+
+-- what a variable begins with, where the next input has this number: an input its value, a constant its amount, and each other
+-- one is undefined
+abbrev pub first_value : List Value → ℕ → Role → Value
+first_value inputs n (Input code) = slice_index_or inputs n Undef
+first_value inputs n (Computed size) = Undef
+first_value inputs n (Constant amount) = Num amount
+
+-- the number of the input behind a variable
+abbrev pub next_input : ℕ → Role → ℕ
+next_input n role = if is_input role then n + 1 else n
+
+-- what the cells of variables begin with, where the first input among them has this number
+abbrev pub start_from : List Value → ℕ → List Variable → Env
+start_from inputs n [] = []
+start_from inputs n (v ∷ vs) = replicate v.cells (first_value inputs n v.item.role) ++ start_from inputs (next_input n v.item.role) vs
+
+-- The environment at the start, for a value of each input in order of declaration: of the input `V`, the constant `C` of 2 and
+-- the table `T` of 2 cells, for 7, it is 7, 2, undefined, undefined.
+abbrev pub start_of : Declared → List Value → Env
+start_of declared inputs = start_from inputs 0 declared.variables
+
+-- what is told of the requested cells
+abbrev pub told_by : List ℕ → Outcome → Told
+told_by requests (goes env) = values (map (environment env) requests)
+told_by requests (stops cause) = stopped cause
+
+-- What a driver answers over the rules of a base, for the inputs' values in order of declaration: what ended the run, or the
+-- values of the requested cells behind it.
+abbrev pub answer_of : Core → Base → Declared → List ℕ → List Value → Told
+answer_of core base declared requests inputs = told_by requests (run_of core base (start_of declared inputs))

@@ -1,0 +1,9 @@
+pub mod Formulas
+pub mod FormulaView
+pub mod Actions
+pub mod ActionView
+pub mod Valid
+pub mod Meaning
+pub mod Answers
+pub mod Weights
+pub mod inner

@@ -1,0 +1,133 @@
+-- What a driver does: commands turn the values of the cells into others, one after the other, and a stop ends the run.
+use Rattle.std.specs.Prelude.{ℕ, zero, suc, pos, List, [], ◌∷◌, Option, Some, None, length, slice_set, if◌then◌else◌, slice_get, option_map, option_and_then}
+use Rattle.m_fixed.specs.declared.amount.Value.{Value}
+use Rattle.m_fixed.specs.declared.amount.Value.TheVariants.{Undef, Num, Over}
+use Rattle.m_fixed.specs.declared.operator.Op.TheVariants.{Or, Present}
+use Rattle.m_fixed.specs.Operators.{op_value, is_zero}
+use Rattle.m_places.specs.declared.verification.Label.{Label}
+use Rattle.micro_m.specs.declared.base.Base.{Base}
+use Rattle.micro_m.specs.declared.base.Failure.{Failure}
+use Rattle.micro_m.specs.declared.base.Failure.TheVariants.{Failed, Over as OverCheck}
+use Rattle.micro_m.specs.Values.{Environment, environment, applied, value_of}
+use Rattle.micro_m.specs.Failures.{first_failure}
+use Rattle.flat_code.specs.Answers.{Cause, failed, over, over_driver}
+use Rattle.driver_core.specs.declared.program.Core.{Core}
+use Rattle.driver_core.specs.Formulas.{Formula, lit, cell, apply, chain, exists, Formulas, no_formulas, a_formula, Steps, no_steps, a_step}
+use Rattle.driver_core.specs.Actions.{Action, assign, clear, branch, partition, call, solve, Block, no_actions, an_action}
+use Rattle.driver_core.specs.Valid.{body_among, body_of}
+
+-- ---- the value of a term
+
+-- whether a cell is defined: 1 or 0, and over where the cell is over
+abbrev pub present_in : Environment → ℕ → Value
+present_in values c = op_value Present (values c) Undef Undef
+
+-- so far, or one of these cells is defined
+abbrev pub present_or : Environment → Value → List ℕ → Value
+present_or values so_far [] = so_far
+present_or values so_far (c ∷ cs) = present_or values (op_value Or so_far (present_in values c) Undef) cs
+
+-- Whether one of these cells is defined. It is 0 where there are none; of one cell it is whether that is defined, and of more
+-- it is `(present(A) or present(B)) or present(C)`.
+abbrev pub any_present : Environment → List ℕ → Value
+any_present values [] = Num (pos 0)
+any_present values (c ∷ cs) = present_or values (present_in values c) cs
+
+abbrev mutual
+  -- a term's value where the cells have these values, by the operator table
+  pub formula_value : Environment → Formula → Value
+  formula_value values (lit value) = value
+  formula_value values (cell c) = values c
+  formula_value values (apply op arguments) = applied op (formula_values values arguments)
+  formula_value values (chain first steps) = steps_value values (formula_value values first) steps
+  formula_value values (exists cells) = any_present values cells
+
+  pub formula_values : Environment → Formulas → List Value
+  formula_values values no_formulas = []
+  formula_values values (a_formula argument rest) = formula_value values argument ∷ formula_values values rest
+
+  -- so far, and then each step in turn: `A - B + C` is `(A - B) + C`
+  pub steps_value : Environment → Value → Steps → Value
+  steps_value values so_far no_steps = so_far
+  steps_value values so_far (a_step op operand rest) = steps_value values (op_value op so_far (formula_value values operand) Undef) rest
+
+-- ---- runs
+
+-- the values of all cells, in order; a cell beyond them is undefined
+abbrev pub Env : Type 0
+Env = List Value
+
+-- how a run goes on, or what ends it
+pub data Outcome : Type 0 where
+  goes : Env → Outcome
+  stops : Cause → Outcome
+
+-- what comes next, where nothing has stopped
+abbrev pub then_do : Outcome → (Env → Outcome) → Outcome
+then_do (goes env) next = next env
+then_do (stops cause) next = stops cause
+
+-- an environment in which each of these cells has the value that another gives it, and all others keep theirs
+abbrev pub with_values : List ℕ → Environment → Env → Env
+with_values [] values env = env
+with_values (c ∷ cs) values env = with_values cs values (slice_set env c (values c))
+
+-- an environment in which these cells are undefined
+abbrev pub without : List ℕ → Env → Env
+without cells env = with_values cells (λ c. Undef) env
+
+-- Which block a condition runs: the first at a number other than 0, the second at 0 and where it is undefined. Over ends the
+-- run, and tells the line.
+abbrev pub chosen_block : ℕ → Value → Outcome → Outcome → Outcome
+chosen_block line Undef first second = second
+chosen_block line (Num x) first second = if is_zero x then second else first
+chosen_block line Over first second = stops (over_driver line)
+
+-- what a check of the rules tells that fails or is over: its label
+abbrev pub failure_cause : List Label → Failure → Option Cause
+failure_cause labels (Failed number) = option_map failed (slice_get labels number)
+failure_cause labels (OverCheck number) = option_map over (slice_get labels number)
+
+-- an end where there is a cause, and else this
+abbrev pub unless_stopped : Option Cause → Outcome → Outcome
+unless_stopped None outcome = outcome
+unless_stopped (Some cause) outcome = stops cause
+
+-- What the rules do to an environment: the first check that fails or is over, by the values that the rules give, ends the run
+-- with its label. Where there is none, the received cells get the values that the rules give, and all others keep theirs.
+abbrev pub rules_run : Base → List ℕ → Env → Outcome
+rules_run base received env =
+    unless_stopped (option_and_then (failure_cause base.labels) (first_failure base (environment env)))
+    (goes (with_values received (value_of base (environment env)) env))
+
+module _ (rules : List ℕ → Env → Outcome) (body : ℕ → Env → Outcome) where
+  abbrev mutual
+    -- What a command does, where the rules and the functions do this. A partition runs its block with its cells undefined, and
+    -- these get their former values back; other changes stay. A call runs the body on a copy, and only the received cells
+    -- take the copy's values.
+    pub action_run : Action → Env → Outcome
+    action_run (assign line c term) env = goes (slice_set env c (formula_value (environment env) term))
+    action_run (clear line c) env = goes (slice_set env c Undef)
+    action_run (branch line condition first second) env =
+        chosen_block line (formula_value (environment env) condition) (block_run first env) (block_run second env)
+    action_run (partition line cells block) env =
+        then_do (block_run block (without cells env)) (λ after. goes (with_values cells (environment env) after))
+    action_run (call line received function) env =
+        then_do (body function env) (λ after. goes (with_values received (environment after) env))
+    action_run (solve line received) env = rules received env
+
+    -- commands one after the other
+    pub block_run : Block → Env → Outcome
+    block_run no_actions env = goes env
+    block_run (an_action action rest) env = then_do (action_run action env) (block_run rest)
+
+-- What a call of a function does, where calls may be nested so deep. Without a ring and with as many turns as there are
+-- functions the turns never run out.
+abbrev pub called : (List ℕ → Env → Outcome) → List (List Action) → ℕ → ℕ → Env → Outcome
+called rules bodies zero f env = goes env
+called rules bodies (suc turns) f env = block_run rules (called rules bodies turns) (body_among bodies f) env
+
+-- the run of a driver over the rules of a base
+abbrev pub run_of : Core → Base → Env → Outcome
+run_of core base env =
+    block_run (rules_run base) (called (rules_run base) core.bodies (length core.bodies)) (body_of core core.main) env

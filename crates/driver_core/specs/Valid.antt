@@ -1,0 +1,104 @@
+-- When a driver is one: each cell and each function that it names is there, and no function reaches itself by calls.
+use Rattle.std.specs.Prelude.{◌≡◌, ℕ, ◌<◌, ◌⊎◌, List, [], ◌∷◌, length, All, Option, None, Some, slice_get}
+use Rattle.micro_m.specs.Bases.{AreDistinct}
+use Rattle.driver_core.specs.declared.program.Core.{Core}
+use Rattle.driver_core.specs.Formulas.{Formula, lit, cell, apply, chain, exists, Formulas, no_formulas, a_formula, Steps, no_steps, a_step}
+use Rattle.driver_core.specs.Actions.{Action, assign, clear, branch, partition, call, solve, Block, no_actions, an_action}
+use Rattle.driver_core.specs.ActionView.{block_of}
+
+-- ---- bodies
+
+abbrev pub block_or_none : Option (List Action) → Block
+block_or_none None = no_actions
+block_or_none (Some commands) = block_of commands
+
+-- the commands of a function; one that isn't there has none
+abbrev pub body_among : List (List Action) → ℕ → Block
+body_among bodies f = block_or_none (slice_get bodies f)
+
+abbrev pub body_of : Core → ℕ → Block
+body_of core f = body_among core.bodies f
+
+-- ---- numbers in range
+
+abbrev pub CellsAreWithin : ℕ → List ℕ → Type 0
+CellsAreWithin cells named = All (λ c. c < cells) named
+
+abbrev mutual
+  -- each cell of a term is one of so many
+  pub FormulaIsWithin : ℕ → Formula → Type 0
+  FormulaIsWithin cells (lit value) = Unit {0}
+  FormulaIsWithin cells (cell c) = c < cells
+  FormulaIsWithin cells (apply op arguments) = FormulasAreWithin cells arguments
+  FormulaIsWithin cells (chain first steps) = FormulaIsWithin cells first × StepsAreWithin cells steps
+  FormulaIsWithin cells (exists named) = CellsAreWithin cells named
+
+  pub FormulasAreWithin : ℕ → Formulas → Type 0
+  FormulasAreWithin cells no_formulas = Unit {0}
+  FormulasAreWithin cells (a_formula argument rest) = FormulaIsWithin cells argument × FormulasAreWithin cells rest
+
+  pub StepsAreWithin : ℕ → Steps → Type 0
+  StepsAreWithin cells no_steps = Unit {0}
+  StepsAreWithin cells (a_step op operand rest) = FormulaIsWithin cells operand × StepsAreWithin cells rest
+
+abbrev mutual
+  -- each cell of a command is one of so many, and each function too
+  pub ActionIsWithin : ℕ → ℕ → Action → Type 0
+  ActionIsWithin cells functions (assign line c term) = (c < cells) × FormulaIsWithin cells term
+  ActionIsWithin cells functions (clear line c) = c < cells
+  ActionIsWithin cells functions (branch line condition first second) =
+      FormulaIsWithin cells condition × BlockIsWithin cells functions first × BlockIsWithin cells functions second
+  ActionIsWithin cells functions (partition line named block) = CellsAreWithin cells named × BlockIsWithin cells functions block
+  ActionIsWithin cells functions (call line received function) = CellsAreWithin cells received × (function < functions)
+  ActionIsWithin cells functions (solve line received) = CellsAreWithin cells received
+
+  pub BlockIsWithin : ℕ → ℕ → Block → Type 0
+  BlockIsWithin cells functions no_actions = Unit {0}
+  BlockIsWithin cells functions (an_action action rest) = ActionIsWithin cells functions action × BlockIsWithin cells functions rest
+
+-- ---- calls
+
+abbrev mutual
+  -- a command calls a function where a call of it stands in it, in any branch
+  pub ActionCalls : Action → ℕ → Type 0
+  ActionCalls (assign line c term) f = ⊥
+  ActionCalls (clear line c) f = ⊥
+  ActionCalls (branch line condition first second) f = BlockCalls first f ⊎ BlockCalls second f
+  ActionCalls (partition line named block) f = BlockCalls block f
+  ActionCalls (call line received function) f = f ≡ function
+  ActionCalls (solve line received) f = ⊥
+
+  pub BlockCalls : Block → ℕ → Type 0
+  BlockCalls no_actions f = ⊥
+  BlockCalls (an_action action rest) f = ActionCalls action f ⊎ BlockCalls rest f
+
+-- one function calls another
+abbrev pub Calls : Core → ℕ → ℕ → Type 0
+Calls core f g = BlockCalls (body_of core f) g
+
+-- from a function through these, each calling the next, to a function that the last of them calls
+abbrev pub LeadsTo : Core → ℕ → List ℕ → ℕ → Type 0
+LeadsTo core f [] last = Calls core f last
+LeadsTo core f (g ∷ gs) last = Calls core f g × LeadsTo core g gs last
+
+-- A ring: distinct functions, each calling the next, and the last calling the first. One function that calls itself is a ring.
+abbrev pub IsRing : Core → List ℕ → Type 0
+IsRing core [] = ⊥
+IsRing core (f ∷ fs) = AreDistinct (f ∷ fs) × LeadsTo core f fs f
+
+-- no function reaches itself by calls
+abbrev pub HasNoRing : Core → Type 0
+HasNoRing core = (functions : List ℕ) → IsRing core functions → ⊥
+
+-- ---- a valid driver
+
+-- all numbers in it are in range
+pub record IsInRange (core : Core) : Type 0 where
+  pub names : length core.names ≡ length core.bodies
+  pub main : core.main < length core.bodies
+  pub bodies : All (λ commands. BlockIsWithin core.cells (length core.bodies) (block_of commands)) core.bodies
+
+-- A valid driver: its numbers are in range, and no function reaches itself.
+pub record IsValidCore (core : Core) : Type 0 where
+  pub in_range : IsInRange core
+  pub no_ring : HasNoRing core

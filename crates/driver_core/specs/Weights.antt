@@ -1,0 +1,105 @@
+-- How much a driver weighs: what it comes to where all is written out, each call with the body of its function and each call of
+-- the rules with the base. `A = B + 1` weighs 3.
+use Rattle.std.specs.Prelude.{ℕ, zero, suc, ◌+◌, ◌*◌, List, length}
+use Rattle.std.specs.List.{sum_by}
+use Rattle.micro_m.specs.declared.base.Base.{Base}
+use Rattle.micro_m.specs.Trees.{Tree, lit as lit_tree, cell as cell_tree, pick, apply as apply_tree, chain as chain_tree, Trees, none, more, Steps as TreeSteps, end, step}
+use Rattle.micro_m.specs.Bases.{Definition}
+use Rattle.micro_m.specs.Failures.{Check}
+use Rattle.driver_core.specs.declared.program.Core.{Core}
+use Rattle.driver_core.specs.Formulas.{Formula, lit, cell, apply, chain, exists, Formulas, no_formulas, a_formula, Steps, no_steps, a_step}
+use Rattle.driver_core.specs.Actions.{Action, assign, clear, branch, partition, call, solve, Block, no_actions, an_action}
+use Rattle.driver_core.specs.Valid.{body_among, body_of}
+
+-- ---- the base
+
+-- a table read at an index: one beside a literal index, and 2 for each cell and 2 beside any other
+abbrev pub read_weight : ℕ → Tree → ℕ → ℕ
+read_weight size (lit_tree value) index = index + 1
+read_weight size _ index = index + 2 * size + 2
+
+abbrev mutual
+  -- a term of the base weighs 1 for each literal and cell and for each operator; a list of n operands has n - 1 operators
+  pub tree_weight : Tree → ℕ
+  tree_weight (lit_tree value) = 1
+  tree_weight (cell_tree c) = 1
+  tree_weight (pick first size index) = read_weight size index (tree_weight index)
+  tree_weight (apply_tree op arguments) = trees_weight arguments + 1
+  tree_weight (chain_tree first steps) = tree_weight first + tree_steps_weight steps
+
+  pub trees_weight : Trees → ℕ
+  trees_weight none = 0
+  trees_weight (more argument rest) = tree_weight argument + trees_weight rest
+
+  pub tree_steps_weight : TreeSteps → ℕ
+  tree_steps_weight end = 0
+  tree_steps_weight (step op operand rest) = tree_weight operand + 1 + tree_steps_weight rest
+
+abbrev pub definition_weight : Definition → ℕ
+definition_weight definition = tree_weight definition.1 + 1
+
+abbrev pub check_weight : Check → ℕ
+check_weight check = tree_weight check.0 + 1
+
+-- a base weighs all its terms, and one for each definition and check
+abbrev pub base_weight : Base → ℕ
+base_weight base = sum_by definition_weight base.definitions + sum_by check_weight base.checks
+
+-- ---- commands
+
+abbrev mutual
+  -- a term of a driver weighs as one of the base, and `exists` 1 and 2 for each cell
+  pub formula_weight : Formula → ℕ
+  formula_weight (lit value) = 1
+  formula_weight (cell c) = 1
+  formula_weight (apply op arguments) = formulas_weight arguments + 1
+  formula_weight (chain first steps) = formula_weight first + steps_weight steps
+  formula_weight (exists cells) = 2 * length cells + 1
+
+  pub formulas_weight : Formulas → ℕ
+  formulas_weight no_formulas = 0
+  formulas_weight (a_formula argument rest) = formula_weight argument + formulas_weight rest
+
+  pub steps_weight : Steps → ℕ
+  steps_weight no_steps = 0
+  steps_weight (a_step op operand rest) = formula_weight operand + 1 + steps_weight rest
+
+abbrev mutual
+  -- how many names a command sets, deletes or receives, and those in it, each as often as it stands
+  pub names_changed : Action → ℕ
+  names_changed (assign line c term) = 1
+  names_changed (clear line c) = 1
+  names_changed (branch line condition first second) = names_changed_in first + names_changed_in second
+  names_changed (partition line cells block) = names_changed_in block
+  names_changed (call line received function) = length received
+  names_changed (solve line received) = length received
+
+  pub names_changed_in : Block → ℕ
+  names_changed_in no_actions = 0
+  names_changed_in (an_action action rest) = names_changed action + names_changed_in rest
+
+-- where a base weighs this and has so many cells, and bodies of functions weigh this
+module _ (rules cells : ℕ) (body : ℕ → ℕ) where
+  abbrev mutual
+    pub action_weight : Action → ℕ
+    action_weight (assign line c term) = formula_weight term
+    action_weight (clear line c) = 1
+    action_weight (branch line condition first second) =
+        formula_weight condition + block_weight first + block_weight second + names_changed_in first + names_changed_in second
+    action_weight (partition line named block) = block_weight block + cells
+    action_weight (call line received function) = body function + cells
+    action_weight (solve line received) = rules
+
+    pub block_weight : Block → ℕ
+    block_weight no_actions = 0
+    block_weight (an_action action rest) = action_weight action + block_weight rest
+
+-- the weight of a function's body, where calls may be nested so deep
+abbrev pub body_weight : ℕ → ℕ → List (List Action) → ℕ → ℕ → ℕ
+body_weight rules cells bodies zero f = 0
+body_weight rules cells bodies (suc turns) f = block_weight rules cells (body_weight rules cells bodies turns) (body_among bodies f)
+
+-- the weight of a driver over a base: that of the body of `main`
+abbrev pub weight_of : Core → Base → ℕ
+weight_of core base =
+    block_weight (base_weight base) base.cells (body_weight (base_weight base) base.cells core.bodies (length core.bodies)) (body_of core core.main)

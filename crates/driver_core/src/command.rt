@@ -1,0 +1,62 @@
+//! Commands of drivers over cells.
+
+ghost use Rattle.std.specs.Prelude.{◌≡◌};
+ghost use Rattle.driver_core.specs.ActionView.{action_of};
+
+use crate::CTerm;
+use m_places::Seq;
+use std::marker::Model;
+
+/// A command. Contracts see it as an `Action` of specs/.
+#[cycle(command)]
+#[derive(Drop)]
+pub struct CCommand {
+    pub node: CCommandNode,
+}
+
+/// What a command is. The number that comes first is that of its line, from 1.
+#[cycle(command)]
+#[derive(Drop)]
+pub enum CCommandNode {
+    /// Gives a cell the value of a term.
+    Set(u32, u32, CTerm),
+    /// Makes a cell undefined.
+    Del(u32, u32),
+    /// Does the first block where the condition is a number other than 0, and the second, which may be empty, where it is 0
+    /// or undefined.
+    If(u32, CTerm, Vec<CCommand>, Vec<CCommand>),
+    /// Does the block with these cells undefined, and gives them their values back.
+    Partition(u32, Seq<u32>, Vec<CCommand>),
+    /// Does the body of the function of this number on a copy, of which these cells come back.
+    Call(u32, Seq<u32>, u32),
+    /// Computes and checks the rules, and these cells get their values.
+    Rules(u32, Seq<u32>),
+}
+
+impl Model for CCommand {
+    ghost use Rattle.driver_core.specs.Actions.{Action, action_nodes};
+    ghost use Rattle.driver_core.specs.inner.ActionCoding.{coded_action};
+
+    ghost Value = { Action };
+
+    ghost coded = { coded_action };
+
+    ghost use Rattle.driver_core.specs.ActionView.{action_of};
+
+    ghost view = { λ c. action_of c.node };
+
+    ghost size = { action_nodes };
+
+    ghost use Rattle.driver_core.specs.inner.ActionFalls.{falls};
+
+    ghost size_decreases = { λ a h. falls a.node };
+}
+
+impl CCommand {
+    /// The command of this node.
+    pub fn new(node: CCommandNode) -> CCommand
+        ensures { result ≡ action_of node }
+    {
+        CCommand { node }
+    }
+}
