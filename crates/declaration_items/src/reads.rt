@@ -1,0 +1,32 @@
+//! The public readers, from tokens to trees and positions.
+ghost use Rattle.std.specs.Prelude.{◌≡◌};
+ghost use Rattle.m_places.specs.Refusals.{Outcome};
+ghost use Rattle.declaration_items.specs.declared.fault.ItemFault.TheVariants.{Memory};
+ghost use Rattle.declaration_items.specs.Standing.{DeclarationStands, NoDeclaration, ApplicationsStand, NoApplications};
+
+use crate::fault::ItemFault;
+use m_ast::Item;
+use m_lexer::Token;
+use m_places::{Name, Seq};
+use std::alloc::Global;
+
+/// The declaration in front of the tokens, and the position behind it: a variable, an error, or an
+/// `application` or `enchaineur` item.
+///
+/// Of `SEUIL : const = 1000 ; IRN` it reads the first six tokens and answers 6. `NoItem` comes exactly where no
+/// front of the tokens spells a declaration.
+pub fn read_declaration(alloc: Global, tokens: &[Token]) -> Result<(Item, usize), ItemFault>
+    ensures outcome { Outcome Memory result (λ read. DeclarationStands tokens.now read.0 read.1) (λ fault. NoDeclaration tokens.now) }
+{
+    Err(ItemFault::Memory)
+}
+
+/// The applications in front of the tokens, and the position behind them, at which no comma stands.
+///
+/// Of `application : iliad , batch ;` it reads the first five tokens and answers 5. `NoItem` comes exactly
+/// where no front of the tokens spells applications with no comma behind it.
+pub fn read_applications(alloc: Global, tokens: &[Token]) -> Result<(Seq<Name>, usize), ItemFault>
+    ensures outcome { Outcome Memory result (λ read. ApplicationsStand tokens.now read.0 read.1) (λ fault. NoApplications tokens.now) }
+{
+    Err(ItemFault::Memory)
+}
