@@ -1,0 +1,21 @@
+-- How the items of a rule file are spelled. In each relation the last two arguments are tokens: `SpellsItem i ts rest` says
+-- that ts begin with a spelling of the item i and go on with rest.
+use Rattle.std.specs.Prelude.{List}
+use Rattle.m_lexer.specs.declared.token.Token.{Token}
+use Rattle.m_ast.specs.declared.item.Item.{Item}
+use Rattle.m_ast.specs.declared.item.Item.TheVariants.{Rule, Verif}
+use Rattle.m_ast.specs.declared.item.RuleItem.{RuleItem}
+use Rattle.m_ast.specs.declared.item.VerifItem.{VerifItem}
+use Rattle.declaration_items.specs.Grammar.{SpellsDeclaration}
+use Rattle.rule_items.specs.Many.{Many}
+use Rattle.rule_items.specs.Grammar.{SpellsRule, SpellsVerification}
+
+-- item := declaration | rule | verif
+pub data SpellsItem : Item → List Token → List Token → Type 0 where
+  a_declaration : {i : Item} {ts rest : List Token} → SpellsDeclaration i ts rest → SpellsItem i ts rest
+  a_rule : {r : RuleItem} {ts rest : List Token} → SpellsRule r ts rest → SpellsItem (Rule r) ts rest
+  a_verification : {v : VerifItem} {ts rest : List Token} → SpellsVerification v ts rest → SpellsItem (Verif v) ts rest
+
+-- file := { item } where nothing is left behind the file
+abbrev pub SpellsItems : List Item → List Token → List Token → Type 0
+SpellsItems = Many SpellsItem

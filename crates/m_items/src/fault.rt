@@ -1,0 +1,32 @@
+ghost use Rattle.std.specs.Prelude.{◌≡◌};
+ghost use Rattle.m_items.specs.declared.fault.ParseFault.TheVariants.{Memory};
+
+use m_places::Place;
+use std::alloc::{AllocError, AllocFailed};
+
+/// Why tokens spell no items.
+#[derive(Clone, Copy, Debug, PartialEq, Eq)]
+pub enum ParseFault {
+    /// At this token brackets and conditionals stand more than 256 deep.
+    TooDeep(Place),
+    /// Behind the longest front of the tokens that spells items stands this token.
+    Syntax(Place),
+    /// Want of memory.
+    Memory,
+}
+
+impl From<AllocError> for ParseFault {
+    ghost from_gives = { λ _ e. e ≡ Memory };
+
+    fn from(_error: AllocError) -> ParseFault {
+        ParseFault::Memory
+    }
+}
+
+impl<T: Drop> From<AllocFailed<T>> for ParseFault {
+    ghost from_gives = { λ _ e. e ≡ Memory };
+
+    fn from(_error: AllocFailed<T>) -> ParseFault {
+        ParseFault::Memory
+    }
+}

