@@ -1,5 +1,5 @@
 //! A place in the tokens, and the readers of single tokens. It knows nothing of trees.
-ghost use Rattle.std.specs.Prelude.{◌≡◌, ◌<◌, ◌≤◌, ◌∷◌, [], length, drop, Some, None, MatchBool, MatchOption, OnSome};
+ghost use Rattle.std.specs.Prelude.{◌≡◌, ◌<◌, ◌≤◌, ◌∷◌, [], length, drop, Some, None, MatchBool, MatchOption, OnSome, IfSome, IsTrue};
 ghost use Rattle.std.specs.Bool.{OnTrue};
 ghost use Rattle.std.specs.List.{list_all};
 ghost use Rattle.m_terms.specs.Tokens.{is_sign, is_key, kind_is_sign, kind_is_key, is_name, is_whole, is_digit};
@@ -165,6 +165,7 @@ impl<'a> Cursor<'a> {
 
     /// Takes a number of one to nine digits without a point, and answers its spelling.
     pub fn take_whole(&mut self) -> Option<&'a Name>
+        ensures spelled { IfSome result (λ n. IsTrue (is_whole n.now)) }
         ensures whole { MatchOption result ((self.new ≡ self.old) × (open_at whole self.old ≡ None)) (λ n. open_at whole self.old ≡ Some (n.now, self.new)) }
         ensures shorter { OnSome result (length self.new < length self.old) }
     {
@@ -245,7 +246,8 @@ fn name_of(kind: &Kind) -> Option<&Name>
 }
 
 fn whole_of(kind: &Kind) -> Option<&Name>
-    ensures { MatchOption result (whole_of kind.now ≡ None) (λ n. whole_of kind.now ≡ Some n.now) }
+    ensures spelled { IfSome result (λ n. IsTrue (is_whole n.now)) }
+    ensures whole { MatchOption result (whole_of kind.now ≡ None) (λ n. whole_of kind.now ≡ Some n.now) }
 {
     match kind {
         Kind::Number(_, spelling) if is_whole(spelling) => Some(spelling),

@@ -6,8 +6,10 @@
 
 mod attributes;
 mod cursor;
+mod error;
 mod fault;
 mod item;
+mod laws;
 mod lists;
 mod reads;
 mod variable;
@@ -16,6 +18,7 @@ mod whole;
 pub use cursor::Cursor;
 pub use fault::ItemFault;
 pub use item::declaration;
+pub use laws::{declarations_begin, one_declaration, one_list_of_applications};
 pub use lists::applications;
 pub use reads::{read_applications, read_declaration};
 pub use whole::whole_value;

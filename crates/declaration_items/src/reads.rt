@@ -4,9 +4,12 @@ ghost use Rattle.m_places.specs.Refusals.{Outcome};
 ghost use Rattle.declaration_items.specs.declared.fault.ItemFault.TheVariants.{Memory};
 ghost use Rattle.declaration_items.specs.Standing.{DeclarationStands, NoDeclaration, ApplicationsStand, NoApplications};
 
+use crate::cursor::Cursor;
 use crate::fault::ItemFault;
+use crate::item::declaration;
+use crate::lists::applications;
 use m_ast::Item;
-use m_lexer::Token;
+use m_lexer::{Sign, Token};
 use m_places::{Name, Seq};
 use std::alloc::Global;
 
@@ -18,7 +21,9 @@ use std::alloc::Global;
 pub fn read_declaration(alloc: Global, tokens: &[Token]) -> Result<(Item, usize), ItemFault>
     ensures outcome { Outcome Memory result (λ read. DeclarationStands tokens.now read.0 read.1) (λ fault. NoDeclaration tokens.now) }
 {
-    Err(ItemFault::Memory)
+    let mut cursor = Cursor::new(tokens);
+    let item = declaration(alloc, &mut cursor)?;
+    Ok((item, tokens.len() - cursor.len()))
 }
 
 /// The applications in front of the tokens, and the position behind them, at which no comma stands.
@@ -28,5 +33,10 @@ pub fn read_declaration(alloc: Global, tokens: &[Token]) -> Result<(Item, usize)
 pub fn read_applications(alloc: Global, tokens: &[Token]) -> Result<(Seq<Name>, usize), ItemFault>
     ensures outcome { Outcome Memory result (λ read. ApplicationsStand tokens.now read.0 read.1) (λ fault. NoApplications tokens.now) }
 {
-    Err(ItemFault::Memory)
+    let mut cursor = Cursor::new(tokens);
+    let names = applications(alloc, &mut cursor)?;
+    if cursor.is_at_sign(Sign::Comma) {
+        return Err(ItemFault::NoItem);
+    }
+    Ok((names, tokens.len() - cursor.len()))
 }

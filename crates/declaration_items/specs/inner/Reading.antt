@@ -1,5 +1,5 @@
 -- Reading as a function: what stands at the front of the tokens, and the tokens behind it, or none.
-use Rattle.std.specs.Prelude.{◌≡◌, ◌==◌, ◌||◌, ℕ, ℤ, neg_ℤ, Bool, cond, List, [], length, Option, Some, None, Result, Ok, Err}
+use Rattle.std.specs.Prelude.{◌≡◌, ◌==◌, ◌||◌, ℕ, ℤ, neg_ℤ, Bool, cond, List, [], ◌∷◌, ◌++◌, length, Option, Some, None, Result, Ok, Err}
 use Rattle.std.specs.Str.Parse.{digits_value}
 use Rattle.m_places.specs.declared.place.Place.{Place}
 use Rattle.m_places.specs.declared.verification.ErrorKind.{ErrorKind}
@@ -18,6 +18,8 @@ use Rattle.declaration_items.specs.declared.fault.ItemFault.TheVariants.{NoItem,
 use Rattle.declaration_items.specs.Tokens.{word, name, whole, amount, text, error_kind, key_place}
 use Rattle.declaration_items.specs.Grammar.{Attribute, attribute, Attributes, attributes_of, no_attributes, variable, error_item}
 use Rattle.declaration_items.specs.declared.attributes.AttributeLists.{AttributeLists}
+use Rattle.declaration_items.specs.declared.lists.Listed.{Listed}
+use Rattle.declaration_items.specs.declared.lists.Listed.TheVariants.{Words, Texts}
 
 -- What a reader of the code returned is what reading gives, unless memory ran out.
 abbrev pub Fails : {A : Type 0} → ItemFault → Option A → Type 0
@@ -53,6 +55,11 @@ attributes_at ts = chain_at word attribute number_at (length ts) [] ts
 -- what the code keeps of attributes
 abbrev pub lists : AttributeLists → Attributes
 lists a = (a.words.items, a.pairs.items)
+
+-- those lists, with one attribute more
+abbrev pub with_one_more : Attributes → List ℕ → Option ℤ → Attributes
+with_one_more l w None = (l.0 ++ w ∷ [], l.1)
+with_one_more l w (Some z) = (l.0, l.1 ++ (w, z) ∷ [])
 
 unfoldable pub lists_at : List Token → Option (Attributes × List Token)
 lists_at ts = attributes_at ts >>= λ xs. Some (attributes_of xs.0, xs.1)
@@ -105,8 +112,17 @@ constant_at n ts = do
   s ← sign_at signs.Semicolon z.1
   Some (items.Variable (variable n (Constant z.0) no_attributes None), s.1)
 
-abbrev pub texts_at : List Token → Option (List (List ℕ) × List Token)
-texts_at = joined_at (is_sign signs.Colon) (open_at text)
+-- Lists of words, and of texts: what stands between two parts, and what a part is.
+abbrev pub between : Listed → ASign
+between Words = signs.Comma
+between Texts = signs.Colon
+
+abbrev pub part : Listed → Token → Option (List ℕ)
+part Words = word
+part Texts = text
+
+abbrev pub list_at : Listed → List Token → Option (List (List ℕ) × List Token)
+list_at listed = joined_at (is_sign (between listed)) (open_at (part listed))
 
 abbrev pub is_four_or_five : ℕ → Bool
 is_four_or_five n = n == 4 || n == 5
@@ -119,7 +135,7 @@ error_of n k texts = cond (is_four_or_five (length texts)) (Some (items.Error (e
 unfoldable pub error_at : List ℕ × Place → ErrorKind → List Token → Option (Item × List Token)
 error_at n k ts = do
   c ← sign_at signs.Colon ts
-  xs ← texts_at c.1
+  xs ← list_at Texts c.1
   s ← sign_at signs.Semicolon xs.1
   e ← error_of n k xs.0
   Some (e, s.1)
@@ -138,7 +154,7 @@ unfoldable pub applications_at : List Token → Option (List (List ℕ) × List 
 applications_at ts = do
   k ← key_at keys.Application ts
   c ← sign_at signs.Colon k.1
-  joined_at (is_sign signs.Comma) (open_at word) c.1
+  list_at Words c.1
 
 -- behind "application"
 unfoldable pub application_at : Place → List Token → Option (Item × List Token)

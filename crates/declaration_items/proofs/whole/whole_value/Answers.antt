@@ -1,7 +1,4 @@
-use Rattle.std.proofs.Common.{◌≡◌, ℕ, List, ◌+◌, ◌<◌, ◌*◌, ◌-◌, length, take, get_or, arith, sym}
-use Rattle.std.specs.Prelude.{IsTrue}
-use Rattle.m_terms.specs.Tokens.{is_whole}
-use Rattle.std.specs.Str.Parse.{digits_value}
+use Rattle.std.proofs.Common.{◌+◌, arith}
 use Rattle.declaration_items.proofs.Wholes.{short_of, value_more, value_below}
 use Rattle.declaration_items.proofs.whole.whole_value.Goals as goal
 
