@@ -4,6 +4,8 @@
 //! nor of the list of items.
 #![tactic(auto)]
 
+mod expression;
+mod formula;
 mod head;
 mod rule;
 mod verification;

@@ -18,12 +18,22 @@ use Rattle.m_ast.specs.declared.item.VerifItem.{VerifItem}
 use Rattle.m_terms.specs.Tokens.{is_sign, is_key}
 use Rattle.m_terms.specs.Terms.{follows}
 use Rattle.m_terms.specs.inner.Reading.{open_at, chain_at, choose, begins_by, header_at, expr_at, inner_at, ◌>>=◌}
+use Rattle.m_terms.specs.declared.fault.TermFault.{TermFault}
+use Rattle.m_terms.specs.declared.fault.TermFault.TheVariants.{NoTerm, Memory}
+use Rattle.declaration_items.specs.declared.fault.ItemFault.{ItemFault}
+use Rattle.declaration_items.specs.declared.fault.ItemFault.TheVariants.{NoItem}
+use Rattle.declaration_items.specs.declared.fault.ItemFault.TheVariants as faults
 use Rattle.declaration_items.specs.Tokens.{word, placed_word, whole, key_place}
 use Rattle.declaration_items.specs.inner.Reading.{sign_at, key_at, applications_at}
 use Rattle.rule_items.specs.Grammar.{head_of, formula_of, rule_of, check_of, verification_of}
 use Rattle.rule_items.specs.declared.head.Head.{Head}
 
 -- Parts.
+
+-- want of memory stays that, and no term is no item
+abbrev pub item_fault_of : TermFault → ItemFault
+item_fault_of NoTerm = NoItem
+item_fault_of Memory = faults.Memory
 
 -- a term, before a token that may follow one
 unfoldable pub term_at : List Token → Option (Syntax × List Token)

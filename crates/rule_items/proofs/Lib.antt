@@ -1,0 +1,4 @@
+pub mod Expressions
+pub mod Words
+pub mod Manys
+pub mod Exits
