@@ -1,0 +1,5 @@
+pub mod Terms
+pub mod Parts
+pub mod LoopFaults
+pub mod Expansion
+pub mod Faults

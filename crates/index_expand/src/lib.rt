@@ -1,0 +1,11 @@
+//! Rules without loops: every `pour`, every `somme` and every `T[X] = ..` of a declared table replaced by its instances, for
+//! the items of one application.
+//!
+//! This crate stands on loops as lists of instances and on the declared names, and knows nothing of cells' numbers.
+#![tactic(auto)]
+
+mod fault;
+mod items;
+
+pub use fault::ExpandFault;
+pub use items::expand;

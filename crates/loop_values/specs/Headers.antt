@@ -1,0 +1,30 @@
+-- Headers of loops: how many instances they have, which, and which of their indexes are faulty.
+use Rattle.std.specs.Prelude.{ℕ, ◌*◌, Bool, ◌||◌, ◌==◌, List, [], ◌∷◌, length, nat_lt, count_by}
+use Rattle.std.specs.List.{flat_map, list_any}
+use Rattle.m_ast.specs.declared.header.Header.{Header}
+use Rattle.m_ast.specs.declared.header.Index.{Index}
+use Rattle.loop_values.specs.Letters.{Letters, bind}
+use Rattle.loop_values.specs.Values.{values_of, is_bad_span}
+
+-- What the letters stand for in each instance of indexes, in order: the first index is the slowest. Of `i = A,B ; j = 1,2` the
+-- instances are A1, A2, B1, B2.
+abbrev pub instances : List Index → Letters → List Letters
+instances [] letters = letters ∷ []
+instances (index ∷ rest) letters = flat_map (λ value. instances rest (bind letters index.letter value)) (values_of index)
+
+-- how many instances indexes have: the product of the numbers of their values
+abbrev pub instance_count : List Index → ℕ
+instance_count [] = 1
+instance_count (index ∷ rest) = length (values_of index) * instance_count rest
+
+-- the indexes of all headers, from the outermost to the innermost
+abbrev pub all_indexes : List Header → List Index
+all_indexes headers = flat_map (λ header. header.indexes) headers
+
+-- whether a letter stands twice in a header
+abbrev pub is_twice : ℕ → List Index → Bool
+is_twice letter indexes = nat_lt 1 (count_by (λ index. index.letter == letter) indexes)
+
+-- whether an index of these is faulty: it has a range without values, or its letter stands twice
+abbrev pub is_bad_index : List Index → Index → Bool
+is_bad_index indexes index = list_any is_bad_span index.values || is_twice index.letter indexes

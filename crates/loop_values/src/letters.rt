@@ -1,0 +1,41 @@
+//! What letters stand for.
+ghost use Rattle.std.specs.Prelude.{◌≡◌, ◌++◌, IfOk, OnOk, length};
+ghost use Rattle.loop_values.specs.Letters as spec;
+
+use m_places::Name;
+use std::alloc::{AllocError, Global};
+
+/// What each letter stands for, for each byte, outside of all loops: nothing.
+pub fn no_letters(alloc: Global) -> Result<Vec<Option<Name>>, AllocError>
+    ensures { IfOk result (λ letters. letters.items ≡ spec.no_letters) }
+{
+    let mut letters = Vec::with_capacity(alloc, 256)?;
+    for _ in 0..256usize {
+        letters.push(None)?;
+    }
+    Ok(letters)
+}
+
+/// A word in which each letter is replaced by what it stands for.
+pub fn replaced(alloc: Global, letters: &[Option<Name>], word: &[u8]) -> Result<Name, AllocError>
+    requires { length letters.now ≡ 256 }
+    ensures { IfOk result (λ name. name ≡ spec.replaced letters.now word.now) }
+{
+    let mut bytes = Vec::with_capacity(alloc, word.len())?;
+    for byte in word {
+        push_replaced(&mut bytes, letters, *byte)?;
+    }
+    Name::new(alloc, bytes.as_slice())
+}
+
+// Puts what stands in the place of a byte behind the bytes.
+fn push_replaced(bytes: &mut Vec<u8>, letters: &[Option<Name>], byte: u8) -> Result<(), AllocError>
+    requires { length letters.now ≡ 256 }
+    ensures { OnOk result (bytes.new.items ≡ bytes.old.items ++ spec.byte_replaced letters.now byte) }
+{
+    match &letters[byte as usize] {
+        Some(value) => bytes.extend_from_slice(value.bytes())?,
+        None => bytes.push(byte)?,
+    }
+    Ok(())
+}

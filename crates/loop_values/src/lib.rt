@@ -1,0 +1,9 @@
+//! Loops as lists of instances: the values of a header's indexes, what its letters stand for in each instance, and words in
+//! which letters are replaced by what they stand for.
+//!
+//! This crate stands on the trees and knows nothing of what is done with a loop's body.
+#![tactic(auto)]
+
+mod letters;
+
+pub use letters::{no_letters, replaced};
