@@ -2,3 +2,8 @@ pub mod Expressions
 pub mod Words
 pub mod Manys
 pub mod Exits
+pub mod SoundLaws
+pub mod PassLaws
+pub mod CompleteLaws
+pub mod RunLaws
+pub mod WholeLaws
