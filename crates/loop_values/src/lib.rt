@@ -4,6 +4,10 @@
 //! This crate stands on the trees and knows nothing of what is done with a loop's body.
 #![tactic(auto)]
 
+mod header;
 mod letters;
+mod values;
 
+pub use header::{instance_count, kept_indexes, repeated_letters};
 pub use letters::{no_letters, replaced};
+pub use values::{MANY, has_bad_span, index_count, index_values, is_digits, number};
