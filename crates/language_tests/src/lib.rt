@@ -3,6 +3,8 @@
 #![tactic(auto)]
 
 #[cfg(test)]
+mod declarations;
+#[cfg(test)]
 mod threads;
 #[cfg(test)]
 mod tokens;
