@@ -5,7 +5,10 @@
 #![tactic(auto)]
 
 mod fault;
+mod items;
+mod laws;
 mod reads;
 
 pub use fault::ParseFault;
+pub use laws::{items_or_fault, no_items_and_fault, one_fault, one_item_list};
 pub use reads::parse;

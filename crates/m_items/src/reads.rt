@@ -7,9 +7,12 @@ ghost use Rattle.m_items.specs.Grammar.{SpellsItems};
 ghost use Rattle.m_items.specs.Faults.{IsShallow, IsParseFault};
 
 use crate::fault::ParseFault;
+use crate::items::read_items;
+use declaration_items::Cursor;
 use m_ast::Item;
 use m_lexer::Token;
 use m_places::Seq;
+use m_terms::depth_fault;
 use std::alloc::Global;
 
 /// The items that all the tokens spell, in order.
@@ -23,5 +26,13 @@ pub fn parse(alloc: Global, tokens: &[Token]) -> Result<Seq<Item>, ParseFault>
     ensures shallow { OnOk result (IsShallow tokens.now) }
     ensures whole { IfOk result (λ items. All IsWholeItem items) }
 {
-    Err(ParseFault::Memory)
+    if let Some(place) = depth_fault(tokens) {
+        return Err(ParseFault::TooDeep(place));
+    }
+    let mut cursor = Cursor::new(tokens);
+    let items = read_items(alloc, &mut cursor)?;
+    match cursor.next() {
+        None => Ok(Seq::from_vec(items)),
+        Some(token) => Err(ParseFault::Syntax(token.place)),
+    }
 }
