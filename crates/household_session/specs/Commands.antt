@@ -1,0 +1,50 @@
+-- The lines of a session, as commands.
+use Rattle.std.specs.Prelude.{ℕ, ◌==◌, Bool, false, not, nat_le, List, [], ◌∷◌, length, codes, if◌then◌else◌}
+use Rattle.std.specs.Str.{bytes_eq}
+use Rattle.m_places.specs.declared.limits.TheConstants.{SESSION_LINE_BYTES}
+use Rattle.m_text.specs.Lines.{onto_first, without_return}
+
+-- what sets words apart
+abbrev pub space : ℕ
+space = 32
+
+-- whether bytes begin with a word
+abbrev pub starts_word : List ℕ → Bool
+starts_word [] = false
+starts_word (byte ∷ bytes) = not (byte == space)
+
+-- The words of a line, which any number of spaces set apart: ` set  1AJ 5 ` has the words `set`, `1AJ` and `5`, and a line
+-- of spaces has none.
+abbrev pub words_of : List ℕ → List (List ℕ)
+words_of [] = []
+words_of (byte ∷ bytes) =
+    if byte == space then words_of bytes
+    else if starts_word bytes then onto_first byte (words_of bytes)
+    else (byte ∷ []) ∷ words_of bytes
+
+-- What a line asks for.
+pub data Command : Type 0 where
+  -- nothing: the line has no words
+  no_words : Command
+  -- to set the input with this code to this amount
+  sets : (code amount : List ℕ) → Command
+  -- to clear the input with this code
+  clears : (code : List ℕ) → Command
+  -- to show the answer
+  shows : Command
+  -- nothing that can be done: the line is too long
+  too_long : Command
+  -- nothing that can be done: the words are no command
+  bad : Command
+
+-- what words ask for: `set 1AJ 2500.5`, `clear 1AJ` and `show` are commands, and no others
+abbrev pub words_command : List (List ℕ) → Command
+words_command [] = no_words
+words_command (word ∷ []) = if bytes_eq word (codes "show") then shows else bad
+words_command (word ∷ code ∷ []) = if bytes_eq word (codes "clear") then clears code else bad
+words_command (word ∷ code ∷ amount ∷ []) = if bytes_eq word (codes "set") then sets code amount else bad
+words_command (word ∷ code ∷ amount ∷ another ∷ words) = bad
+
+-- What a line without its line feed asks for. A carriage return at its end counts in its length, and is then dropped.
+abbrev pub command_of : List ℕ → Command
+command_of bytes = if nat_le (length bytes) SESSION_LINE_BYTES then words_command (words_of (without_return bytes)) else too_long

@@ -1,0 +1,77 @@
+//! What a line asks for.
+ghost use Rattle.std.specs.Prelude.{◌≡◌, [], ◌∷◌};
+ghost use Rattle.household_session.specs.Commands.{command_of, words_command, words_of};
+ghost use Rattle.household_session.specs.inner.Ready.{command_in};
+
+use crate::words::{next_word, without_return};
+use m_places::limits::SESSION_LINE_BYTES;
+
+/// What a line asks for, with the words that it takes.
+#[derive(Clone, Copy)]
+pub(crate) enum Asked<'a> {
+    Nothing,
+    Set(&'a [u8], &'a [u8]),
+    Clear(&'a [u8]),
+    Show,
+    TooLong,
+    Bad,
+}
+
+/// What a line, without its line feed, asks for.
+pub(crate) fn asked_by(line: &[u8]) -> Asked<'_>
+    ensures { command_in result ≡ command_of line.now }
+{
+    if line.len() > SESSION_LINE_BYTES {
+        return Asked::TooLong;
+    }
+    let line = without_return(line);
+    match next_word(line) {
+        None => Asked::Nothing,
+        Some((word, rest)) => behind_one(word, rest),
+    }
+}
+
+fn behind_one<'a>(word: &'a [u8], rest: &'a [u8]) -> Asked<'a>
+    ensures { command_in result ≡ words_command (word.now ∷ words_of rest.now) }
+{
+    match next_word(rest) {
+        None => {
+            if word == b"show".as_slice() {
+                Asked::Show
+            } else {
+                Asked::Bad
+            }
+        }
+        Some((code, rest)) => behind_two(word, code, rest),
+    }
+}
+
+fn behind_two<'a>(word: &'a [u8], code: &'a [u8], rest: &'a [u8]) -> Asked<'a>
+    ensures { command_in result ≡ words_command (word.now ∷ code.now ∷ words_of rest.now) }
+{
+    match next_word(rest) {
+        None => {
+            if word == b"clear".as_slice() {
+                Asked::Clear(code)
+            } else {
+                Asked::Bad
+            }
+        }
+        Some((amount, rest)) => behind_three(word, code, amount, rest),
+    }
+}
+
+fn behind_three<'a>(word: &'a [u8], code: &'a [u8], amount: &'a [u8], rest: &'a [u8]) -> Asked<'a>
+    ensures { command_in result ≡ words_command (word.now ∷ code.now ∷ amount.now ∷ words_of rest.now) }
+{
+    match next_word(rest) {
+        None => {
+            if word == b"set".as_slice() {
+                Asked::Set(code, amount)
+            } else {
+                Asked::Bad
+            }
+        }
+        Some(_) => Asked::Bad,
+    }
+}

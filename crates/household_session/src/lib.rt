@@ -1,0 +1,15 @@
+//! A session: one household of a flat program whose amounts are edited, and whose answer is shown again and again.
+//!
+//! This crate knows the commands of a session and what they reply, one line at a time. It knows nothing of files, and nothing
+//! of how an input is cut into lines. Nothing but the start of a session takes memory.
+#![tactic(auto)]
+
+mod command;
+mod fault;
+mod outputs;
+mod run;
+mod session;
+mod words;
+
+pub use fault::EditFault;
+pub use session::Session;

@@ -1,0 +1,57 @@
+//! The words of a line.
+ghost use Rattle.std.specs.Prelude.{◌≡◌, ◌≢◌, ◌⊎◌, [], ◌∷◌, MatchOption, IsTrue};
+ghost use Rattle.m_text.specs.Bytes.{RunsTo};
+ghost use Rattle.m_text.specs.Lines.{without_return};
+ghost use Rattle.household_session.specs.Commands.{space, starts_word, words_of};
+
+/// The first word of a line and what stands behind it; `None` where the line has no words.
+pub(crate) fn next_word(line: &[u8]) -> Option<(&[u8], &[u8])>
+    ensures { MatchOption result (words_of line.now ≡ []) (λ r. words_of line.now ≡ r.0.now ∷ words_of r.1.now) }
+{
+    let line = without_spaces(line);
+    if line.is_empty() {
+        return None;
+    }
+    let end = word_end(line);
+    Some((&line[..end], &line[end..]))
+}
+
+// A line without the spaces at its front.
+fn without_spaces(line: &[u8]) -> &[u8]
+    ensures words { words_of result.now ≡ words_of line.now }
+    ensures front { (result.now ≡ []) ⊎ IsTrue (starts_word result.now) }
+{
+    for from in 0..line.len() {
+        if line[from] != b' ' {
+            return &line[from..];
+        }
+    }
+    &line[line.len()..]
+}
+
+// Where the word at the front of a line ends.
+fn word_end(line: &[u8]) -> usize
+    ensures { RunsTo (λ b. b ≢ space) line.now 0 result }
+{
+    for end in 0..line.len() {
+        if line[end] == b' ' {
+            return end;
+        }
+    }
+    line.len()
+}
+
+/// A line without the carriage return at its end, if it has one.
+pub(crate) fn without_return(line: &[u8]) -> &[u8]
+    ensures { result.now ≡ without_return line.now }
+{
+    if line.is_empty() {
+        return line;
+    }
+    let last = line.len() - 1;
+    if line[last] == b'\r' {
+        &line[..last]
+    } else {
+        line
+    }
+}
