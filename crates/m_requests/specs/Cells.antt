@@ -1,0 +1,90 @@
+-- The printed names of cells, and the cells that names name.
+use Rattle.std.specs.Prelude.{ℕ, ◌+◌, ◌-◌, ◌*◌, ◌==◌, ◌&&◌, ◌||◌, nat_lt, nat_le, Bool, false, List, [], ◌∷◌, ◌++◌, length, codes, decimal, map, Option, Some, None, if◌then◌else◌, slice_get, slice_index_or}
+use Rattle.std.specs.Option.{option_map_or, option_and_then}
+use Rattle.std.specs.List.{flat_map, range_with_len}
+use Rattle.m_places.specs.declared.limits.TheConstants.{TABLE_CELLS}
+use Rattle.m_names.specs.Names.{has, index_of}
+use Rattle.m_ast.specs.Items.{variable_size}
+use Rattle.m_symbols.specs.declared.variable.Variable.{Variable}
+use Rattle.m_symbols.specs.Declarations.{Declared, names_of, owners_from}
+use Rattle.text_pieces.specs.Pieces.{joined}
+
+-- ---- from cells to names
+
+-- the printed name of a variable's cell: `IRN`, or of a table `T[1]`
+abbrev pub cell_text : Option ℕ → List ℕ → ℕ → List ℕ
+cell_text None name k = name
+cell_text (Some size) name k = joined (name ∷ codes "[" ∷ decimal k ∷ codes "]" ∷ [])
+
+-- the printed name of a cell of this variable
+abbrev pub printed_cell : ℕ → Variable → List ℕ
+printed_cell cell v = cell_text (variable_size v.item) v.item.name (cell - v.first_cell)
+
+-- the variable that a cell belongs to
+abbrev pub owner_of : Declared → ℕ → Option Variable
+owner_of declared cell = slice_get declared.variables (slice_index_or (owners_from 0 declared.variables) cell 0)
+
+-- The printed name of a cell: of `A` and the table `T` of 3 cells, the cells 0 and 2 are `A` and `T[1]`.
+abbrev pub cell_name : Declared → ℕ → List ℕ
+cell_name declared cell = option_map_or (printed_cell cell) (owner_of declared cell) []
+
+-- ---- from names to cells
+
+-- the variable of a name
+abbrev pub variable_named : Declared → List ℕ → Option Variable
+variable_named declared name = option_and_then (slice_get declared.variables) (index_of name (names_of declared.variables))
+
+-- what stands before the first `[`, and what behind it, if there is one
+abbrev pub with_first : ℕ → List ℕ × Option (List ℕ) → List ℕ × Option (List ℕ)
+with_first b parts = (b ∷ parts.0, parts.1)
+
+abbrev pub split_at_bracket : List ℕ → List ℕ × Option (List ℕ)
+split_at_bracket [] = ([], None)
+split_at_bracket (b ∷ bs) = if b == 91 then ([], Some bs) else with_first b (split_at_bracket bs)
+
+abbrev pub is_digit : ℕ → Bool
+is_digit b = nat_le 48 b && nat_le b 57
+
+-- A number so far, whose further digits and `]` these bytes are. One that is past the most cells of a table already has no further digits.
+abbrev pub closed_number : ℕ → List ℕ → Option ℕ
+closed_number so_far [] = None
+closed_number so_far (b ∷ []) = if b == 93 then Some so_far else None
+closed_number so_far (b ∷ c ∷ bs) = if is_digit b && nat_le so_far TABLE_CELLS then closed_number (10 * so_far + (b - 48)) (c ∷ bs) else None
+
+-- whether one to four digits without needless zeros, and one more byte, may be these
+abbrev pub has_plain_digits : List ℕ → Bool
+has_plain_digits [] = false
+has_plain_digits (b ∷ bs) = nat_le 1 (length bs) && (nat_le (length bs) 4 && (nat_lt 48 b || length bs == 1))
+
+-- the number of a table's cell behind `[`: of `12]` it is 12, and `012]` and `]` have none
+abbrev pub index_said : List ℕ → Option ℕ
+index_said text = if has_plain_digits text then closed_number 0 text else None
+
+-- the cell with this number of a table of this size
+abbrev pub cell_within : ℕ → ℕ → ℕ → Option ℕ
+cell_within first size k = if nat_lt k size then Some (first + k) else None
+
+-- the cell of a variable without or with an index: a table has one behind `[`, every other variable none
+abbrev pub cell_by : Option (List ℕ) → Option ℕ → ℕ → Option ℕ
+cell_by None None first = Some first
+cell_by None (Some size) first = None
+cell_by (Some index) None first = None
+cell_by (Some index) (Some size) first = option_and_then (cell_within first size) (index_said index)
+
+-- the cell of the variable of a name, without or with an index
+abbrev pub named_cell : Declared → List ℕ × Option (List ℕ) → Option ℕ
+named_cell declared parts = option_and_then (λ v. cell_by parts.1 (variable_size v.item) v.first_cell) (variable_named declared parts.0)
+
+-- The cell that a request names: of a variable that is no table its only cell, and of a table `T` with `T[2]` its third.
+abbrev pub request_cell : Declared → List ℕ → Option ℕ
+request_cell declared text = named_cell declared (split_at_bracket text)
+
+-- ---- what rules give back
+
+-- the cells of a variable, if `restituee` is among its words
+abbrev pub returned_by : Variable → List ℕ
+returned_by v = if has (codes "restituee") v.item.words then range_with_len v.first_cell v.cells else []
+
+-- the cells of all variables with the word `restituee`, in order of declaration, a table by all its cells
+abbrev pub returned_cells : Declared → List ℕ
+returned_cells declared = flat_map returned_by declared.variables
