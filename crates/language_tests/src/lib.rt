@@ -5,6 +5,8 @@
 #[cfg(test)]
 mod declarations;
 #[cfg(test)]
+mod items;
+#[cfg(test)]
 mod threads;
 #[cfg(test)]
 mod tokens;

@@ -51,12 +51,6 @@ longest_read {ts} {rest = rest} d h =
     let long = h _ _ (items_read ts) in
     items_same d (omega (arith, short, long))
 
-pub one_list : (is js : List Item) (ts : List Token) → SpellsItems is ts [] → SpellsItems js ts [] → is ≡ js
-one_list is js ts d e =
-    let p = longest_read d (λ _ r _. omega arith) in
-    let q = longest_read e (λ _ r _. omega arith) in
-    ap (λ (x : List Item × List Token). x.0) (sym p ∙ q)
-
 all_or_part : {ts : List Token} {items : List Item} {place : Place} → SpellsItems items ts [] → StopsAt ts place → ⊥
 all_or_part d s = let h = s.longest _ _ d in absurd (omega (arith, h))
 

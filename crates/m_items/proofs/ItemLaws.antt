@@ -73,20 +73,32 @@ not_declared k ts h g (by_name d s) = no_key_at_word k (name_first d)
 not_declared k ts h g (by_application d) = nothing_opened (kind_is_key k) (key_first keys.Application d) h
 not_declared k ts h g (by_chaining d) = nothing_opened (kind_is_key k) (key_first keys.Enchaineur d) g
 
+pub no_rule_declared : {i : Item} (ts : List Token) {rest : List Token} → SpellsDeclaration i ts rest → begins_by (is_key keys.Regle) ts ≡ false
+no_rule_declared ts d = not_begun keys.Regle ts (not_declared keys.Regle ts refl refl (declaration_begins _ _ _ d))
+
+pub no_verification_declared : {i : Item} (ts : List Token) {rest : List Token} → SpellsDeclaration i ts rest → begins_by (is_key keys.Verif) ts ≡ false
+no_verification_declared ts d = not_begun keys.Verif ts (not_declared keys.Verif ts refl refl (declaration_begins _ _ _ d))
+
+pub rule_begins : {r : RuleItem} (ts : List Token) {rest : List Token} → SpellsRule r ts rest → begins_by (is_key keys.Regle) ts ≡ true
+rule_begins ts (rule (head d w e s f g) c fs) = begun keys.Regle ts d
+
+pub verification_begins : {v : VerifItem} (ts : List Token) {rest : List Token} → SpellsVerification v ts rest → begins_by (is_key keys.Verif) ts ≡ true
+verification_begins ts (verification (head d w e s f g) cs) = begun keys.Verif ts d
+
+pub no_rule_verified : {v : VerifItem} (ts : List Token) {rest : List Token} → SpellsVerification v ts rest → begins_by (is_key keys.Regle) ts ≡ false
+no_rule_verified ts (verification (head d w e s f g) cs) = not_begun keys.Regle ts (nothing_opened (kind_is_key keys.Regle) (key_place_first keys.Verif d) refl)
+
 declared_at_front : {i : Item} (ts : List Token) {rest : List Token} → SpellsDeclaration i ts rest → item_at ts ≡ Some (i, rest)
 unfolding item_at
-declared_at_front ts d =
-    let b : BeginsDeclaration ts = declaration_begins _ _ _ d in
-    rw (not_begun keys.Regle ts (not_declared keys.Regle ts refl refl b), not_begun keys.Verif ts (not_declared keys.Verif ts refl refl b)) (declaration_complete d)
+declared_at_front ts d = rw (no_rule_declared ts d, no_verification_declared ts d) (declaration_complete d)
 
 rule_at_front : {r : RuleItem} (ts : List Token) {rest : List Token} → SpellsRule r ts rest → item_at ts ≡ (rule_at ts >>= λ r. Some (Rule r.0, r.1))
 unfolding item_at
-rule_at_front ts (rule (head d w e s f g) c fs) = rw (begun keys.Regle ts d) refl
+rule_at_front ts d = rw (rule_begins ts d) refl
 
 verification_at_front : {v : VerifItem} (ts : List Token) {rest : List Token} → SpellsVerification v ts rest → item_at ts ≡ (verification_at ts >>= λ v. Some (Verif v.0, v.1))
 unfolding item_at
-verification_at_front ts (verification (head d w e s f g) cs) =
-    rw (not_begun keys.Regle ts (nothing_opened (kind_is_key keys.Regle) (key_place_first keys.Verif d) refl), begun keys.Verif ts d) refl
+verification_at_front ts d = rw (no_rule_verified ts d, verification_begins ts d) refl
 
 -- Where a formula or a check begins no item does.
 no_item : (ts : List Token) → key_at keys.Regle ts ≡ None → key_at keys.Verif ts ≡ None → declaration_at ts ≡ None → item_at ts ≡ None

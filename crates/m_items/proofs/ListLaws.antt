@@ -25,7 +25,7 @@ data ListRuns (whole : List Item × List Token) (done : List Item) (r : List Tok
   along : Going item_at whole done r → ListRuns whole done r
   past : length whole.1 < length r → ListRuns whole done r
 
-stuck : {i : Item} {ts r : List Token} → SpellsItem i ts r → item_at ts ≡ None → ⊥
+pub stuck : {i : Item} {ts r : List Token} → SpellsItem i ts r → item_at ts ≡ None → ⊥
 stuck {i} {ts} {r} d none = go (item_runs d)
   where
     go : ItemRuns i ts r → ⊥

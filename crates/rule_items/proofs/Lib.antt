@@ -7,3 +7,4 @@ pub mod PassLaws
 pub mod CompleteLaws
 pub mod RunLaws
 pub mod WholeLaws
+pub mod OneLaws
