@@ -40,7 +40,7 @@ none_left none (one_more d e) = absurd (stuck d none)
 
 too_short : (ts : List Token) {x y : Item} {a m b r : List Token} → item_at ts ≡ Some (x, a) → item_at ts ≡ Some (y, m) → length m < length b → length r ≤ length a → b ≡ r → ⊥
 too_short ts {x} {y} {a} {m} e f less short at =
-    let p : (x, a) ≡ (y, m) = same (sym e ∙ f) in
+    let p : ◌≡◌ {A = Item × List Token} (x, a) (y, m) = same (sym e ∙ f) in
     let q : length a ≡ length m = ap (λ (z : Item × List Token). length z.1) p in
     let s = ap length at in
     omega (arith, less, short, q, s)
