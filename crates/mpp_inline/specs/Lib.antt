@@ -1,1 +1,2 @@
 pub mod Inlined
+pub mod inner

@@ -5,8 +5,19 @@
 //! printed lines.
 #![tactic(auto)]
 
+mod begin;
+mod blocks;
+mod branches;
+mod builder;
+mod cells;
 mod fault;
+mod formulas;
 mod pass;
+mod rules;
+mod tables;
+mod terms;
+mod work;
+mod writes;
 
 pub use fault::InlineFault;
 pub use pass::inline;

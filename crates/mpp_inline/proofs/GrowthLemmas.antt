@@ -1,0 +1,210 @@
+-- A flat program that grows: what stays, and what a node or a check adds.
+use Rattle.std.proofs.Common.{◌≡◌, ℕ, suc, ◌+◌, ◌<◌, ◌≤◌, Bool, List, [], ◌∷◌, ◌++◌, length, get_or, set, refl, sym, ap, ◌∙◌, subst, arith, length-append}
+use Rattle.std.specs.List.{AllByRecursion}
+use Rattle.std.proofs.Math.ListN.{get_or-map, get_or-append}
+use Rattle.std.proofs.Math.Seq.{get_or-append_seam}
+use Rattle.std.proofs.lemmas.List.{map-set}
+use Rattle.std.specs.Option.{option_or}
+use Rattle.m_fixed.specs.declared.amount.Value.{Value}
+use Rattle.m_fixed.specs.declared.amount.Value.TheVariants.{Undef}
+use Rattle.m_places.specs.declared.verification.Label.{Label}
+use Rattle.micro_m.specs.Values.{environment}
+use Rattle.flat_code.specs.declared.program.Node.{Node}
+use Rattle.flat_code.specs.declared.program.Node.TheVariants.{Lit, Do}
+use Rattle.flat_code.specs.declared.program.Check.{Check}
+use Rattle.flat_code.specs.declared.face.FaceLabel.{FaceLabel}
+use Rattle.flat_code.specs.declared.face.FaceLabel.TheVariants.{Verif, DriverLine}
+use Rattle.flat_code.specs.Runs.{IsNode, AreNodes, entry_of, values_for, node_values, first_stop}
+use Rattle.mpp_inline.specs.declared.builder.Builder.{Builder}
+use Rattle.mpp_inline.specs.inner.Growth.{count, faces, face, at, stop_of, stop_read, denoted, outcome_of, run, IsCheckWithin, Sane, Known, Pushed, Checked, CheckedRule, CheckedLine, HasFaces, Longer, Grows, Along, Gives, TermStep}
+use Rattle.mpp_inline.proofs.ListLemmas.{all-get, all-set, all-more, all-append, map-same}
+use Rattle.mpp_inline.proofs.RunLemmas.{value-kept, value-new, stop-kept, stop-push, read-or, face_fired, read-fired, read-kept}
+
+-- longer programs
+pub longer-none : {b : Builder} → Sane b → Longer b b
+longer-none s = record { sane = s; inputs = refl; longer = omega arith; keeps = λ inputs k h. refl; more_faces = omega arith; keeps_face = λ l h. refl }
+
+pub longer-then : {a b c : Builder} → Longer a b → Longer b c → Longer a c
+longer-then p q = record {
+  sane = q.sane;
+  inputs = q.inputs ∙ p.inputs;
+  longer = omega (arith, p.longer, q.longer);
+  keeps = λ inputs k h. q.keeps inputs k (omega (arith, p.longer, h)) ∙ p.keeps inputs k h;
+  more_faces = omega (arith, p.more_faces, q.more_faces);
+  keeps_face = λ l h. q.keeps_face l (omega (arith, p.more_faces, h)) ∙ p.keeps_face l h;
+}
+
+pub grows-none : {b : Builder} → Sane b → Grows b b
+grows-none s = record { base = longer-none s; stop = λ inputs. refl }
+
+pub grows-then : {a b c : Builder} → Grows a b → Grows b c → Grows a c
+grows-then p q = record { base = longer-then p.base q.base; stop = λ inputs. q.stop inputs ∙ p.stop inputs }
+
+pub known-on : {b c : Builder} {env : List ℕ} → Longer b c → Known b env → Known c env
+known-on {b} {c} {env} l k = record { all = all-more (λ n. n < count b) (λ n. n < count c) (λ n h. omega (arith, l.longer, h)) env k.all }
+
+pub denoted-on : {b c : Builder} {env : List ℕ} (inputs : List Value) → Longer b c → Known b env → denoted c inputs env ≡ denoted b inputs env
+denoted-on {b} {c} {env} inputs l k = map-same (λ n. n < count b) (at c inputs) (at b inputs) (l.keeps inputs) env k.all
+
+pub run-on : {b c : Builder} {env : List ℕ} (inputs : List Value) → Grows b c → Known b env → run c inputs env ≡ run b inputs env
+run-on inputs g k = λ i. outcome_of (g.stop inputs i) (denoted-on inputs g.base k i)
+
+pub known-get : {b : Builder} {env : List ℕ} (x : ℕ) → Sane b → Known b env → get_or env x 0 < count b
+known-get {b} {env} x s k = all-get (λ n. n < count b) env x 0 (omega (arith, s.three)) k.all
+
+pub known-set : {b : Builder} {env : List ℕ} (x n : ℕ) → n < count b → Known b env → Known b (set env x n)
+known-set {b} {env} x n h k = record { all = all-set (λ m. m < count b) env x n h k.all }
+
+-- the value of a cell
+pub denoted-get : {b : Builder} (inputs : List Value) (env : List ℕ) (x : ℕ) → Sane b → get_or (denoted b inputs env) x Undef ≡ at b inputs (get_or env x 0)
+denoted-get {b} inputs env x s =
+    ap (λ d. get_or (denoted b inputs env) x d) (sym (s.undef inputs)) ∙ get_or-map (at b inputs) env x 0
+
+-- one node more
+nodes-push : (inputs m : ℕ) (ns : List Node) (n : Node) (k : ℕ) → k ≡ m + length ns → AreNodes inputs m ns → IsNode inputs k n → AreNodes inputs m (ns ++ n ∷ [])
+nodes-push inputs m [] n k e a h = let f : k ≡ m = omega (arith, e) in (subst (λ j. IsNode inputs j n) f h, tt)
+nodes-push inputs m (d ∷ ns) n k e a h = (a.0, nodes-push inputs (m + 1) ns n k (omega (arith, e)) a.1 h)
+
+pub pushed-count : {b c : Builder} {n : Node} {k : ℕ} → Pushed b c n k → count c ≡ count b + 1
+pushed-count {b} {c} {n} p = ap length p.nodes ∙ length-append b.nodes.items (n ∷ [])
+
+pub pushed-within : {b c : Builder} {n : Node} {k : ℕ} → Pushed b c n k → k < count c
+pushed-within p = omega (arith, p.number, pushed-count p)
+
+pub pushed-value : {b c : Builder} {n : Node} {k : ℕ} → Pushed b c n k → (inputs : List Value) → at c inputs k ≡ entry_of (values_for inputs) (node_values inputs b.nodes.items) n
+pushed-value {b} {c} {n} {k} p inputs =
+    (λ i. get_or (node_values inputs (p.nodes i)) (p.number i) Undef) ∙ value-new inputs b.nodes.items n
+
+pushed-keeps : {b c : Builder} {n : Node} {k : ℕ} → Pushed b c n k → (inputs : List Value) (j : ℕ) → j < count b → at c inputs j ≡ at b inputs j
+pushed-keeps {b} {c} {n} p inputs j h =
+    ap (λ ns. get_or (node_values inputs ns) j Undef) p.nodes ∙ value-kept inputs b.nodes.items n j h
+
+pub pushed-grows : {b c : Builder} {n : Node} {k : ℕ} → Pushed b c n k → IsNode b.inputs (count b) n → Sane b → Grows b c
+pushed-grows {b} {c} {n} p w s =
+    let more : count c ≡ count b + 1 = pushed-count p in
+    let l = length b.labels.items in
+    record {
+      base = record {
+        sane = record {
+          nodes = subst (λ k. AreNodes k 0 c.nodes.items) (sym p.inputs) (subst (AreNodes b.inputs 0) (sym p.nodes) (nodes-push b.inputs 0 b.nodes.items n (count b) (omega arith) s.nodes w));
+          checks = subst (λ cs. AllByRecursion (λ d. IsCheckWithin (count c) (length c.labels.items) d) cs) (sym p.checks)
+              (all-more (λ d. IsCheckWithin (count b) l d) (λ d. IsCheckWithin (count c) (length c.labels.items) d)
+              (λ d h. record { guard = omega (arith, h.guard, more); condition = omega (arith, h.condition, more); label = omega (arith, h.label, ap length p.labels) })
+              b.checks.items s.checks);
+          three = omega (arith, s.three, more);
+          undef = λ inputs. pushed-keeps p inputs 0 (omega (arith, s.three)) ∙ s.undef inputs;
+          zero = λ inputs. pushed-keeps p inputs 1 (omega (arith, s.three)) ∙ s.zero inputs;
+          one = λ inputs. pushed-keeps p inputs 2 (omega (arith, s.three)) ∙ s.one inputs;
+        };
+        inputs = p.inputs;
+        longer = omega (arith, more);
+        keeps = pushed-keeps p;
+        more_faces = omega (arith, ap length p.labels);
+        keeps_face = λ j h. ap (λ ls. get_or ls j (DriverLine 0)) p.labels;
+      };
+      stop = λ inputs.
+          (λ i. stop_read (p.labels i) (first_stop (node_values inputs c.nodes.items) (p.checks i)))
+          ∙ ap (stop_read b.labels.items) (stop-kept (node_values inputs b.nodes.items) (node_values inputs c.nodes.items) (count b) l b.checks.items (pushed-keeps p inputs) s.checks);
+    }
+
+-- one check more
+pub faces-on : {labels : List Label} {b c : Builder} → Longer b c → HasFaces labels b → HasFaces labels c
+faces-on {labels} {b} {c} l f = record {
+  within = omega (arith, f.within, l.more_faces);
+  same = λ i d h. l.keeps_face i (omega (arith, f.within, h)) ∙ f.same i d h;
+}
+
+-- what a check's label stands for, and that older labels stay
+pub record Faced (b c : Builder) (l : ℕ) (f : FaceLabel) : Type 0 where
+  pub more : faces b ≤ faces c
+  pub keeps : (j : ℕ) → j < faces b → face c j ≡ face b j
+  pub within : l < faces c
+  pub is : face c l ≡ f
+
+pub faced-line : {b c : Builder} {g k line : ℕ} → CheckedLine b c g k line → Faced b c (faces b) (DriverLine line)
+faced-line {b} {c} {g} {k} {line} p =
+    let more : faces c ≡ faces b + 1 = ap length p.labels ∙ length-append b.labels.items (DriverLine line ∷ []) in
+    record {
+      more = omega (arith, more);
+      keeps = λ j h. ap (λ ls. get_or ls j (DriverLine 0)) p.labels ∙ get_or-append b.labels.items (DriverLine line ∷ []) (DriverLine 0) j h;
+      within = omega (arith, more);
+      is = ap (λ ls. get_or ls (faces b) (DriverLine 0)) p.labels ∙ get_or-append_seam b.labels.items (DriverLine line) [] (DriverLine 0);
+    }
+
+pub faced-rule : {labels : List Label} {b c : Builder} {g k : ℕ} (i : ℕ) (d : Label) → HasFaces labels b → i < length labels → CheckedRule b c g k i → Faced b c i (Verif (get_or labels i d))
+faced-rule {labels} {b} {c} i d h lt p = record {
+  more = omega (arith, ap length p.labels);
+  keeps = λ j k. ap (λ ls. get_or ls j (DriverLine 0)) p.labels;
+  within = omega (arith, ap length p.labels, h.within, lt);
+  is = ap (λ ls. get_or ls i (DriverLine 0)) p.labels ∙ h.same i d lt;
+}
+
+checked-keeps : {b c : Builder} {g k l : ℕ} {only : Bool} → Checked b c g k only l → (inputs : List Value) (j : ℕ) → at c inputs j ≡ at b inputs j
+checked-keeps p inputs j = ap (λ ns. get_or (node_values inputs ns) j Undef) p.nodes
+
+pub checked-longer : {b c : Builder} {g k l : ℕ} {only : Bool} {f : FaceLabel} → Checked b c g k only l → Faced b c l f → g < count b → k < count b → Sane b → Longer b c
+checked-longer {b} {c} {g} {k} {l} {only} {f} p q hg hk s =
+    let same : count c ≡ count b = ap length p.nodes in
+    let Within : Check → Type 0 = λ d. IsCheckWithin (count c) (faces c) d in
+    record {
+      sane = record {
+        nodes = subst (λ k. AreNodes k 0 c.nodes.items) (sym p.inputs) (subst (AreNodes b.inputs 0) (sym p.nodes) s.nodes);
+        checks = subst (AllByRecursion Within) (sym p.checks)
+            (all-append Within b.checks.items _
+            (all-more (λ d. IsCheckWithin (count b) (faces b) d) Within
+            (λ d h. record { guard = omega (arith, h.guard, same); condition = omega (arith, h.condition, same); label = omega (arith, h.label, q.more) })
+            b.checks.items s.checks)
+            (record { guard = omega (arith, hg, same); condition = omega (arith, hk, same); label = q.within }, tt));
+        three = omega (arith, s.three, same);
+        undef = λ inputs. checked-keeps p inputs 0 ∙ s.undef inputs;
+        zero = λ inputs. checked-keeps p inputs 1 ∙ s.zero inputs;
+        one = λ inputs. checked-keeps p inputs 2 ∙ s.one inputs;
+      };
+      inputs = p.inputs;
+      longer = omega (arith, same);
+      keeps = λ inputs j h. checked-keeps p inputs j;
+      more_faces = q.more;
+      keeps_face = q.keeps;
+    }
+
+pub checked-stop : {b c : Builder} {g k l : ℕ} {only : Bool} {f : FaceLabel} → Checked b c g k only l → Faced b c l f → Sane b → (inputs : List Value) → stop_of c inputs ≡ option_or (stop_of b inputs) (face_fired (at b inputs g) only f (at b inputs k))
+checked-stop {b} {c} {g} {k} {l} {only} {f} p q s inputs =
+    let vs = node_values inputs b.nodes.items in
+    let d : Check = record { guard = g; condition = k; over_only = only; label = l } in
+    (λ i. stop_read c.labels.items (first_stop (node_values inputs (p.nodes i)) (p.checks i)))
+    ∙ ap (stop_read c.labels.items) (stop-push vs b.checks.items d)
+    ∙ read-or c.labels.items (first_stop vs b.checks.items) _
+    ∙ (λ i. option_or (read-kept b.labels.items c.labels.items q.keeps vs (count b) b.checks.items s.checks i)
+    ((read-fired c.labels.items (at b inputs g) only l (at b inputs k)
+    ∙ ap (λ h. face_fired (at b inputs g) only h (at b inputs k)) q.is) i))
+
+-- nodes with a value
+pub gives-pushed : {b c : Builder} {n : Node} {k : ℕ} (value : List Value → Value) → Pushed b c n k → IsNode b.inputs (count b) n → Sane b → ((inputs : List Value) → entry_of (values_for inputs) (node_values inputs b.nodes.items) n ≡ value inputs) → Gives b c value k
+gives-pushed value p w s e = record { grows = pushed-grows p w s; within = pushed-within p; value = λ inputs. pushed-value p inputs ∙ e inputs }
+
+pub gives-lit : {b c : Builder} {k : ℕ} (v : Value) → Pushed b c (Lit v) k → Sane b → Gives b c (λ inputs. v) k
+gives-lit v p s = gives-pushed (λ inputs. v) p tt s (λ inputs. refl)
+
+-- a node that is there
+pub gives-old : {b : Builder} (k : ℕ) → Sane b → k < count b → Gives b b (λ inputs. at b inputs k) k
+gives-old k s h = record { grows = grows-none s; within = h; value = λ inputs. refl }
+
+-- the same value in other words
+pub gives-same : {b c : Builder} {k : ℕ} {v w : List Value → Value} → ((inputs : List Value) → v inputs ≡ w inputs) → Gives b c v k → Gives b c w k
+gives-same e g = record { grows = g.grows; within = g.within; value = λ inputs. g.value inputs ∙ e inputs }
+
+-- a node that is made behind others
+pub gives-behind : {a b c : Builder} {k : ℕ} {v : List Value → Value} → Grows a b → Gives b c v k → Gives a c v k
+gives-behind g h = record { grows = grows-then g h.grows; within = h.within; value = h.value }
+
+pub cell-step : {b : Builder} {env : List ℕ} (x : ℕ) → Sane b → Known b env → TermStep b b env (λ e. e x) (get_or env x 0)
+cell-step {b} {env} x s k = record {
+  grows = grows-none s;
+  within = known-get x s k;
+  value = λ inputs. sym (denoted-get inputs env x s);
+}
+
+-- an entry of an environment is written
+pub denoted-set : {b c : Builder} {env : List ℕ} (inputs : List Value) (x k : ℕ) (v : Value) → Longer b c → Known b env → at c inputs k ≡ v → denoted c inputs (set env x k) ≡ set (denoted b inputs env) x v
+denoted-set {b} {c} {env} inputs x k v l kn e =
+    map-set (at c inputs) env x k ∙ (λ i. set (denoted-on inputs l kn i) x (e i))

@@ -1,0 +1,9 @@
+pub mod ListLemmas
+pub mod RunLemmas
+pub mod GrowthLemmas
+pub mod StageLemmas
+pub mod WorkLemmas
+pub mod TermLemmas
+pub mod TableLemmas
+pub mod CallLemmas
+pub mod OrderLemmas

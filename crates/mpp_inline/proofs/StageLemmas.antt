@@ -1,0 +1,349 @@
+-- Stages: the run so far against the meaning so far.
+use Rattle.std.proofs.Common.{length, ◌≡◌, ℕ, ◌<◌, Bool, true, false, cond, List, [], ◌∷◌, get_or, set, slice_get, Option, Some, None, ◌⊎◌, inl, inr, ⊎_elim, not, refl, sym, ap, ◌∙◌, arith, ℤ, pos}
+use mathlib.Core.Bool.{◌||◌}
+use Rattle.std.specs.Option.{option_or}
+use Rattle.std.specs.Prelude.{option_and_then, option_map}
+use Rattle.std.proofs.lemmas.List.{map-set, set-get_or}
+use Rattle.std.proofs.lemmas.Option.{slice_get-get_or}
+use Rattle.m_fixed.specs.declared.amount.Value.{Value}
+use Rattle.m_fixed.specs.declared.amount.Value.TheVariants.{Undef, Num, Over}
+use Rattle.m_fixed.specs.declared.operator.Op.TheVariants.{Choose, Truth}
+use Rattle.m_fixed.specs.Operators.{op_value, is_zero, truth, truth_of, chosen}
+use Rattle.m_places.specs.declared.verification.Label.{Label}
+use Rattle.micro_m.specs.declared.base.Base.{Base}
+use Rattle.micro_m.specs.Failures.{Check, failure_of}
+use Rattle.micro_m.specs.declared.base.Failure.TheVariants.{Failed}
+use Rattle.micro_m.specs.Values.{Environment, environment, term_value}
+use Rattle.flat_code.specs.declared.program.Node.TheVariants.{Do}
+use Rattle.flat_code.specs.declared.face.FaceLabel.{FaceLabel}
+use Rattle.flat_code.specs.declared.face.FaceLabel.TheVariants.{Verif, DriverLine}
+use Rattle.flat_code.specs.Answers.{Cause, failed, over, over_driver}
+use Rattle.driver_core.specs.Meaning.{Env, Outcome, goes, stops, then_do, chosen_block, with_values, failure_cause, unless_stopped}
+use Rattle.mpp_inline.specs.declared.builder.Builder.{Builder}
+use Rattle.mpp_inline.specs.inner.Cells.{picked, written, received}
+use Rattle.mpp_inline.specs.inner.Growth.{count, at, stop_of, denoted, outcome_of, run, Sane, Known, Placed, Ready, CheckedRule, CheckedLine, Pushed, Checked, Grows, TermStep, Computed, Stage, Opened, over_judged, judged, Held, Merged, entries}
+use Rattle.mpp_inline.proofs.ListLemmas.{all-picked, all-written, written-map, received-map, with-received}
+use Rattle.mpp_inline.proofs.RunLemmas.{face_judged, face_fired}
+use Rattle.mpp_inline.proofs.GrowthLemmas.{longer-none, longer-then, grows-none, grows-then, known-on, denoted-on, run-on, known-get, known-set, pushed-within, pushed-value, pushed-grows, checked-longer, checked-stop, denoted-set, faces-on, Faced, faced-line, faced-rule}
+
+-- the two operators of guards
+pub choose-value : (a b c : Value) → op_value Choose a b c ≡ chosen a b c
+unfolding op_value
+choose-value a b c = refl
+
+pub truth-value : (a b c : Value) → op_value Truth a b c ≡ truth_of a
+unfolding op_value
+truth-value a b c = refl
+
+-- outcomes
+pub goes-last : (o : Outcome) → then_do o (λ e. goes e) ≡ o
+goes-last (goes e) = refl
+goes-last (stops s) = refl
+
+pub then-then : (o : Outcome) (f g : Env → Outcome) → then_do (then_do o f) g ≡ then_do o (λ e. then_do (f e) g)
+then-then (goes e) f g = refl
+then-then (stops s) f g = refl
+
+or-none : (o : Option Cause) → option_or o None ≡ o
+or-none None = refl
+or-none (Some s) = refl
+
+-- stages one after the other
+pub stage-first : {b : Builder} {env : List ℕ} {g : ℕ} (does : Env → Outcome) → Placed b env g → Stage b b g env env does does
+stage-first does r = record { base = longer-none r.sane; known = r.known; taken = λ inputs h. refl; idle = λ inputs h. refl }
+
+pub stage-ready : {labels : List Label} {b c : Builder} {env env' : List ℕ} {g : ℕ} {rest whole : Env → Outcome} → Ready labels b env g → Stage b c g env env' rest whole → Ready labels c env' g
+stage-ready r s = record {
+  placed = record { sane = s.base.sane; known = s.known; guard = omega (arith, r.placed.guard, s.base.longer) };
+  labelled = faces-on s.base r.labelled;
+}
+
+pub stage-next : {labels : List Label} {b c d : Builder} {e f h : List ℕ} {g : ℕ} {does rest whole : Env → Outcome} → Ready labels b e g → Stage b c g e f (λ x. then_do (does x) rest) whole → (Ready labels c f g → Stage c d g f h (λ x. goes x) does) → Stage b d g e h rest whole
+stage-next {labels} {b} {c} {d} {e} {f} {h} {g} {does} {rest} {whole} r s t =
+    let n = t (stage-ready r s) in
+    record {
+      base = longer-then s.base n.base;
+      known = n.known;
+      taken = λ inputs i.
+          let there : at c inputs g ≡ Num (pos 1000000) = s.base.keeps inputs g r.placed.guard ∙ i in
+          ap (λ o. then_do o rest) (sym (goes-last (run d inputs h)) ∙ n.taken inputs there)
+          ∙ then-then (run c inputs f) does rest
+          ∙ s.taken inputs i;
+      idle = λ inputs i. n.idle inputs (s.base.keeps inputs g r.placed.guard ∙ i) ∙ s.idle inputs i;
+    }
+
+-- a change of the environment alone
+pub set-goes : (s : Option Cause) (e : Env) (f : Env → Env) → outcome_of s (f e) ≡ then_do (outcome_of s e) (λ x. goes (f x))
+set-goes None e f = refl
+set-goes (Some s) e f = refl
+
+pub stage-simple : {b c : Builder} {env env' : List ℕ} {g : ℕ} (f : Env → Env) → Placed b env g → Grows b c → Known c env' → ((inputs : List Value) → denoted c inputs env' ≡ f (denoted b inputs env)) → Stage b c g env env' (λ e. goes e) (λ e. goes (f e))
+stage-simple {b} {c} {env} {env'} {g} f r grows kn e = record {
+  base = grows.base;
+  known = kn;
+  taken = λ inputs h.
+      goes-last (run c inputs env')
+      ∙ (λ i. outcome_of (grows.stop inputs i) (e inputs i))
+      ∙ set-goes (stop_of b inputs) (denoted b inputs env) f;
+  idle = λ inputs h. grows.stop inputs;
+}
+
+pub set-stage : {b c : Builder} {env : List ℕ} {g k : ℕ} (t : Environment → Value) (x : ℕ) → (Sane b → Known b env → TermStep b c env t k) → Placed b env g → Stage b c g env (set env x k) (λ e. goes e) (λ e. goes (set e x (t (environment e))))
+set-stage {b} {c} {env} {g} {k} t x f r =
+    let s = f r.sane r.known in
+    let l = s.grows.base in
+    stage-simple (λ e. set e x (t (environment e))) r s.grows (known-set x k s.within (known-on l r.known))
+    (λ inputs. denoted-set inputs x k (t (environment (denoted b inputs env))) l r.known (s.value inputs))
+
+pub del-stage : {b : Builder} {env : List ℕ} {g : ℕ} (x : ℕ) → Placed b env g → Stage b b g env (set env x 0) (λ e. goes e) (λ e. goes (set e x Undef))
+del-stage {b} {env} {g} x r =
+    let zero_in : 0 < count b = omega (arith, r.sane.three) in
+    stage-simple (λ e. set e x Undef) r (grows-none r.sane) (known-set x 0 zero_in r.known)
+    (λ inputs. denoted-set inputs x 0 Undef (longer-none r.sane) r.known (r.sane.undef inputs))
+
+-- a condition and its check
+check-run : (s : Option Cause) (e : Env) (t : Environment → Value) (only : Bool) (f : FaceLabel) (j : Value → Env → Outcome) → ((v : Value) (x : Env) → outcome_of (face_judged only f v) x ≡ j v x) → outcome_of (option_or s (face_judged only f (t (environment e)))) e ≡ then_do (outcome_of s e) (λ x. j (t (environment x)) x)
+check-run None e t only f j same = same (t (environment e)) e
+check-run (Some s) e t only f j same = refl
+
+pub check-stage : {b c d : Builder} {env : List ℕ} {g k l : ℕ} {only : Bool} {f : FaceLabel} (t : Environment → Value) (j : Value → Env → Outcome) → ((v : Value) (x : Env) → outcome_of (face_judged only f v) x ≡ j v x) → (Sane b → Known b env → TermStep b c env t k) → Checked c d g k only l → Faced c d l f → Placed b env g → Stage b d g env env (λ e. goes e) (λ e. j (t (environment e)) e)
+check-stage {b} {c} {d} {env} {g} {k} {l} {only} {f} t j same step p q r =
+    let s = step r.sane r.known in
+    let lb = s.grows.base in
+    let guard_in : g < count c = omega (arith, r.guard, lb.longer) in
+    let long = longer-then lb (checked-longer p q guard_in s.within lb.sane) in
+    let stop : (inputs : List Value) → stop_of d inputs ≡ option_or (stop_of b inputs) (face_fired (at b inputs g) only f (t (environment (denoted b inputs env)))) =
+    λ inputs. checked-stop p q lb.sane inputs
+    ∙ (λ i. option_or (s.grows.stop inputs i) (face_fired (lb.keeps inputs g r.guard i) only f (s.value inputs i))) in
+    record {
+      base = long;
+      known = known-on long r.known;
+      taken = λ inputs h.
+          goes-last (run d inputs env)
+          ∙ (λ i. outcome_of ((stop inputs ∙ ap (λ v. option_or (stop_of b inputs) (face_fired v only f (t (environment (denoted b inputs env))))) h) i) (denoted-on inputs long r.known i))
+          ∙ check-run (stop_of b inputs) (denoted b inputs env) t only f j same;
+      idle = λ inputs h.
+          stop inputs
+          ∙ ap (λ v. option_or (stop_of b inputs) (face_fired v only f (t (environment (denoted b inputs env))))) h
+          ∙ or-none (stop_of b inputs);
+    }
+
+failed-label : (labels : List Label) (number : ℕ) (label : Label) (z : ℤ) (env : Env) → slice_get labels number ≡ Some label → outcome_of (face_judged false (Verif label) (Num z)) env ≡ judged labels number (Num z) env
+failed-label labels number label z env is = elim (is_zero z) as (λ b. outcome_of (cond b None (Some (failed label))) env ≡ unless_stopped (option_and_then (failure_cause labels) (cond b None (Some (Failed number)))) (goes env)) [
+  | true ↦ refl
+  | false ↦ sym (ap (λ o. unless_stopped (option_map failed o) (goes env)) is)
+]
+
+pub verif-face : (labels : List Label) (number : ℕ) (label : Label) → slice_get labels number ≡ Some label → (v : Value) (e : Env) → outcome_of (face_judged false (Verif label) v) e ≡ judged labels number v e
+verif-face labels number label is Undef e = refl
+verif-face labels number label is (Num z) e = failed-label labels number label z e is
+verif-face labels number label is Over e = sym (ap (λ o. unless_stopped (option_map over o) (goes e)) is)
+
+pub line-face : (line : ℕ) (v : Value) (e : Env) → outcome_of (face_judged true (DriverLine line) v) e ≡ over_judged line v e
+line-face line Undef e = refl
+line-face line (Num z) e = refl
+line-face line Over e = refl
+
+-- a check of the rules
+pub rule-stage : {labels : List Label} {b c e : Builder} {env : List ℕ} {g k : ℕ} (d : Check) (label : Label) → d.1 < length labels → (Sane b → Known b env → TermStep b c env (λ x. term_value x d.0) k) → CheckedRule c e g k d.1 → Ready labels b env g → Stage b e g env env (λ x. goes x) (λ x. judged labels d.1 (term_value (environment x) d.0) x)
+rule-stage {labels} d label lt step p r =
+    check-stage (λ x. term_value x d.0) (judged labels d.1) (verif-face labels d.1 (get_or labels d.1 label) (slice_get-get_or labels d.1 label lt)) step p.base
+    (faced-rule d.1 label (faces-on (step r.placed.sane r.placed.known).grows.base r.labelled) lt p)
+    r.placed
+
+-- definitions
+pub computed-first : {b : Builder} {env : List ℕ} (f : Env → Env) → Sane b → Known b env → Computed b b env env f f
+computed-first f s k = record { grows = grows-none s; known = k; value = λ inputs. refl }
+
+pub computed-next : {b c d : Builder} {env env' : List ℕ} {k : ℕ} {rest whole : Env → Env} (t : Environment → Value) (x : ℕ) → Computed b c env env' (λ e. rest (set e x (t (environment e)))) whole → (Sane c → Known c env' → TermStep c d env' t k) → Computed b d env (set env' x k) rest whole
+computed-next {b} {c} {d} {env} {env'} {k} {rest} {whole} t x s f =
+    let n = f s.grows.base.sane s.known in
+    let l = n.grows.base in
+    record {
+      grows = grows-then s.grows n.grows;
+      known = known-set x k n.within (known-on l s.known);
+      value = λ inputs. ap rest (denoted-set inputs x k (t (environment (denoted c inputs env'))) l s.known (n.value inputs)) ∙ s.value inputs;
+    }
+
+-- a stage between a change of the environment and another
+pub wrap : (s : Option Cause) (e : Env) (before : Env → Env) (does : Env → Outcome) (after : Env → Env → Env) → then_do (then_do (outcome_of s (before e)) does) (λ f. goes (after e f)) ≡ then_do (outcome_of s e) (λ x. then_do (does (before x)) (λ f. goes (after x f)))
+wrap None e before does after = refl
+wrap (Some s) e before does after = refl
+
+pub wrapped : {b c d : Builder} {env env1 env2 env3 : List ℕ} {g : ℕ} {does : Env → Outcome} (before : Env → Env) (after : Env → Env → Env) → Placed b env g → Grows b c → ((inputs : List Value) → denoted c inputs env1 ≡ before (denoted b inputs env)) → Stage c d g env1 env2 (λ e. goes e) does → Known d env3 → ((inputs : List Value) → denoted d inputs env3 ≡ after (denoted b inputs env) (denoted d inputs env2)) → Stage b d g env env3 (λ e. goes e) (λ e. then_do (does (before e)) (λ f. goes (after e f)))
+wrapped {b} {c} {d} {env} {env1} {env2} {env3} {g} {does} before after r grows first s kn last = record {
+  base = longer-then grows.base s.base;
+  known = kn;
+  taken = λ inputs h.
+      let e = denoted b inputs env in
+      let there : at c inputs g ≡ Num (pos 1000000) = grows.base.keeps inputs g r.guard ∙ h in
+      goes-last (run d inputs env3)
+      ∙ ap (outcome_of (stop_of d inputs)) (last inputs)
+      ∙ set-goes (stop_of d inputs) (denoted d inputs env2) (after e)
+      ∙ ap (λ o. then_do o (λ f. goes (after e f)))
+      (sym (goes-last (run d inputs env2)) ∙ s.taken inputs there ∙ (λ i. then_do (outcome_of (grows.stop inputs i) (first inputs i)) does))
+      ∙ wrap (stop_of b inputs) e before does after;
+  idle = λ inputs h. s.idle inputs (grows.base.keeps inputs g r.guard ∙ h) ∙ grows.stop inputs;
+}
+
+-- cells of one environment received by another
+pub known-received : {b : Builder} (xs from env : List ℕ) → Sane b → Known b from → Known b env → Known b (received 0 xs from env)
+known-received {b} xs from env s f k = record {
+  all = all-written (λ n. n < count b) (picked 0 xs from) env (all-picked (λ n. n < count b) 0 xs from (omega (arith, s.three)) f.all) k.all;
+}
+
+pub denoted-received : {b : Builder} (inputs : List Value) (xs from env : List ℕ) → Sane b → denoted b inputs (received 0 xs from env) ≡ with_values xs (environment (denoted b inputs from)) (denoted b inputs env)
+denoted-received {b} inputs xs from env s =
+    received-map (at b inputs) 0 xs from env ∙ ap (λ v. received v xs (denoted b inputs from) (denoted b inputs env)) (s.undef inputs)
+    ∙ sym (with-received xs (denoted b inputs from) (denoted b inputs env))
+
+pub rules-stage : {labels : List Label} {b c d : Builder} {env env' : List ℕ} {g : ℕ} {does : Env → Outcome} {first : Env → Env} (xs : List ℕ) → (Sane b → Known b env → Computed b c env env' (λ e. e) first) → (Ready labels c env' g → Stage c d g env' env' (λ e. goes e) does) → Ready labels b env g → Stage b d g env (received 0 xs env' env) (λ e. goes e) (λ e. then_do (does (first e)) (λ f. goes (with_values xs (environment f) e)))
+rules-stage {labels} {b} {c} {d} {env} {env'} {g} {does} {first} xs defs checks r =
+    let k = defs r.placed.sane r.placed.known in
+    let s = checks (record { placed = record { sane = k.grows.base.sane; known = k.known; guard = omega (arith, r.placed.guard, k.grows.base.longer) }; labelled = faces-on k.grows.base r.labelled }) in
+    let l = longer-then k.grows.base s.base in
+    wrapped first (λ e f. with_values xs (environment f) e) r.placed k.grows k.value s
+    (known-received xs env' env l.sane s.known (known-on l r.placed.known))
+    (λ inputs. denoted-received inputs xs env' env l.sane ∙ ap (with_values xs (environment (denoted d inputs env'))) (denoted-on inputs l r.placed.known))
+
+-- a choice: both values of the truth
+truth-number : (b : Bool) → (Num (truth (not b)) ≡ Num (pos 0)) ⊎ (Num (truth (not b)) ≡ Num (pos 1000000))
+truth-number true = inl refl
+truth-number false = inr refl
+
+pub truth-cases : (v : Value) → (truth_of v ≡ Num (pos 0)) ⊎ (truth_of v ≡ Num (pos 1000000))
+truth-cases Undef = inl refl
+truth-cases (Num z) = truth-number (is_zero z)
+truth-cases Over = inl refl
+
+pub both-zero : (v : Value) → chosen (truth_of v) (Num (pos 0)) (Num (pos 0)) ≡ Num (pos 0)
+both-zero v = ⊎_elim
+    (λ (h : truth_of v ≡ Num (pos 0)). ap (λ x. chosen x (Num (pos 0)) (Num (pos 0))) h)
+    (λ (h : truth_of v ≡ Num (pos 1000000)). ap (λ x. chosen x (Num (pos 0)) (Num (pos 0))) h)
+    (truth-cases v)
+
+not-both : (v : Value) → v ≡ Num (pos 0) → v ≡ Num (pos 1000000) → ⊥
+not-both v e f = cc
+
+first-number : (c : Bool) (e : Env) (a b : Env → Outcome) → Num (truth (not c)) ≡ Num (pos 1000000) → a e ≡ cond c (b e) (a e)
+first-number true e a b h = absurd (not-both (Num (pos 0)) refl h)
+first-number false e a b h = refl
+
+judged-first : (line : ℕ) (v : Value) (e : Env) (a b : Env → Outcome) → truth_of v ≡ Num (pos 1000000) → then_do (over_judged line v e) a ≡ chosen_block line v (a e) (b e)
+judged-first line Undef e a b h = absurd (not-both (Num (pos 0)) refl h)
+judged-first line (Num z) e a b h = first-number (is_zero z) e a b h
+judged-first line Over e a b h = absurd (not-both (Num (pos 0)) refl h)
+
+second-number : (c : Bool) (e : Env) (a b : Env → Outcome) → Num (truth (not c)) ≡ Num (pos 0) → b e ≡ cond c (b e) (a e)
+second-number true e a b h = refl
+second-number false e a b h = absurd (not-both (Num (pos 1000000)) h refl)
+
+judged-second : (line : ℕ) (v : Value) (e : Env) (a b : Env → Outcome) → truth_of v ≡ Num (pos 0) → then_do (over_judged line v e) b ≡ chosen_block line v (a e) (b e)
+judged-second line Undef e a b h = refl
+judged-second line (Num z) e a b h = second-number (is_zero z) e a b h
+judged-second line Over e a b h = refl
+
+pub chosen-first : (s : Option Cause) (e : Env) (line : ℕ) (t : Environment → Value) (a b : Env → Outcome) → truth_of (t (environment e)) ≡ Num (pos 1000000) → then_do (then_do (outcome_of s e) (λ x. over_judged line (t (environment x)) x)) a ≡ then_do (outcome_of s e) (λ x. chosen_block line (t (environment x)) (a x) (b x))
+chosen-first None e line t a b h = judged-first line (t (environment e)) e a b h
+chosen-first (Some s) e line t a b h = refl
+
+pub chosen-second : (s : Option Cause) (e : Env) (line : ℕ) (t : Environment → Value) (a b : Env → Outcome) → truth_of (t (environment e)) ≡ Num (pos 0) → then_do (then_do (outcome_of s e) (λ x. over_judged line (t (environment x)) x)) b ≡ then_do (outcome_of s e) (λ x. chosen_block line (t (environment x)) (a x) (b x))
+chosen-second None e line t a b h = judged-second line (t (environment e)) e a b h
+chosen-second (Some s) e line t a b h = refl
+
+-- the guards of a choice, once its condition is there
+pub open-branches : {b c c1 c2 d : Builder} {env : List ℕ} {g line v k i j : ℕ} {t : Environment → Value} → (Sane b → Known b env → TermStep b c env t v) → CheckedLine c c1 g v line → {c3 : Builder} → Pushed c1 c2 (Do Truth v v v) k → Pushed c2 c3 (Do Choose k g 1) i → Pushed c3 d (Do Choose k 1 g) j → Placed b env g → Opened b d env g line t (record { truth = k; first = i; second = j })
+open-branches {b} {c} {c1} {c2} {d} {env} {g} {line} {v} {k} {i} {j} {t} step p {c3} q1 q2 q3 r =
+    let ts = step r.sane r.known in
+    let s0 = check-stage t (over_judged line) (line-face line) step p.base (faced-line p) r in
+    let lc = checked-longer p.base (faced-line p) (omega (arith, r.guard, ts.grows.base.longer)) ts.within ts.grows.base.sane in
+    let l0 = s0.base in
+    let v_in : v < count c1 = omega (arith, ts.within, lc.longer) in
+    let g1 = pushed-grows q1 (v_in, v_in, v_in) l0.sane in
+    let k_in : k < count c2 = pushed-within q1 in
+    let one_in : 1 < count c2 = omega (arith, g1.base.sane.three) in
+    let g_in : g < count c2 = omega (arith, r.guard, l0.longer, g1.base.longer) in
+    let g2 = pushed-grows q2 (k_in, g_in, one_in) g1.base.sane in
+    let i_in : i < count c3 = pushed-within q2 in
+    let k_in3 : k < count c3 = omega (arith, k_in, g2.base.longer) in
+    let g_in3 : g < count c3 = omega (arith, g_in, g2.base.longer) in
+    let one_in3 : 1 < count c3 = omega (arith, one_in, g2.base.longer) in
+    let g3 = pushed-grows q3 (k_in3, one_in3, g_in3) g2.base.sane in
+    let grows = grows-then g1 (grows-then g2 g3) in
+    let long = longer-then l0 grows.base in
+    let l02 = longer-then l0 g1.base in
+    let l03 = longer-then l02 g2.base in
+    let l23 = longer-then g2.base g3.base in
+    let value : (inputs : List Value) → at c1 inputs v ≡ t (environment (denoted b inputs env)) = λ inputs. lc.keeps inputs v ts.within ∙ ts.value inputs in
+    record {
+      stage = record {
+        base = long;
+        known = known-on grows.base s0.known;
+        taken = λ inputs h. ap (λ o. then_do o (λ e. goes e)) (run-on inputs grows s0.known) ∙ s0.taken inputs h;
+        idle = λ inputs h. grows.stop inputs ∙ s0.idle inputs h;
+      };
+      first_within = omega (arith, i_in, g3.base.longer);
+      second_within = pushed-within q3;
+      truth_within = omega (arith, k_in, l23.longer);
+      truth = λ inputs. l23.keeps inputs k k_in ∙ pushed-value q1 inputs ∙ truth-value _ _ _ ∙ ap truth_of (value inputs);
+      first = λ inputs.
+          g3.base.keeps inputs i i_in ∙ pushed-value q2 inputs ∙ choose-value _ _ _
+          ∙ (λ x. chosen (sym (l23.keeps inputs k k_in) x) (l02.keeps inputs g r.guard x) (g1.base.sane.zero inputs x));
+      second = λ inputs.
+          pushed-value q3 inputs ∙ choose-value _ _ _
+          ∙ (λ x. chosen (sym (g3.base.keeps inputs k k_in3) x) (g2.base.sane.zero inputs x) (l03.keeps inputs g r.guard x));
+    }
+
+-- the merge, an entry at a time
+pub merge-first : {b : Builder} {env : List ℕ} {truth : ℕ} (ps : List (ℕ × ℕ)) → Placed b env truth → Merged b b truth ps ps env env
+merge-first ps r = record { grows = grows-none r.sane; known = r.known; first = λ inputs h. refl; second = λ inputs h. refl }
+
+pub merge-skip : {b c : Builder} {env env' : List ℕ} {truth : ℕ} {p : ℕ × ℕ} {ps whole : List (ℕ × ℕ)} → p.1 < count b → p.1 ≡ get_or env' p.0 0 → Merged b c truth (p ∷ ps) whole env env' → Merged b c truth ps whole env env'
+merge-skip {b} {c} {env} {env'} {truth} {p} {ps} {whole} within same m = record {
+  grows = m.grows;
+  known = m.known;
+  first = λ inputs h.
+      ap (written (entries b inputs ps))
+      (sym (sym (map-set (at c inputs) env' p.0 (get_or env' p.0 0))
+      ∙ ap (denoted c inputs) (set-get_or env' p.0 0))
+      ∙ ap (λ v. set (denoted c inputs env') p.0 v) (ap (at c inputs) (sym same) ∙ m.grows.base.keeps inputs p.1 within))
+      ∙ m.first inputs h;
+  second = m.second;
+}
+
+pub merge-write : {b c d : Builder} {env env' : List ℕ} {truth k : ℕ} {p : ℕ × ℕ} {ps whole : List (ℕ × ℕ)} → Placed b env truth → p.1 < count b → Merged b c truth (p ∷ ps) whole env env' → Pushed c d (Do Choose truth p.1 (get_or env' p.0 0)) k → Merged b d truth ps whole env (set env' p.0 k)
+merge-write {b} {c} {d} {env} {env'} {truth} {k} {p} {ps} {whole} r within m q =
+    let l = m.grows.base in
+    let t_in : truth < count c = omega (arith, r.guard, l.longer) in
+    let p_in : p.1 < count c = omega (arith, within, l.longer) in
+    let x_in : get_or env' p.0 0 < count c = known-get p.0 l.sane m.known in
+    let grows = pushed-grows q (t_in, p_in, x_in) l.sane in
+    let value : (inputs : List Value) → at d inputs k ≡ chosen (at b inputs truth) (at b inputs p.1) (at c inputs (get_or env' p.0 0)) = λ inputs.
+    pushed-value q inputs ∙ choose-value _ _ _ ∙ (λ i. chosen (l.keeps inputs truth r.guard i) (l.keeps inputs p.1 within i) (at c inputs (get_or env' p.0 0))) in
+    record {
+      grows = grows-then m.grows grows;
+      known = known-set p.0 k (pushed-within q) (known-on grows.base m.known);
+      first = λ inputs h.
+          ap (written (entries b inputs ps))
+          (denoted-set inputs p.0 k (at b inputs p.1) grows.base m.known
+          (value inputs ∙ ap (λ v. chosen v (at b inputs p.1) (at c inputs (get_or env' p.0 0))) h))
+          ∙ m.first inputs h;
+      second = λ inputs h.
+          denoted-set inputs p.0 k (at c inputs (get_or env' p.0 0)) grows.base m.known
+          (value inputs ∙ ap (λ v. chosen v (at b inputs p.1) (at c inputs (get_or env' p.0 0))) h)
+          ∙ sym (map-set (at c inputs) env' p.0 (get_or env' p.0 0))
+          ∙ ap (denoted c inputs) (set-get_or env' p.0 0)
+          ∙ m.second inputs h;
+    }
+
+-- the given nodes where the guard is the literal 1
+one-none : (v : Value) → v ≡ Num (pos 1000000) → v ≡ Num (pos 0) → ⊥
+one-none v e f = cc
+
+pub write-one : {b : Builder} {env : List ℕ} (ps : List (ℕ × ℕ)) → Placed b env 2 → Held b ps → Merged b b 2 [] ps env (written ps env)
+write-one {b} {env} ps r h = record {
+  grows = grows-none r.sane;
+  known = record { all = all-written (λ n. n < count b) ps env h.all r.known.all };
+  first = λ inputs e. written-map (at b inputs) ps env;
+  second = λ inputs e. absurd (one-none (at b inputs 2) (r.sane.one inputs) e);
+}

@@ -1,0 +1,100 @@
+-- Terms as nodes: operators, folds and arguments.
+use Rattle.std.proofs.Common.{◌≡◌, ℕ, zero, suc, ◌+◌, ◌*◌, ◌<◌, ◌≤◌, List, [], ◌∷◌, length, get_or, refl, sym, ap, ◌∙◌, arith}
+use denote.Param.Weighed.{most}
+use Rattle.m_fixed.specs.declared.amount.Value.{Value}
+use Rattle.m_fixed.specs.declared.amount.Value.TheVariants.{Undef}
+use Rattle.m_fixed.specs.declared.operator.Op.{Op}
+use Rattle.m_fixed.specs.Operators.{op_value}
+use Rattle.micro_m.specs.Values.{Environment, environment, applied}
+use Rattle.flat_code.specs.declared.program.Node.TheVariants.{Do}
+use Rattle.driver_core.specs.declared.term.CStep.{CStep}
+use Rattle.driver_core.specs.declared.term.CTerm.TheDeep.{size-CStep, size-CTerm}
+use Rattle.driver_core.specs.Formulas.{Formula, nodes_of_formulas, nodes_of_steps}
+use Rattle.driver_core.specs.FormulaView.{formulas_of, steps_of}
+use Rattle.driver_core.specs.Meaning.{formula_value, formula_values}
+use Rattle.mpp_inline.specs.declared.builder.Builder.{Builder}
+use Rattle.mpp_inline.specs.inner.Growth.{count, at, denoted, Sane, Known, Pushed, Along, Gives, TermStep}
+use Rattle.mpp_inline.proofs.GrowthLemmas.{grows-none, grows-then, longer-then, known-on, denoted-on, pushed-within, pushed-value, pushed-grows, gives-pushed, gives-same}
+
+-- an operator on nodes
+pub do-step : {b c : Builder} {op : Op} {i j k n : ℕ} → Pushed b c (Do op i j k) n → i < count b → j < count b → k < count b → Sane b → Gives b c (λ inputs. op_value op (at b inputs i) (at b inputs j) (at b inputs k)) n
+do-step {b} {c} {op} {i} {j} {k} p hi hj hk s = gives-pushed (λ inputs. op_value op (at b inputs i) (at b inputs j) (at b inputs k)) p (hi, hj, hk) s (λ inputs. refl)
+
+pub applied-step : {b b1 b2 b3 c : Builder} {env : List ℕ} {i j k n : ℕ} (op : Op) (values : Environment → List Value) → (Sane b → Known b env → TermStep b b1 env (λ e. get_or (values e) 0 Undef) i) → (Sane b1 → Known b1 env → TermStep b1 b2 env (λ e. get_or (values e) 1 Undef) j) → (Sane b2 → Known b2 env → TermStep b2 b3 env (λ e. get_or (values e) 2 Undef) k) → Pushed b3 c (Do op i j k) n → Sane b → Known b env → TermStep b c env (λ e. applied op (values e)) n
+applied-step {b} {b1} {b2} {b3} {c} {env} {i} {j} {k} {n} op values f1 f2 f3 p s kn =
+    let s1 = f1 s kn in
+    let l1 = s1.grows.base in
+    let s2 = f2 l1.sane (known-on l1 kn) in
+    let l2 = longer-then l1 s2.grows.base in
+    let s3 = f3 l2.sane (known-on l2 kn) in
+    let l23 = longer-then s2.grows.base s3.grows.base in
+    let h1 : i < count b3 = omega (arith, s1.within, l23.longer) in
+    let h2 : j < count b3 = omega (arith, s2.within, s3.grows.base.longer) in
+    record {
+      grows = grows-then (grows-then s1.grows (grows-then s2.grows s3.grows)) (pushed-grows p (h1, h2, s3.within) s3.grows.base.sane);
+      within = pushed-within p;
+      value = λ inputs.
+          pushed-value p inputs
+          ∙ (λ d. op_value op
+          ((l23.keeps inputs i s1.within ∙ s1.value inputs) d)
+          ((s3.grows.base.keeps inputs j s2.within ∙ s2.value inputs ∙ ap (λ e. get_or (values (environment e)) 1 Undef) (denoted-on inputs l1 kn)) d)
+          ((s3.value inputs ∙ ap (λ e. get_or (values (environment e)) 2 Undef) (denoted-on inputs l2 kn)) d));
+    }
+
+-- the node of what is missing
+pub undef-step : {b : Builder} (value : List Value → Value) → ((inputs : List Value) → Undef ≡ value inputs) → Sane b → Gives b b value 0
+undef-step value e s = record { grows = grows-none s; within = omega (arith, s.three); value = λ inputs. s.undef inputs ∙ e inputs }
+
+pub zero-step : {b : Builder} (value : List Value → Value) → Sane b → ((inputs : List Value) → at b inputs 1 ≡ value inputs) → Gives b b value 1
+zero-step value s e = record { grows = grows-none s; within = omega (arith, s.three); value = e }
+
+-- folds
+pub fold-first : {b : Builder} (rest : List Value → Value → Value) (k : ℕ) → Sane b → k < count b → Along b b rest (λ inputs. rest inputs (at b inputs k)) k
+fold-first rest k s h = record { grows = grows-none s; within = h; value = λ inputs. refl }
+
+pub fold-next : {b c d e : Builder} {env : List ℕ} {x k n : ℕ} {op : Op} {whole : List Value → Value} (t : Environment → Value) (rest : List Value → Value → Value) → Along b c (λ inputs v. rest inputs (op_value op v (t (environment (denoted b inputs env))) Undef)) whole x → (Sane c → Known c env → TermStep c d env t k) → Pushed d e (Do op x k 0) n → Known b env → Along b e rest whole n
+fold-next {b} {c} {d} {e} {env} {x} {k} {n} {op} {whole} t rest a step p kn =
+    let l = a.grows.base in
+    let s = step l.sane (known-on l kn) in
+    let ld = s.grows.base in
+    let g = pushed-grows p (omega (arith, a.within, ld.longer), s.within, omega (arith, ld.sane.three)) ld.sane in
+    record {
+      grows = grows-then a.grows (grows-then s.grows g);
+      within = pushed-within p;
+      value = λ inputs.
+          ap (rest inputs) (pushed-value p inputs
+          ∙ (λ i. op_value op (ld.keeps inputs x a.within i) ((s.value inputs ∙ ap (λ y. t (environment y)) (denoted-on inputs l kn)) i) (ld.sane.undef inputs i)))
+          ∙ a.value inputs;
+    }
+
+-- what goes on from a term's node
+pub chain-step : {b c d : Builder} {env : List ℕ} {x k : ℕ} (t : Environment → Value) (f : Environment → Value → Value) → (Sane b → Known b env → TermStep b c env t x) → (Sane c → Known c env → x < count c → Gives c d (λ inputs. f (environment (denoted c inputs env)) (at c inputs x)) k) → Sane b → Known b env → TermStep b d env (λ e. f e (t e)) k
+chain-step {b} {c} {d} {env} {x} {k} t f first next s kn =
+    let a = first s kn in
+    let l = a.grows.base in
+    let n = next l.sane (known-on l kn) a.within in
+    record {
+      grows = grows-then a.grows n.grows;
+      within = n.within;
+      value = λ inputs. n.value inputs ∙ (λ i. f (environment (denoted-on inputs l kn i)) (a.value inputs i));
+    }
+
+-- the arguments of an operator of the driver
+pub formula_values-at : (values : Environment) (all : List Formula) (place : ℕ) (x : Formula) → place < length all → x ≡ get_or all place x → formula_value values x ≡ get_or (formula_values values (formulas_of all)) place Undef
+formula_values-at values [] place x h e = absurd (omega arith)
+formula_values-at values (a ∷ all) zero x h e = ap (formula_value values) e
+formula_values-at values (a ∷ all) (suc place) x h e = formula_values-at values all place x (omega arith) e
+
+pub formula_values-past : (values : Environment) (all : List Formula) (place : ℕ) → length all ≤ place → Undef ≡ get_or (formula_values values (formulas_of all)) place Undef
+formula_values-past values [] place h = refl
+formula_values-past values (a ∷ all) zero h = absurd (omega arith)
+formula_values-past values (a ∷ all) (suc place) h = formula_values-past values all place (omega arith)
+
+-- parts are smaller
+pub sizes-fall : (all : List CStep) → most size-CStep all ≤ 3 * nodes_of_steps (steps_of all) + 1
+sizes-fall [] = omega arith
+sizes-fall (a ∷ rest) = omega (arith, sizes-fall rest)
+
+pub terms-fall : (all : List Formula) → most size-CTerm all ≤ 3 * nodes_of_formulas (formulas_of all) + 1
+terms-fall [] = omega arith
+terms-fall (a ∷ rest) = omega (arith, terms-fall rest)

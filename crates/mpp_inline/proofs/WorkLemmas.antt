@@ -1,0 +1,369 @@
+-- What is left, as the program grows, and what each command and item does to it.
+use Rattle.std.proofs.Common.{Bor, ◌≡◌, ℕ, ◌<◌, true, false, cond, List, [], ◌∷◌, ◌++◌, set, inl, inr, ⊎_elim, refl, sym, ap, ◌∙◌, subst, arith, pos}
+use Rattle.std.specs.List.{AllByRecursion}
+use Rattle.std.specs.declared.vec.Vec.{Vec}
+use Rattle.std.specs.declared.alloc.Global.{Global}
+use Rattle.m_fixed.specs.declared.amount.Value.{Value}
+use Rattle.m_fixed.specs.declared.amount.Value.TheVariants.{Undef, Num}
+use Rattle.m_fixed.specs.Operators.{truth_of, chosen}
+use Rattle.m_places.specs.declared.verification.Label.{Label}
+use Rattle.micro_m.specs.Values.{Environment, environment}
+use Rattle.flat_code.specs.Runs.{is_one}
+use Rattle.driver_core.specs.Actions.{Action, branch, partition, call}
+use Rattle.driver_core.specs.ActionView.{block_of}
+use Rattle.driver_core.specs.Formulas.{Formula}
+use Rattle.driver_core.specs.Meaning.{Env, Outcome, goes, then_do, formula_value, chosen_block, with_values, without}
+use Rattle.mpp_inline.specs.declared.builder.Builder.{Builder}
+use Rattle.mpp_inline.specs.declared.branches.Branches.{Branches}
+use Rattle.mpp_inline.specs.declared.work.Work.{Work}
+use Rattle.mpp_inline.specs.declared.work.Work.TheVariants.{Run, Under, Restore, Return}
+use Rattle.mpp_inline.specs.inner.Cells.{picked, written, received, blanked}
+use Rattle.mpp_inline.specs.inner.Growth.{count, at, stop_of, denoted, outcome_of, run, entries, Sane, Known, Held, Placed, Ready, Longer, TermStep, Computed, Stage, Opened, Merged, over_judged, calls}
+use Rattle.mpp_inline.specs.inner.Work.{under, Point, point, Whole, does, does_one, done, finish, ahead, block_ahead, IsBit, Guarding, Kept, Standing, Moves, Step}
+use Rattle.mpp_inline.proofs.ListLemmas.{all-more, all-append, all-picked, all-written, all-blanked, picked-map, written-map, blanked-map, restored, same-none, same-blanked, with-received, without-blanked}
+use Rattle.mpp_inline.proofs.GrowthLemmas.{longer-none, longer-then, known-on, denoted-on, faces-on}
+use Rattle.mpp_inline.proofs.StageLemmas.{goes-last, then-then, set-stage, del-stage, rules-stage, set-goes, wrap, truth-cases, both-zero, chosen-first, chosen-second, known-received, denoted-received}
+
+-- a guard of 0 or 1
+pub under-none : (v : Value) (o : Outcome) → under v o (λ e. goes e) ≡ o
+under-none v o = elim (is_one v) as (λ b. cond b (then_do o (λ e. goes e)) o ≡ o) [ true ↦ goes-last o | false ↦ refl ]
+
+pub under-under : (v : Value) (o : Outcome) (f g : Env → Outcome) → under v (under v o f) g ≡ under v o (λ e. then_do (f e) g)
+under-under v o f g = elim (is_one v) as (λ b. cond b (then_do (cond b (then_do o f) o) g) (cond b (then_do o f) o) ≡ cond b (then_do o (λ e. then_do (f e) g)) o) [ true ↦ then-then o f g | false ↦ refl ]
+
+pub bit-of : {v w : Value} → v ≡ w → IsBit w → IsBit v
+bit-of e b = subst IsBit (sym e) b
+
+pub bit-chosen : (t x y : Value) → IsBit t → IsBit x → IsBit y → IsBit (chosen t x y)
+bit-chosen t x y b p q = ⊎_elim
+    (λ (h : t ≡ Num (pos 0)). bit-of (ap (λ v. chosen v x y) h) q)
+    (λ (h : t ≡ Num (pos 1000000)). bit-of (ap (λ v. chosen v x y) h) p)
+    b
+
+-- a change by writes that count where the guard is 1
+pub step-written : {b d f : Builder} {env env1 env2 : List ℕ} {g : ℕ} {next : Env → Outcome} (given : List (ℕ × ℕ)) → Placed b env g → Stage b d g env env1 (λ e. goes e) next → env1 ≡ written given env → Merged d f g [] given env env2 → Step b f g env env2 next
+step-written {b} {d} {f} {env} {env1} {env2} {g} {next} given r s is m =
+    let there : (inputs : List Value) → at d inputs g ≡ at b inputs g = λ inputs. s.base.keeps inputs g r.guard in
+    record {
+      base = longer-then s.base m.grows.base;
+      known = m.known;
+      moved = λ inputs bit. ⊎_elim
+          (λ (h : at b inputs g ≡ Num (pos 0)).
+          (λ i. outcome_of ((m.grows.stop inputs ∙ s.idle inputs h) i) ((m.second inputs (there inputs ∙ h) ∙ denoted-on inputs s.base r.known) i))
+          ∙ sym (ap (λ v. under v (run b inputs env) next) h))
+          (λ (h : at b inputs g ≡ Num (pos 1000000)).
+          (λ i. outcome_of (m.grows.stop inputs i) ((m.first inputs (there inputs ∙ h) ∙ sym (written-map (at d inputs) given env) ∙ ap (denoted d inputs) (sym is)) i))
+          ∙ sym (goes-last (run d inputs env1)) ∙ s.taken inputs h
+          ∙ sym (ap (λ v. under v (run b inputs env) next) h))
+          bit;
+    }
+
+-- one write, and the rules
+held-picked : {b : Builder} (xs env : List ℕ) → Sane b → Known b env → Held b (picked 0 xs env)
+held-picked {b} xs env s k = record { all = all-picked (λ n. n < count b) 0 xs env (omega (arith, s.three)) k.all }
+
+pub set-step : {b c d : Builder} {env env' : List ℕ} {g k : ℕ} (t : Environment → Value) (x : ℕ) → (Sane b → Known b env → TermStep b c env t k) → (Placed c env g → k < count c → Merged c d g [] ((x, k) ∷ []) env env') → Placed b env g → Step b d g env env' (λ e. goes (set e x (t (environment e))))
+set-step {b} {c} {d} {env} {env'} {g} {k} t x term write r =
+    let t' = term r.sane r.known in
+    let l = t'.grows.base in
+    step-written ((x, k) ∷ []) r (set-stage t x term r) refl (write (record { sane = l.sane; known = known-on l r.known; guard = omega (arith, r.guard, l.longer) }) t'.within)
+
+pub del-step : {b d : Builder} {env env' : List ℕ} {g : ℕ} (x : ℕ) → (Placed b env g → 0 < count b → Merged b d g [] ((x, 0) ∷ []) env env') → Placed b env g → Step b d g env env' (λ e. goes (set e x Undef))
+del-step {b} {d} {env} {env'} {g} x write r = step-written ((x, 0) ∷ []) r (del-stage x r) refl (write r (omega (arith, r.sane.three)))
+
+pub rules-step : {labels : List Label} {b c d f : Builder} {env env1 env2 : List ℕ} {g : ℕ} {checks' : Env → Outcome} {first : Env → Env} (xs : List ℕ) → (Sane b → Known b env → Computed b c env env1 (λ e. e) first) → (Ready labels c env1 g → Stage c d g env1 env1 (λ e. goes e) checks') → (Placed d env g → Held d (picked 0 xs env1) → Merged d f g [] (picked 0 xs env1) env env2) → Ready labels b env g → Step b f g env env2 (λ e. then_do (checks' (first e)) (λ h. goes (with_values xs (environment h) e)))
+rules-step {labels} {b} {c} {d} {f} {env} {env1} {env2} {g} xs defs checks write r =
+    let k = defs r.placed.sane r.placed.known in
+    let l1 = k.grows.base in
+    let s = checks (record { placed = record { sane = l1.sane; known = k.known; guard = omega (arith, r.placed.guard, l1.longer) }; labelled = faces-on l1 r.labelled }) in
+    let l = longer-then l1 s.base in
+    step-written (picked 0 xs env1) r.placed (rules-stage xs defs checks r) refl
+    (write (record { sane = l.sane; known = known-on l r.placed.known; guard = omega (arith, r.placed.guard, l.longer) }) (held-picked xs env1 l.sane s.known))
+
+-- what is left, as the program grows
+pub entries-on : {b c : Builder} (inputs : List Value) (ps : List (ℕ × ℕ)) → Longer b c → AllByRecursion (λ p. p.1 < count b) ps → entries c inputs ps ≡ entries b inputs ps
+entries-on inputs [] l a = refl
+entries-on inputs (p ∷ ps) l a = λ i. (p.0, l.keeps inputs p.1 a.0 i) ∷ entries-on inputs ps l a.1 i
+
+pub done-on : {b c : Builder} (whole : Whole) (inputs : List Value) (w : Work) (p : Point) → Longer b c → Kept b w → done whole c inputs w p ≡ done whole b inputs w p
+done-on whole inputs (Run depth block) p l k = refl
+done-on whole inputs (Under g) p l k = λ i. record { guard = l.keeps inputs g k.within i; far = p.far }
+done-on whole inputs (Restore before) p l k = λ i. record { guard = p.guard; far = then_do p.far (λ e. goes (written (entries-on inputs before.items l k.all i) e)) }
+done-on whole inputs (Return cells outer) p l k = λ i. record { guard = p.guard; far = then_do p.far (λ e. goes (with_values cells.now (environment e) (denoted-on inputs l k i))) }
+
+pub finish-on : {b c : Builder} (whole : Whole) (inputs : List Value) (ws : List Work) (p : Point) → Longer b c → AllByRecursion (Kept b) ws → finish whole c inputs ws p ≡ finish whole b inputs ws p
+finish-on whole inputs [] p l a = refl
+finish-on {b} {c} whole inputs (w ∷ ws) p l a = done-on whole inputs w (finish whole c inputs ws p) l a.0 ∙ ap (done whole b inputs w) (finish-on whole inputs ws p l a.1)
+
+pub finish-last : (whole : Whole) (b : Builder) (inputs : List Value) (ws : List Work) (w : Work) (p : Point) → finish whole b inputs (ws ++ w ∷ []) p ≡ finish whole b inputs ws (done whole b inputs w p)
+finish-last whole b inputs [] w p = refl
+finish-last whole b inputs (v ∷ ws) w p = ap (done whole b inputs v) (finish-last whole b inputs ws w p)
+
+pub guarding-on : {b c : Builder} {k : ℕ} → Longer b c → Guarding b k → Guarding c k
+guarding-on {b} {c} {k} l g = record { within = omega (arith, l.longer, g.within); bit = λ inputs. bit-of (l.keeps inputs k g.within) (g.bit inputs) }
+
+pub held-on : {b c : Builder} {ps : List (ℕ × ℕ)} → Longer b c → Held b ps → Held c ps
+held-on {b} {c} {ps} l h = record { all = all-more (λ p. p.1 < count b) (λ p. p.1 < count c) (λ p k. omega (arith, l.longer, k)) ps h.all }
+
+pub kept-on : {b c : Builder} (w : Work) → Longer b c → Kept b w → Kept c w
+kept-on (Run depth block) l k = tt
+kept-on (Under g) l k = guarding-on l k
+kept-on (Restore before) l k = held-on l k
+kept-on (Return cells outer) l k = known-on l k
+
+pub left-on : {b c : Builder} (ws : List Work) → Longer b c → AllByRecursion (Kept b) ws → AllByRecursion (Kept c) ws
+left-on {b} {c} ws l a = all-more (Kept b) (Kept c) (λ w k. kept-on w l k) ws a
+
+pub left-more : (b : Builder) (ws : List Work) (w : Work) → AllByRecursion (Kept b) ws → Kept b w → AllByRecursion (Kept b) (ws ++ w ∷ [])
+left-more b ws w a k = all-append (Kept b) ws (w ∷ []) a (k, tt)
+
+pub left-fewer : (b : Builder) (ws : List Work) (w : Work) → AllByRecursion (Kept b) (ws ++ w ∷ []) → AllByRecursion (Kept b) ws × Kept b w
+left-fewer b [] w a = (tt, a.0)
+left-fewer b (v ∷ ws) w a = let r = left-fewer b ws w a.1 in ((a.0, r.0), r.1)
+
+-- what stays where the program grows
+pub standing-on : {whole : Whole} {b c : Builder} {env env' : List ℕ} {g : ℕ} {ws : List Work} → Longer b c → Known c env' → Standing whole b env g ws → Standing whole c env' g ws
+standing-on {whole} {b} {c} {env} {env'} {g} {ws} l kn s = record {
+  ready = record {
+    placed = record { sane = l.sane; known = kn; guard = omega (arith, l.longer, s.ready.placed.guard) };
+    labelled = faces-on l s.ready.labelled;
+  };
+  bit = λ inputs. bit-of (l.keeps inputs g s.ready.placed.guard) (s.bit inputs);
+  left = left-on ws l s.left;
+}
+
+pub standing-more : {whole : Whole} {b : Builder} {env : List ℕ} {g : ℕ} {ws : List Work} (w : Work) → Kept b w → Standing whole b env g ws → Standing whole b env g (ws ++ w ∷ [])
+standing-more {whole} {b} {env} {g} {ws} w k s = record { ready = s.ready; bit = s.bit; left = left-more b ws w s.left k }
+
+pub standing-guard : {whole : Whole} {b : Builder} {env : List ℕ} {g k : ℕ} {ws : List Work} → Guarding b k → Standing whole b env g ws → Standing whole b env k ws
+standing-guard h s = record {
+  ready = record { placed = record { sane = s.ready.placed.sane; known = s.ready.placed.known; guard = h.within }; labelled = s.ready.labelled };
+  bit = h.bit;
+  left = s.left;
+}
+
+pub own-guard : {whole : Whole} {b : Builder} {env : List ℕ} {g : ℕ} {ws : List Work} → Standing whole b env g ws → Guarding b g
+own-guard s = record { within = s.ready.placed.guard; bit = s.bit }
+
+-- a command that leaves nothing
+pub step-moves : {whole : Whole} {b c : Builder} {env env' : List ℕ} {g : ℕ} {ws : List Work} (depth : ℕ) (a : Action) → Standing whole b env g ws → Step b c g env env' (does_one whole depth a) → Moves whole b c env' g ws ws (λ inputs. ahead whole b inputs env g depth a)
+step-moves {whole} {b} {c} {env} {env'} {g} {ws} depth a s t = record {
+  base = t.base;
+  standing = standing-on t.base t.known s;
+  same = λ inputs.
+      (λ i. finish whole c inputs ws (record { guard = t.base.keeps inputs g s.ready.placed.guard i; far = t.moved inputs (s.bit inputs) i }))
+      ∙ finish-on whole inputs ws (ahead whole b inputs env g depth a) t.base s.left;
+}
+
+-- the same of a command in other words
+pub step-moves-is : {whole : Whole} {b c : Builder} {env env' : List ℕ} {g : ℕ} {ws : List Work} {a a' : Action} (depth : ℕ) → a ≡ a' → Standing whole b env g ws → Step b c g env env' (does_one whole depth a) → Moves whole b c env' g ws ws (λ inputs. ahead whole b inputs env g depth a')
+step-moves-is {whole} {b} {c} {env} {env'} {g} {ws} {a} {a'} depth is s t = subst (λ x. Moves whole b c env' g ws ws (λ inputs. ahead whole b inputs env g depth x)) is (step-moves depth a s t)
+
+-- a choice
+pub guards-apart : {b d : Builder} {env : List ℕ} {g line : ℕ} {t : Environment → Value} {r : Branches} → Placed b env g → (inputs : List Value) (one two : Env → Outcome) → IsBit (at b inputs g) → Opened b d env g line t r → under (at d inputs r.second) (under (at d inputs r.first) (run d inputs env) one) two ≡ under (at b inputs g) (run b inputs env) (λ e. chosen_block line (t (environment e)) (one e) (two e))
+guards-apart {b} {d} {env} {g} {line} {t} {r} p inputs one two bit o =
+    let e = denoted b inputs env in
+    let v = t (environment e) in
+    let all : Env → Outcome = λ x. chosen_block line (t (environment x)) (one x) (two x) in
+    ⊎_elim
+    (λ (h : at b inputs g ≡ Num (pos 0)).
+    let off1 : at d inputs r.first ≡ Num (pos 0) = o.first inputs ∙ (λ i. chosen (o.truth inputs i) (h i) (Num (pos 0))) ∙ both-zero v in
+    let off2 : at d inputs r.second ≡ Num (pos 0) = o.second inputs ∙ (λ i. chosen (o.truth inputs i) (Num (pos 0)) (h i)) ∙ both-zero v in
+    (λ i. under (off2 i) (under (off1 i) (run d inputs env) one) two)
+    ∙ (λ i. outcome_of (o.stage.idle inputs h i) (denoted-on inputs o.stage.base p.known i))
+    ∙ sym (ap (λ x. under x (run b inputs env) all) h))
+    (λ (h : at b inputs g ≡ Num (pos 1000000)).
+    let opened : run d inputs env ≡ then_do (run b inputs env) (λ x. over_judged line (t (environment x)) x) = sym (goes-last (run d inputs env)) ∙ o.stage.taken inputs h in
+    ⊎_elim
+    (λ (f : truth_of v ≡ Num (pos 0)).
+    let off : at d inputs r.first ≡ Num (pos 0) = o.first inputs ∙ ap (λ x. chosen x (at b inputs g) (Num (pos 0))) (o.truth inputs ∙ f) in
+    let on : at d inputs r.second ≡ Num (pos 1000000) = o.second inputs ∙ (λ i. chosen ((o.truth inputs ∙ f) i) (Num (pos 0)) (h i)) in
+    (λ i. under (on i) (under (off i) (run d inputs env) one) two)
+    ∙ ap (λ x. then_do x two) opened
+    ∙ chosen-second (stop_of b inputs) e line t one two f
+    ∙ sym (ap (λ x. under x (run b inputs env) all) h))
+    (λ (f : truth_of v ≡ Num (pos 1000000)).
+    let on : at d inputs r.first ≡ Num (pos 1000000) = o.first inputs ∙ (λ i. chosen ((o.truth inputs ∙ f) i) (h i) (Num (pos 0))) in
+    let off : at d inputs r.second ≡ Num (pos 0) = o.second inputs ∙ ap (λ x. chosen x (Num (pos 0)) (at b inputs g)) (o.truth inputs ∙ f) in
+    (λ i. under (off i) (under (on i) (run d inputs env) one) two)
+    ∙ ap (λ x. then_do x one) opened
+    ∙ chosen-first (stop_of b inputs) e line t one two f
+    ∙ sym (ap (λ x. under x (run b inputs env) all) h))
+    (truth-cases v))
+    bit
+
+pub if-moves : {whole : Whole} {b d : Builder} {env : List ℕ} {g line : ℕ} {r : Branches} {ws : List Work} (t' : Formula) (depth : ℕ) (first second : Bor (List Action)) → (Placed b env g → Opened b d env g line (λ e. formula_value e t') r) → Standing whole b env g ws → Moves whole b d env r.first ws ((((ws ++ Under g ∷ []) ++ Run depth second ∷ []) ++ Under r.second ∷ []) ++ Run depth first ∷ []) (λ inputs. ahead whole b inputs env g depth (branch line t' (block_of first.now) (block_of second.now)))
+if-moves {whole} {b} {d} {env} {g} {line} {r} {ws} t' depth first second opens s =
+    let o = opens s.ready.placed in
+    let l = o.stage.base in
+    let one = does whole depth first.now in
+    let two = does whole depth second.now in
+    let ws1 = ws ++ Under g ∷ [] in
+    let ws2 = ws1 ++ Run depth second ∷ [] in
+    let ws3 = ws2 ++ Under r.second ∷ [] in
+    let moved = standing-on l o.stage.known s in
+    let truth : (inputs : List Value) → IsBit (at d inputs r.truth) = λ inputs. bit-of (o.truth inputs) (truth-cases (formula_value (environment (denoted b inputs env)) t')) in
+    let guard1 : Guarding d r.first = record { within = o.first_within; bit = λ inputs. bit-of (o.first inputs) (bit-chosen (at d inputs r.truth) (at b inputs g) (Num (pos 0)) (truth inputs) (s.bit inputs) (inl refl)) } in
+    let guard2 : Guarding d r.second = record { within = o.second_within; bit = λ inputs. bit-of (o.second inputs) (bit-chosen (at d inputs r.truth) (Num (pos 0)) (at b inputs g) (truth inputs) (inl refl) (s.bit inputs)) } in
+    record {
+      base = l;
+      standing = standing-more (Run depth first) tt (standing-more (Under r.second) guard2 (standing-more (Run depth second) tt (standing-more (Under g) (own-guard moved) (standing-guard guard1 moved))));
+      same = λ inputs.
+          finish-last whole d inputs ws3 (Run depth first) _
+          ∙ finish-last whole d inputs ws2 (Under r.second) _
+          ∙ finish-last whole d inputs ws1 (Run depth second) _
+          ∙ finish-last whole d inputs ws (Under g) _
+          ∙ (λ i. finish whole d inputs ws (record { guard = l.keeps inputs g s.ready.placed.guard i; far = guards-apart s.ready.placed inputs one two (s.bit inputs) o i }))
+          ∙ finish-on whole inputs ws _ l s.left;
+    }
+
+-- a partition
+known-blanked : {b : Builder} (xs env : List ℕ) → Sane b → Known b env → Known b (blanked 0 xs env)
+known-blanked {b} xs env s k = record { all = all-blanked (λ n. n < count b) 0 xs env (omega (arith, s.three)) k.all }
+
+entries-picked : {b : Builder} (inputs : List Value) (xs env : List ℕ) → Sane b → entries b inputs (picked 0 xs env) ≡ picked Undef xs (denoted b inputs env)
+entries-picked {b} inputs xs env s = picked-map (at b inputs) 0 xs env ∙ ap (λ v. picked v xs (denoted b inputs env)) (s.undef inputs)
+
+around-part : (b : Builder) (env : List ℕ) (g : ℕ) (inputs : List Value) (xs : List ℕ) (next : Env → Outcome) → Sane b → IsBit (at b inputs g) → then_do (under (at b inputs g) (run b inputs (blanked 0 xs env)) next) (λ e. goes (written (entries b inputs (picked 0 xs env)) e)) ≡ under (at b inputs g) (run b inputs env) (λ e. then_do (next (without xs e)) (λ f. goes (with_values xs (environment e) f)))
+around-part b env g inputs xs next s bit =
+    let e = denoted b inputs env in
+    let v = at b inputs g in
+    let ps = picked 0 xs env in
+    let before = blanked 0 xs env in
+    let after : Env → Outcome = λ f. goes (written (entries b inputs ps) f) in
+    let all : Env → Outcome = λ x. then_do (next (without xs x)) (λ f. goes (with_values xs (environment x) f)) in
+    let written-same : (f : Env) → written (entries b inputs ps) f ≡ with_values xs (environment e) f = λ f. ap (λ qs. written qs f) (entries-picked inputs xs env s) ∙ sym (with-received xs e f) in
+    let blank-same : denoted b inputs before ≡ without xs e = blanked-map (at b inputs) 0 xs env ∙ ap (λ x. blanked x xs e) (s.undef inputs) ∙ sym (without-blanked xs e) in
+    ⊎_elim
+    (λ (h : v ≡ Num (pos 0)).
+    ap (λ x. then_do (under x (run b inputs before) next) after) h
+    ∙ sym (set-goes (stop_of b inputs) (denoted b inputs before) (written (entries b inputs ps)))
+    ∙ ap (outcome_of (stop_of b inputs)) (sym (written-map (at b inputs) ps before) ∙ ap (denoted b inputs) (restored xs env before (same-blanked xs env)))
+    ∙ sym (ap (λ x. under x (run b inputs env) all) h))
+    (λ (h : v ≡ Num (pos 1000000)).
+    ap (λ x. then_do (under x (run b inputs before) next) after) h
+    ∙ (λ i. then_do (then_do (outcome_of (stop_of b inputs) (blank-same i)) next) (λ f. goes (written-same f i)))
+    ∙ wrap (stop_of b inputs) e (without xs) next (λ x f. with_values xs (environment x) f)
+    ∙ sym (ap (λ x. under x (run b inputs env) all) h))
+    bit
+
+pub part-moves : {whole : Whole} {b : Builder} {env : List ℕ} {g : ℕ} {ws : List Work} (depth line : ℕ) (before : Vec (ℕ × ℕ) Global) (xs : List ℕ) (block : Bor (List Action)) → before.items ≡ picked 0 xs env → Standing whole b env g ws → Moves whole b b (blanked 0 xs env) g ws ((ws ++ Restore before ∷ []) ++ Run depth block ∷ []) (λ inputs. ahead whole b inputs env g depth (partition line xs (block_of block.now)))
+part-moves {whole} {b} {env} {g} {ws} depth line before xs block is s =
+    let sane = s.ready.placed.sane in
+    let l = longer-none sane in
+    let ws1 = ws ++ Restore before ∷ [] in
+    let next = does whole depth block.now in
+    record {
+      base = l;
+      standing = standing-more (Run depth block) tt (standing-more (Restore before) (subst (Held b) (sym is) (held-picked xs env sane s.ready.placed.known)) (standing-on l (known-blanked xs env sane s.ready.placed.known) s));
+      same = λ inputs.
+          finish-last whole b inputs ws1 (Run depth block) _
+          ∙ finish-last whole b inputs ws (Restore before) _
+          ∙ (λ i. finish whole b inputs ws (record { guard = at b inputs g; far = then_do (under (at b inputs g) (run b inputs (blanked 0 xs env)) next) (λ e. goes (written (entries b inputs (is i)) e)) }))
+          ∙ (λ i. finish whole b inputs ws (record { guard = at b inputs g; far = around-part b env g inputs xs next sane (s.bit inputs) i }));
+    }
+
+-- a call
+around-call : (b : Builder) (env : List ℕ) (g : ℕ) (inputs : List Value) (xs : List ℕ) (next : Env → Outcome) → Sane b → IsBit (at b inputs g) → then_do (under (at b inputs g) (run b inputs env) next) (λ e. goes (with_values xs (environment e) (denoted b inputs env))) ≡ under (at b inputs g) (run b inputs env) (λ e. then_do (next e) (λ f. goes (with_values xs (environment f) e)))
+around-call b env g inputs xs next s bit =
+    let e = denoted b inputs env in
+    let v = at b inputs g in
+    let after : Env → Outcome = λ f. goes (with_values xs (environment f) e) in
+    let all : Env → Outcome = λ x. then_do (next x) (λ f. goes (with_values xs (environment f) x)) in
+    ⊎_elim
+    (λ (h : v ≡ Num (pos 0)).
+    ap (λ x. then_do (under x (run b inputs env) next) after) h
+    ∙ sym (set-goes (stop_of b inputs) e (λ f. with_values xs (environment f) e))
+    ∙ ap (outcome_of (stop_of b inputs)) (sym (denoted-received inputs xs env env s) ∙ ap (denoted b inputs) (restored xs env env (same-none xs env)))
+    ∙ sym (ap (λ x. under x (run b inputs env) all) h))
+    (λ (h : v ≡ Num (pos 1000000)).
+    ap (λ x. then_do (under x (run b inputs env) next) after) h
+    ∙ wrap (stop_of b inputs) e (λ x. x) next (λ x f. with_values xs (environment f) x)
+    ∙ sym (ap (λ x. under x (run b inputs env) all) h))
+    bit
+
+pub call-moves : {whole : Whole} {b : Builder} {env : List ℕ} {g : ℕ} {ws : List Work} (depth line deep f : ℕ) (cells : Bor (List ℕ)) (outer : Vec ℕ Global) (block : Bor (List Action)) → outer.items ≡ env → does whole deep block.now ≡ calls whole.core whole.ordered.base whole.ordered.sequence depth f → Standing whole b env g ws → Moves whole b b env g ws ((ws ++ Return cells outer ∷ []) ++ Run deep block ∷ []) (λ inputs. ahead whole b inputs env g depth (call line cells.now f))
+call-moves {whole} {b} {env} {g} {ws} depth line deep f cells outer block is body s =
+    let sane = s.ready.placed.sane in
+    let ws1 = ws ++ Return cells outer ∷ [] in
+    record {
+      base = longer-none sane;
+      standing = standing-more (Run deep block) tt (standing-more (Return cells outer) (subst (Known b) (sym is) s.ready.placed.known) s);
+      same = λ inputs.
+          finish-last whole b inputs ws1 (Run deep block) _
+          ∙ finish-last whole b inputs ws (Return cells outer) _
+          ∙ (λ i. finish whole b inputs ws (record { guard = at b inputs g; far = then_do (under (at b inputs g) (run b inputs env) (body i)) (λ e. goes (with_values cells.now (environment e) (denoted b inputs (is i)))) }))
+          ∙ (λ i. finish whole b inputs ws (record { guard = at b inputs g; far = around-call b env g inputs cells.now (calls whole.core whole.ordered.base whole.ordered.sequence depth f) sane (s.bit inputs) i }));
+    }
+
+-- the last item
+pub none-moves : {whole : Whole} {b : Builder} {env : List ℕ} {g : ℕ} {ws : List Work} (depth : ℕ) (block : List Action) → block ≡ [] → Standing whole b env g ws → Moves whole b b env g ws ws (λ inputs. block_ahead whole b inputs env g depth block)
+none-moves {whole} {b} {env} {g} {ws} depth block is s = record {
+  base = longer-none s.ready.placed.sane;
+  standing = s;
+  same = λ inputs. sym
+      ((λ i. finish whole b inputs ws (block_ahead whole b inputs env g depth (is i)))
+      ∙ (λ i. finish whole b inputs ws (record { guard = at b inputs g; far = under-none (at b inputs g) (run b inputs env) i })));
+}
+
+pub first-moves : {whole : Whole} {b c : Builder} {env env' : List ℕ} {g g' : ℕ} {ws ws' : List Work} (depth : ℕ) (a : Action) (block : List Action) (rest : Bor (List Action)) → block ≡ a ∷ rest.now → Standing whole b env g ws → (Standing whole b env g (ws ++ Run depth rest ∷ []) → Moves whole b c env' g' (ws ++ Run depth rest ∷ []) ws' (λ inputs. ahead whole b inputs env g depth a)) → Moves whole b c env' g' ws ws' (λ inputs. block_ahead whole b inputs env g depth block)
+first-moves {whole} {b} {c} {env} {env'} {g} {g'} {ws} {ws'} depth a block rest is s step =
+    let m = step (standing-more (Run depth rest) tt s) in
+    record {
+      base = m.base;
+      standing = m.standing;
+      same = λ inputs.
+          m.same inputs
+          ∙ finish-last whole b inputs ws (Run depth rest) _
+          ∙ (λ i. finish whole b inputs ws (record { guard = at b inputs g; far = under-under (at b inputs g) (run b inputs env) (does_one whole depth a) (does whole depth rest.now) i }))
+          ∙ (λ i. finish whole b inputs ws (block_ahead whole b inputs env g depth (sym is i)));
+    }
+
+pub restore-moves : {whole : Whole} {b : Builder} {env : List ℕ} {g : ℕ} {ws : List Work} (before : Vec (ℕ × ℕ) Global) → Held b before.items → Standing whole b env g ws → Moves whole b b (written before.items env) g ws ws (λ inputs. done whole b inputs (Restore before) (point b inputs env g))
+restore-moves {whole} {b} {env} {g} {ws} before h s =
+    let l = longer-none s.ready.placed.sane in
+    record {
+      base = l;
+      standing = standing-on l (record { all = all-written (λ n. n < count b) before.items env h.all s.ready.placed.known.all }) s;
+      same = λ inputs.
+          (λ i. finish whole b inputs ws (record { guard = at b inputs g; far = (ap (outcome_of (stop_of b inputs)) (written-map (at b inputs) before.items env) ∙ set-goes (stop_of b inputs) (denoted b inputs env) (written (entries b inputs before.items))) i }));
+    }
+
+pub return-moves : {whole : Whole} {b : Builder} {env : List ℕ} {g : ℕ} {ws : List Work} (cells : Bor (List ℕ)) (outer : Vec ℕ Global) → Known b outer.items → Standing whole b env g ws → Moves whole b b (received 0 cells.now env outer.items) g ws ws (λ inputs. done whole b inputs (Return cells outer) (point b inputs env g))
+return-moves {whole} {b} {env} {g} {ws} cells outer k s =
+    let sane = s.ready.placed.sane in
+    let l = longer-none sane in
+    record {
+      base = l;
+      standing = standing-on l (known-received cells.now env outer.items sane s.ready.placed.known k) s;
+      same = λ inputs.
+          (λ i. finish whole b inputs ws (record { guard = at b inputs g; far = (ap (outcome_of (stop_of b inputs)) (denoted-received inputs cells.now env outer.items sane) ∙ set-goes (stop_of b inputs) (denoted b inputs env) (λ e. with_values cells.now (environment e) (denoted b inputs outer.items))) i }));
+    }
+
+-- the loop
+abbrev pub main-point : Builder → List ℕ → (Env → Outcome) → List Value → Point
+main-point b env next inputs = record { guard = at b inputs 2; far = under (at b inputs 2) (run b inputs env) next }
+
+pub main-first : {whole : Whole} {b : Builder} {env : List ℕ} (depth : ℕ) (block : Bor (List Action)) (next : Env → Outcome) → does whole depth block.now ≡ next → Ready whole.ordered.base.labels b env 2 → Moves whole b b env 2 [] (Run depth block ∷ []) (main-point b env next)
+main-first {whole} {b} {env} depth block next is r = record {
+  base = longer-none r.placed.sane;
+  standing = record { ready = r; bit = λ inputs. inr (r.placed.sane.one inputs); left = (tt, tt) };
+  same = λ inputs. λ i. record { guard = at b inputs 2; far = under (at b inputs 2) (run b inputs env) (is i) };
+}
+
+pub main-last : {whole : Whole} {b c : Builder} {env env' : List ℕ} {g : ℕ} {ws : List Work} {next : Env → Outcome} → ws ≡ [] → Moves whole b c env' g [] ws (main-point b env next) → Step b c 2 env env' next
+main-last {whole} {b} {c} {env} {env'} {g} {ws} {next} is m = record {
+  base = m.base;
+  known = m.standing.ready.placed.known;
+  moved = λ inputs bit. ap (λ (p : Point). p.far) (sym (ap (λ l. finish whole c inputs l (point c inputs env' g)) is) ∙ m.same inputs);
+}
+
+pub moves-then : {whole : Whole} {a b c : Builder} {env env' : List ℕ} {g g' : ℕ} {ws' : List Work} {target : List Value → Point} (ws : List Work) (w : Work) → Moves whole a b env g [] (ws ++ w ∷ []) target → (Standing whole b env g ws → Kept b w → Moves whole b c env' g' ws ws' (λ inputs. done whole b inputs w (point b inputs env g))) → Moves whole a c env' g' [] ws' target
+moves-then {whole} {a} {b} ws w m step =
+    let all = left-fewer b ws w m.standing.left in
+    let n = step (record { ready = m.standing.ready; bit = m.standing.bit; left = all.0 }) all.1 in
+    record {
+      base = longer-then m.base n.base;
+      standing = n.standing;
+      same = λ inputs. n.same inputs ∙ sym (finish-last whole b inputs ws w _) ∙ m.same inputs;
+    }

@@ -1,0 +1,25 @@
+use Rattle.std.proofs.Common.{◌≡◌, ℕ, suc, ◌+◌, ◌-◌, ◌<◌, ◌≤◌, [], length, get_or, Some, None, sym, ap, ◌∙◌, arith}
+use Rattle.std.specs.Prelude.{slice_get}
+use Rattle.driver_core.specs.ActionView.{block_of}
+use Rattle.driver_core.specs.Valid.{block_or_none}
+use Rattle.mpp_inline.specs.inner.Growth.{means}
+use Rattle.mpp_inline.proofs.CallLemmas.{called-body, found-at, none-at}
+use Rattle.mpp_inline.proofs.blocks.body_at.Goals as goal
+
+pub returns-in-Some : goal.returns-in-Some
+returns-in-Some c =
+    let core = c.args.core.now in
+    let l = c.in-Some.ensures.lookup in
+    λ ordered.
+    let found : slice_get core.bodies c.args.function ≡ Some c.in-Some.found.now = found-at core.bodies _ c.args.function c.in-Some.found.now c.as_slice.ensures l.3.0 l.1 in
+    ap (λ x. means core ordered.base ordered.sequence (c.args.depth - 1) (block_of x)) c.as_slice-in-Some.ensures
+    ∙ ap (λ o. means core ordered.base ordered.sequence (c.args.depth - 1) (block_or_none o)) (sym found)
+    ∙ called-body core ordered.base ordered.sequence c.args.depth c.args.function c.if-depth-eq0.false
+
+pub returns-in-None : goal.returns-in-None
+returns-in-None c =
+    let core = c.args.core.now in
+    λ ordered.
+    let none : slice_get core.bodies c.args.function ≡ None = none-at core.bodies _ c.args.function c.as_slice.ensures c.in-None.ensures.lookup.3 in
+    ap (λ o. means core ordered.base ordered.sequence (c.args.depth - 1) (block_or_none o)) (sym none)
+    ∙ called-body core ordered.base ordered.sequence c.args.depth c.args.function c.if-depth-eq0.false

@@ -1,0 +1,36 @@
+use Rattle.std.proofs.Common.{◌≡◌, ◌+◌, ◌-◌, [], ◌∷◌, ◌++◌, length, sym, ap, ◌∙◌, subst, arith}
+use Rattle.driver_core.specs.Meaning.{called}
+use Rattle.mpp_inline.specs.declared.work.Work.TheVariants.{Run}
+use Rattle.mpp_inline.specs.inner.Growth.{calls, rules_in_turn}
+use Rattle.mpp_inline.specs.inner.Work.{Moves, does, whole_of}
+use Rattle.mpp_inline.proofs.WorkLemmas.{main-point, main-first, moves-then}
+use Rattle.mpp_inline.proofs.blocks.emit_all.Goals as goal
+
+pub loop-work-init : goal.loop-work-init
+loop-work-init c =
+    let core = c.args.core.now in
+    let ordered = c.args.ordered.now in
+    let whole = whole_of core ordered in
+    let b = c.args.b.now in
+    let e = c.args.env.now.items in
+    let main = c.body_at-main.result in
+    let depth = length c.as_slice-2.result.now in
+    let next = called (rules_in_turn ordered.base ordered.sequence) core.bodies (length core.bodies + 1) core.main in
+    let long : depth ≡ (length c.as_slice.result.now + 1) - 1 = omega (arith, ap length c.as_slice.ensures, ap length c.as_slice-2.ensures) in
+    let is : does whole depth main.now ≡ next =
+    ap (λ n. does whole n main.now) long ∙ c.body_at-main.ensures ordered
+    ∙ ap (λ l. calls core ordered.base ordered.sequence (length l + 1) core.main) c.as_slice.ensures in
+    let items : c.push.new.self.items ≡ Run depth main ∷ [] = c.in_ok-push.ensures.items ∙ ap (λ l. l ++ Run depth main ∷ []) c.new-left.ensures.items in
+    λ r. subst (λ l. Moves whole b b e 2 [] l (main-point b e next)) (sym items) (main-first depth main next is r)
+
+pub loop-work-preserved : goal.loop-work-preserved
+loop-work-preserved c =
+    let core = c.args.core.now in
+    let ordered = c.args.ordered.now in
+    let whole = whole_of core ordered in
+    let b = c.args.b.now in
+    let e = c.args.env.now.items in
+    let next = called (rules_in_turn ordered.base ordered.sequence) core.bodies (length core.bodies + 1) core.main in
+    λ r. moves-then c.pop.new.self.items c.in-Some.work
+    (subst (λ l. Moves whole b c.loop-work.b c.loop-work.env.items c.loop-work.guard [] l (main-point b e next)) c.in-Some.ensures.items (c.loop-work.invariant r))
+    c.in_ok-guard.ensures

@@ -1,0 +1,98 @@
+use Rattle.std.proofs.Common.{◌≡◌, ◌+◌, ◌<◌, ◌∷◌, drop, get_or, sym, ap, ◌∙◌, subst, arith}
+use Rattle.std.proofs.lemmas.Result.{IfOk-weaker}
+use Rattle.std.proofs.lemmas.List.{drop_all, drop_more}
+use Rattle.m_fixed.specs.declared.amount.Value.TheVariants.{Undef}
+use Rattle.m_fixed.specs.Operators.{op_value}
+use Rattle.micro_m.specs.Values.{environment}
+use Rattle.micro_m.specs.Trees.{chain, nodes}
+use Rattle.micro_m.specs.Views.{tree_of, trees_of, steps_of}
+use Rattle.micro_m.specs.Values.{term_value, argument_values, folded, picked, picked_value}
+use Rattle.micro_m.specs.inner.Falls.{sizes_fall, terms_fall}
+use Rattle.micro_m.proofs.TermLemmas.{argument_values-at, argument_values-past}
+use Rattle.flat_code.specs.declared.program.Node.TheVariants.{Lit, Do}
+use Rattle.mpp_inline.specs.inner.Growth.{count, at, denoted, Sane, Known, Pushed, Along, Gives, TermStep}
+use Rattle.mpp_inline.proofs.ListLemmas.{drop_next}
+use Rattle.mpp_inline.proofs.GrowthLemmas.{gives-lit, gives-same}
+use Rattle.mpp_inline.proofs.TermLemmas.{applied-step, undef-step, fold-first, fold-next, chain-step}
+use Rattle.mpp_inline.proofs.terms.+terms.Goals as goal
+
+pub emit_applied-returns : goal.emit_applied-returns
+emit_applied-returns t c =
+    IfOk-weaker _ (λ k. Pushed c.emit_argument-3.new.b c.push.new.self _ k) _
+    (λ k p s kn. applied-step c.args.op (λ e. argument_values e (trees_of c.args.arguments.now)) c.in_ok-first.ensures c.in_ok-second.ensures c.in_ok-third.ensures p s kn)
+    c.push.ensures
+
+pub emit_argument-returns-in-Some : goal.emit_argument-returns-in-Some
+emit_argument-returns-in-Some t c =
+    let found = c.in-Some.ensures.lookup in
+    let b = c.args.b.now in
+    let e = c.args.env.now in
+    IfOk-weaker _ (λ k. Sane b → Known b e → TermStep b c.emit_term.new.b e (λ x. term_value x c.in-Some.argument.now) k) _
+    (λ k f s kn. gives-same (λ inputs. argument_values-at (environment (denoted b inputs e)) c.args.arguments.now c.args.place c.in-Some.argument.now found.3.0 found.1) (f s kn))
+    c.emit_term.ensures
+
+pub emit_argument-returns-in-None : goal.emit_argument-returns-in-None
+emit_argument-returns-in-None t c =
+    λ s kn. undef-step _ (λ inputs. argument_values-past (environment (denoted c.args.b.now inputs c.args.env.now)) c.args.arguments.now c.args.place c.in-None.ensures.lookup.3) s
+
+pub emit_term-emit_applied-requires : goal.emit_term-emit_applied-requires
+emit_term-emit_applied-requires t c =
+    rw c.deref-in-Apply.ensures.value (omega (arith, terms_fall c.in-Apply.arguments.items, ap nodes c.term.view_is, ap (λ n. nodes (tree_of n)) c.in-Apply.is), tt)
+
+pub emit_term-emit_steps-requires : goal.emit_term-emit_steps-requires
+emit_term-emit_steps-requires t c =
+    rw c.deref-in-Chain-2.ensures.value (omega (arith, sizes_fall c.in-Chain.steps.items, ap nodes c.term.view_is, ap (λ n. nodes (tree_of n)) c.in-Chain.is), tt)
+
+pub emit_term-returns-in-Lit : goal.emit_term-returns-in-Lit
+emit_term-returns-in-Lit t c =
+    let b = c.args.b.now in
+    let e = c.args.env.now in
+    IfOk-weaker _ (λ k. Pushed b c.push.new.self (Lit c.in-Lit.value) k) _
+    (λ k p s kn. subst (λ f. TermStep b c.push.new.self e (λ x. term_value x f) k) (sym (ap tree_of c.in-Lit.is) ∙ c.term.view_is) (gives-lit c.in-Lit.value p s))
+    c.push.ensures
+
+pub emit_term-returns-in_ok-so_far-in-Chain : goal.emit_term-returns-in_ok-so_far-in-Chain
+emit_term-returns-in_ok-so_far-in-Chain t c =
+    let b = c.args.b.now in
+    let d = c.emit_term.new.b in
+    let e = c.args.env.now in
+    let x = c.in_ok-so_far-in-Chain.so_far in
+    let steps = c.deref-in-Chain-2.result.now in
+    let is = (λ i. chain (c.deref-in-Chain.ensures i) (steps_of (c.deref-in-Chain-2.ensures.value i))) ∙ sym (ap tree_of c.in-Chain.is) ∙ c.term.view_is in
+    IfOk-weaker c.emit_steps.result (λ k. Sane d → Known d e → x < count d → Gives d c.emit_steps.new.b (λ inputs. folded (environment (denoted d inputs e)) (at d inputs x) (steps_of steps)) k) _
+    (λ k f s kn. subst (λ g. TermStep b c.emit_steps.new.b e (λ y. term_value y g) k) is
+    (chain-step (λ y. term_value y c.deref-in-Chain.result.now) (λ y v. folded y v (steps_of steps)) c.in_ok-so_far-in-Chain.ensures f s kn))
+    c.emit_steps.ensures
+
+pub emit_steps-loop-step-init : goal.emit_steps-loop-step-init
+emit_steps-loop-step-init t c = λ s kn h. fold-first (λ inputs v. folded (environment (denoted c.args.b.now inputs c.args.env.now)) v (steps_of c.args.steps.now)) c.args.so_far s h
+
+pub emit_steps-loop-step-preserved : goal.emit_steps-loop-step-preserved
+emit_steps-loop-step-preserved t c =
+    let b = c.args.b.now in
+    let e = c.args.env.now in
+    let all = c.args.steps.now in
+    let i = c.loop-step.step-index in
+    let d = c.step-item.result in
+    let next : drop i all ≡ d ∷ drop (i + 1) all = drop_next all i d c.loop-step-test.true c.step-item.is in
+    λ s kn h. fold-next (λ y. term_value y d.term) (λ inputs v. folded (environment (denoted b inputs e)) v (steps_of (drop (i + 1) all)))
+    (subst (λ l. Along b c.loop-step.b (λ inputs v. folded (environment (denoted b inputs e)) v (steps_of l)) (λ inputs. folded (environment (denoted b inputs e)) (at b inputs c.args.so_far) (steps_of all)) c.loop-step.number) next (c.loop-step.invariant s kn h))
+    c.in_ok-operand.ensures c.in_ok-number.ensures kn
+
+pub emit_steps-returns : goal.emit_steps-returns
+emit_steps-returns t c =
+    let b = c.args.b.now in
+    let e = c.args.env.now in
+    let all = c.args.steps.now in
+    λ s kn h. subst (λ l. Along b c.loop-step.b (λ inputs v. folded (environment (denoted b inputs e)) v (steps_of l)) (λ inputs. folded (environment (denoted b inputs e)) (at b inputs c.args.so_far) (steps_of all)) c.loop-step.number) (drop_all c.loop-step.step-index all c.loop-step-test.false) (c.loop-step.invariant s kn h)
+
+pub emit_read-returns-in_ok-place-in-None : goal.emit_read-returns-in_ok-place-in-None
+emit_read-returns-in_ok-place-in-None t c =
+    let d = c.emit_term.new.b in
+    let e = c.args.env.now in
+    let x = c.in_ok-place-in-None.place in
+    let first = c.args.first in
+    let size = c.args.size in
+    IfOk-weaker c.emit_table.result (λ k. Sane d → Known d e → x < count d → Gives d c.emit_table.new.b (λ inputs. picked_value (environment (denoted d inputs e)) (picked first size (at d inputs x))) k) _
+    (λ k f s kn. chain-step (λ y. term_value y c.args.index.now) (λ y v. picked_value y (picked first size v)) c.in_ok-place-in-None.ensures f s kn)
+    c.emit_table.ensures

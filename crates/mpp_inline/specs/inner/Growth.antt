@@ -1,0 +1,271 @@
+-- What a flat program so far is worth, and what a step adds to it.
+use Rattle.std.specs.Prelude.{◌≡◌, ℕ, zero, suc, ◌+◌, ◌*◌, ◌<◌, ◌≤◌, Bool, true, false, ◌||◌, pos, negsuc, List, [], ◌∷◌, ◌++◌, Option, Some, None, map, length, slice_index_or, slice_set, slice_get, if◌then◌else◌, option_map, option_and_then}
+use Rattle.std.specs.List.{AllByRecursion}
+use Rattle.m_fixed.specs.declared.amount.Value.{Value}
+use Rattle.m_fixed.specs.declared.amount.Value.TheVariants.{Undef, Num, Over as OverValue}
+use Rattle.m_fixed.specs.declared.operator.Op.TheVariants.{At, Le}
+use Rattle.m_fixed.specs.Operators.{op_value, is_zero, truth_of, chosen}
+use Rattle.m_places.specs.declared.verification.Label.{Label}
+use Rattle.m_ast.specs.declared.variable.Role.{Role}
+use Rattle.m_ast.specs.declared.variable.Role.TheVariants.{Input as InputRole, Computed as ComputedRole, Constant}
+use Rattle.micro_m.specs.declared.base.Base.{Base}
+use Rattle.micro_m.specs.Bases.{is_among, target_at, term_at}
+use Rattle.micro_m.specs.Failures.{Check, failure_of}
+use Rattle.micro_m.specs.Values.{Environment, environment, term_value}
+use Rattle.flat_code.specs.declared.answer.Stop.{Stop}
+use Rattle.flat_code.specs.declared.program.Node.{Node}
+use Rattle.flat_code.specs.declared.program.Node.TheVariants.{Input, Lit}
+use Rattle.flat_code.specs.declared.program.Check.{Check as Guarded}
+use Rattle.flat_code.specs.declared.face.FaceLabel.{FaceLabel}
+use Rattle.flat_code.specs.declared.face.FaceLabel.TheVariants.{Verif, DriverLine}
+use Rattle.flat_code.specs.Answers.{Cause, over_driver, label_number, cause_of}
+use Rattle.flat_code.specs.Runs.{IsCheck, AreNodes, node_values, first_stop}
+use Rattle.driver_core.specs.declared.program.Core.{Core}
+use Rattle.driver_core.specs.Actions.{Action, Block}
+use Rattle.driver_core.specs.Meaning.{Env, Outcome, goes, stops, then_do, with_values, unless_stopped, failure_cause, action_run, block_run, called}
+use Rattle.mpp_inline.specs.inner.Cells.{written}
+use Rattle.mpp_inline.specs.declared.builder.Builder.{Builder}
+use Rattle.mpp_inline.specs.declared.branches.Branches.{Branches}
+
+abbrev pub count : Builder → ℕ
+count b = length b.nodes.items
+
+-- the value of a node
+abbrev pub at : Builder → List Value → ℕ → Value
+at b inputs k = slice_index_or (node_values inputs b.nodes.items) k Undef
+
+-- a stop, read through labels
+abbrev pub read_stop : List FaceLabel → Stop → Cause
+read_stop labels stop = cause_of stop (slice_index_or labels (label_number stop) (DriverLine 0))
+
+abbrev pub stop_read : List FaceLabel → Option Stop → Option Cause
+stop_read labels None = None
+stop_read labels (Some stop) = Some (read_stop labels stop)
+
+-- the first stop so far
+abbrev pub stop_of : Builder → List Value → Option Cause
+stop_of b inputs = stop_read b.labels.items (first_stop (node_values inputs b.nodes.items) b.checks.items)
+
+-- the values of the cells
+abbrev pub denoted : Builder → List Value → List ℕ → Env
+denoted b inputs env = map (at b inputs) env
+
+abbrev pub outcome_of : Option Cause → Env → Outcome
+outcome_of cause env = unless_stopped cause (goes env)
+
+-- the run so far: its first stop, and else the values of the cells
+abbrev pub run : Builder → List Value → List ℕ → Outcome
+run b inputs env = outcome_of (stop_of b inputs) (denoted b inputs env)
+
+-- a check's nodes and its label are there
+pub record IsCheckWithin (nodes labels : ℕ) (c : Guarded) : Type 0 where
+  pub guard : c.guard < nodes
+  pub condition : c.condition < nodes
+  pub label : c.label < labels
+
+-- What nodes and checks name is there, and the first three nodes are undefined, 0 and 1.
+pub record Sane (b : Builder) : Type 0 where
+  pub nodes : AreNodes b.inputs 0 b.nodes.items
+  pub checks : AllByRecursion (λ c. IsCheckWithin (count b) (length b.labels.items) c) b.checks.items
+  pub three : 3 ≤ count b
+  pub undef : (inputs : List Value) → at b inputs 0 ≡ Undef
+  pub zero : (inputs : List Value) → at b inputs 1 ≡ Num (pos 0)
+  pub one : (inputs : List Value) → at b inputs 2 ≡ Num (pos 1000000)
+
+-- each node of the environment is there
+pub record Known (b : Builder) (env : List ℕ) : Type 0 where
+  pub all : AllByRecursion (λ k. k < count b) env
+
+-- what a place needs that is reached where a guard is 1
+pub record Placed (b : Builder) (env : List ℕ) (g : ℕ) : Type 0 where
+  pub sane : Sane b
+  pub known : Known b env
+  pub guard : g < count b
+
+-- one node more
+pub record Pushed (b c : Builder) (node : Node) (k : ℕ) : Type 0 where
+  pub inputs : c.inputs ≡ b.inputs
+  pub number : k ≡ count b
+  pub nodes : c.nodes.items ≡ b.nodes.items ++ node ∷ []
+  pub checks : c.checks.items ≡ b.checks.items
+  pub labels : c.labels.items ≡ b.labels.items
+
+-- one check more, with this label
+pub record Checked (b c : Builder) (guard condition : ℕ) (over_only : Bool) (label : ℕ) : Type 0 where
+  pub inputs : c.inputs ≡ b.inputs
+  pub nodes : c.nodes.items ≡ b.nodes.items
+  pub checks : c.checks.items ≡ b.checks.items ++ record { guard = guard; condition = condition; over_only = over_only; label = label } ∷ []
+
+-- a check of the rules, whose label is there
+pub record CheckedRule (b c : Builder) (guard condition label : ℕ) : Type 0 where
+  pub base : Checked b c guard condition false label
+  pub labels : c.labels.items ≡ b.labels.items
+
+-- a check of the driver's line, with a label of its own
+pub record CheckedLine (b c : Builder) (guard condition line : ℕ) : Type 0 where
+  pub base : Checked b c guard condition true (length b.labels.items)
+  pub labels : c.labels.items ≡ b.labels.items ++ DriverLine line ∷ []
+
+-- what a label stands for
+abbrev pub face : Builder → ℕ → FaceLabel
+face b l = slice_index_or b.labels.items l (DriverLine 0)
+
+abbrev pub faces : Builder → ℕ
+faces b = length b.labels.items
+
+-- the first labels are those of the rules, in order
+pub record HasFaces (labels : List Label) (b : Builder) : Type 0 where
+  pub within : length labels ≤ faces b
+  pub same : (i : ℕ) (d : Label) → i < length labels → face b i ≡ Verif (slice_index_or labels i d)
+
+pub record Ready (labels : List Label) (b : Builder) (env : List ℕ) (g : ℕ) : Type 0 where
+  pub placed : Placed b env g
+  pub labelled : HasFaces labels b
+
+-- more nodes, and the older ones keep their values
+pub record Longer (b c : Builder) : Type 0 where
+  pub sane : Sane c
+  pub inputs : c.inputs ≡ b.inputs
+  pub longer : count b ≤ count c
+  pub keeps : (inputs : List Value) (k : ℕ) → k < count b → at c inputs k ≡ at b inputs k
+  pub more_faces : faces b ≤ faces c
+  pub keeps_face : (l : ℕ) → l < faces b → face c l ≡ face b l
+
+-- more nodes, and no check
+pub record Grows (b c : Builder) : Type 0 where
+  pub base : Longer b c
+  pub stop : (inputs : List Value) → stop_of c inputs ≡ stop_of b inputs
+
+-- a node whose value, once the rest is computed, is that of the whole
+pub record Along (b c : Builder) (rest : List Value → Value → Value) (whole : List Value → Value) (k : ℕ) : Type 0 where
+  pub grows : Grows b c
+  pub within : k < count c
+  pub value : (inputs : List Value) → rest inputs (at c inputs k) ≡ whole inputs
+
+-- a node with this value
+abbrev pub Gives : Builder → Builder → (List Value → Value) → ℕ → Type 0
+Gives b c value k = Along b c (λ inputs v. v) value k
+
+-- a node with the value of a term, where the cells are these nodes
+abbrev pub TermStep : Builder → Builder → List ℕ → (Environment → Value) → ℕ → Type 0
+TermStep b c env term k = Gives b c (λ inputs. term (environment (denoted b inputs env))) k
+
+-- what an environment is worth, once the rest is computed, is what the whole computes
+pub record Computed (b c : Builder) (env env' : List ℕ) (rest whole : Env → Env) : Type 0 where
+  pub grows : Grows b c
+  pub known : Known c env'
+  pub value : (inputs : List Value) → rest (denoted c inputs env') ≡ whole (denoted b inputs env)
+
+-- The run so far, and then the rest, is the run before and then the whole, where this place is
+-- reached. Where it isn't, no stop is added.
+pub record Stage (b c : Builder) (guard : ℕ) (env env' : List ℕ) (rest whole : Env → Outcome) : Type 0 where
+  pub base : Longer b c
+  pub known : Known c env'
+  pub taken : (inputs : List Value) → at b inputs guard ≡ Num (pos 1000000) → then_do (run c inputs env') rest ≡ then_do (run b inputs env) whole
+  pub idle : (inputs : List Value) → at b inputs guard ≡ Num (pos 0) → stop_of c inputs ≡ stop_of b inputs
+
+-- two environments that differ at these cells alone
+pub record SameBut (xs : List ℕ) (env env' : List ℕ) : Type 0 where
+  pub size : length env' ≡ length env
+  pub same : (x : ℕ) → is_among x xs ≡ false → slice_index_or env' x 0 ≡ slice_index_or env x 0
+
+-- the same, with these cells still to come
+pub record SameButSome (rest whole : List ℕ) (env env' : List ℕ) : Type 0 where
+  pub size : length env' ≡ length env
+  pub among : (x : ℕ) → is_among x whole ≡ false → is_among x rest ≡ false
+  pub same : (x : ℕ) → is_among x whole ≡ false → slice_index_or env' x 0 ≡ slice_index_or env x 0
+
+-- a stop where the condition is Over
+abbrev pub over_judged : ℕ → Value → Env → Outcome
+over_judged line Undef env = goes env
+over_judged line (Num x) env = goes env
+over_judged line OverValue env = stops (over_driver line)
+
+-- the condition of a choice, with the guards of its blocks
+pub record Opened (b c : Builder) (env : List ℕ) (g line : ℕ) (term : Environment → Value) (r : Branches) : Type 0 where
+  pub stage : Stage b c g env env (λ e. goes e) (λ e. over_judged line (term (environment e)) e)
+  pub first_within : r.first < count c
+  pub second_within : r.second < count c
+  pub truth_within : r.truth < count c
+  pub truth : (inputs : List Value) → at c inputs r.truth ≡ truth_of (term (environment (denoted b inputs env)))
+  pub first : (inputs : List Value) → at c inputs r.first ≡ chosen (at c inputs r.truth) (at b inputs g) (Num (pos 0))
+  pub second : (inputs : List Value) → at c inputs r.second ≡ chosen (at c inputs r.truth) (Num (pos 0)) (at b inputs g)
+
+-- the same cells with the values of their nodes
+abbrev pub entries : Builder → List Value → List (ℕ × ℕ) → List (ℕ × Value)
+entries b inputs ps = map (λ p. (p.0, at b inputs p.1)) ps
+
+abbrev pub cells_of : List (ℕ × ℕ) → List ℕ
+cells_of ps = map (λ p. p.0) ps
+
+pub record Held (b : Builder) (ps : List (ℕ × ℕ)) : Type 0 where
+  pub all : AllByRecursion (λ p. p.1 < count b) ps
+
+-- The given nodes at their cells where the truth is 1, once the rest of them is written, and no
+-- change where it is 0.
+pub record Merged (b c : Builder) (truth : ℕ) (rest whole : List (ℕ × ℕ)) (env env' : List ℕ) : Type 0 where
+  pub grows : Grows b c
+  pub known : Known c env'
+  pub first : (inputs : List Value) → at b inputs truth ≡ Num (pos 1000000) → written (entries b inputs rest) (denoted c inputs env') ≡ written (entries b inputs whole) (denoted b inputs env)
+  pub second : (inputs : List Value) → at b inputs truth ≡ Num (pos 0) → denoted c inputs env' ≡ denoted b inputs env
+
+-- the three literals, and no check
+pub record HasLiterals (labels : List Label) (b : Builder) : Type 0 where
+  pub sane : Sane b
+  pub labelled : HasFaces labels b
+  pub one : (inputs : List Value) → at b inputs 2 ≡ Num (pos 1000000)
+  pub stop : (inputs : List Value) → stop_of b inputs ≡ None
+
+-- a node for each cell, with the values that the cells begin with
+pub record Begun (b c : Builder) (start : List Value → Env) (env : List ℕ) : Type 0 where
+  pub grows : Grows b c
+  pub known : Known c env
+  pub value : (inputs : List Value) → denoted c inputs env ≡ start inputs
+
+-- the input of a variable that is one is there
+abbrev pub InputIsThere : ℕ → ℕ → Role → Type 0
+InputIsThere inputs next (InputRole code) = next < inputs
+InputIsThere inputs next (ComputedRole size) = Unit {0}
+InputIsThere inputs next (Constant amount) = Unit {0}
+
+-- ---- tables
+
+-- one of the first cells of a table, at an index that means it, and else this value; the last cells come first
+abbrev pub among_cells : Environment → ℕ → Value → ℕ → Value → Value
+among_cells values first index zero other = other
+among_cells values first index (suc n) other =
+    among_cells values first index n (chosen (op_value At index (Num (pos (n * 1000000))) Undef) (values (first + n)) other)
+
+-- what a table comes to at an index that means none of its cells: 0 where it is negative, and undefined past the last cell
+abbrev pub outside : Value → Value
+outside index = chosen (op_value Le index (Num (negsuc 999999)) Undef) (Num (pos 0)) Undef
+
+-- ---- the rules in turn
+
+-- what a check of the rules does, by its condition's value
+abbrev pub judged : List Label → ℕ → Value → Env → Outcome
+judged labels number value env = unless_stopped (option_and_then (failure_cause labels) (failure_of value number)) (goes env)
+
+-- the first check that stops
+abbrev pub checked : List Label → List Check → Env → Outcome
+checked labels [] env = goes env
+checked labels (c ∷ cs) env = then_do (judged labels c.1 (term_value (environment env) c.0) env) (checked labels cs)
+
+-- the definitions at these positions, computed one after the other
+abbrev pub computed : Base → List ℕ → Env → Env
+computed base [] env = env
+computed base (p ∷ later) env = computed base later (slice_set env (target_at base p) (term_value (environment env) (term_at base p)))
+
+abbrev pub rules_in_turn : Base → List ℕ → List ℕ → Env → Outcome
+rules_in_turn base sequence received env =
+    then_do (checked base.labels base.checks (computed base sequence env)) (λ values. goes (with_values received (environment values) env))
+
+-- what calls and blocks do, where the definitions are computed one after the other
+abbrev pub calls : Core → Base → List ℕ → ℕ → ℕ → Env → Outcome
+calls core base sequence depth = called (rules_in_turn base sequence) core.bodies depth
+
+abbrev pub means : Core → Base → List ℕ → ℕ → Block → Env → Outcome
+means core base sequence depth block = block_run (rules_in_turn base sequence) (calls core base sequence depth) block
+
+abbrev pub means_one : Core → Base → List ℕ → ℕ → Action → Env → Outcome
+means_one core base sequence depth action = action_run (rules_in_turn base sequence) (calls core base sequence depth) action

@@ -1,0 +1,248 @@
+//! Commands, done from a list of what is left. No function here calls itself.
+
+ghost use Rattle.std.specs.Prelude.{◌≡◌, ℕ, ◌-◌, ◌+◌, OnOk, IfOk, length};
+ghost use Rattle.micro_m.specs.Bases.{IsValidBase};
+ghost use Rattle.rule_order.specs.Orders.{IsOrder};
+ghost use Rattle.rule_order.specs.declared.ordered.Ordered.{Ordered};
+ghost use Rattle.driver_core.specs.Actions.{branch, partition, call};
+ghost use Rattle.driver_core.specs.ActionView.{block_of};
+ghost use Rattle.driver_core.specs.Meaning.{called};
+ghost use Rattle.mpp_inline.specs.declared.builder.Builder.{Builder};
+ghost use Rattle.mpp_inline.specs.inner.Growth.{Ready, calls, rules_in_turn};
+ghost use Rattle.mpp_inline.specs.inner.Work.{Standing, Kept, Moves, Step, Whole, ahead, block_ahead, done, point, does, whole_of};
+
+use crate::branches::open_branches;
+use crate::builder::{Builder, ONE, UNDEF};
+use crate::cells::{blank, pick_cells, write};
+use crate::formulas::emit_formula;
+use crate::rules::emit_rules;
+use crate::work::Work;
+use crate::writes::assign_under;
+use driver_core::{CCommand, CCommandNode, CTerm, Core};
+use rule_order::Ordered;
+use std::alloc::{AllocError, Global};
+
+/// The most turns. A driver of the greatest weight needs a fifth of them, where each command weighs 1 at least.
+const TURNS: u32 = 100_000_000;
+
+/// The body of a function, which is empty where calls are nested too deep, and where it isn't there.
+fn body_at(core: &Core, depth: usize, function: u32) -> &[CCommand]
+    ensures { (ordered : Ordered) → does (whole_of core.now ordered) (depth - 1) result.now
+        ≡ calls core.now ordered.base ordered.sequence depth function }
+{
+    if depth == 0 {
+        return &[];
+    }
+    match core.bodies.as_slice().get(function as usize) {
+        Some(found) => found.as_slice(),
+        None => &[],
+    }
+}
+
+/// A choice: its blocks are left, each under a guard of its own. The result is the guard from here on.
+fn begin_if<'a>(
+    b: &mut Builder,
+    env: &[u32],
+    guard: u32,
+    left: &mut Vec<Work<'a>>,
+    depth: usize,
+    line: u32,
+    condition: &CTerm,
+    first: &'a [CCommand],
+    second: &'a [CCommand],
+) -> Result<u32, AllocError>
+    ensures { IfOk result (λ g. (whole : Whole) → Standing whole b.old env.now guard left.old.items
+        → Moves whole b.old b.new env.now g left.old.items left.new.items
+        (λ inputs. ahead whole b.old inputs env.now guard depth
+        (branch line condition.now (block_of first.now) (block_of second.now)))) }
+{
+    let branches = open_branches(b, env, guard, line, condition)?;
+    left.push(Work::Under(guard))?;
+    left.push(Work::Run(depth, second))?;
+    left.push(Work::Under(branches.second))?;
+    left.push(Work::Run(depth, first))?;
+    Ok(branches.first)
+}
+
+/// A block with these cells undefined, which get their values back.
+fn begin_partition<'a>(
+    alloc: Global,
+    env: &mut [u32],
+    left: &mut Vec<Work<'a>>,
+    depth: usize,
+    line: u32,
+    cells: &[u32],
+    block: &'a [CCommand],
+) -> Result<(), AllocError>
+    ensures { OnOk result ((whole : Whole) (b : Builder) (guard : ℕ) → Standing whole b env.old guard left.old.items
+        → Moves whole b b env.new guard left.old.items left.new.items
+        (λ inputs. ahead whole b inputs env.old guard depth (partition line cells.now (block_of block.now)))) }
+{
+    let before = pick_cells(alloc, env, cells)?;
+    blank(env, cells);
+    left.push(Work::Restore(before))?;
+    left.push(Work::Run(depth, block))?;
+    Ok(())
+}
+
+/// A function on a copy of the environment, of which these cells come back.
+fn begin_call<'a>(
+    alloc: Global,
+    env: &[u32],
+    core: &'a Core,
+    left: &mut Vec<Work<'a>>,
+    depth: usize,
+    line: u32,
+    cells: &'a [u32],
+    function: u32,
+) -> Result<(), AllocError>
+    ensures { OnOk result ((ordered : Ordered) (b : Builder) (guard : ℕ)
+        → Standing (whole_of core.now ordered) b env.now guard left.old.items
+        → Moves (whole_of core.now ordered) b b env.now guard left.old.items left.new.items
+        (λ inputs. ahead (whole_of core.now ordered) b inputs env.now guard depth (call line cells.now function))) }
+{
+    let outer = env.to_vec(alloc)?;
+    left.push(Work::Return(cells, outer))?;
+    let body = body_at(core, depth, function);
+    left.push(Work::Run(depth.saturating_sub(1), body))?;
+    Ok(())
+}
+
+/// A command, whose blocks are left. The result is the guard from here on.
+fn begin_command<'a>(
+    alloc: Global,
+    b: &mut Builder,
+    env: &mut [u32],
+    guard: u32,
+    core: &'a Core,
+    ordered: &Ordered,
+    left: &mut Vec<Work<'a>>,
+    depth: usize,
+    command: &'a CCommand,
+) -> Result<u32, AllocError>
+    requires valid { IsValidBase ordered.now.base }
+    requires order { IsOrder ordered.now.base ordered.now.sequence }
+    ensures { IfOk result (λ g. Standing (whole_of core.now ordered.now) b.old env.old guard left.old.items
+        → Moves (whole_of core.now ordered.now) b.old b.new env.new g left.old.items left.new.items
+        (λ inputs. ahead (whole_of core.now ordered.now) b.old inputs env.old guard depth command.now)) }
+{
+    match &command.node {
+        CCommandNode::Set(_, cell, term) => {
+            let number = emit_formula(b, env, term)?;
+            assign_under(b, env, guard, *cell, number)?;
+            Ok(guard)
+        }
+        CCommandNode::Del(_, cell) => {
+            assign_under(b, env, guard, *cell, UNDEF)?;
+            Ok(guard)
+        }
+        CCommandNode::If(line, condition, first, second) => {
+            begin_if(b, env, guard, left, depth, *line, condition, first, second)
+        }
+        CCommandNode::Partition(line, cells, block) => {
+            begin_partition(alloc, env, left, depth, *line, cells.as_slice(), block)?;
+            Ok(guard)
+        }
+        CCommandNode::Call(line, cells, function) => {
+            begin_call(alloc, env, core, left, depth, *line, cells.as_slice(), *function)?;
+            Ok(guard)
+        }
+        CCommandNode::Rules(_, cells) => {
+            emit_rules(alloc, b, env, guard, ordered, cells.as_slice())?;
+            Ok(guard)
+        }
+    }
+}
+
+/// The first command of a block, whose other commands are left. The result is the guard from here on.
+fn begin_block<'a>(
+    alloc: Global,
+    b: &mut Builder,
+    env: &mut [u32],
+    guard: u32,
+    core: &'a Core,
+    ordered: &Ordered,
+    left: &mut Vec<Work<'a>>,
+    depth: usize,
+    block: &'a [CCommand],
+) -> Result<u32, AllocError>
+    requires valid { IsValidBase ordered.now.base }
+    requires order { IsOrder ordered.now.base ordered.now.sequence }
+    ensures { IfOk result (λ g. Standing (whole_of core.now ordered.now) b.old env.old guard left.old.items
+        → Moves (whole_of core.now ordered.now) b.old b.new env.new g left.old.items left.new.items
+        (λ inputs. block_ahead (whole_of core.now ordered.now) b.old inputs env.old guard depth block.now)) }
+{
+    match block.split_first() {
+        Some((first, rest)) => {
+            left.push(Work::Run(depth, rest))?;
+            begin_command(alloc, b, env, guard, core, ordered, left, depth, first)
+        }
+        None => Ok(guard),
+    }
+}
+
+/// The last item of what is left. The result is the guard from here on.
+fn advance<'a>(
+    alloc: Global,
+    b: &mut Builder,
+    env: &mut Vec<u32>,
+    guard: u32,
+    core: &'a Core,
+    ordered: &Ordered,
+    left: &mut Vec<Work<'a>>,
+    work: Work<'a>,
+) -> Result<u32, AllocError>
+    requires valid { IsValidBase ordered.now.base }
+    requires order { IsOrder ordered.now.base ordered.now.sequence }
+    ensures { IfOk result (λ g. Standing (whole_of core.now ordered.now) b.old env.old.items guard left.old.items
+        → Kept b.old work.entry
+        → Moves (whole_of core.now ordered.now) b.old b.new env.new.items g left.old.items left.new.items
+        (λ inputs. done (whole_of core.now ordered.now) b.old inputs work.entry (point b.old inputs env.old.items guard))) }
+{
+    match work {
+        Work::Run(depth, block) => {
+            let next = begin_block(alloc, b, env, guard, core, ordered, left, depth, block)?;
+            Ok(next)
+        }
+        Work::Under(next) => Ok(next),
+        Work::Restore(before) => {
+            write(env, &before);
+            Ok(guard)
+        }
+        Work::Return(cells, outer) => {
+            let given = pick_cells(alloc, env, cells)?;
+            *env = outer;
+            write(env, &given);
+            Ok(guard)
+        }
+    }
+}
+
+/// The whole driver, from an environment on.
+pub fn emit_all(
+    alloc: Global,
+    b: &mut Builder,
+    env: &mut Vec<u32>,
+    core: &Core,
+    ordered: &Ordered,
+) -> Result<(), AllocError>
+    requires valid { IsValidBase ordered.now.base }
+    requires order { IsOrder ordered.now.base ordered.now.sequence }
+    ensures { OnOk result (Ready ordered.now.base.labels b.old env.old.items 2
+        → Step b.old b.new 2 env.old.items env.new.items
+        (called (rules_in_turn ordered.now.base ordered.now.sequence) core.now.bodies (length core.now.bodies + 1) core.now.main)) }
+{
+    let mut left = Vec::new(alloc);
+    let main = body_at(core, core.bodies.as_slice().len() + 1, core.main);
+    left.push(Work::Run(core.bodies.as_slice().len(), main))?;
+    let mut guard = ONE;
+    let mut turns = TURNS;
+    while let Some(work) = left.pop() {
+        if turns == 0 {
+            return Err(AllocError);
+        }
+        turns -= 1;
+        guard = advance(alloc, b, env, guard, core, ordered, &mut left, work)?;
+    }
+    Ok(())
+}

@@ -1,0 +1,43 @@
+//! The condition of a choice.
+
+ghost use Rattle.std.specs.Prelude.{IfOk};
+ghost use Rattle.driver_core.specs.Meaning.{formula_value};
+ghost use Rattle.mpp_inline.specs.inner.Growth.{Placed, Opened};
+
+use crate::builder::{Builder, ZERO};
+use crate::formulas::emit_formula;
+use driver_core::CTerm;
+use flat_code::Node;
+use m_fixed::Op;
+use std::alloc::AllocError;
+
+/// The truth of a condition, and the guards of both blocks.
+#[derive(Clone, Copy)]
+pub struct Branches {
+    pub truth: u32,
+    pub first: u32,
+    pub second: u32,
+}
+
+/// The condition of a choice, with a stop where it is over.
+pub fn open_branches(
+    b: &mut Builder,
+    env: &[u32],
+    guard: u32,
+    line: u32,
+    condition: &CTerm,
+) -> Result<Branches, AllocError>
+    ensures { IfOk result (λ r. Placed b.old env.now guard
+        → Opened b.old b.new env.now guard line (λ e. formula_value e condition.now) r) }
+{
+    let value = emit_formula(b, env, condition)?;
+    b.check_line(guard, value, line)?;
+    let truth = b.push(Node::Do(Op::Truth, value, value, value))?;
+    let first = b.push(Node::Do(Op::Choose, truth, guard, ZERO))?;
+    let second = b.push(Node::Do(Op::Choose, truth, ZERO, guard))?;
+    Ok(Branches {
+        truth,
+        first,
+        second,
+    })
+}

@@ -1,0 +1,71 @@
+//! A flat program that grows.
+
+ghost use Rattle.std.specs.Prelude.{IfOk, OnOk};
+ghost use Rattle.mpp_inline.specs.inner.Growth.{Pushed, CheckedRule, CheckedLine};
+
+use flat_code::{Check, FaceLabel, Node};
+use std::alloc::AllocError;
+
+/// The literal undefined, which cells that aren't there name too.
+pub const UNDEF: u32 = 0;
+/// The literal 0, the guard of what isn't reached.
+pub const ZERO: u32 = 1;
+/// The literal 1, the guard of what is always reached.
+pub const ONE: u32 = 2;
+
+/// The most nodes, and the most checks. A driver of the greatest weight needs a fifth of them.
+pub const MOST: usize = 100_000_000;
+
+/// The program so far: how many inputs there are, the nodes, the checks, and what the labels tell.
+#[derive(Drop)]
+pub struct Builder {
+    pub inputs: u32,
+    pub nodes: Vec<Node>,
+    pub checks: Vec<Check>,
+    pub labels: Vec<FaceLabel>,
+}
+
+impl Builder {
+    /// One more node, and its number. More than 100,000,000 are refused as want of memory.
+    pub fn push(&mut self, node: Node) -> Result<u32, AllocError>
+        ensures { IfOk result (λ k. Pushed self.old self.new node k) }
+    {
+        if self.nodes.len() >= MOST {
+            return Err(AllocError);
+        }
+        let number = self.nodes.len() as u32;
+        self.nodes.extend_from_slice(&[node])?;
+        Ok(number)
+    }
+
+    /// A check of the rules, whose label is there.
+    pub fn check_rule(&mut self, guard: u32, condition: u32, label: u32) -> Result<(), AllocError>
+        ensures { OnOk result (CheckedRule self.old self.new guard condition label) }
+    {
+        self.checks.push(Check {
+            guard,
+            condition,
+            over_only: false,
+            label,
+        })?;
+        Ok(())
+    }
+
+    /// A check for over alone, with a label of its own for the line.
+    pub fn check_line(&mut self, guard: u32, condition: u32, line: u32) -> Result<(), AllocError>
+        ensures { OnOk result (CheckedLine self.old self.new guard condition line) }
+    {
+        if self.labels.len() >= u32::MAX as usize {
+            return Err(AllocError);
+        }
+        let label = self.labels.len() as u32;
+        self.labels.push(FaceLabel::DriverLine(line))?;
+        self.checks.push(Check {
+            guard,
+            condition,
+            over_only: true,
+            label,
+        })?;
+        Ok(())
+    }
+}

@@ -1,0 +1,133 @@
+//! Terms of the driver, as nodes.
+
+ghost use Rattle.std.specs.Prelude.{◌<◌, IfOk, slice_index_or};
+ghost use Rattle.m_fixed.specs.declared.amount.Value.TheVariants.{Undef};
+ghost use Rattle.micro_m.specs.Values.{environment, applied};
+ghost use Rattle.driver_core.specs.FormulaView.{formulas_of, steps_of};
+ghost use Rattle.driver_core.specs.Meaning.{formula_value, formula_values, steps_value, present_in, present_or, any_present};
+ghost use Rattle.mpp_inline.specs.inner.Growth.{Sane, Known, Gives, TermStep, at, count, denoted};
+
+use crate::builder::{Builder, UNDEF, ZERO};
+use crate::cells::look;
+use driver_core::{CNode, CStep, CTerm};
+use flat_code::Node;
+use m_fixed::Op;
+use std::alloc::AllocError;
+
+/// The node with the value of a term.
+#[cycle(formulas)]
+pub fn emit_formula(b: &mut Builder, env: &[u32], term: &CTerm) -> Result<u32, AllocError>
+    ensures { IfOk result (λ k. Sane b.old → Known b.old env.now
+        → TermStep b.old b.new env.now (λ e. formula_value e term.now) k) }
+{
+    match &term.node {
+        CNode::Lit(value) => b.push(Node::Lit(*value)),
+        CNode::Cell(cell) => Ok(look(env, *cell as usize)),
+        CNode::Apply(op, arguments) => emit_applied(b, env, *op, arguments),
+        CNode::Chain(first, steps) => {
+            let so_far = emit_formula(b, env, first)?;
+            emit_steps(b, env, so_far, steps)
+        }
+        CNode::Exists(cells) => emit_exists(b, env, cells.as_slice()),
+    }
+}
+
+/// An operator on its arguments. One that is missing is undefined.
+#[cycle(formulas)]
+fn emit_applied(
+    b: &mut Builder,
+    env: &[u32],
+    op: Op,
+    arguments: &[CTerm],
+) -> Result<u32, AllocError>
+    ensures { IfOk result (λ k. Sane b.old → Known b.old env.now
+        → TermStep b.old b.new env.now (λ e. applied op (formula_values e (formulas_of arguments.now))) k) }
+{
+    let first = emit_argument(b, env, arguments, 0)?;
+    let second = emit_argument(b, env, arguments, 1)?;
+    let third = emit_argument(b, env, arguments, 2)?;
+    b.push(Node::Do(op, first, second, third))
+}
+
+/// The argument at a place, and undefined where there is none.
+#[cycle(formulas)]
+fn emit_argument(
+    b: &mut Builder,
+    env: &[u32],
+    arguments: &[CTerm],
+    place: usize,
+) -> Result<u32, AllocError>
+    ensures { IfOk result (λ k. Sane b.old → Known b.old env.now
+        → TermStep b.old b.new env.now (λ e. slice_index_or (formula_values e (formulas_of arguments.now)) place Undef) k) }
+{
+    match arguments.get(place) {
+        Some(argument) => emit_formula(b, env, argument),
+        None => Ok(UNDEF),
+    }
+}
+
+/// A left fold, gone on with from a node so far.
+#[cycle(formulas)]
+fn emit_steps(
+    b: &mut Builder,
+    env: &[u32],
+    so_far: u32,
+    steps: &[CStep],
+) -> Result<u32, AllocError>
+    ensures { IfOk result (λ k. Sane b.old → Known b.old env.now → so_far < count b.old
+        → Gives b.old b.new
+        (λ inputs. steps_value (environment (denoted b.old inputs env.now)) (at b.old inputs so_far) (steps_of steps.now)) k) }
+{
+    let mut number = so_far;
+    for step in steps {
+        let operand = emit_formula(b, env, &step.term)?;
+        number = b.push(Node::Do(step.op, number, operand, UNDEF))?;
+    }
+    Ok(number)
+}
+
+/// Whether one of these cells is defined, and 0 where there are none.
+fn emit_exists(b: &mut Builder, env: &[u32], cells: &[u32]) -> Result<u32, AllocError>
+    ensures { IfOk result (λ k. Sane b.old → Known b.old env.now
+        → TermStep b.old b.new env.now (λ e. any_present e cells.now) k) }
+{
+    match cells.split_first() {
+        Some((first, rest)) => {
+            let so_far = emit_present(b, env, *first)?;
+            emit_further(b, env, so_far, rest)
+        }
+        None => Ok(ZERO),
+    }
+}
+
+/// Whether a cell is defined.
+fn emit_present(b: &mut Builder, env: &[u32], cell: u32) -> Result<u32, AllocError>
+    ensures { IfOk result (λ k. Sane b.old → Known b.old env.now
+        → TermStep b.old b.new env.now (λ e. present_in e cell) k) }
+{
+    b.push(Node::Do(
+        Op::Present,
+        look(env, cell as usize),
+        UNDEF,
+        UNDEF,
+    ))
+}
+
+/// So far, or one of these cells is defined.
+fn emit_further(
+    b: &mut Builder,
+    env: &[u32],
+    so_far: u32,
+    cells: &[u32],
+) -> Result<u32, AllocError>
+    ensures { IfOk result (λ k. Sane b.old → Known b.old env.now → so_far < count b.old
+        → Gives b.old b.new
+        (λ inputs. present_or (environment (denoted b.old inputs env.now)) (at b.old inputs so_far) cells.now) k) }
+{
+    let mut number = so_far;
+    for cell in cells {
+        let present = emit_present(b, env, *cell)?;
+        number = b.push(Node::Do(Op::Or, number, present, UNDEF))?;
+    }
+    Ok(number)
+}

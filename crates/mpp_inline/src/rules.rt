@@ -1,0 +1,91 @@
+//! The rules, written out.
+
+ghost use Rattle.std.specs.Prelude.{◌≡◌, OnOk, IfOk};
+ghost use Rattle.micro_m.specs.Bases.{IsValidBase};
+ghost use Rattle.rule_order.specs.Orders.{IsOrder, cells_at};
+ghost use Rattle.driver_core.specs.Meaning.{goes};
+ghost use Rattle.mpp_inline.specs.inner.Cells.{picked};
+ghost use Rattle.mpp_inline.specs.inner.Growth.{Sane, Known, Ready, Computed, Stage, SameBut, checked, computed, rules_in_turn};
+ghost use Rattle.mpp_inline.specs.inner.Work.{Step};
+
+use crate::builder::Builder;
+use crate::cells::{look, pick_cells, put, write};
+use crate::terms::emit_term;
+use crate::writes::write_under;
+use micro_m::Base;
+use rule_order::Ordered;
+use std::alloc::{AllocError, Global};
+
+/// The cells that are defined with their nodes, in the order of the definitions.
+fn pick_defined(
+    alloc: Global,
+    env: &[u32],
+    ordered: &Ordered,
+) -> Result<Vec<(u32, u32)>, AllocError>
+    requires { IsOrder ordered.now.base ordered.now.sequence }
+    ensures { IfOk result (λ entries. entries.items
+        ≡ picked 0 (cells_at ordered.now.base ordered.now.sequence) env.now) }
+{
+    let definitions = ordered.base.definitions.as_slice();
+    let mut entries = Vec::new(alloc);
+    for position in ordered.sequence.as_slice() {
+        let definition = &definitions[*position as usize];
+        entries.push((definition.0, look(env, definition.0 as usize)))?;
+    }
+    Ok(entries)
+}
+
+/// Each definition in turn.
+fn emit_definitions(
+    b: &mut Builder,
+    env: &mut [u32],
+    ordered: &Ordered,
+) -> Result<(), AllocError>
+    requires { IsOrder ordered.now.base ordered.now.sequence }
+    ensures step { OnOk result (Sane b.old → Known b.old env.old
+        → Computed b.old b.new env.old env.new (λ e. e) (computed ordered.now.base ordered.now.sequence)) }
+    ensures frame { OnOk result (SameBut (cells_at ordered.now.base ordered.now.sequence) env.old env.new) }
+{
+    let definitions = ordered.base.definitions.as_slice();
+    for position in ordered.sequence.as_slice() {
+        let definition = &definitions[*position as usize];
+        let number = emit_term(b, env, &definition.1)?;
+        put(env, definition.0, number);
+    }
+    Ok(())
+}
+
+/// Each check in turn, under this guard.
+fn emit_checks(b: &mut Builder, env: &[u32], guard: u32, base: &Base) -> Result<(), AllocError>
+    requires { IsValidBase base.now }
+    ensures { OnOk result (Ready base.now.labels b.old env.now guard
+        → Stage b.old b.new guard env.now env.now (λ e. goes e) (checked base.now.labels base.now.checks)) }
+{
+    for (condition, label, _) in base.checks.as_slice() {
+        let value = emit_term(b, env, condition)?;
+        b.check_rule(guard, value, *label)?;
+    }
+    Ok(())
+}
+
+/// The rules on a copy of the environment, of which these cells come back. Only the cells that are defined are put aside.
+pub fn emit_rules(
+    alloc: Global,
+    b: &mut Builder,
+    env: &mut [u32],
+    guard: u32,
+    ordered: &Ordered,
+    cells: &[u32],
+) -> Result<(), AllocError>
+    requires valid { IsValidBase ordered.now.base }
+    requires order { IsOrder ordered.now.base ordered.now.sequence }
+    ensures { OnOk result (Ready ordered.now.base.labels b.old env.old guard
+        → Step b.old b.new guard env.old env.new (rules_in_turn ordered.now.base ordered.now.sequence cells.now)) }
+{
+    let before = pick_defined(alloc, env, ordered)?;
+    emit_definitions(b, env, ordered)?;
+    emit_checks(b, env, guard, &ordered.base)?;
+    let given = pick_cells(alloc, env, cells)?;
+    write(env, &before);
+    write_under(b, env, guard, &given)
+}

@@ -1,0 +1,114 @@
+//! Tables read at an index, as nodes.
+
+ghost use Rattle.std.specs.Prelude.{◌≡◌, ◌<◌, ◌+◌, ◌*◌, pos, negsuc, IfOk, IfSome};
+ghost use Rattle.m_fixed.specs.declared.amount.Value.TheVariants.{Num, Undef};
+ghost use Rattle.m_fixed.specs.declared.operator.Op.TheVariants.{At};
+ghost use Rattle.m_fixed.specs.Operators.{op_value, chosen};
+ghost use Rattle.micro_m.specs.Trees.{lit};
+ghost use Rattle.micro_m.specs.Values.{environment, picked, picked_value};
+ghost use Rattle.mpp_inline.specs.inner.Growth.{Sane, Known, Gives, TermStep, at, count, denoted, outside};
+
+use crate::builder::{Builder, UNDEF, ZERO};
+use crate::cells::look;
+use flat_code::Node;
+use m_fixed::{Amount, Op, Value};
+use micro_m::{MNode, MTerm, Picked};
+use std::alloc::AllocError;
+
+/// One unit, in millionths.
+const UNIT: i128 = 1_000_000;
+
+/// The value of an index that is a literal.
+pub fn literal_of(index: &MTerm) -> Option<Value>
+    ensures { IfSome result (λ value. index.now ≡ lit value) }
+{
+    match &index.node {
+        MNode::Lit(value) => Some(*value),
+        MNode::Cell(_) => None,
+        MNode::Pick(_, _, _) => None,
+        MNode::Apply(_, _) => None,
+        MNode::Chain(_, _) => None,
+    }
+}
+
+/// What a table comes to at a literal index.
+pub fn emit_picked(b: &mut Builder, env: &[u32], place: Picked) -> Result<u32, AllocError>
+    ensures { IfOk result (λ k. Sane b.old → Known b.old env.now
+        → TermStep b.old b.new env.now (λ e. picked_value e place) k) }
+{
+    match place {
+        Picked::Cell(cell) => Ok(look(env, cell)),
+        Picked::Fixed(value) => b.push(Node::Lit(value)),
+    }
+}
+
+/// What a table comes to at an index that is a node: each cell is chosen where the index means it, a negative index gives 0,
+/// and one past the table undefined.
+pub fn emit_table(
+    b: &mut Builder,
+    env: &[u32],
+    first: u32,
+    size: u32,
+    index: u32,
+) -> Result<u32, AllocError>
+    ensures { IfOk result (λ k. Sane b.old → Known b.old env.now → index < count b.old
+        → Gives b.old b.new
+        (λ inputs. picked_value (environment (denoted b.old inputs env.now)) (picked first size (at b.old inputs index))) k) }
+{
+    let mut number = emit_outside(b, index)?;
+    let mut left = size;
+    while left > 0 {
+        left -= 1;
+        let cell = look(env, first as usize + left as usize);
+        number = emit_cell(b, index, left, cell, number)?;
+    }
+    Ok(number)
+}
+
+/// What a table comes to at an index that means none of its cells.
+fn emit_outside(b: &mut Builder, index: u32) -> Result<u32, AllocError>
+    ensures { IfOk result (λ k. Sane b.old → index < count b.old
+        → Gives b.old b.new (λ inputs. outside (at b.old inputs index)) k) }
+{
+    let limit = b.push(Node::Lit(unit_below()))?;
+    let below = b.push(Node::Do(Op::Le, index, limit, UNDEF))?;
+    b.push(Node::Do(Op::Choose, below, ZERO, UNDEF))
+}
+
+/// The cell of a table at a place where the index means it, and else the other node.
+fn emit_cell(
+    b: &mut Builder,
+    index: u32,
+    place: u32,
+    cell: u32,
+    other: u32,
+) -> Result<u32, AllocError>
+    ensures { IfOk result (λ k. Sane b.old → index < count b.old → cell < count b.old → other < count b.old
+        → Gives b.old b.new
+        (λ inputs. chosen (op_value At (at b.old inputs index) (Num (pos (place * 1000000))) Undef)
+        (at b.old inputs cell) (at b.old inputs other)) k) }
+{
+    let meant = b.push(Node::Lit(units(place)))?;
+    let test = b.push(Node::Do(Op::At, index, meant, UNDEF))?;
+    b.push(Node::Do(Op::Choose, test, cell, other))
+}
+
+/// The number of a place in units.
+fn units(place: u32) -> Value
+    ensures { result ≡ Num (pos (place * 1000000)) }
+{
+    match Amount::new(place as i128 * UNIT) {
+        Some(amount) => Value::Num(amount),
+        None => Value::Undef,
+    }
+}
+
+/// One unit below 0.
+fn unit_below() -> Value
+    ensures { result ≡ Num (negsuc 999999) }
+{
+    match Amount::new(-UNIT) {
+        Some(amount) => Value::Num(amount),
+        None => Value::Undef,
+    }
+}

@@ -1,0 +1,108 @@
+//! Terms of the rules, as nodes.
+
+ghost use Rattle.std.specs.Prelude.{◌<◌, IfOk, slice_index_or};
+ghost use Rattle.m_fixed.specs.declared.amount.Value.TheVariants.{Undef};
+ghost use Rattle.micro_m.specs.Views.{trees_of, steps_of};
+ghost use Rattle.micro_m.specs.Values.{environment, term_value, argument_values, applied, folded, picked, picked_value};
+ghost use Rattle.mpp_inline.specs.inner.Growth.{Sane, Known, Gives, TermStep, at, count, denoted};
+
+use crate::builder::{Builder, UNDEF};
+use crate::cells::look;
+use crate::tables::{emit_picked, emit_table, literal_of};
+use flat_code::Node;
+use m_fixed::Op;
+use micro_m::{MNode, MTerm, Step, pick};
+use std::alloc::AllocError;
+
+/// The node with the value of a term.
+#[cycle(terms)]
+pub fn emit_term(b: &mut Builder, env: &[u32], term: &MTerm) -> Result<u32, AllocError>
+    ensures { IfOk result (λ k. Sane b.old → Known b.old env.now
+        → TermStep b.old b.new env.now (λ e. term_value e term.now) k) }
+{
+    match &term.node {
+        MNode::Lit(value) => b.push(Node::Lit(*value)),
+        MNode::Cell(cell) => Ok(look(env, *cell as usize)),
+        MNode::Pick(first, size, index) => emit_read(b, env, *first, *size, index),
+        MNode::Apply(op, arguments) => emit_applied(b, env, *op, arguments),
+        MNode::Chain(first, steps) => {
+            let so_far = emit_term(b, env, first)?;
+            emit_steps(b, env, so_far, steps)
+        }
+    }
+}
+
+/// A table read at an index.
+#[cycle(terms)]
+fn emit_read(
+    b: &mut Builder,
+    env: &[u32],
+    first: u32,
+    size: u32,
+    index: &MTerm,
+) -> Result<u32, AllocError>
+    ensures { IfOk result (λ k. Sane b.old → Known b.old env.now
+        → TermStep b.old b.new env.now (λ e. picked_value e (picked first size (term_value e index.now))) k) }
+{
+    match literal_of(index) {
+        Some(value) => emit_picked(b, env, pick(first, size, value)),
+        None => {
+            let place = emit_term(b, env, index)?;
+            emit_table(b, env, first, size, place)
+        }
+    }
+}
+
+/// An operator on its arguments. One that is missing is undefined.
+#[cycle(terms)]
+fn emit_applied(
+    b: &mut Builder,
+    env: &[u32],
+    op: Op,
+    arguments: &[MTerm],
+) -> Result<u32, AllocError>
+    ensures { IfOk result (λ k. Sane b.old → Known b.old env.now
+        → TermStep b.old b.new env.now (λ e. applied op (argument_values e (trees_of arguments.now))) k) }
+{
+    let first = emit_argument(b, env, arguments, 0)?;
+    let second = emit_argument(b, env, arguments, 1)?;
+    let third = emit_argument(b, env, arguments, 2)?;
+    b.push(Node::Do(op, first, second, third))
+}
+
+/// The argument at a place, and undefined where there is none.
+#[cycle(terms)]
+fn emit_argument(
+    b: &mut Builder,
+    env: &[u32],
+    arguments: &[MTerm],
+    place: usize,
+) -> Result<u32, AllocError>
+    ensures { IfOk result (λ k. Sane b.old → Known b.old env.now
+        → TermStep b.old b.new env.now (λ e. slice_index_or (argument_values e (trees_of arguments.now)) place Undef) k) }
+{
+    match arguments.get(place) {
+        Some(argument) => emit_term(b, env, argument),
+        None => Ok(UNDEF),
+    }
+}
+
+/// A left fold, gone on with from a node so far.
+#[cycle(terms)]
+fn emit_steps(
+    b: &mut Builder,
+    env: &[u32],
+    so_far: u32,
+    steps: &[Step],
+) -> Result<u32, AllocError>
+    ensures { IfOk result (λ k. Sane b.old → Known b.old env.now → so_far < count b.old
+        → Gives b.old b.new
+        (λ inputs. folded (environment (denoted b.old inputs env.now)) (at b.old inputs so_far) (steps_of steps.now)) k) }
+{
+    let mut number = so_far;
+    for step in steps {
+        let operand = emit_term(b, env, &step.term)?;
+        number = b.push(Node::Do(step.op, number, operand, UNDEF))?;
+    }
+    Ok(number)
+}

@@ -1,0 +1,61 @@
+//! Writes that count where a guard is 1.
+
+ghost use Rattle.std.specs.Prelude.{◌<◌, [], ◌∷◌, OnOk};
+ghost use Rattle.mpp_inline.specs.inner.Growth.{Placed, Held, Merged, count};
+
+use crate::builder::{Builder, ONE};
+use crate::cells::{look, put, write};
+use m_fixed::Op;
+use flat_code::Node;
+use std::alloc::AllocError;
+
+/// The given nodes at their cells where the guard is 1, and no change where it is 0.
+pub fn merge(
+    b: &mut Builder,
+    env: &mut [u32],
+    guard: u32,
+    given: &[(u32, u32)],
+) -> Result<(), AllocError>
+    ensures { OnOk result (Placed b.old env.old guard → Held b.old given.now
+        → Merged b.old b.new guard [] given.now env.old env.new) }
+{
+    for (cell, first) in given {
+        let second = look(env, *cell as usize);
+        if *first != second {
+            let number = b.push(Node::Do(Op::Choose, guard, *first, second))?;
+            put(env, *cell, number);
+        }
+    }
+    Ok(())
+}
+
+/// The same, with no node where the guard is the literal 1.
+pub fn write_under(
+    b: &mut Builder,
+    env: &mut [u32],
+    guard: u32,
+    given: &[(u32, u32)],
+) -> Result<(), AllocError>
+    ensures { OnOk result (Placed b.old env.old guard → Held b.old given.now
+        → Merged b.old b.new guard [] given.now env.old env.new) }
+{
+    if guard == ONE {
+        write(env, given);
+        return Ok(());
+    }
+    merge(b, env, guard, given)
+}
+
+/// One node at its cell.
+pub fn assign_under(
+    b: &mut Builder,
+    env: &mut [u32],
+    guard: u32,
+    cell: u32,
+    number: u32,
+) -> Result<(), AllocError>
+    ensures { OnOk result (Placed b.old env.old guard → number < count b.old
+        → Merged b.old b.new guard [] ((cell, number) ∷ []) env.old env.new) }
+{
+    write_under(b, env, guard, &[(cell, number)])
+}
