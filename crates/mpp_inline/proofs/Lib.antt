@@ -7,3 +7,4 @@ pub mod TermLemmas
 pub mod TableLemmas
 pub mod CallLemmas
 pub mod OrderLemmas
+pub mod BeginLemmas

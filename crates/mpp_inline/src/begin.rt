@@ -1,6 +1,6 @@
 //! The first nodes, and the outputs at the end.
 
-ghost use Rattle.std.specs.Prelude.{◌≡◌, ◌++◌, ◌<◌, ◌-◌, ◌^◌, pos, IfOk, OnOk, length, map, replicate, slice_index_or};
+ghost use Rattle.std.specs.Prelude.{◌≡◌, ◌++◌, pos, IfOk, OnOk, length, map, replicate, slice_index_or};
 ghost use Rattle.m_fixed.specs.declared.amount.Value.TheVariants.{Num};
 ghost use Rattle.flat_code.specs.declared.face.FaceLabel.TheVariants.{Verif};
 ghost use Rattle.m_symbols.specs.Declarations.{inputs_from};
@@ -80,13 +80,14 @@ pub fn first_cells(
     ensures { IfOk result (λ env. Sane b.old
         → Begun b.old b.new (λ inputs. start_from inputs 0 symbols.now.variables) env.items) }
 {
+    let inputs = b.inputs;
     let mut env = Vec::new(alloc);
     let mut next = 0;
     for v in 0..symbols.count() {
         let variable = symbols.variable(v);
         let role = &variable.item.role;
         let number = first_node(b, role, next)?;
-        next = input_behind(role, next);
+        next = input_behind(role, next, inputs);
         add_cells(&mut env, variable.cells, number)?;
     }
     Ok(env)
@@ -104,12 +105,18 @@ fn first_node(b: &mut Builder, role: &Role, next: u32) -> Result<u32, AllocError
     }
 }
 
-/// The number of the input behind a variable.
-fn input_behind(role: &Role, next: u32) -> u32
-    ensures { next < 2 ^ 32 - 1 → result ≡ next_input next role.now }
+/// The number of the input behind a variable, where there are so many inputs.
+fn input_behind(role: &Role, next: u32, inputs: u32) -> u32
+    ensures { InputIsThere inputs next role.now → result ≡ next_input next role.now }
 {
     match role {
-        Role::Input(_) => next.saturating_add(1),
+        Role::Input(_) => {
+            if next < inputs {
+                next + 1
+            } else {
+                next
+            }
+        }
         Role::Computed(_) => next,
         Role::Constant(_) => next,
     }
@@ -119,8 +126,10 @@ fn input_behind(role: &Role, next: u32) -> u32
 fn add_cells(env: &mut Vec<u32>, cells: u32, number: u32) -> Result<(), AllocError>
     ensures { OnOk result (env.new.items ≡ env.old.items ++ replicate cells number) }
 {
-    for _ in 0..cells {
+    let mut left = cells;
+    while left > 0 {
         env.push(number)?;
+        left -= 1;
     }
     Ok(())
 }

@@ -1,0 +1,6 @@
+use Rattle.std.proofs.Common.{◌≡◌, ◌++◌, drop, map}
+use Rattle.flat_code.specs.declared.face.FaceLabel.TheVariants.{Verif}
+use Rattle.mpp_inline.proofs.begin.first_labels.Given as goal
+
+abbrev pub invariant-loop-label : goal.invariant-loop-label
+invariant-loop-label l = l.faces.items ++ map Verif (drop l.label-index l.labels) ≡ map Verif l.labels
