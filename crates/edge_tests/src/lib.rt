@@ -14,6 +14,8 @@ mod large;
 #[cfg(test)]
 mod records;
 #[cfg(test)]
+mod sessions;
+#[cfg(test)]
 mod tables;
 #[cfg(test)]
 mod threads;

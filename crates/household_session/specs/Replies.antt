@@ -1,5 +1,6 @@
 -- What a session replies to lines, and what becomes of it.
-use Rattle.std.specs.Prelude.{ℕ, ◌==◌, List, [], ◌∷◌, ◌++◌, codes, Result, Ok, Err, if◌then◌else◌}
+use Rattle.std.specs.Prelude.{◌≢◌, ℕ, ◌==◌, List, [], ◌∷◌, ◌++◌, codes, Result, Ok, Err, if◌then◌else◌}
+use Rattle.std.specs.List.{AllByRecursion}
 use Rattle.m_text.specs.Bytes.{line_feed}
 use Rattle.m_text.specs.Lines.{onto_first}
 use Rattle.household_session.specs.declared.fault.EditFault.{EditFault}
@@ -58,6 +59,10 @@ onto_ended byte (first ∷ lines) = (byte ∷ first) ∷ lines
 abbrev pub ended_lines : List ℕ → List (List ℕ)
 ended_lines [] = []
 ended_lines (byte ∷ bytes) = if byte == line_feed then [] ∷ ended_lines bytes else onto_ended byte (ended_lines bytes)
+
+-- bytes without a line feed
+abbrev pub IsUnended : List ℕ → Type 0
+IsUnended bytes = AllByRecursion (λ byte. byte ≢ line_feed) bytes
 
 -- the replies to lines, in order, each by the session as the lines before it left it
 abbrev pub replies_to : Sitting → List (List ℕ) → List ℕ

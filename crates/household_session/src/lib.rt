@@ -6,6 +6,7 @@
 
 mod command;
 mod fault;
+pub mod laws;
 mod outputs;
 mod run;
 mod session;

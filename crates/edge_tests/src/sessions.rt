@@ -1,0 +1,248 @@
+//! Sessions of one household, and batches of several, over a program written by hand: REV less 1000, which is over in line 2
+//! of the driver where the square of REV is.
+ghost use Rattle.std.specs.Prelude.{◌≡◌, ◌<◌, IfOk, length};
+ghost use Rattle.std.specs.List.{AllByRecursion};
+ghost use Rattle.flat_code.specs.Runs.{IsFlat};
+
+use flat_code::{Answer, Check, Face, FaceLabel, Flat, Node, Stop};
+use household::{Codes, Household, read_table};
+use household_session::Session;
+use m_batch::run_batch;
+use m_fixed::{Amount, Op, Value};
+use m_names::Names;
+use m_places::{Name, Seq};
+use m_ports::MemSink;
+use std::alloc::{AllocError, Global};
+use std::test::Fail;
+use std::thread::Threads;
+
+fn number(millionths: i128) -> Value {
+    match Amount::new(millionths) {
+        Some(amount) => Value::Num(amount),
+        None => Value::Over,
+    }
+}
+
+fn program(alloc: Global) -> Result<Flat, AllocError>
+    ensures valid { IfOk result (λ flat. IsFlat flat) }
+    ensures sizes { IfOk result (λ flat. (flat.inputs ≡ 1) × (length flat.outputs ≡ 1)) }
+    ensures labels { IfOk result (λ flat. AllByRecursion (λ check. check.label < 1) flat.checks) }
+{
+    let thousand = number(1_000_000_000);
+    let one = number(1_000_000);
+    let nodes = vec![in alloc;
+        Node::Input(0),
+        Node::Lit(thousand),
+        Node::Do(Op::Sub, 0, 1, 0),
+        Node::Lit(one),
+        Node::Do(Op::Mul, 0, 0, 0),
+    ]?;
+    let checks = vec![in alloc;
+        Check {
+            guard: 3,
+            condition: 4,
+            over_only: true,
+            label: 0
+        },
+    ]?;
+    let outputs = vec![in alloc; 2]?;
+    Ok(Flat {
+        inputs: 1,
+        nodes: Seq::from_vec(nodes),
+        checks: Seq::from_vec(checks),
+        outputs: Seq::from_vec(outputs),
+    })
+}
+
+// A list of one name.
+fn one_name(alloc: Global, name: &[u8]) -> Result<Seq<Name>, AllocError>
+    ensures { IfOk result (λ names. length names ≡ 1) }
+{
+    let mut names = Vec::new(alloc);
+    names.push(Name::new(alloc, name)?)?;
+    Ok(Seq::from_vec(names))
+}
+
+fn one_label(alloc: Global) -> Result<Seq<FaceLabel>, AllocError>
+    ensures { IfOk result (λ labels. length labels ≡ 1) }
+{
+    let mut labels = Vec::new(alloc);
+    labels.push(FaceLabel::DriverLine(2))?;
+    Ok(Seq::from_vec(labels))
+}
+
+fn face(alloc: Global) -> Result<Face, AllocError>
+    ensures { IfOk result (λ face. (length face.inputs ≡ 1) × (length face.labels ≡ 1) × (length face.outputs ≡ 1)) }
+{
+    let inputs = one_name(alloc, b"1AJ")?;
+    let labels = one_label(alloc)?;
+    let outputs = one_name(alloc, b"IRN")?;
+    Ok(Face {
+        inputs,
+        labels,
+        outputs,
+    })
+}
+
+fn codes_of(alloc: Global, names: &[Name]) -> Result<Codes, Fail>
+    ensures { IfOk result (λ codes. codes ≡ names.now) }
+{
+    match Names::of(alloc, names) {
+        Ok(names) => Ok(Codes::new(names)),
+        Err(_) => Err(Fail::from("two codes are one")),
+    }
+}
+
+// A session of the program without amounts.
+fn started(alloc: Global) -> Result<Session, Fail> {
+    let household = Household {
+        pairs: Seq::from_vec(Vec::new(alloc)),
+    };
+    let flat = program(alloc)?;
+    let face = face(alloc)?;
+    let codes = codes_of(alloc, face.inputs.as_slice())?;
+    Ok(Session::start(alloc, flat, face, codes, &household)?)
+}
+
+// Fails, naming the line, where anything but its reply is written.
+fn check_line(alloc: Global, session: &mut Session, line: &[u8], reply: &[u8]) -> Result<(), Fail> {
+    let mut out = MemSink::new(alloc, 7, Vec::new(alloc))?;
+    let given = session.command(line, &mut out).is_ok();
+    if given && out.written() == reply {
+        return Ok(());
+    }
+    let text = str::from_utf8(line).unwrap_or("no text");
+    Err(Fail::from(format!(in alloc; "another reply to {text}")?))
+}
+
+/// Lines of one session in order, each with its reply.
+const LINES: [(&[u8], &[u8]); 30] = [
+    (b"show", b"IRN = -1000\n.\n"),
+    (b"set 1AJ 2500.5", b"ok\n"),
+    (b"show", b"IRN = 1500.5\n.\n"),
+    (b"  set   1AJ  2500.5 ", b"ok\n"),
+    (b"show\r", b"IRN = 1500.5\n.\n"),
+    (b"set 1AJ x", b"refused bad amount\n"),
+    (b"set 9ZZ 1", b"refused unknown code\n"),
+    (b"set 9ZZ x", b"refused unknown code\n"),
+    (b"clear 9ZZ", b"refused unknown code\n"),
+    (b"show", b"IRN = 1500.5\n.\n"),
+    (b"list", b"refused bad command\n"),
+    (b"set", b"refused bad command\n"),
+    (b"set 1AJ", b"refused bad command\n"),
+    (b"set 1AJ 1 2", b"refused bad command\n"),
+    (b"clear", b"refused bad command\n"),
+    (b"clear 1AJ 1", b"refused bad command\n"),
+    (b"show 1AJ", b"refused bad command\n"),
+    (b"SHOW", b"refused bad command\n"),
+    (b"set\t1AJ 1", b"refused bad command\n"),
+    (b"show\r\r", b"refused bad command\n"),
+    (b"", b""),
+    (b"   ", b""),
+    (b" \r", b""),
+    (b"clear 1AJ\r", b"ok\n"),
+    (b"show", b"IRN = -1000\n.\n"),
+    (b"clear 1AJ", b"ok\n"),
+    (b"set 1AJ 10000000000000", b"ok\n"),
+    (b"show", b"over driver line 2\n.\n"),
+    (b"set 1AJ -0.5", b"ok\n"),
+    (b"show", b"IRN = -1000.5\n.\n"),
+];
+
+#[test]
+fn lines(rt: HostRuntime) -> Result<(), Fail> {
+    let mut session = started(rt.alloc())?;
+    for (line, reply) in LINES {
+        check_line(rt.alloc(), &mut session, line, reply)?;
+    }
+    Ok(())
+}
+
+// A line of this byte, with a carriage return at its end.
+fn long_line(alloc: Global, byte: u8, bytes: usize) -> Result<Vec<u8>, AllocError> {
+    let mut line = vec![in alloc; byte; bytes]?;
+    line.push(b'\r')?;
+    Ok(line)
+}
+
+/// Lines by their byte and how often it stands before the carriage return, and their replies.
+const LONG: [(u8, usize, &[u8]); 4] = [
+    (b'a', 4_095, b"refused bad command\n"),
+    (b'a', 4_096, b"refused line too long\n"),
+    (b' ', 4_095, b""),
+    (b' ', 4_096, b"refused line too long\n"),
+];
+
+#[test]
+fn long_lines(rt: HostRuntime) -> Result<(), Fail> {
+    let mut session = started(rt.alloc())?;
+    for (byte, bytes, reply) in LONG {
+        let line = long_line(rt.alloc(), byte, bytes)?;
+        check_line(rt.alloc(), &mut session, &line, reply)?;
+    }
+    Ok(())
+}
+
+#[test]
+fn failed_writes(rt: HostRuntime) -> Result<(), Fail> {
+    let mut session = started(rt.alloc())?;
+    let failing = vec![in rt.alloc(); 2]?;
+    let mut out = MemSink::new(rt.alloc(), 1, failing)?;
+    let set = session.set(b"1AJ", b"3").is_ok();
+    let failed = session.command(b"set 1AJ 5", &mut out).is_err();
+    let shown = session.show(&mut out).is_ok();
+    assert!(rt; set && failed && shown);
+    assert_eq!(rt; out.written(), b"oIRN = -995\n.\n".as_slice());
+    Ok(())
+}
+
+// A value by its millionths, or -1 where it has none.
+fn millionths(value: Value) -> i128 {
+    match value {
+        Value::Num(amount) => amount.millionths(),
+        _ => -1,
+    }
+}
+
+// The answers in one text: the millionths of each value, or what ended the run.
+fn told(alloc: Global, answers: &[Answer]) -> Result<Vec<u8>, Fail> {
+    let mut text = Vec::new(alloc);
+    for answer in answers {
+        match answer {
+            Answer::Values(values) => {
+                for value in values.as_slice() {
+                    let shown = format!(in alloc; "{};", millionths(*value))?;
+                    text.extend_from_slice(shown.as_bytes())?;
+                }
+            }
+            Answer::Stopped(Stop::Over(0)) => text.extend_from_slice(b"over;")?,
+            Answer::Stopped(_) => text.extend_from_slice(b"stopped;")?,
+        }
+    }
+    Ok(text)
+}
+
+fn batch<R: Threads + Sync>(rt: &R, alloc: Global, bytes: &[u8]) -> Result<Vec<u8>, Fail> {
+    let flat = program(alloc)?;
+    let face = face(alloc)?;
+    let codes = codes_of(alloc, face.inputs.as_slice())?;
+    let rows = read_table(alloc, bytes, &codes)?;
+    let answers = run_batch(rt, alloc, &flat, rows.as_slice())?;
+    told(alloc, answers.as_slice())
+}
+
+#[test]
+fn batches(rt: HostRuntime) -> Result<(), Fail> {
+    let text = batch(
+        &rt,
+        rt.alloc(),
+        b"name,1AJ\na,2500.5\nb,10000000000000\nc,\nd,-7\n",
+    )?;
+    assert_eq!(rt;
+        text.as_slice(),
+        b"1500500000;over;-1000000000;-1007000000;".as_slice()
+    );
+    let text = batch(&rt, rt.alloc(), b"name,1AJ\n")?;
+    assert!(rt; text.is_empty());
+    Ok(())
+}

@@ -1,0 +1,134 @@
+-- The lines of an input and the replies to them, from one line to the next, and by the bytes in front of the next line feed.
+use Rattle.std.proofs.Common.{◌≡◌, ◌≢◌, ℕ, ◌+◌, ◌<◌, ◌≤◌, zero, suc, Bool, true, false, eqb, List, [], ◌∷◌, ◌++◌, length, length-append, append-nil, refl, sym, ap, ◌∙◌, arith}
+use Rattle.std.specs.Prelude.{codes, nat_le}
+use Rattle.std.specs.List.{AllByRecursion}
+use Rattle.std.proofs.lemmas.Bool.{ne_eqb, lt-leb}
+use Rattle.m_places.specs.declared.limits.TheConstants.{SESSION_LINE_BYTES}
+use Rattle.m_text.specs.Bytes.{line_feed}
+use Rattle.m_text.specs.Lines.{onto_first, without_return}
+use Rattle.household_session.specs.Sessions.{Sitting, line}
+use Rattle.household_session.specs.Commands.{Command, too_long, command_of, words_command, words_of}
+use Rattle.household_session.specs.Replies.{command_reply, after_command, reply_of, after_line, input_lines, onto_ended, ended_lines, replies_to, replies_of, IsUnended}
+
+-- ---- a line that ends
+
+ended_first : (byte : ℕ) (bytes first : List ℕ) (lines : List (List ℕ)) → byte ≢ 10 → input_lines bytes ≡ first ∷ lines → input_lines (byte ∷ bytes) ≡ (byte ∷ first) ∷ lines
+ended_first byte bytes first lines other is = rw (ne_eqb byte 10 other) (ap (onto_first byte) is)
+
+ended_next : (byte : ℕ) (bytes first : List ℕ) (lines : List (List ℕ)) → byte ≢ 10 → ended_lines bytes ≡ first ∷ lines → ended_lines (byte ∷ bytes) ≡ (byte ∷ first) ∷ lines
+ended_next byte bytes first lines other is = rw (ne_eqb byte 10 other) (ap (onto_ended byte) is)
+
+pub input_lines-line : (first rest : List ℕ) → IsUnended first → input_lines (first ++ line_feed ∷ rest) ≡ first ∷ input_lines rest
+input_lines-line [] rest free = refl
+input_lines-line (byte ∷ bytes) rest free = ended_first byte (bytes ++ line_feed ∷ rest) bytes (input_lines rest) free.0 (input_lines-line bytes rest free.1)
+
+pub ended_lines-line : (first rest : List ℕ) → IsUnended first → ended_lines (first ++ line_feed ∷ rest) ≡ first ∷ ended_lines rest
+ended_lines-line [] rest free = refl
+ended_lines-line (byte ∷ bytes) rest free = ended_next byte (bytes ++ line_feed ∷ rest) bytes (ended_lines rest) free.0 (ended_lines-line bytes rest free.1)
+
+-- ---- bytes in front of the next line feed
+
+-- lines with bytes in front of the first of them
+abbrev pub in_front : List ℕ → List (List ℕ) → List (List ℕ)
+in_front bytes [] = bytes ∷ []
+in_front bytes (first ∷ lines) = (bytes ++ first) ∷ lines
+
+abbrev pub in_front_ended : List ℕ → List (List ℕ) → List (List ℕ)
+in_front_ended bytes [] = []
+in_front_ended bytes (first ∷ lines) = (bytes ++ first) ∷ lines
+
+one_in_front : (byte : ℕ) (lines : List (List ℕ)) → onto_first byte lines ≡ in_front (byte ∷ []) lines
+one_in_front byte [] = refl
+one_in_front byte (first ∷ lines) = refl
+
+more_in_front : (byte : ℕ) (bytes : List ℕ) (lines : List (List ℕ)) → onto_first byte (in_front bytes lines) ≡ in_front (byte ∷ bytes) lines
+more_in_front byte bytes [] = refl
+more_in_front byte bytes (first ∷ lines) = refl
+
+more_in_front_ended : (byte : ℕ) (bytes : List ℕ) (lines : List (List ℕ)) → onto_ended byte (in_front_ended bytes lines) ≡ in_front_ended (byte ∷ bytes) lines
+more_in_front_ended byte bytes [] = refl
+more_in_front_ended byte bytes (first ∷ lines) = refl
+
+none_in_front : (lines : List (List ℕ)) → lines ≡ in_front_ended [] lines
+none_in_front [] = refl
+none_in_front (first ∷ lines) = refl
+
+at_other : (byte : ℕ) (bytes : List ℕ) → byte ≢ 10 → input_lines (byte ∷ bytes) ≡ onto_first byte (input_lines bytes)
+at_other byte bytes other = rw (ne_eqb byte 10 other) refl
+
+at_other_ended : (byte : ℕ) (bytes : List ℕ) → byte ≢ 10 → ended_lines (byte ∷ bytes) ≡ onto_ended byte (ended_lines bytes)
+at_other_ended byte bytes other = rw (ne_eqb byte 10 other) refl
+
+pub input_lines-front : (front rest : List ℕ) → IsUnended front → 0 < length front → input_lines (front ++ rest) ≡ in_front front (input_lines rest)
+input_lines-front [] rest free some = absurd (omega arith)
+input_lines-front (byte ∷ []) rest free some = at_other byte rest free.0 ∙ one_in_front byte (input_lines rest)
+input_lines-front (byte ∷ next ∷ bytes) rest free some =
+    at_other byte (next ∷ bytes ++ rest) free.0 ∙ ap (onto_first byte) (input_lines-front (next ∷ bytes) rest free.1 (omega arith))
+    ∙ more_in_front byte (next ∷ bytes) (input_lines rest)
+
+pub ended_lines-front : (front rest : List ℕ) → IsUnended front → ended_lines (front ++ rest) ≡ in_front_ended front (ended_lines rest)
+ended_lines-front [] rest free = none_in_front (ended_lines rest)
+ended_lines-front (byte ∷ bytes) rest free =
+    at_other_ended byte (bytes ++ rest) free.0 ∙ ap (onto_ended byte) (ended_lines-front bytes rest free.1) ∙ more_in_front_ended byte bytes (ended_lines rest)
+
+-- what no line feed ends is one line, and none that is ended
+pub input_lines-last : (bytes : List ℕ) → IsUnended bytes → 0 < length bytes → input_lines bytes ≡ bytes ∷ []
+input_lines-last bytes free some = ap input_lines (sym (append-nil bytes)) ∙ input_lines-front bytes [] free some
+
+pub ended_lines-last : (bytes : List ℕ) → IsUnended bytes → ended_lines bytes ≡ []
+ended_lines-last bytes free = ap ended_lines (sym (append-nil bytes)) ∙ ended_lines-front bytes [] free
+
+-- ---- the replies
+
+-- the replies to an input are that to its first line, and those to the rest of it
+pub replies-line : (sitting : Sitting) (first rest : List ℕ) → IsUnended first
+    → replies_of sitting (first ++ line_feed ∷ rest) ≡ reply_of sitting first ++ replies_of (after_line sitting first) rest
+replies-line sitting first rest free = ap (replies_to sitting) (input_lines-line first rest free)
+
+pub replies-ended : (sitting : Sitting) (first rest : List ℕ) → IsUnended first
+    → replies_to sitting (ended_lines (first ++ line_feed ∷ rest)) ≡ reply_of sitting first ++ replies_to (after_line sitting first) (ended_lines rest)
+replies-ended sitting first rest free = ap (replies_to sitting) (ended_lines-line first rest free)
+
+-- a last line that lacks its line feed is replied to as another
+pub replies-last : (sitting : Sitting) (bytes : List ℕ) → IsUnended bytes → 0 < length bytes → replies_of sitting bytes ≡ reply_of sitting bytes
+replies-last sitting bytes free some = ap (replies_to sitting) (input_lines-last bytes free some) ∙ append-nil (reply_of sitting bytes)
+
+-- what is too long asks for nothing that can be done
+too_long_asks : (bytes : List ℕ) → SESSION_LINE_BYTES < length bytes → command_of bytes ≡ too_long
+too_long_asks bytes long = rw (lt-leb (length bytes) SESSION_LINE_BYTES long) refl
+
+long_in_front : (front first : List ℕ) → SESSION_LINE_BYTES < length front → SESSION_LINE_BYTES < length (front ++ first)
+long_in_front front first long = omega (arith, long, length-append front first)
+
+same_said : (sitting : Sitting) (c d : Command) (lines : List (List ℕ)) → c ≡ d
+    → command_reply sitting c ++ replies_to (after_command sitting c) lines ≡ command_reply sitting d ++ replies_to (after_command sitting d) lines
+same_said sitting c d lines same = ap (λ e. command_reply sitting e ++ replies_to (after_command sitting e) lines) same
+
+-- Of a line that is too long it doesn't matter which bytes it has.
+long_alike : (sitting : Sitting) (one other : List ℕ) (lines : List (List ℕ)) → SESSION_LINE_BYTES < length one → SESSION_LINE_BYTES < length other
+    → replies_to sitting (one ∷ lines) ≡ replies_to sitting (other ∷ lines)
+long_alike sitting one other lines long longer = same_said sitting (command_of one) (command_of other) lines (too_long_asks one long ∙ sym (too_long_asks other longer))
+
+fronts_alike : (sitting : Sitting) (one other : List ℕ) (lines : List (List ℕ)) → SESSION_LINE_BYTES < length one → SESSION_LINE_BYTES < length other
+    → replies_to sitting (in_front one lines) ≡ replies_to sitting (in_front other lines)
+fronts_alike sitting one other [] long longer = long_alike sitting one other [] long longer
+fronts_alike sitting one other (first ∷ lines) long longer =
+    long_alike sitting (one ++ first) (other ++ first) lines (long_in_front one first long) (long_in_front other first longer)
+
+ended_fronts_alike : (sitting : Sitting) (one other : List ℕ) (lines : List (List ℕ)) → SESSION_LINE_BYTES < length one → SESSION_LINE_BYTES < length other
+    → replies_to sitting (in_front_ended one lines) ≡ replies_to sitting (in_front_ended other lines)
+ended_fronts_alike sitting one other [] long longer = refl
+ended_fronts_alike sitting one other (first ∷ lines) long longer =
+    long_alike sitting (one ++ first) (other ++ first) lines (long_in_front one first long) (long_in_front other first longer)
+
+pub replies-long : (sitting : Sitting) (one other rest : List ℕ) → IsUnended one → IsUnended other → SESSION_LINE_BYTES < length one → SESSION_LINE_BYTES < length other
+    → replies_of sitting (one ++ rest) ≡ replies_of sitting (other ++ rest)
+replies-long sitting one other rest free freed long longer =
+    ap (replies_to sitting) (input_lines-front one rest free (omega (arith, long))) ∙ fronts_alike sitting one other (input_lines rest) long longer
+    ∙ sym (ap (replies_to sitting) (input_lines-front other rest freed (omega (arith, longer))))
+
+pub replies_ended-long : (sitting : Sitting) (one other rest : List ℕ) → IsUnended one → IsUnended other → SESSION_LINE_BYTES < length one → SESSION_LINE_BYTES < length other
+    → replies_to sitting (ended_lines (one ++ rest)) ≡ replies_to sitting (ended_lines (other ++ rest))
+replies_ended-long sitting one other rest free freed long longer =
+    ap (replies_to sitting) (ended_lines-front one rest free) ∙ ended_fronts_alike sitting one other (ended_lines rest) long longer
+    ∙ sym (ap (replies_to sitting) (ended_lines-front other rest freed))
