@@ -1,7 +1,7 @@
 -- The first nodes, and the answer at the end.
-use Rattle.std.proofs.Common.{◌≡◌, ℕ, zero, suc, ◌+◌, ◌-◌, ◌^◌, ◌<◌, ◌≤◌, Bool, true, false, cond, List, [], ◌∷◌, ◌++◌, map, take, drop, length, get_or, slice_get, replicate, Option, Some, None, refl, inr, sym, ap, ◌∙◌, subst, arith, pos, length-append}
+use Rattle.std.proofs.Common.{◌≡◌, ℕ, zero, suc, ◌+◌, ◌<◌, ◌≤◌, Bool, true, false, cond, List, [], ◌∷◌, ◌++◌, map, take, drop, length, get_or, slice_get, replicate, Option, Some, None, refl, inr, sym, ap, ◌∙◌, subst, arith, pos, length-append}
 use mathlib.Core.Bool.{◌||◌}
-use Rattle.std.specs.List.{AllByRecursion, All}
+use Rattle.std.specs.List.{AllByRecursion}
 use Rattle.std.specs.Option.{option_or, option_map_or}
 use Rattle.std.specs.Prelude.{option_map}
 use Rattle.std.proofs.lemmas.List.{map-append, get_or-map, length-map}
@@ -19,14 +19,14 @@ use Rattle.micro_m.specs.declared.base.Base.{Base}
 use Rattle.driver_core.specs.declared.program.Core.{Core}
 use Rattle.micro_m.specs.Values.{environment}
 use Rattle.flat_code.specs.declared.answer.Stop.{Stop}
-use Rattle.flat_code.specs.declared.answer.Stop.TheVariants.{Failed, Over}
+use Rattle.flat_code.specs.declared.answer.Stop.TheVariants.{Failed}
 use Rattle.flat_code.specs.declared.answer.Answer.TheVariants.{Values, Stopped}
 use Rattle.flat_code.specs.declared.program.Node.{Node}
 use Rattle.flat_code.specs.declared.program.Node.TheVariants.{Lit}
 use Rattle.flat_code.specs.declared.program.Check.{Check}
 use Rattle.flat_code.specs.declared.face.FaceLabel.{FaceLabel}
 use Rattle.flat_code.specs.declared.face.FaceLabel.TheVariants.{Verif, DriverLine}
-use Rattle.flat_code.specs.Answers.{Cause, values, stopped, label_number, cause_of, told_of}
+use Rattle.flat_code.specs.Answers.{Cause, stopped, label_number, cause_of, told_of}
 use Rattle.flat_code.specs.Runs.{IsCheck, AreNodes, node_values, is_one, stop_of as stop_at, check_stop, first_stop}
 use Rattle.driver_core.specs.Answers.{first_value, next_input, start_from, told_by}
 use Rattle.driver_core.specs.Meaning.{Env, Outcome, then_do}

@@ -1,5 +1,5 @@
 -- A flat program that grows: what stays, and what a node or a check adds.
-use Rattle.std.proofs.Common.{◌≡◌, ℕ, suc, ◌+◌, ◌<◌, ◌≤◌, Bool, List, [], ◌∷◌, ◌++◌, length, get_or, set, refl, sym, ap, ◌∙◌, subst, arith, length-append}
+use Rattle.std.proofs.Common.{◌≡◌, ℕ, ◌+◌, ◌<◌, ◌≤◌, Bool, List, [], ◌∷◌, ◌++◌, length, get_or, set, refl, sym, ap, ◌∙◌, subst, arith, length-append}
 use Rattle.std.specs.List.{AllByRecursion}
 use Rattle.std.proofs.Math.ListN.{get_or-map, get_or-append}
 use Rattle.std.proofs.Math.Seq.{get_or-append_seam}
@@ -8,15 +8,14 @@ use Rattle.std.specs.Option.{option_or}
 use Rattle.m_fixed.specs.declared.amount.Value.{Value}
 use Rattle.m_fixed.specs.declared.amount.Value.TheVariants.{Undef}
 use Rattle.m_places.specs.declared.verification.Label.{Label}
-use Rattle.micro_m.specs.Values.{environment}
 use Rattle.flat_code.specs.declared.program.Node.{Node}
-use Rattle.flat_code.specs.declared.program.Node.TheVariants.{Lit, Do}
+use Rattle.flat_code.specs.declared.program.Node.TheVariants.{Lit}
 use Rattle.flat_code.specs.declared.program.Check.{Check}
 use Rattle.flat_code.specs.declared.face.FaceLabel.{FaceLabel}
 use Rattle.flat_code.specs.declared.face.FaceLabel.TheVariants.{Verif, DriverLine}
 use Rattle.flat_code.specs.Runs.{IsNode, AreNodes, entry_of, values_for, node_values, first_stop}
 use Rattle.mpp_inline.specs.declared.builder.Builder.{Builder}
-use Rattle.mpp_inline.specs.inner.Growth.{count, faces, face, at, stop_of, stop_read, denoted, outcome_of, run, IsCheckWithin, Sane, Known, Pushed, Checked, CheckedRule, CheckedLine, HasFaces, Longer, Grows, Along, Gives, TermStep}
+use Rattle.mpp_inline.specs.inner.Growth.{count, faces, face, at, stop_of, stop_read, denoted, outcome_of, run, IsCheckWithin, Sane, Known, Pushed, Checked, CheckedRule, CheckedLine, HasFaces, Longer, Grows, Gives, TermStep}
 use Rattle.mpp_inline.proofs.ListLemmas.{all-get, all-set, all-more, all-append, map-same}
 use Rattle.mpp_inline.proofs.RunLemmas.{value-kept, value-new, stop-kept, stop-push, read-or, face_fired, read-fired, read-kept}
 

@@ -1,5 +1,5 @@
 -- Definitions computed in an order give the values of the base, so a driver runs the same over both.
-use Rattle.std.proofs.Common.{◌≡◌, ℕ, zero, suc, ◌+◌, ◌<◌, Bool, true, false, cond, List, [], ◌∷◌, length, get_or, set, slice_get, Option, Some, None, refl, sym, ap, ◌∙◌, subst, arith, add-one}
+use Rattle.std.proofs.Common.{◌≡◌, ℕ, zero, suc, ◌+◌, ◌<◌, Bool, true, false, cond, List, [], ◌∷◌, length, set, slice_get, Option, Some, None, refl, sym, ap, ◌∙◌, subst, arith, add-one}
 use Rattle.std.specs.Prelude.{option_and_then, option_map}
 use Rattle.std.specs.List.{All}
 use Rattle.std.specs.Option.{option_or}
@@ -14,7 +14,7 @@ use Rattle.micro_m.specs.declared.base.Base.{Base}
 use Rattle.micro_m.specs.declared.base.Failure.{Failure}
 use Rattle.micro_m.specs.declared.base.Failure.TheVariants.{Failed, Over as OverCheck}
 use Rattle.micro_m.specs.Bases.{IsValidBase, target_at, term_at}
-use Rattle.micro_m.specs.Values.{Environment, environment, term_value, value_of}
+use Rattle.micro_m.specs.Values.{environment, term_value, value_of}
 use Rattle.micro_m.specs.Failures.{Check, failure_of, failure_among, first_failure}
 use Rattle.rule_order.specs.Orders.{IsOrder}
 use Rattle.rule_order.proofs.ValueLemmas.{filled, filled-values, failure_among-same}
@@ -23,7 +23,7 @@ use Rattle.driver_core.specs.declared.program.Core.{Core}
 use Rattle.driver_core.specs.Actions.{Action, assign, clear, branch, partition, call, solve, Block, no_actions, an_action}
 use Rattle.driver_core.specs.Valid.{body_among}
 use Rattle.driver_core.specs.Meaning.{Env, Outcome, goes, stops, then_do, with_values, without, formula_value, chosen_block, failure_cause, unless_stopped, rules_run, run_of, action_run, block_run, called}
-use Rattle.mpp_inline.specs.inner.Growth.{judged, checked, computed, rules_in_turn}
+use Rattle.mpp_inline.specs.inner.Growth.{checked, computed, rules_in_turn}
 use Rattle.mpp_inline.proofs.ListLemmas.{with-same, length-with}
 
 -- ---- the rules

@@ -1,5 +1,5 @@
 -- The values of nodes, and the first stop, as a flat program grows.
-use Rattle.std.proofs.Common.{◌≡◌, ℕ, zero, suc, ◌+◌, ◌<◌, Bool, true, false, cond, List, [], ◌∷◌, ◌++◌, length, get_or, Option, Some, None, refl, sym, ap, ◌∙◌, arith, length-append}
+use Rattle.std.proofs.Common.{◌≡◌, ℕ, ◌<◌, Bool, true, false, cond, List, [], ◌∷◌, ◌++◌, length, get_or, Option, Some, None, refl, sym, ap, ◌∙◌, arith}
 use mathlib.Core.Bool.{◌||◌}
 use Rattle.std.specs.List.{AllByRecursion}
 use Rattle.std.specs.Option.{option_or}
@@ -18,7 +18,7 @@ use Rattle.flat_code.specs.declared.face.FaceLabel.TheVariants.{Verif, DriverLin
 use Rattle.flat_code.specs.Answers.{Cause, cause_of}
 use Rattle.flat_code.specs.Runs.{entry_of, values_for, node_values, is_one, stop_of, check_stop, first_stop}
 use Rattle.flat_code.proofs.RunLemmas.{length-node_values}
-use Rattle.mpp_inline.specs.inner.Growth.{read_stop, stop_read, IsCheckWithin}
+use Rattle.mpp_inline.specs.inner.Growth.{stop_read, IsCheckWithin}
 
 -- values
 pub values-push : (inputs : List Value) (ns : List Node) (n : Node) → node_values inputs (ns ++ n ∷ []) ≡ node_values inputs ns ++ entry_of (values_for inputs) (node_values inputs ns) n ∷ []

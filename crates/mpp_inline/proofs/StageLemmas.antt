@@ -1,6 +1,5 @@
 -- Stages: the run so far against the meaning so far.
 use Rattle.std.proofs.Common.{length, ◌≡◌, ℕ, ◌<◌, Bool, true, false, cond, List, [], ◌∷◌, get_or, set, slice_get, Option, Some, None, ◌⊎◌, inl, inr, ⊎_elim, not, refl, sym, ap, ◌∙◌, arith, ℤ, pos}
-use mathlib.Core.Bool.{◌||◌}
 use Rattle.std.specs.Option.{option_or}
 use Rattle.std.specs.Prelude.{option_and_then, option_map}
 use Rattle.std.proofs.lemmas.List.{map-set, set-get_or}
@@ -10,14 +9,13 @@ use Rattle.m_fixed.specs.declared.amount.Value.TheVariants.{Undef, Num, Over}
 use Rattle.m_fixed.specs.declared.operator.Op.TheVariants.{Choose, Truth}
 use Rattle.m_fixed.specs.Operators.{op_value, is_zero, truth, truth_of, chosen}
 use Rattle.m_places.specs.declared.verification.Label.{Label}
-use Rattle.micro_m.specs.declared.base.Base.{Base}
-use Rattle.micro_m.specs.Failures.{Check, failure_of}
+use Rattle.micro_m.specs.Failures.{Check}
 use Rattle.micro_m.specs.declared.base.Failure.TheVariants.{Failed}
 use Rattle.micro_m.specs.Values.{Environment, environment, term_value}
 use Rattle.flat_code.specs.declared.program.Node.TheVariants.{Do}
 use Rattle.flat_code.specs.declared.face.FaceLabel.{FaceLabel}
 use Rattle.flat_code.specs.declared.face.FaceLabel.TheVariants.{Verif, DriverLine}
-use Rattle.flat_code.specs.Answers.{Cause, failed, over, over_driver}
+use Rattle.flat_code.specs.Answers.{Cause, failed, over}
 use Rattle.driver_core.specs.Meaning.{Env, Outcome, goes, stops, then_do, chosen_block, with_values, failure_cause, unless_stopped}
 use Rattle.mpp_inline.specs.declared.builder.Builder.{Builder}
 use Rattle.mpp_inline.specs.inner.Cells.{picked, written, received}

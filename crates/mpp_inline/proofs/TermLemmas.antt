@@ -1,5 +1,5 @@
 -- Terms as nodes: operators, folds and arguments.
-use Rattle.std.proofs.Common.{◌≡◌, ℕ, zero, suc, ◌+◌, ◌*◌, ◌<◌, ◌≤◌, List, [], ◌∷◌, length, get_or, refl, sym, ap, ◌∙◌, arith}
+use Rattle.std.proofs.Common.{◌≡◌, ℕ, zero, suc, ◌+◌, ◌*◌, ◌<◌, ◌≤◌, List, [], ◌∷◌, length, get_or, refl, ap, ◌∙◌, arith}
 use denote.Param.Weighed.{most}
 use Rattle.m_fixed.specs.declared.amount.Value.{Value}
 use Rattle.m_fixed.specs.declared.amount.Value.TheVariants.{Undef}
@@ -14,7 +14,7 @@ use Rattle.driver_core.specs.FormulaView.{formulas_of, steps_of}
 use Rattle.driver_core.specs.Meaning.{formula_value, formula_values}
 use Rattle.mpp_inline.specs.declared.builder.Builder.{Builder}
 use Rattle.mpp_inline.specs.inner.Growth.{count, at, denoted, Sane, Known, Pushed, Along, Gives, TermStep}
-use Rattle.mpp_inline.proofs.GrowthLemmas.{grows-none, grows-then, longer-then, known-on, denoted-on, pushed-within, pushed-value, pushed-grows, gives-pushed, gives-same}
+use Rattle.mpp_inline.proofs.GrowthLemmas.{grows-none, grows-then, longer-then, known-on, denoted-on, pushed-within, pushed-value, pushed-grows, gives-pushed}
 
 -- an operator on nodes
 pub do-step : {b c : Builder} {op : Op} {i j k n : ℕ} → Pushed b c (Do op i j k) n → i < count b → j < count b → k < count b → Sane b → Gives b c (λ inputs. op_value op (at b inputs i) (at b inputs j) (at b inputs k)) n

@@ -110,13 +110,7 @@ fn input_behind(role: &Role, next: u32, inputs: u32) -> u32
     ensures { InputIsThere inputs next role.now → result ≡ next_input next role.now }
 {
     match role {
-        Role::Input(_) => {
-            if next < inputs {
-                next + 1
-            } else {
-                next
-            }
-        }
+        Role::Input(_) => { if next < inputs { next + 1 } else { next } }
         Role::Computed(_) => next,
         Role::Constant(_) => next,
     }

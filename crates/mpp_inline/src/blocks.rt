@@ -144,7 +144,16 @@ fn begin_command<'a>(
             Ok(guard)
         }
         CCommandNode::Call(line, cells, function) => {
-            begin_call(alloc, env, core, left, depth, *line, cells.as_slice(), *function)?;
+            begin_call(
+                alloc,
+                env,
+                core,
+                left,
+                depth,
+                *line,
+                cells.as_slice(),
+                *function,
+            )?;
             Ok(guard)
         }
         CCommandNode::Rules(_, cells) => {

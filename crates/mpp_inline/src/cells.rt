@@ -26,11 +26,7 @@ pub fn put(env: &mut [u32], cell: u32, number: u32)
 }
 
 /// These cells with their nodes.
-pub fn pick_cells(
-    alloc: Global,
-    env: &[u32],
-    cells: &[u32],
-) -> Result<Vec<(u32, u32)>, AllocError>
+pub fn pick_cells(alloc: Global, env: &[u32], cells: &[u32]) -> Result<Vec<(u32, u32)>, AllocError>
     ensures { IfOk result (λ entries. entries.items ≡ picked 0 cells.now env.now) }
 {
     let mut entries = Vec::new(alloc);

@@ -68,12 +68,7 @@ fn emit_argument(
 
 /// A left fold, gone on with from a node so far.
 #[cycle(formulas)]
-fn emit_steps(
-    b: &mut Builder,
-    env: &[u32],
-    so_far: u32,
-    steps: &[CStep],
-) -> Result<u32, AllocError>
+fn emit_steps(b: &mut Builder, env: &[u32], so_far: u32, steps: &[CStep]) -> Result<u32, AllocError>
     ensures { IfOk result (λ k. Sane b.old → Known b.old env.now → so_far < count b.old
         → Gives b.old b.new
         (λ inputs. steps_value (environment (denoted b.old inputs env.now)) (at b.old inputs so_far) (steps_of steps.now)) k) }
@@ -105,21 +100,11 @@ fn emit_present(b: &mut Builder, env: &[u32], cell: u32) -> Result<u32, AllocErr
     ensures { IfOk result (λ k. Sane b.old → Known b.old env.now
         → TermStep b.old b.new env.now (λ e. present_in e cell) k) }
 {
-    b.push(Node::Do(
-        Op::Present,
-        look(env, cell as usize),
-        UNDEF,
-        UNDEF,
-    ))
+    b.push(Node::Do(Op::Present, look(env, cell as usize), UNDEF, UNDEF))
 }
 
 /// So far, or one of these cells is defined.
-fn emit_further(
-    b: &mut Builder,
-    env: &[u32],
-    so_far: u32,
-    cells: &[u32],
-) -> Result<u32, AllocError>
+fn emit_further(b: &mut Builder, env: &[u32], so_far: u32, cells: &[u32]) -> Result<u32, AllocError>
     ensures { IfOk result (λ k. Sane b.old → Known b.old env.now → so_far < count b.old
         → Gives b.old b.new
         (λ inputs. present_or (environment (denoted b.old inputs env.now)) (at b.old inputs so_far) cells.now) k) }

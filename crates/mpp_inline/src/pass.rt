@@ -17,8 +17,10 @@ use crate::begin::{first_cells, first_nodes, outputs_of};
 use crate::blocks::emit_all;
 use crate::builder::{Builder, MOST};
 use driver_core::Core;
+use driver_weight::weight;
 use flat_code::{FaceLabel, Flat};
 use m_places::Seq;
+use m_places::limits::DRIVER_WEIGHT;
 use m_symbols::Symbols;
 use micro_m::Base;
 use rule_order::Ordered;
@@ -45,7 +47,12 @@ pub fn inline(
         × IsInlined core.now ordered.now.base symbols.now requests.now made.0 made.1)
         (IsTooLarge core.now ordered.now.base) }
 {
-    Err(InlineFault::Memory)
+    let weight = weight(alloc, core, &ordered.base)?;
+    if weight > DRIVER_WEIGHT {
+        return Err(InlineFault::DriverTooLarge(weight));
+    }
+    let made = flat_program(alloc, core, ordered, symbols, requests)?;
+    Ok(made)
 }
 
 /// The same, whatever the driver weighs. It gives up as for want of memory where it comes to more than 100,000,000 nodes,
@@ -99,7 +106,10 @@ fn finished(
         → IsInlined core base.now declared requests made.0 made.1) }
 {
     let first = base.labels.as_slice().len();
-    if b.nodes.len() > MOST || b.checks.len() > MOST || b.labels.len().saturating_sub(first) > MOST {
+    if b.nodes.len() > MOST
+        || b.checks.len() > MOST
+        || b.labels.len().saturating_sub(first) > MOST
+    {
         return Err(AllocError);
     }
     let Builder {

@@ -36,11 +36,7 @@ fn pick_defined(
 }
 
 /// Each definition in turn.
-fn emit_definitions(
-    b: &mut Builder,
-    env: &mut [u32],
-    ordered: &Ordered,
-) -> Result<(), AllocError>
+fn emit_definitions(b: &mut Builder, env: &mut [u32], ordered: &Ordered) -> Result<(), AllocError>
     requires { IsOrder ordered.now.base ordered.now.sequence }
     ensures step { OnOk result (Sane b.old → Known b.old env.old
         → Computed b.old b.new env.old env.new (λ e. e) (computed ordered.now.base ordered.now.sequence)) }

@@ -89,12 +89,7 @@ fn emit_argument(
 
 /// A left fold, gone on with from a node so far.
 #[cycle(terms)]
-fn emit_steps(
-    b: &mut Builder,
-    env: &[u32],
-    so_far: u32,
-    steps: &[Step],
-) -> Result<u32, AllocError>
+fn emit_steps(b: &mut Builder, env: &[u32], so_far: u32, steps: &[Step]) -> Result<u32, AllocError>
     ensures { IfOk result (λ k. Sane b.old → Known b.old env.now → so_far < count b.old
         → Gives b.old b.new
         (λ inputs. folded (environment (denoted b.old inputs env.now)) (at b.old inputs so_far) (steps_of steps.now)) k) }

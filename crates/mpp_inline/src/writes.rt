@@ -5,8 +5,8 @@ ghost use Rattle.mpp_inline.specs.inner.Growth.{Placed, Held, Merged, count};
 
 use crate::builder::{Builder, ONE};
 use crate::cells::{look, put, write};
-use m_fixed::Op;
 use flat_code::Node;
+use m_fixed::Op;
 use std::alloc::AllocError;
 
 /// The given nodes at their cells where the guard is 1, and no change where it is 0.

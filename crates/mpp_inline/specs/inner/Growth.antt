@@ -1,10 +1,10 @@
 -- What a flat program so far is worth, and what a step adds to it.
-use Rattle.std.specs.Prelude.{◌≡◌, ℕ, zero, suc, ◌+◌, ◌*◌, ◌<◌, ◌≤◌, Bool, true, false, ◌||◌, pos, negsuc, List, [], ◌∷◌, ◌++◌, Option, Some, None, map, length, slice_index_or, slice_set, slice_get, if◌then◌else◌, option_map, option_and_then}
+use Rattle.std.specs.Prelude.{◌≡◌, ℕ, zero, suc, ◌+◌, ◌*◌, ◌<◌, ◌≤◌, Bool, true, false, pos, negsuc, List, [], ◌∷◌, ◌++◌, Option, Some, None, map, length, slice_index_or, slice_set, option_and_then}
 use Rattle.std.specs.List.{AllByRecursion}
 use Rattle.m_fixed.specs.declared.amount.Value.{Value}
 use Rattle.m_fixed.specs.declared.amount.Value.TheVariants.{Undef, Num, Over as OverValue}
 use Rattle.m_fixed.specs.declared.operator.Op.TheVariants.{At, Le}
-use Rattle.m_fixed.specs.Operators.{op_value, is_zero, truth_of, chosen}
+use Rattle.m_fixed.specs.Operators.{op_value, truth_of, chosen}
 use Rattle.m_places.specs.declared.verification.Label.{Label}
 use Rattle.m_ast.specs.declared.variable.Role.{Role}
 use Rattle.m_ast.specs.declared.variable.Role.TheVariants.{Input as InputRole, Computed as ComputedRole, Constant}
@@ -14,12 +14,11 @@ use Rattle.micro_m.specs.Failures.{Check, failure_of}
 use Rattle.micro_m.specs.Values.{Environment, environment, term_value}
 use Rattle.flat_code.specs.declared.answer.Stop.{Stop}
 use Rattle.flat_code.specs.declared.program.Node.{Node}
-use Rattle.flat_code.specs.declared.program.Node.TheVariants.{Input, Lit}
 use Rattle.flat_code.specs.declared.program.Check.{Check as Guarded}
 use Rattle.flat_code.specs.declared.face.FaceLabel.{FaceLabel}
 use Rattle.flat_code.specs.declared.face.FaceLabel.TheVariants.{Verif, DriverLine}
 use Rattle.flat_code.specs.Answers.{Cause, over_driver, label_number, cause_of}
-use Rattle.flat_code.specs.Runs.{IsCheck, AreNodes, node_values, first_stop}
+use Rattle.flat_code.specs.Runs.{AreNodes, node_values, first_stop}
 use Rattle.driver_core.specs.declared.program.Core.{Core}
 use Rattle.driver_core.specs.Actions.{Action, Block}
 use Rattle.driver_core.specs.Meaning.{Env, Outcome, goes, stops, then_do, with_values, unless_stopped, failure_cause, action_run, block_run, called}

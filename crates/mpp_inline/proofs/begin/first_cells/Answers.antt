@@ -1,7 +1,7 @@
-use Rattle.std.proofs.Common.{◌≡◌, ◌+◌, ◌≤◌, suc, ◌∷◌, ◌++◌, drop, length, replicate, sym, ap, ◌∙◌, subst, arith, add-one}
+use Rattle.std.proofs.Common.{◌≡◌, ◌+◌, ◌≤◌, ◌∷◌, drop, length, sym, ap, ◌∙◌, subst, arith, add-one}
 use Rattle.m_symbols.specs.Declarations.{inputs_from}
 use Rattle.driver_core.specs.Answers.{next_input}
-use Rattle.mpp_inline.specs.inner.Growth.{Sane, InputIsThere}
+use Rattle.mpp_inline.specs.inner.Growth.{InputIsThere}
 use Rattle.mpp_inline.proofs.BeginLemmas.{Starting, starting-next, drop-get, inputs-next, input-there}
 use Rattle.mpp_inline.proofs.begin.first_cells.Goals as goal
 

@@ -1,7 +1,6 @@
-use Rattle.std.proofs.Common.{◌≡◌, ℕ, List, [], ◌∷◌, ◌++◌, length, refl, subst, arith}
+use Rattle.std.proofs.Common.{◌≡◌, ℕ, List, [], ◌∷◌, length, refl, subst, arith}
 use Rattle.std.proofs.lemmas.Result.{IfOk-weaker}
 use Rattle.driver_core.specs.Actions.{Action}
-use Rattle.mpp_inline.specs.declared.work.Work.TheVariants.{Run}
 use Rattle.mpp_inline.specs.inner.Work.{Standing, Moves, ahead, block_ahead, whole_of}
 use Rattle.mpp_inline.proofs.WorkLemmas.{first-moves, none-moves}
 use Rattle.mpp_inline.proofs.blocks.begin_block.Goals as goal

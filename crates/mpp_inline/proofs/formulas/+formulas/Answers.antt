@@ -1,14 +1,12 @@
-use Rattle.std.proofs.Common.{◌≡◌, ◌+◌, ◌<◌, ◌∷◌, drop, get_or, sym, ap, ◌∙◌, subst, arith}
+use Rattle.std.proofs.Common.{◌≡◌, ◌+◌, ◌<◌, ◌∷◌, drop, sym, ap, ◌∙◌, subst, arith}
 use Rattle.std.proofs.lemmas.Result.{IfOk-weaker}
-use Rattle.std.proofs.lemmas.List.{drop_all, drop_more}
-use Rattle.m_fixed.specs.declared.amount.Value.TheVariants.{Undef}
-use Rattle.m_fixed.specs.Operators.{op_value}
+use Rattle.std.proofs.lemmas.List.{drop_all}
 use Rattle.micro_m.specs.Values.{environment}
 use Rattle.driver_core.specs.Formulas.{chain, formula_nodes}
 use Rattle.driver_core.specs.FormulaView.{formula_of, formulas_of, steps_of}
 use Rattle.driver_core.specs.Meaning.{formula_value, formula_values, steps_value}
 use Rattle.mpp_inline.proofs.TermLemmas.{formula_values-at, formula_values-past, sizes-fall, terms-fall}
-use Rattle.flat_code.specs.declared.program.Node.TheVariants.{Lit, Do}
+use Rattle.flat_code.specs.declared.program.Node.TheVariants.{Lit}
 use Rattle.mpp_inline.specs.inner.Growth.{count, at, denoted, Sane, Known, Pushed, Along, Gives, TermStep}
 use Rattle.mpp_inline.proofs.ListLemmas.{drop_next}
 use Rattle.mpp_inline.proofs.GrowthLemmas.{gives-lit, gives-same}

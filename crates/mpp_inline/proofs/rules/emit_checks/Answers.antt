@@ -1,4 +1,4 @@
-use Rattle.std.proofs.Common.{◌≡◌, ◌+◌, ◌<◌, [], ◌∷◌, length, get_or, drop, sym, ap, ◌∙◌, subst, arith}
+use Rattle.std.proofs.Common.{◌≡◌, ◌+◌, ◌<◌, [], ◌∷◌, length, get_or, drop, sym, ap, ◌∙◌, subst}
 use Rattle.m_places.specs.declared.verification.Label.{Label}
 use Rattle.m_places.specs.declared.verification.ErrorKind.TheVariants.{Anomalie}
 use Rattle.mpp_inline.specs.inner.Growth.{Stage, checked}

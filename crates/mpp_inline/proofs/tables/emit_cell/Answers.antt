@@ -1,9 +1,8 @@
-use Rattle.std.proofs.Common.{◌<◌, ◌*◌, sym, subst, pos}
+use Rattle.std.proofs.Common.{subst}
 use Rattle.std.proofs.lemmas.Result.{IfOk-weaker}
-use Rattle.m_fixed.specs.declared.amount.Value.TheVariants.{Num}
-use Rattle.m_fixed.specs.declared.operator.Op.TheVariants.{At, Choose}
+use Rattle.m_fixed.specs.declared.operator.Op.TheVariants.{Choose}
 use Rattle.flat_code.specs.declared.program.Node.TheVariants.{Lit, Do}
-use Rattle.mpp_inline.specs.inner.Growth.{count, Pushed}
+use Rattle.mpp_inline.specs.inner.Growth.{Pushed}
 use Rattle.mpp_inline.proofs.TableLemmas.{cell-chosen}
 use Rattle.mpp_inline.proofs.tables.emit_cell.Goals as goal
 

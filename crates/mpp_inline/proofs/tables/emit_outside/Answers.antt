@@ -1,6 +1,6 @@
 use Rattle.std.proofs.Common.{subst}
 use Rattle.std.proofs.lemmas.Result.{IfOk-weaker}
-use Rattle.m_fixed.specs.declared.operator.Op.TheVariants.{Le, Choose}
+use Rattle.m_fixed.specs.declared.operator.Op.TheVariants.{Choose}
 use Rattle.flat_code.specs.declared.program.Node.TheVariants.{Lit, Do}
 use Rattle.mpp_inline.specs.inner.Growth.{Pushed}
 use Rattle.mpp_inline.proofs.TableLemmas.{outside-chosen}

@@ -1,15 +1,13 @@
-use Rattle.std.proofs.Common.{◌≡◌, ◌+◌, ◌<◌, ◌∷◌, drop, get_or, sym, ap, ◌∙◌, subst, arith}
+use Rattle.std.proofs.Common.{◌≡◌, ◌+◌, ◌<◌, ◌∷◌, drop, sym, ap, ◌∙◌, subst, arith}
 use Rattle.std.proofs.lemmas.Result.{IfOk-weaker}
-use Rattle.std.proofs.lemmas.List.{drop_all, drop_more}
-use Rattle.m_fixed.specs.declared.amount.Value.TheVariants.{Undef}
-use Rattle.m_fixed.specs.Operators.{op_value}
+use Rattle.std.proofs.lemmas.List.{drop_all}
 use Rattle.micro_m.specs.Values.{environment}
 use Rattle.micro_m.specs.Trees.{chain, nodes}
 use Rattle.micro_m.specs.Views.{tree_of, trees_of, steps_of}
 use Rattle.micro_m.specs.Values.{term_value, argument_values, folded, picked, picked_value}
 use Rattle.micro_m.specs.inner.Falls.{sizes_fall, terms_fall}
 use Rattle.micro_m.proofs.TermLemmas.{argument_values-at, argument_values-past}
-use Rattle.flat_code.specs.declared.program.Node.TheVariants.{Lit, Do}
+use Rattle.flat_code.specs.declared.program.Node.TheVariants.{Lit}
 use Rattle.mpp_inline.specs.inner.Growth.{count, at, denoted, Sane, Known, Pushed, Along, Gives, TermStep}
 use Rattle.mpp_inline.proofs.ListLemmas.{drop_next}
 use Rattle.mpp_inline.proofs.GrowthLemmas.{gives-lit, gives-same}

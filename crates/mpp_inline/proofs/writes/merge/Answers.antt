@@ -1,4 +1,4 @@
-use Rattle.std.proofs.Common.{◌≡◌, ◌+◌, ◌<◌, ◌∷◌, drop, get_or, sym, ap, ◌∙◌, subst, arith}
+use Rattle.std.proofs.Common.{◌≡◌, ◌+◌, ◌<◌, ◌∷◌, drop, get_or, sym, ◌∙◌, subst, arith}
 use Rattle.std.proofs.lemmas.List.{drop_more, drop_all}
 use Rattle.m_fixed.specs.declared.operator.Op.TheVariants.{Choose}
 use Rattle.flat_code.specs.declared.program.Node.TheVariants.{Do}
@@ -23,14 +23,14 @@ loop-cell-preserved c =
     let step : Placed b e truth → Held b all → Merged b c.loop-cell.b truth (p ∷ rest) all e f = λ r h. subst (λ ps. Merged b c.loop-cell.b truth ps all e f) next (c.loop-cell.invariant r h) in
     elim c.if-first-second.branch [
       | then-first-second+in_ok-number w ↦ λ r h.
-        subst (λ d. Merged b d truth rest all e c.if-first-second.env) (sym w.b-is)
-        (subst (λ x. Merged b w.push.new.self truth rest all e x) (sym (w.env-is ∙ w.put.ensures))
-        (merge-write r (within r h) (step r h)
-        (subst (λ s. Pushed c.loop-cell.b w.push.new.self (Do Choose truth p.1 s) w.in_ok-number.number) c.look-second.ensures w.in_ok-number.ensures)))
+          subst (λ d. Merged b d truth rest all e c.if-first-second.env) (sym w.b-is)
+          (subst (λ x. Merged b w.push.new.self truth rest all e x) (sym (w.env-is ∙ w.put.ensures))
+          (merge-write r (within r h) (step r h)
+          (subst (λ s. Pushed c.loop-cell.b w.push.new.self (Do Choose truth p.1 s) w.in_ok-number.number) c.look-second.ensures w.in_ok-number.ensures)))
       | else-first-second w ↦ λ r h.
-        subst (λ d. Merged b d truth rest all e c.if-first-second.env) (sym w.b-is)
-        (subst (λ x. Merged b c.loop-cell.b truth rest all e x) (sym w.env-is)
-        (merge-skip (within r h) (w.if-first-second.false ∙ c.look-second.ensures) (step r h)))
+          subst (λ d. Merged b d truth rest all e c.if-first-second.env) (sym w.b-is)
+          (subst (λ x. Merged b c.loop-cell.b truth rest all e x) (sym w.env-is)
+          (merge-skip (within r h) (w.if-first-second.false ∙ c.look-second.ensures) (step r h)))
     ]
 
 pub loop-cell-init : goal.loop-cell-init

@@ -1,0 +1,77 @@
+//! The weight of a driver.
+
+ghost use Rattle.std.specs.Prelude.{◌≡◌, ◌≤◌, min, IfOk, OnOk, length, false, replicate};
+ghost use Rattle.micro_m.specs.declared.base.Base.{Base};
+ghost use Rattle.driver_core.specs.Weights.{base_weight, weight_of};
+ghost use Rattle.driver_weight.specs.Capped.{capped};
+ghost use Rattle.driver_weight.specs.Table.{IsTable};
+
+use crate::base::weigh_base;
+use crate::blocks::is_done;
+use crate::calls::Calls;
+use crate::table::Table;
+use driver_core::Core;
+use micro_m::Base;
+use std::alloc::{AllocError, Global};
+
+/// The weight of a driver over the rules of a base, where sums stop at 18,446,744,073,709,551,615. Each function that `main`
+/// reaches is weighed once, behind those that it calls, from a list of what is left: no call is as deep as a chain of
+/// functions. The only error is want of memory; where functions call each other in a ring, it gives up in the same way.
+pub fn weight(alloc: Global, core: &Core, base: &Base) -> Result<u64, AllocError>
+    ensures { IfOk result (λ w. w ≡ min (weight_of core.now base.now) 18_446_744_073_709_551_615) }
+{
+    let count = core.bodies.as_slice().len();
+    let mut table = Table {
+        weights: vec![in alloc; 0; count]?,
+        done: vec![in alloc; false; count]?,
+        count: 0,
+    };
+    let rules = weigh_base(base);
+    weigh_reached(alloc, core, rules, base.cells, &mut table)?;
+    if !is_done(&table.done, core.main) {
+        return Err(AllocError);
+    }
+    match table.weights.get(core.main as usize) {
+        Some(weight) => Ok(*weight),
+        None => Err(AllocError),
+    }
+}
+
+/// Weighs `main` and the functions that it reaches, each behind those that it calls.
+fn weigh_reached(
+    alloc: Global,
+    core: &Core,
+    rules: u64,
+    cells: u32,
+    table: &mut Table,
+) -> Result<(), AllocError>
+    requires few { table.old.count ≤ length core.now.bodies }
+    ensures table { OnOk result ((base : Base) → rules ≡ capped (base_weight base) → cells ≡ base.cells
+        → IsTable core.now base table.old.weights.items table.old.done.items table.old.count
+        → IsTable core.now base table.new.weights.items table.new.done.items table.new.count) }
+    ensures few { OnOk result (table.new.count ≤ length core.now.bodies) }
+{
+    let calls = Calls::new(alloc, core)?;
+    let mut left = Vec::new(alloc);
+    left.push((core.main, calls.start(core.main as usize)))?;
+    let mut turns = calls
+        .functions
+        .len()
+        .saturating_add(core.bodies.as_slice().len());
+    while let Some((function, place)) = left.pop() {
+        if turns == 0 {
+            return Err(AllocError);
+        }
+        turns -= 1;
+        match calls.at(function as usize, place) {
+            Some(called) => {
+                left.push((function, place.saturating_add(1)))?;
+                if !is_done(&table.done, called) {
+                    left.push((called, calls.start(called as usize)))?;
+                }
+            }
+            None => table.weigh(core, function, rules, cells)?,
+        }
+    }
+    Ok(())
+}
