@@ -1,0 +1,42 @@
+-- What a session's loop has done, by how it ended.
+use Rattle.std.specs.Prelude.{◌≡◌, ℕ, List, ◌++◌, length, Option, None, Some}
+use Rattle.std.specs.Io.KnownBytes.{prepend_known, append_known, IsAtEnd}
+use Rattle.m_places.specs.declared.limits.TheConstants.{INPUT_BYTES}
+use Rattle.m_ports.specs.Counts.{Rose}
+use Rattle.m_ports.specs.Sink.{AppendsPrefix}
+use Rattle.household_session.specs.Sessions.{Sitting}
+use Rattle.household_session.specs.Replies.{ended_lines, replies_to, replies_of}
+use Rattle.serve_loop.specs.declared.turns.ServeEnd.{ServeEnd}
+use Rattle.serve_loop.specs.declared.turns.ServeEnd.TheVariants.{Done, ReadFault, WriteFault, TooLong}
+
+-- Of an input these bytes were taken, and this text was written. What isn't told of either stays untold.
+pub record Takes (left_old left_new written_old written_new : Option (List ℕ)) (taken text : List ℕ) : Type 0 where
+  pub moved : left_old ≡ prepend_known taken left_new
+  pub appended : written_new ≡ append_known written_old text
+
+-- These bytes may be what is left of an input: they are, where that is told.
+abbrev pub IsLeft : Option (List ℕ) → List ℕ → Type 0
+IsLeft None rest = Unit {0}
+IsLeft (Some bytes) rest = bytes ≡ rest
+
+-- What was taken of an input and what was written, by the session as the loop began and by how it ended: all lines of a whole
+-- input, or the lines that had their line feed when a read failed or too much was taken, or a front of the replies to the whole
+-- input.
+abbrev pub Ends : (left_old left_new written_old written_new : Option (List ℕ)) → Sitting → ServeEnd → Type 0
+Ends left_old left_new written_old written_new sitting Done =
+    ((taken : List ℕ) × Takes left_old left_new written_old written_new taken (replies_of sitting taken)) × IsAtEnd left_new
+Ends left_old left_new written_old written_new sitting ReadFault =
+    (taken : List ℕ) × Takes left_old left_new written_old written_new taken (replies_to sitting (ended_lines taken))
+Ends left_old left_new written_old written_new sitting WriteFault =
+    (taken rest : List ℕ) × (left_old ≡ prepend_known taken left_new) × IsLeft left_new rest
+    × AppendsPrefix written_old written_new (replies_of sitting (taken ++ rest))
+Ends left_old left_new written_old written_new sitting TooLong =
+    (taken : List ℕ) × (length taken ≡ INPUT_BYTES) × Takes left_old left_new written_old written_new taken (replies_to sitting (ended_lines taken))
+
+-- The counts of faults: that of the input rose where a read failed, that of the output where a write did, and no count changed
+-- but that one.
+abbrev pub Counts : (read_old read_new write_old write_new : ℕ) → ServeEnd → Type 0
+Counts read_old read_new write_old write_new Done = (read_new ≡ read_old) × (write_new ≡ write_old)
+Counts read_old read_new write_old write_new ReadFault = Rose read_old read_new × (write_new ≡ write_old)
+Counts read_old read_new write_old write_new WriteFault = (read_new ≡ read_old) × Rose write_old write_new
+Counts read_old read_new write_old write_new TooLong = (read_new ≡ read_old) × (write_new ≡ write_old)

@@ -1,0 +1,107 @@
+//! The loop over an input.
+ghost use Rattle.std.specs.Prelude.{◌≡◌, ◌+◌, ◌<◌, ◌≤◌, ◌++◌, [], List, ℕ, length, take, IfOk, IfErr};
+ghost use Rattle.household_session.specs.Replies.{IsUnended};
+ghost use Rattle.serve_loop.specs.Serving.{Counts, Ends};
+ghost use Rattle.serve_loop.specs.inner.Going.{Finished, Turned};
+
+use crate::lines::do_ended;
+use crate::pieces::{MOST_HELD, keep, take_piece};
+use household_session::Session;
+use m_places::limits::INPUT_BYTES;
+use m_ports::{Failed, Sink, Source};
+
+/// How a session's loop ended.
+#[derive(Clone, Copy, Debug, PartialEq, Eq)]
+pub enum ServeEnd {
+    /// The input was read to its end, and each of its lines has its reply.
+    Done,
+    /// A read failed. The lines whose line feed was taken have their replies.
+    ReadFault,
+    /// A write failed. What was written is a front of the replies.
+    WriteFault,
+    /// So many bytes were taken as a session takes, without the input's end. The lines whose line feed was taken have their
+    /// replies.
+    TooLong,
+}
+
+// How many bytes the loop has room for: those of a line that has begun, as far as they matter, and a piece of the input behind
+// them.
+const ROOM: usize = 8_193;
+
+/// Does the lines of an input one after another, each as `Session::command` does, until the input ends, a read or a write
+/// fails, or `INPUT_BYTES` bytes were taken. Of a line that is too long no more than its first bytes are held. A last line may
+/// lack its line feed. It takes no memory.
+pub fn serve<S: Source, K: Sink>(session: &mut Session, input: &mut S, out: &mut K) -> ServeEnd
+    ensures end { Ends (S.left input.old) (S.left input.new) (K.written out.old) (K.written out.new) session.old result }
+    ensures counts { Counts (S.faults input.old) (S.faults input.new) (K.faults out.old) (K.faults out.new) result }
+{
+    let mut room = [0; ROOM];
+    serve_in(session, input, out, &mut room)
+}
+
+// The same with this room.
+fn serve_in<S: Source, K: Sink>(
+    session: &mut Session,
+    input: &mut S,
+    out: &mut K,
+    room: &mut [u8],
+) -> ServeEnd
+    requires { length room.old ≡ ROOM }
+    ensures end { Ends (S.left input.old) (S.left input.new) (K.written out.old) (K.written out.new) session.old result }
+    ensures counts { Counts (S.faults input.old) (S.faults input.new) (K.faults out.old) (K.faults out.new) result }
+{
+    let mut taken = 0;
+    let mut held = 0;
+    while taken < INPUT_BYTES {
+        match turn(session, input, out, room, held, INPUT_BYTES - taken) {
+            Ok((left, count)) => {
+                held = left;
+                taken += count as u64;
+            }
+            Err(end) => return end,
+        }
+    }
+    ServeEnd::TooLong
+}
+
+// Takes a piece of at most so many bytes behind those that are held, and does the lines that it ends. Answers how many bytes
+// are held then, and how many were taken.
+fn turn<S: Source, K: Sink>(
+    session: &mut Session,
+    input: &mut S,
+    out: &mut K,
+    room: &mut [u8],
+    held: usize,
+    most: u64,
+) -> Result<(usize, usize), ServeEnd>
+    requires room { length room.old ≡ ROOM }
+    requires some { 0 < most }
+    requires few { held ≤ MOST_HELD }
+    requires unended { IsUnended (take held room.old) }
+    ensures { Turned S.left S.faults K.written K.faults input.old input.new out.old out.new session.old session.new
+        (take held room.old) room.new most result }
+{
+    let count = match take_piece(input, room, held, most) {
+        Err(Failed) => return Err(ServeEnd::ReadFault),
+        Ok(0) => return Err(finish(session, &room[..held], out)),
+        Ok(count) => count,
+    };
+    match do_ended(session, &room[..held + count], out) {
+        Err(Failed) => Err(ServeEnd::WriteFault),
+        Ok(from) => Ok((keep(room, from, held + count), count)),
+    }
+}
+
+// Does the last line, which lacks its line feed, if there is one.
+fn finish<K: Sink>(session: &mut Session, held: &[u8], out: &mut K) -> ServeEnd
+    requires { IsUnended held.now }
+    ensures { Finished K.written K.faults out.old out.new session.old held.now result }
+{
+    if held.is_empty() {
+        return ServeEnd::Done;
+    }
+    match session.command(held, out) {
+        Ok(()) => ServeEnd::Done,
+        Err(Failed) => ServeEnd::WriteFault,
+    }
+}
