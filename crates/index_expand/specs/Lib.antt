@@ -3,3 +3,4 @@ pub mod Parts
 pub mod LoopFaults
 pub mod Expansion
 pub mod Faults
+pub mod inner

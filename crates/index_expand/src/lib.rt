@@ -5,7 +5,9 @@
 #![tactic(auto)]
 
 mod fault;
+mod faults;
 mod items;
+mod parts;
 
 pub use fault::ExpandFault;
 pub use items::expand;

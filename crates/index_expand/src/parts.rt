@@ -1,0 +1,208 @@
+//! How many parts a term has once its loops are replaced.
+ghost use Rattle.std.specs.Prelude.{◌≡◌, ℕ, ◌+◌, ◌-◌, ◌*◌, ◌≤◌, min, option_copied};
+ghost use Rattle.m_ast.specs.View.{terms_of, links_of, members_of};
+ghost use Rattle.index_expand.specs.Parts as spec;
+
+use loop_values::instance_count;
+use m_ast::{Link, Member, Node, Term};
+use m_fixed::{Amount, Op, Value};
+
+/// The most parts that count. Counts stop here.
+pub(crate) const MOST: u64 = 2_000_000;
+
+/// How many parts a term has once its loops are replaced, or the most where it has more.
+#[cycle(parts)]
+pub(crate) fn parts(term: &Term) -> u64
+    ensures { result ≡ min (spec.parts term.now) 2000000 }
+{
+    match &term.node {
+        Node::Lit(_) | Node::Named(_, _) | Node::X(_) => 1,
+        Node::Cell(_, index, _) => plus(parts(index), 1),
+        Node::Apply(_, arguments) => plus(terms_parts(arguments), 1),
+        Node::Chain(first, links) => links_parts(parts(first), links),
+        Node::Among(negated, first, members) => {
+            membership_parts(*negated, members_parts(parts(first), members))
+        }
+        Node::Loop(header, body) => {
+            loop_parts(instance_count(1, header.indexes.as_slice()), parts(body))
+        }
+    }
+}
+
+#[cycle(parts)]
+fn terms_parts(terms: &[Term]) -> u64
+    ensures { result ≡ min (spec.terms_parts (terms_of terms.now)) 2000000 }
+{
+    let mut count = 0;
+    for term in terms {
+        count = plus(count, parts(term));
+    }
+    count
+}
+
+#[cycle(parts)]
+fn links_parts(first: u64, links: &[Link]) -> u64
+    requires { first ≤ 2000000 }
+    ensures { result ≡ min (first + spec.links_parts (links_of links.now)) 2000000 }
+{
+    let mut count = first;
+    for link in links {
+        count = plus(count, plus(parts(&link.term), 1));
+    }
+    count
+}
+
+// The first operand has so many parts, or the most. What is counted may be one more than the most, since a membership has
+// one part fewer.
+#[cycle(parts)]
+fn members_parts(first: u64, members: &[Member]) -> u64
+    requires { first ≤ 2000000 }
+    ensures { (x : ℕ) → first ≡ min x 2000000 → result ≡ min (spec.members_parts x (members_of members.now)) 2000001 }
+{
+    let mut count = 0;
+    for member in members {
+        let low = parts(&member.low);
+        let high = parts(&member.high);
+        let single = is_single(&member.low, &member.high);
+        count = (count + member_parts(single, first, low, high)).min(MOST + 1);
+    }
+    count
+}
+
+fn member_parts(single: bool, first: u64, low: u64, high: u64) -> u64
+    requires first_in { first ≤ 2000000 }
+    requires low_in { low ≤ 2000000 }
+    requires high_in { high ≤ 2000000 }
+    ensures { result ≡ spec.member_parts single first low high + 1 }
+{
+    if single {
+        first + low + 2
+    } else {
+        first + low + first + high + 4
+    }
+}
+
+fn membership_parts(negated: bool, members: u64) -> u64
+    requires { members ≤ 2000001 }
+    ensures { result ≡ min (spec.negation_parts negated + (members - 1)) 2000000 }
+{
+    let joined = members.saturating_sub(1);
+    if negated { plus(1, joined) } else { joined }
+}
+
+fn loop_parts(instances: u64, body: u64) -> u64
+    requires instances_in { instances ≤ 2000001 }
+    requires body_in { body ≤ 2000000 }
+    ensures { result ≡ min (instances * (body + 1) - 1) 2000000 }
+{
+    (instances * (body + 1)).saturating_sub(1).min(MOST)
+}
+
+fn plus(a: u64, b: u64) -> u64
+    requires first { a ≤ 2000000 }
+    requires second { b ≤ 2000000 }
+    ensures { result ≡ min (a + b) 2000000 }
+{
+    (a + b).min(MOST)
+}
+
+// Whether a member with these ends is a single one.
+fn is_single(low: &Term, high: &Term) -> bool
+    ensures { result ≡ spec.is_single low.now high.now }
+{
+    is_same_amount(amount_of(low), amount_of(high))
+        || is_same_amount(opposite_of(low), opposite_of(high))
+        || is_same_word(word_of(low), word_of(high))
+}
+
+fn is_same_amount(a: Option<Amount>, b: Option<Amount>) -> bool
+    ensures { result ≡ spec.is_same_amount a b }
+{
+    match (a, b) {
+        (Some(a), Some(b)) => a.millionths() == b.millionths(),
+        _ => false,
+    }
+}
+
+fn is_same_word(a: Option<&[u8]>, b: Option<&[u8]>) -> bool
+    ensures { result ≡ spec.is_same_word (option_copied a.entry) (option_copied b.entry) }
+{
+    match a {
+        Some(a) => match b {
+            Some(b) => a == b,
+            None => false,
+        },
+        None => false,
+    }
+}
+
+// The amount of a literal.
+fn amount_of(term: &Term) -> Option<Amount>
+    ensures { result ≡ spec.amount_of term.now }
+{
+    match &term.node {
+        Node::Lit(Value::Num(amount)) => Some(*amount),
+        Node::Lit(_)
+        | Node::Named(_, _)
+        | Node::X(_)
+        | Node::Cell(_, _, _)
+        | Node::Apply(_, _)
+        | Node::Chain(_, _)
+        | Node::Among(_, _, _)
+        | Node::Loop(_, _) => None,
+    }
+}
+
+// The amount of a literal behind a minus.
+fn opposite_of(term: &Term) -> Option<Amount>
+    ensures { result ≡ spec.opposite_of term.now }
+{
+    match &term.node {
+        Node::Apply(op, arguments) => {
+            if is_negation(*op) {
+                only_amount(arguments)
+            } else {
+                None
+            }
+        }
+        Node::Lit(_)
+        | Node::Named(_, _)
+        | Node::X(_)
+        | Node::Cell(_, _, _)
+        | Node::Chain(_, _)
+        | Node::Among(_, _, _)
+        | Node::Loop(_, _) => None,
+    }
+}
+
+fn is_negation(op: Op) -> bool
+    ensures { result ≡ spec.is_negation op }
+{
+    matches!(op, Op::Neg)
+}
+
+fn only_amount(arguments: &[Term]) -> Option<Amount>
+    ensures { result ≡ spec.only_amount (terms_of arguments.now) }
+{
+    match arguments {
+        [] => None,
+        [only] => amount_of(only),
+        [_, _, ..] => None,
+    }
+}
+
+// The word that a term is.
+fn word_of(term: &Term) -> Option<&[u8]>
+    ensures { option_copied result ≡ spec.word_of term.now }
+{
+    match &term.node {
+        Node::Named(word, _) => Some(word.bytes()),
+        Node::Lit(_)
+        | Node::X(_)
+        | Node::Cell(_, _, _)
+        | Node::Apply(_, _)
+        | Node::Chain(_, _)
+        | Node::Among(_, _, _)
+        | Node::Loop(_, _) => None,
+    }
+}
