@@ -6,8 +6,10 @@
 
 mod fault;
 mod faults;
+mod formulas;
 mod items;
 mod parts;
+mod terms;
 
 pub use fault::ExpandFault;
 pub use items::expand;

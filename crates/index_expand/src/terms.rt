@@ -1,0 +1,295 @@
+//! Terms without their loops.
+ghost use Rattle.std.specs.Prelude.{◌≡◌, ◌∷◌, ◌++◌, ◌<◌, ◌≤◌, IfOk, OnOk, IsTrue, length, map};
+ghost use Rattle.std.specs.Bool.{OnTrue};
+ghost use Rattle.m_fixed.specs.Text.{only_digits};
+ghost use Rattle.m_ast.specs.View.{syntax_of};
+ghost use Rattle.loop_values.specs.Headers.{instances};
+ghost use Rattle.loop_values.specs.Letters.{bind};
+ghost use Rattle.index_expand.specs.Terms as spec;
+ghost use Rattle.index_expand.specs.inner.Loads.{link_expanded, member_expanded, instance_link, links_sum, chain_of};
+
+use loop_values::{index_values, is_digits, number, replaced};
+use m_ast::{Index, Link, Member, Node, Term, made};
+use m_fixed::{Amount, Op, Value};
+use m_places::{Name, Place};
+use std::alloc::{AllocError, Global};
+use std::mem::replace;
+
+/// A term where letters stand for words, and `X` for the number of a cell, if it does. Its only error is want of memory.
+pub(crate) fn expanded(
+    alloc: Global,
+    letters: &mut [Option<Name>],
+    cell: Option<u32>,
+    term: &Term,
+) -> Result<Term, AllocError>
+    requires { length letters.old ≡ 256 }
+    ensures term { IfOk result (λ t. t ≡ spec.expanded cell letters.old term.now) }
+    ensures letters { OnOk result (letters.new ≡ letters.old) }
+{
+    let term = expanded_box(alloc, letters, cell, term)?;
+    Ok(Box::into_inner(term))
+}
+
+// A node in a box.
+fn boxed(alloc: Global, node: Node) -> Result<Box<Term>, AllocError>
+    ensures { IfOk result (λ t. t.value ≡ syntax_of node) }
+{
+    Ok(Box::new(alloc, made(node))?)
+}
+
+// A literal of so many whole units.
+fn number_node(n: u64) -> Node
+    requires { n < 1000000000000 }
+    ensures { syntax_of result ≡ spec.number_term n }
+{
+    match Amount::new(n as i128 * 1_000_000) {
+        Some(amount) => Node::Lit(Value::Num(amount)),
+        None => unreachable!(),
+    }
+}
+
+fn word_node(word: Name, place: Place) -> Node
+    ensures { syntax_of result ≡ spec.word_term word place }
+{
+    if is_number_word(word.bytes()) {
+        number_node(number(word.bytes()))
+    } else {
+        Node::Named(word, place)
+    }
+}
+
+fn is_number_word(word: &[u8]) -> bool
+    ensures test { result ≡ spec.is_number_word word.now }
+    ensures short { OnTrue result (length word.now ≤ 12) }
+    ensures digits { OnTrue result (IsTrue (only_digits word.now)) }
+{
+    is_digits(word) && word.len() <= 12
+}
+
+fn x_node(cell: Option<u32>, place: Place) -> Node
+    ensures { syntax_of result ≡ spec.x_term cell place }
+{
+    match cell {
+        Some(k) => number_node(k as u64),
+        None => Node::X(place),
+    }
+}
+
+#[cycle(expanded)]
+fn expanded_box(
+    alloc: Global,
+    letters: &mut [Option<Name>],
+    cell: Option<u32>,
+    term: &Term,
+) -> Result<Box<Term>, AllocError>
+    requires { length letters.old ≡ 256 }
+    ensures term { IfOk result (λ t. t.value ≡ spec.expanded cell letters.old term.now) }
+    ensures letters { OnOk result (letters.new ≡ letters.old) }
+{
+    match &term.node {
+        Node::Lit(value) => boxed(alloc, Node::Lit(*value)),
+        Node::Named(word, place) => {
+            let word = replaced(alloc, letters, word.bytes())?;
+            boxed(alloc, word_node(word, *place))
+        }
+        Node::X(place) => boxed(alloc, x_node(cell, *place)),
+        Node::Cell(word, index, place) => {
+            let index = expanded_box(alloc, letters, cell, index)?;
+            boxed(
+                alloc,
+                Node::Cell(replaced(alloc, letters, word.bytes())?, index, *place),
+            )
+        }
+        Node::Apply(op, arguments) => boxed(
+            alloc,
+            Node::Apply(*op, expanded_terms(alloc, letters, cell, arguments)?),
+        ),
+        Node::Chain(first, links) => {
+            let first = expanded_box(alloc, letters, cell, first)?;
+            boxed(
+                alloc,
+                Node::Chain(first, expanded_links(alloc, letters, cell, links)?),
+            )
+        }
+        Node::Among(negated, first, members) => {
+            let first = expanded_box(alloc, letters, cell, first)?;
+            boxed(
+                alloc,
+                Node::Among(
+                    *negated,
+                    first,
+                    expanded_members(alloc, letters, cell, members)?,
+                ),
+            )
+        }
+        Node::Loop(header, body) => {
+            let mut links = Vec::new(alloc);
+            let indexes = header.indexes.as_slice();
+            expand_instances(alloc, letters, cell, indexes, body, &mut links)?;
+            summed(alloc, links)
+        }
+    }
+}
+
+#[cycle(expanded)]
+fn expanded_terms(
+    alloc: Global,
+    letters: &mut [Option<Name>],
+    cell: Option<u32>,
+    terms: &[Term],
+) -> Result<Vec<Term>, AllocError>
+    requires { length letters.old ≡ 256 }
+    ensures terms { IfOk result (λ v. v.items ≡ map (spec.expanded cell letters.old) terms.now) }
+    ensures letters { OnOk result (letters.new ≡ letters.old) }
+{
+    let mut copies = Vec::with_capacity(alloc, terms.len())?;
+    for term in terms {
+        let copy = expanded_box(alloc, letters, cell, term)?;
+        copies.push(Box::into_inner(copy))?;
+    }
+    Ok(copies)
+}
+
+#[cycle(expanded)]
+fn expanded_links(
+    alloc: Global,
+    letters: &mut [Option<Name>],
+    cell: Option<u32>,
+    links: &[Link],
+) -> Result<Vec<Link>, AllocError>
+    requires { length letters.old ≡ 256 }
+    ensures links { IfOk result (λ v. v.items ≡ map (link_expanded cell letters.old) links.now) }
+    ensures letters { OnOk result (letters.new ≡ letters.old) }
+{
+    let mut copies = Vec::with_capacity(alloc, links.len())?;
+    for link in links {
+        let term = expanded_box(alloc, letters, cell, &link.term)?;
+        copies.push(Link {
+            op: link.op,
+            term: Box::into_inner(term),
+        })?;
+    }
+    Ok(copies)
+}
+
+#[cycle(expanded)]
+fn expanded_members(
+    alloc: Global,
+    letters: &mut [Option<Name>],
+    cell: Option<u32>,
+    members: &[Member],
+) -> Result<Vec<Member>, AllocError>
+    requires { length letters.old ≡ 256 }
+    ensures members { IfOk result (λ v. v.items ≡ map (member_expanded cell letters.old) members.now) }
+    ensures letters { OnOk result (letters.new ≡ letters.old) }
+{
+    let mut copies = Vec::with_capacity(alloc, members.len())?;
+    for member in members {
+        let low = expanded_box(alloc, letters, cell, &member.low)?;
+        let high = expanded_box(alloc, letters, cell, &member.high)?;
+        copies.push(Member {
+            low: Box::into_inner(low),
+            high: Box::into_inner(high),
+        })?;
+    }
+    Ok(copies)
+}
+
+// Puts the instances of a loop's body behind the operands of a sum.
+#[cycle(expanded)]
+fn expand_instances(
+    alloc: Global,
+    letters: &mut [Option<Name>],
+    cell: Option<u32>,
+    indexes: &[Index],
+    body: &Term,
+    links: &mut Vec<Link>,
+) -> Result<(), AllocError>
+    requires { length letters.old ≡ 256 }
+    ensures links { OnOk result (links.new.items
+        ≡ links.old.items ++ map (instance_link cell body.now) (instances indexes.now letters.old)) }
+    ensures letters { OnOk result (letters.new ≡ letters.old) }
+{
+    match indexes {
+        [] => {
+            let term = expanded_box(alloc, letters, cell, body)?;
+            links.push(Link {
+                op: Op::Add,
+                term: Box::into_inner(term),
+            })?;
+        }
+        [index, rest @ ..] => expand_index(alloc, letters, cell, index, rest, body, links)?,
+    }
+    Ok(())
+}
+
+// The same for each value of an index, which is slower than these.
+#[cycle(expanded)]
+fn expand_index(
+    alloc: Global,
+    letters: &mut [Option<Name>],
+    cell: Option<u32>,
+    index: &Index,
+    indexes: &[Index],
+    body: &Term,
+    links: &mut Vec<Link>,
+) -> Result<(), AllocError>
+    requires { length letters.old ≡ 256 }
+    ensures links { OnOk result (links.new.items
+        ≡ links.old.items ++ map (instance_link cell body.now) (instances (index.now ∷ indexes.now) letters.old)) }
+    ensures letters { OnOk result (letters.new ≡ letters.old) }
+{
+    let values = index_values(alloc, index)?;
+    for value in &values {
+        expand_bound(alloc, letters, cell, index.letter, value, indexes, body, links)?;
+    }
+    Ok(())
+}
+
+// The same where a letter stands for a value. What it stood for outside of the loop is put back.
+#[cycle(expanded)]
+fn expand_bound(
+    alloc: Global,
+    letters: &mut [Option<Name>],
+    cell: Option<u32>,
+    letter: u8,
+    value: &Name,
+    indexes: &[Index],
+    body: &Term,
+    links: &mut Vec<Link>,
+) -> Result<(), AllocError>
+    requires { length letters.old ≡ 256 }
+    ensures links { OnOk result (links.new.items
+        ≡ links.old.items ++ map (instance_link cell body.now) (instances indexes.now (bind letters.old letter value.now))) }
+    ensures letters { OnOk result (letters.new ≡ letters.old) }
+{
+    let value = value.copy(alloc)?;
+    let outer = replace(&mut letters[letter as usize], Some(value));
+    expand_instances(alloc, letters, cell, indexes, body, links)?;
+    letters[letter as usize] = outer;
+    Ok(())
+}
+
+// The sum of terms in order, each of which is a further operand: one term is that term itself.
+fn summed(alloc: Global, links: Vec<Link>) -> Result<Box<Term>, AllocError>
+    ensures { IfOk result (λ t. t.value ≡ links_sum links.items) }
+{
+    let mut links = links;
+    if links.is_empty() {
+        return boxed(alloc, Node::Lit(Value::Undef));
+    }
+    let first = links.remove(0);
+    let first = Box::new(alloc, first.term)?;
+    with_links(alloc, first, links)
+}
+
+// A chain, or its first operand where there are no more.
+fn with_links(alloc: Global, first: Box<Term>, links: Vec<Link>) -> Result<Box<Term>, AllocError>
+    ensures { IfOk result (λ t. t.value ≡ chain_of first.value links.items) }
+{
+    if links.is_empty() {
+        Ok(first)
+    } else {
+        boxed(alloc, Node::Chain(first, links))
+    }
+}
