@@ -1,2 +1,4 @@
 pub mod FaultLemmas
 pub mod TermLemmas
+pub mod TakenLemmas
+pub mod TableLemmas

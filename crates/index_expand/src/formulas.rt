@@ -269,7 +269,8 @@ fn size_of(symbols: &Symbols, name: &[u8]) -> Option<u32>
         None => None,
         Some(v) => match &symbols.variable(v).item.role {
             Role::Computed(size) => *size,
-            Role::Input(_) | Role::Constant(_) => None,
+            Role::Input(_) => None,
+            Role::Constant(_) => None,
         },
     }
 }

@@ -1,5 +1,5 @@
 -- What a call did that puts instances behind a list and counts their parts, or why it refused.
-use Rattle.std.specs.Prelude.{◌≡◌, ℕ, ◌+◌, ◌*◌, ◌<◌, ◌≤◌, List, ◌++◌, length}
+use Rattle.std.specs.Prelude.{◌≡◌, ℕ, ◌+◌, ◌*◌, ◌<◌, ◌≤◌, List, ◌++◌, length, Option, None}
 use Rattle.m_places.specs.declared.place.Place.{Place}
 use Rattle.index_expand.specs.declared.fault.ExpandFault.{ExpandFault}
 use Rattle.index_expand.specs.declared.fault.ExpandFault.TheVariants.{TooManyParts}
@@ -18,3 +18,9 @@ pub record IsTooMuch (parts before : ℕ) (item : Place) (fault : ExpandFault) :
 -- the parts of instances that have so many each
 abbrev pub weighed : {A : Type 0} → List A → ℕ → ℕ
 weighed these weight = length these * weight
+
+-- the definitions and conditions of items were put behind lists, and there is no fault
+pub record AreTaken {A B : Type 0} (old new these : List A) (before after those : List B) (fault : Option ExpandFault) : Type 0 where
+  pub definitions : new ≡ old ++ these
+  pub conditions : after ≡ before ++ those
+  pub none : fault ≡ None
