@@ -1,8 +1,8 @@
 -- Faults that are looked at one after the other.
 use Rattle.std.proofs.Common.{◌≡◌, ℕ, suc, ◌+◌, ◌<◌, List, [], ◌∷◌, ◌++◌, length, drop, get_or, Bool, true, false, refl, sym, ap, ◌∙◌, arith}
 use Rattle.std.proofs.Math.Seq.{drop-cons}
-use Rattle.std.proofs.lemmas.Bool.{false≢true}
-use Rattle.std.specs.Prelude.{Option, None, Some}
+use Rattle.std.specs.Prelude.{Option, filter}
+use Rattle.std.specs.List.{flat_map}
 use Rattle.m_ast.specs.declared.header.Header.{Header}
 use Rattle.m_ast.specs.declared.header.Index.{Index}
 use Rattle.loop_values.specs.Headers.{all_indexes, is_bad_index}
@@ -42,3 +42,22 @@ scope_next headers i x scope next all l at inv e =
 
 pub bad_here : (header : List Index) (x : Index) (rest : List Index) → is_bad_index header x ≡ true → is_nothing (bad_ranges header (x ∷ rest)) ≡ false
 bad_here header x rest e = rw e refl
+
+-- ---- items that count, and those that don't
+
+pub filter_yes : {A : Type 0} (p : A → Bool) (x : A) (rest : List A) → p x ≡ true → filter p (x ∷ rest) ≡ x ∷ filter p rest
+filter_yes p x rest e = rw e refl
+
+pub filter_no : {A : Type 0} (p : A → Bool) (x : A) (rest : List A) → p x ≡ false → filter p (x ∷ rest) ≡ filter p rest
+filter_no p x rest e = rw e refl
+
+pub counted_yes : {A : Type 0} (p : A → Bool) (f : A → List ExpandFault) (xs : List A) (i : ℕ) (x : A) (first next all : Option ExpandFault) → i < length xs → x ≡ get_or xs i x → p x ≡ true
+    → least first (flat_map f (filter p (drop i xs))) ≡ all → next ≡ least first (f x) → least next (flat_map f (filter p (drop (i + 1) xs))) ≡ all
+counted_yes p f xs i x first next all l at is inv e =
+    least_next first next (f x) (flat_map f (filter p (drop (i + 1) xs))) (flat_map f (filter p (drop i xs))) all inv
+    (ap (λ ys. flat_map f (filter p ys)) (drop_next xs i x l at) ∙ ap (flat_map f) (filter_yes p x (drop (i + 1) xs) is)) e
+
+pub counted_no : {A : Type 0} (p : A → Bool) (f : A → List ExpandFault) (xs : List A) (i : ℕ) (x : A) (first all : Option ExpandFault) → i < length xs → x ≡ get_or xs i x → p x ≡ false
+    → least first (flat_map f (filter p (drop i xs))) ≡ all → least first (flat_map f (filter p (drop (i + 1) xs))) ≡ all
+counted_no p f xs i x first all l at no-is inv =
+    ap (λ ys. least first (flat_map f ys)) (sym (ap (filter p) (drop_next xs i x l at) ∙ filter_no p x (drop (i + 1) xs) no-is)) ∙ inv

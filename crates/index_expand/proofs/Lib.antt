@@ -2,3 +2,4 @@ pub mod FaultLemmas
 pub mod TermLemmas
 pub mod TakenLemmas
 pub mod TableLemmas
+pub mod PlainLemmas

@@ -1,10 +1,11 @@
 -- Instances that are put behind a list one after the other, and the count of their parts.
-use Rattle.std.proofs.Common.{◌≡◌, ℕ, suc, ◌+◌, ◌*◌, ◌<◌, ◌≤◌, List, [], ◌∷◌, ◌++◌, length, length-append, map, zero, take, drop, get_or, append_assoc, refl, sym, subst, ap, ◌∙◌, arith}
+use Rattle.std.proofs.Common.{◌≡◌, ℕ, suc, ◌+◌, ◌*◌, ◌<◌, ◌≤◌, List, [], ◌∷◌, ◌++◌, length, length-append, map, zero, take, drop, get_or, append_assoc, refl, sym, ap, ◌∙◌, arith}
 use Rattle.std.proofs.lemmas.List.{take_more}
 use Rattle.std.proofs.lemmas.Grind.{flat_map-append}
 use Rattle.std.proofs.lemmas.List.FromFn.{length-map-range_with_len, map-range_with_len_more}
 use Rattle.std.proofs.Math.Nat.{mul-le-mul_left}
-use Rattle.std.specs.List.{flat_map, range_with_len}
+use Rattle.std.proofs.lemmas.List.Sums.{sum_by_more, sum_by_more_le}
+use Rattle.std.specs.List.{flat_map, range_with_len, sum_by}
 use Rattle.m_places.specs.declared.place.Place.{Place}
 use Rattle.index_expand.specs.declared.fault.ExpandFault.{ExpandFault}
 use Rattle.index_expand.specs.inner.Taken.{IsTaken, IsTooMuch, weighed}
@@ -19,10 +20,10 @@ taken_none list t few = record { list = sym (append_none list); sum = omega arit
 
 pub taken_both : {A : Type 0} (a b c xs ys : List A) (m n s t u : ℕ) → IsTaken a b xs m s t → IsTaken b c ys n t u → IsTaken a c (xs ++ ys) (m + n) s u
 taken_both a b c xs ys m n s t u x y = record {
-    list = y.list ∙ ap (λ l. l ++ ys) x.list ∙ append_assoc a xs ys;
-    sum = let e = x.sum in let f = y.sum in omega arith;
-    few = y.few;
-  }
+  list = y.list ∙ ap (λ l. l ++ ys) x.list ∙ append_assoc a xs ys;
+  sum = let e = x.sum in let f = y.sum in omega arith;
+  few = y.few;
+}
 
 pub too_much_after : {A : Type 0} (a b xs : List A) (m n k s t : ℕ) (item : Place) (fault : ExpandFault) → IsTaken a b xs m s t → IsTooMuch n t item fault → m + n ≤ k → IsTooMuch k s item fault
 too_much_after a b xs m n k s t item fault x y h = record { told = y.told; many = let e = x.sum in let f = y.many in omega arith }
@@ -104,3 +105,28 @@ cells_too_much f k size w s t a b x item fault h p q =
     let one = cells_length f k w in
     let all = cells_length f size w in
     too_much_after a b (map f (range_with_len 0 k)) (weighed (map f (range_with_len 0 k)) w) (weighed (x ∷ []) w) (weighed (map f (range_with_len 0 size)) w) s t item fault p q (omega (arith, room, one, all))
+
+-- ---- one thing after the other, each with parts of its own
+
+each_more : {A C : Type 0} (d : A → List C) (xs : List A) (i : ℕ) (x : A) → i < length xs → x ≡ get_or xs i x → flat_map d (take (i + 1) xs) ≡ flat_map d (take i xs) ++ d x
+each_more d xs i x l at =
+    ap (flat_map d) (take_more xs i x l ∙ ap (λ y. take i xs ++ y ∷ []) (sym at))
+    ∙ flat_map-append d (take i xs) (x ∷ [])
+    ∙ ap (λ r. flat_map d (take i xs) ++ r) (append_none (d x))
+
+sum_more : {A : Type 0} (m : A → ℕ) (xs : List A) (i : ℕ) (x : A) → i < length xs → x ≡ get_or xs i x → sum_by m (take (i + 1) xs) ≡ sum_by m (take i xs) + m x
+sum_more m xs i x l at = sum_by_more m xs i x l ∙ ap (λ y. sum_by m (take i xs) + m y) (sym at)
+
+pub each_next : {A C : Type 0} (d : A → List C) (m : A → ℕ) (xs : List A) (i : ℕ) (x : A) (s t u : ℕ) (a b c : List C) → i < length xs → x ≡ get_or xs i x
+    → IsTaken a b (flat_map d (take i xs)) (sum_by m (take i xs)) s t → IsTaken b c (d x) (m x) t u
+    → IsTaken a c (flat_map d (take (i + 1) xs)) (sum_by m (take (i + 1) xs)) s u
+each_next d m xs i x s t u a b c l at p q =
+    rw (each_more d xs i x l at, sum_more m xs i x l at) (taken_both a b c (flat_map d (take i xs)) (d x) (sum_by m (take i xs)) (m x) s t u p q)
+
+pub each_too_much : {A C : Type 0} (d : A → List C) (m : A → ℕ) (xs : List A) (i : ℕ) (x : A) (s t : ℕ) (item : Place) (fault : ExpandFault) (a b : List C) → i < length xs → x ≡ get_or xs i x
+    → IsTaken a b (flat_map d (take i xs)) (sum_by m (take i xs)) s t → IsTooMuch (m x) t item fault
+    → IsTooMuch (sum_by m xs) s item fault
+each_too_much d m xs i x s t item fault a b l at p q =
+    let within = sum_by_more_le m xs i x l in
+    let same = ap m at in
+    too_much_after a b (flat_map d (take i xs)) (sum_by m (take i xs)) (m x) (sum_by m xs) s t item fault p q (omega (arith, within, same))

@@ -103,7 +103,11 @@ fn is_any_bad(indexes: &[Index], repeated: &[bool; 256]) -> bool
     false
 }
 
-fn with_bad_ranges(first: Option<ExpandFault>, indexes: &[Index], repeated: &[bool; 256]) -> Option<ExpandFault>
+fn with_bad_ranges(
+    first: Option<ExpandFault>,
+    indexes: &[Index],
+    repeated: &[bool; 256],
+) -> Option<ExpandFault>
     requires { Repeats repeated.now indexes.now }
     ensures { result ≡ spec.least first (spec.bad_ranges indexes.now indexes.now) }
 {
@@ -124,7 +128,12 @@ fn is_bad(header: &[Index], repeated: &[bool; 256], index: &Index) -> bool
     has_bad_span(index) || repeated[index.letter as usize]
 }
 
-fn with_word(first: Option<ExpandFault>, scope: &[bool; 256], word: &[u8], place: Place) -> Option<ExpandFault>
+fn with_word(
+    first: Option<ExpandFault>,
+    scope: &[bool; 256],
+    word: &[u8],
+    place: Place,
+) -> Option<ExpandFault>
     ensures { result ≡ spec.least first (spec.word_faults scope.now word.now place) }
 {
     if has_unbound(scope, word) {
@@ -217,7 +226,11 @@ fn with_term(first: Option<ExpandFault>, scope: &[bool; 256], term: &Term) -> Op
 }
 
 #[cycle(with_term)]
-fn with_terms(first: Option<ExpandFault>, scope: &[bool; 256], terms: &[Term]) -> Option<ExpandFault>
+fn with_terms(
+    first: Option<ExpandFault>,
+    scope: &[bool; 256],
+    terms: &[Term],
+) -> Option<ExpandFault>
     ensures { result ≡ spec.least first (spec.terms_faults scope.now (terms_of terms.now)) }
 {
     let mut first = first;
@@ -228,7 +241,11 @@ fn with_terms(first: Option<ExpandFault>, scope: &[bool; 256], terms: &[Term]) -
 }
 
 #[cycle(with_term)]
-fn with_links(first: Option<ExpandFault>, scope: &[bool; 256], links: &[Link]) -> Option<ExpandFault>
+fn with_links(
+    first: Option<ExpandFault>,
+    scope: &[bool; 256],
+    links: &[Link],
+) -> Option<ExpandFault>
     ensures { result ≡ spec.least first (spec.links_faults scope.now (links_of links.now)) }
 {
     let mut first = first;
@@ -239,7 +256,11 @@ fn with_links(first: Option<ExpandFault>, scope: &[bool; 256], links: &[Link]) -
 }
 
 #[cycle(with_term)]
-fn with_members(first: Option<ExpandFault>, scope: &[bool; 256], members: &[Member]) -> Option<ExpandFault>
+fn with_members(
+    first: Option<ExpandFault>,
+    scope: &[bool; 256],
+    members: &[Member],
+) -> Option<ExpandFault>
     ensures { result ≡ spec.least first (spec.members_faults scope.now (members_of members.now)) }
 {
     let mut first = first;

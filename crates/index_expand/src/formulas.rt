@@ -35,13 +35,23 @@ pub(crate) fn take_formula(
     requires total { total ≤ 2000000 }
     ensures outcome { Outcome ExpandFault.Memory result
         (λ after. IsTaken definitions.old.items definitions.new.items
-            (formula_definitions symbols.now formula.now) (formula_parts symbols.now formula.now) total after)
+        (formula_definitions symbols.now formula.now) (formula_parts symbols.now formula.now) total after)
         (λ fault. IsTooMuch (formula_parts symbols.now formula.now) total item fault) }
     ensures letters { OnOk result (letters.new ≡ letters.old) }
 {
     let weight = parts(&formula.term) + 1;
     let indexes = kept_indexes(alloc, formula.loops.as_slice())?;
-    take_instances(alloc, symbols, item, formula, weight, letters, indexes.as_slice(), definitions, total)
+    take_instances(
+        alloc,
+        symbols,
+        item,
+        formula,
+        weight,
+        letters,
+        indexes.as_slice(),
+        definitions,
+        total,
+    )
 }
 
 // The definitions of the instances of indexes.
@@ -60,17 +70,34 @@ fn take_instances(
     requires letters { length letters.old ≡ 256 }
     requires weight { weight ≤ 2000001 }
     requires total { total ≤ 2000000 }
-    ensures outcome {
-        let these = flat_map (definitions_at symbols.now formula.now formula.now.slot) (instances indexes.now letters.old) in
+    ensures outcome { let these = flat_map (definitions_at symbols.now formula.now formula.now.slot) (instances indexes.now letters.old) in
         Outcome ExpandFault.Memory result
-            (λ after. IsTaken definitions.old.items definitions.new.items these (weighed these weight) total after)
-            (λ fault. IsTooMuch (weighed these weight) total item fault) }
+        (λ after. IsTaken definitions.old.items definitions.new.items these (weighed these weight) total after)
+        (λ fault. IsTooMuch (weighed these weight) total item fault) }
     ensures letters { OnOk result (letters.new ≡ letters.old) }
 {
     match indexes {
-        [] => take_instance(alloc, symbols, item, formula, weight, letters, definitions, total),
+        [] => take_instance(
+            alloc,
+            symbols,
+            item,
+            formula,
+            weight,
+            letters,
+            definitions,
+            total,
+        ),
         [index, rest @ ..] => take_index(
-            alloc, symbols, item, formula, weight, letters, index, rest, definitions, total,
+            alloc,
+            symbols,
+            item,
+            formula,
+            weight,
+            letters,
+            index,
+            rest,
+            definitions,
+            total,
         ),
     }
 }
@@ -92,18 +119,27 @@ fn take_index(
     requires letters { length letters.old ≡ 256 }
     requires weight { weight ≤ 2000001 }
     requires total { total ≤ 2000000 }
-    ensures outcome {
-        let these = flat_map (definitions_at symbols.now formula.now formula.now.slot) (instances (index.now ∷ indexes.now) letters.old) in
+    ensures outcome { let these = flat_map (definitions_at symbols.now formula.now formula.now.slot) (instances (index.now ∷ indexes.now) letters.old) in
         Outcome ExpandFault.Memory result
-            (λ after. IsTaken definitions.old.items definitions.new.items these (weighed these weight) total after)
-            (λ fault. IsTooMuch (weighed these weight) total item fault) }
+        (λ after. IsTaken definitions.old.items definitions.new.items these (weighed these weight) total after)
+        (λ fault. IsTooMuch (weighed these weight) total item fault) }
     ensures letters { OnOk result (letters.new ≡ letters.old) }
 {
     let values = index_values(alloc, index)?;
     let mut count = total;
     for value in &values {
         count = take_bound(
-            alloc, symbols, item, formula, weight, letters, index.letter, value, indexes, definitions, count,
+            alloc,
+            symbols,
+            item,
+            formula,
+            weight,
+            letters,
+            index.letter,
+            value,
+            indexes,
+            definitions,
+            count,
         )?;
     }
     Ok(count)
@@ -127,16 +163,25 @@ fn take_bound(
     requires letters { length letters.old ≡ 256 }
     requires weight { weight ≤ 2000001 }
     requires total { total ≤ 2000000 }
-    ensures outcome {
-        let these = flat_map (definitions_at symbols.now formula.now formula.now.slot) (instances indexes.now (bind letters.old letter value.now)) in
+    ensures outcome { let these = flat_map (definitions_at symbols.now formula.now formula.now.slot) (instances indexes.now (bind letters.old letter value.now)) in
         Outcome ExpandFault.Memory result
-            (λ after. IsTaken definitions.old.items definitions.new.items these (weighed these weight) total after)
-            (λ fault. IsTooMuch (weighed these weight) total item fault) }
+        (λ after. IsTaken definitions.old.items definitions.new.items these (weighed these weight) total after)
+        (λ fault. IsTooMuch (weighed these weight) total item fault) }
     ensures letters { OnOk result (letters.new ≡ letters.old) }
 {
     let value = value.copy(alloc)?;
     let outer = replace(&mut letters[letter as usize], Some(value));
-    let count = take_instances(alloc, symbols, item, formula, weight, letters, indexes, definitions, total)?;
+    let count = take_instances(
+        alloc,
+        symbols,
+        item,
+        formula,
+        weight,
+        letters,
+        indexes,
+        definitions,
+        total,
+    )?;
     letters[letter as usize] = outer;
     Ok(count)
 }
@@ -155,17 +200,45 @@ fn take_instance(
     requires letters { length letters.old ≡ 256 }
     requires weight { weight ≤ 2000001 }
     requires total { total ≤ 2000000 }
-    ensures outcome {
-        let these = definitions_at symbols.now formula.now formula.now.slot letters.old in
+    ensures outcome { let these = definitions_at symbols.now formula.now formula.now.slot letters.old in
         Outcome ExpandFault.Memory result
-            (λ after. IsTaken definitions.old.items definitions.new.items these (weighed these weight) total after)
-            (λ fault. IsTooMuch (weighed these weight) total item fault) }
+        (λ after. IsTaken definitions.old.items definitions.new.items these (weighed these weight) total after)
+        (λ fault. IsTooMuch (weighed these weight) total item fault) }
     ensures letters { OnOk result (letters.new ≡ letters.old) }
 {
     match formula.slot {
-        Slot::Whole => take_definition(alloc, item, formula, weight, letters, Slot::Whole, None, definitions, total),
-        Slot::Cell(k) => take_definition(alloc, item, formula, weight, letters, Slot::Cell(k), None, definitions, total),
-        Slot::Every => take_every(alloc, symbols, item, formula, weight, letters, definitions, total),
+        Slot::Whole => take_definition(
+            alloc,
+            item,
+            formula,
+            weight,
+            letters,
+            Slot::Whole,
+            None,
+            definitions,
+            total,
+        ),
+        Slot::Cell(k) => take_definition(
+            alloc,
+            item,
+            formula,
+            weight,
+            letters,
+            Slot::Cell(k),
+            None,
+            definitions,
+            total,
+        ),
+        Slot::Every => take_every(
+            alloc,
+            symbols,
+            item,
+            formula,
+            weight,
+            letters,
+            definitions,
+            total,
+        ),
     }
 }
 
@@ -183,17 +256,35 @@ fn take_every(
     requires letters { length letters.old ≡ 256 }
     requires weight { weight ≤ 2000001 }
     requires total { total ≤ 2000000 }
-    ensures outcome {
-        let these = definitions_at symbols.now formula.now Slot.Every letters.old in
+    ensures outcome { let these = definitions_at symbols.now formula.now Slot.Every letters.old in
         Outcome ExpandFault.Memory result
-            (λ after. IsTaken definitions.old.items definitions.new.items these (weighed these weight) total after)
-            (λ fault. IsTooMuch (weighed these weight) total item fault) }
+        (λ after. IsTaken definitions.old.items definitions.new.items these (weighed these weight) total after)
+        (λ fault. IsTooMuch (weighed these weight) total item fault) }
     ensures letters { OnOk result (letters.new ≡ letters.old) }
 {
     let target = replaced(alloc, letters, formula.target.bytes())?;
     match size_of(symbols, target.bytes()) {
-        None => take_definition(alloc, item, formula, weight, letters, Slot::Every, None, definitions, total),
-        Some(size) => take_cells(alloc, item, formula, weight, letters, size, definitions, total),
+        None => take_definition(
+            alloc,
+            item,
+            formula,
+            weight,
+            letters,
+            Slot::Every,
+            None,
+            definitions,
+            total,
+        ),
+        Some(size) => take_cells(
+            alloc,
+            item,
+            formula,
+            weight,
+            letters,
+            size,
+            definitions,
+            total,
+        ),
     }
 }
 
@@ -211,16 +302,25 @@ fn take_cells(
     requires letters { length letters.old ≡ 256 }
     requires weight { weight ≤ 2000001 }
     requires total { total ≤ 2000000 }
-    ensures outcome {
-        let these = map (defined_cell formula.now letters.old) (range_with_len 0 size) in
+    ensures outcome { let these = map (defined_cell formula.now letters.old) (range_with_len 0 size) in
         Outcome ExpandFault.Memory result
-            (λ after. IsTaken definitions.old.items definitions.new.items these (weighed these weight) total after)
-            (λ fault. IsTooMuch (weighed these weight) total item fault) }
+        (λ after. IsTaken definitions.old.items definitions.new.items these (weighed these weight) total after)
+        (λ fault. IsTooMuch (weighed these weight) total item fault) }
     ensures letters { OnOk result (letters.new ≡ letters.old) }
 {
     let mut count = total;
     for k in 0..size {
-        count = take_definition(alloc, item, formula, weight, letters, Slot::Cell(k), Some(k), definitions, count)?;
+        count = take_definition(
+            alloc,
+            item,
+            formula,
+            weight,
+            letters,
+            Slot::Cell(k),
+            Some(k),
+            definitions,
+            count,
+        )?;
     }
     Ok(count)
 }
@@ -240,11 +340,10 @@ fn take_definition(
     requires letters { length letters.old ≡ 256 }
     requires weight { weight ≤ 2000001 }
     requires total { total ≤ 2000000 }
-    ensures outcome {
-        let these = defined formula.now slot cell letters.old ∷ [] in
+    ensures outcome { let these = defined formula.now slot cell letters.old ∷ [] in
         Outcome ExpandFault.Memory result
-            (λ after. IsTaken definitions.old.items definitions.new.items these (weighed these weight) total after)
-            (λ fault. IsTooMuch (weighed these weight) total item fault) }
+        (λ after. IsTaken definitions.old.items definitions.new.items these (weighed these weight) total after)
+        (λ fault. IsTooMuch (weighed these weight) total item fault) }
     ensures letters { OnOk result (letters.new ≡ letters.old) }
 {
     if total + weight > MOST {

@@ -36,7 +36,7 @@ pub fn expand(
     requires { All IsWholeItem items.now }
     ensures outcome { Outcome ExpandFault.Memory result
         (λ plain. (expand_fault items.now application.now symbols.now ≡ None)
-            × (plain ≡ expansion items.now application.now symbols.now))
+        × (plain ≡ expansion items.now application.now symbols.now))
         (λ fault. expand_fault items.now application.now symbols.now ≡ Some fault) }
     ensures plain { IfOk result (λ plain. IsPlain symbols.now plain) }
 {
@@ -124,14 +124,20 @@ fn take_items(
 ) -> Result<Plain, ExpandFault>
     ensures { Outcome ExpandFault.Memory result
         (λ plain. (too_many symbols.now 0 (filter (counts_in application.now) items.now) ≡ None)
-            × (plain ≡ expansion items.now application.now symbols.now))
+        × (plain ≡ expansion items.now application.now symbols.now))
         (λ fault. too_many symbols.now 0 (filter (counts_in application.now) items.now) ≡ Some fault) }
 {
     let mut letters = no_letters(alloc)?;
     let mut definitions = Vec::new(alloc);
     let mut conditions = Vec::new(alloc);
     take_each(
-        alloc, symbols, items, application, letters.as_mut_slice(), &mut definitions, &mut conditions,
+        alloc,
+        symbols,
+        items,
+        application,
+        letters.as_mut_slice(),
+        &mut definitions,
+        &mut conditions,
     )?;
     Ok(Plain {
         definitions: Seq::from_vec(definitions),
@@ -149,18 +155,25 @@ fn take_each(
     conditions: &mut Vec<Condition>,
 ) -> Result<(), ExpandFault>
     requires { letters.old ≡ spec.no_letters }
-    ensures {
-        let counted = filter (counts_in application.now) items.now in
+    ensures { let counted = filter (counts_in application.now) items.now in
         Outcome ExpandFault.Memory result
-            (λ done. AreTaken definitions.old.items definitions.new.items (flat_map (item_definitions symbols.now) counted)
-                conditions.old.items conditions.new.items (flat_map item_conditions counted)
-                (too_many symbols.now 0 counted))
-            (λ fault. too_many symbols.now 0 counted ≡ Some fault) }
+        (λ done. AreTaken definitions.old.items definitions.new.items (flat_map (item_definitions symbols.now) counted)
+        conditions.old.items conditions.new.items (flat_map item_conditions counted)
+        (too_many symbols.now 0 counted))
+        (λ fault. too_many symbols.now 0 counted ≡ Some fault) }
 {
     let mut count = 0;
     for item in items {
         if counts_in(item, application) {
-            count = take_item(alloc, symbols, item, letters, definitions, conditions, count)?;
+            count = take_item(
+                alloc,
+                symbols,
+                item,
+                letters,
+                definitions,
+                conditions,
+                count,
+            )?;
         }
     }
     Ok(())
@@ -179,13 +192,21 @@ fn take_item(
     requires total { total ≤ 2000000 }
     ensures outcome { Outcome ExpandFault.Memory result
         (λ after. IsTaken definitions.old.items definitions.new.items (item_definitions symbols.now item.now) (item_parts symbols.now item.now) total after
-            × (conditions.new.items ≡ conditions.old.items ++ item_conditions item.now))
+        × (conditions.new.items ≡ conditions.old.items ++ item_conditions item.now))
         (λ fault. IsTooMuch (item_parts symbols.now item.now) total (item_place item.now) fault) }
     ensures letters { OnOk result (letters.new ≡ letters.old) }
 {
     match item {
         Item::Rule(rule) => {
-            take_formulas(alloc, symbols, rule.place, rule.formulas.as_slice(), letters, definitions, total)
+            take_formulas(
+                alloc,
+                symbols,
+                rule.place,
+                rule.formulas.as_slice(),
+                letters,
+                definitions,
+                total,
+            )
         }
         Item::Verif(verif) => take_checks(alloc, verif, letters, conditions, total),
         Item::Variable(_) => Ok(total),
@@ -207,7 +228,7 @@ fn take_formulas(
     requires total { total ≤ 2000000 }
     ensures outcome { Outcome ExpandFault.Memory result
         (λ after. IsTaken definitions.old.items definitions.new.items
-            (flat_map (formula_definitions symbols.now) formulas.now) (sum_by (formula_parts symbols.now) formulas.now) total after)
+        (flat_map (formula_definitions symbols.now) formulas.now) (sum_by (formula_parts symbols.now) formulas.now) total after)
         (λ fault. IsTooMuch (sum_by (formula_parts symbols.now) formulas.now) total item fault) }
     ensures letters { OnOk result (letters.new ≡ letters.old) }
 {
@@ -229,7 +250,7 @@ fn take_checks(
     requires total { total ≤ 2000000 }
     ensures outcome { Outcome ExpandFault.Memory result
         (λ after. IsTaken conditions.old.items conditions.new.items
-            (map (condition_of verif.now) verif.now.checks) (sum_by check_parts verif.now.checks) total after)
+        (map (condition_of verif.now) verif.now.checks) (sum_by check_parts verif.now.checks) total after)
         (λ fault. IsTooMuch (sum_by check_parts verif.now.checks) total verif.now.place fault) }
     ensures letters { OnOk result (letters.new ≡ letters.old) }
 {
@@ -252,7 +273,7 @@ fn take_check(
     requires total { total ≤ 2000000 }
     ensures outcome { Outcome ExpandFault.Memory result
         (λ after. IsTaken conditions.old.items conditions.new.items
-            (condition_of verif.now check.now ∷ []) (check_parts check.now) total after)
+        (condition_of verif.now check.now ∷ []) (check_parts check.now) total after)
         (λ fault. IsTooMuch (check_parts check.now) total verif.now.place fault) }
     ensures letters { OnOk result (letters.new ≡ letters.old) }
 {

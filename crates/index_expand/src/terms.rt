@@ -241,7 +241,16 @@ fn expand_index(
 {
     let values = index_values(alloc, index)?;
     for value in &values {
-        expand_bound(alloc, letters, cell, index.letter, value, indexes, body, links)?;
+        expand_bound(
+            alloc,
+            letters,
+            cell,
+            index.letter,
+            value,
+            indexes,
+            body,
+            links,
+        )?;
     }
     Ok(())
 }

@@ -1,5 +1,5 @@
 -- Letters that stood once, and letters that stood twice.
-use Rattle.std.proofs.Common.{◌≡◌, ℕ, zero, suc, ◌+◌, ◌<◌, ◌≤◌, List, [], length, take, get_or, Bool, true, false, ◌||◌, ltb, arith, refl, sym, ap, ◌∙◌, ⊎_elim, subst}
+use Rattle.std.proofs.Common.{◌≡◌, ℕ, ◌+◌, ◌<◌, List, [], length, take, get_or, Bool, true, false, ◌||◌, ltb, arith, sym, ap, ◌∙◌, ⊎_elim}
 use Rattle.std.proofs.Math.ListN.{set, length-set, replicate}
 use Rattle.std.specs.Prelude.{count_by, ◌==◌}
 use Rattle.std.proofs.lemmas.Bool.{cases_eq, cases_lt, lt-ltb, le-ltb, eq-eqb, ne_eqb, or_right, or_from}
@@ -36,9 +36,9 @@ once_more : (once : List Bool) (indexes : List Index) (i : ℕ) (x : Index) → 
 once_more once indexes i x l at wide marked b small =
     ⊎_elim
     (λ same.
-        ap (λ k. get_or (set once x.letter true) k false) same
-        ∙ get_or-set_same once x.letter true false (omega arith)
-        ∙ sym (lt-ltb 0 (uses b (take (i + 1) indexes)) (omega (arith, uses_yes indexes i x b l at same))))
+    ap (λ k. get_or (set once x.letter true) k false) same
+    ∙ get_or-set_same once x.letter true false (omega arith)
+    ∙ sym (lt-ltb 0 (uses b (take (i + 1) indexes)) (omega (arith, uses_yes indexes i x b l at same))))
     (λ other. get_or-set_other once x.letter b true false other ∙ marked b small ∙ ap (ltb 0) (sym (uses_no indexes i x b l at other)))
     (cases_eq b x.letter)
 
@@ -50,13 +50,13 @@ twice_more : (once twice : List Bool) (indexes : List Index) (i : ℕ) (x : Inde
 twice_more once twice indexes i x v l at wide first second e b small =
     ⊎_elim
     (λ same.
-        ap (λ k. get_or (set twice x.letter v) k false) same
-        ∙ get_or-set_same twice x.letter v false (omega arith)
-        ∙ e
-        ∙ ap (λ k. get_or twice k false || get_or once k false) (sym same)
-        ∙ (λ k. second b small k || first b small k)
-        ∙ one_more (uses b (take i indexes))
-        ∙ ap (ltb 1) (sym (uses_yes indexes i x b l at same)))
+    ap (λ k. get_or (set twice x.letter v) k false) same
+    ∙ get_or-set_same twice x.letter v false (omega arith)
+    ∙ e
+    ∙ ap (λ k. get_or twice k false || get_or once k false) (sym same)
+    ∙ (λ k. second b small k || first b small k)
+    ∙ one_more (uses b (take i indexes))
+    ∙ ap (ltb 1) (sym (uses_yes indexes i x b l at same)))
     (λ other. get_or-set_other twice x.letter b v false other ∙ second b small ∙ ap (ltb 1) (sym (uses_no indexes i x b l at other)))
     (cases_eq b x.letter)
 
@@ -64,16 +64,16 @@ pub mark_more : (once twice : List Bool) (indexes : List Index) (i : ℕ) (x : I
     → IsMarked once twice (take i indexes) → v ≡ (get_or twice x.letter false || get_or once x.letter false)
     → IsMarked (set once x.letter true) (set twice x.letter v) (take (i + 1) indexes)
 mark_more once twice indexes i x v l at m e = record {
-    wide = length-set once x.letter true ∙ m.wide;
-    broad = length-set twice x.letter v ∙ m.broad;
-    first = once_more once indexes i x l at m.wide m.first;
-    second = twice_more once twice indexes i x v l at m.broad m.first m.second e;
-  }
+  wide = length-set once x.letter true ∙ m.wide;
+  broad = length-set twice x.letter v ∙ m.broad;
+  first = once_more once indexes i x l at m.wide m.first;
+  second = twice_more once twice indexes i x v l at m.broad m.first m.second e;
+}
 
 pub marked_none : IsMarked (replicate 256 false) (replicate 256 false) []
 marked_none = record {
-    wide = length-replicate 256 false;
-    broad = length-replicate 256 false;
-    first = λ b h. get_or-replicate 256 b false false h;
-    second = λ b h. get_or-replicate 256 b false false h;
-  }
+  wide = length-replicate 256 false;
+  broad = length-replicate 256 false;
+  first = λ b h. get_or-replicate 256 b false false h;
+  second = λ b h. get_or-replicate 256 b false false h;
+}

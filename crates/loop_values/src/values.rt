@@ -67,7 +67,12 @@ fn push_values(alloc: Global, values: &mut Vec<Name>, span: &Span) -> Result<(),
     }
 }
 
-fn push_numbers(alloc: Global, values: &mut Vec<Name>, from: &[u8], to: &[u8]) -> Result<(), AllocError>
+fn push_numbers(
+    alloc: Global,
+    values: &mut Vec<Name>,
+    from: &[u8],
+    to: &[u8],
+) -> Result<(), AllocError>
     requires low { IsTrue (only_digits from.now) }
     requires low_short { length from.now ≤ 9 }
     requires high { IsTrue (only_digits to.now) }

@@ -21,14 +21,14 @@ with_term-with_members-requires t c =
 pub with_terms-loop-term-preserved : goal.with_terms-loop-term-preserved
 with_terms-loop-term-preserved t c =
     least_next c.loop-term.first _ (term_faults c.args.scope.now c.term-item.result) (terms_faults c.args.scope.now (terms_of (drop (c.loop-term.term-index + 1) c.args.terms.now))) _ _ c.loop-term.invariant
-      (ap (λ all. terms_faults c.args.scope.now (terms_of all)) (drop_next c.args.terms.now c.loop-term.term-index c.term-item.result c.loop-term-test.true c.term-item.is))
-      c.with_term-first.ensures
+    (ap (λ all. terms_faults c.args.scope.now (terms_of all)) (drop_next c.args.terms.now c.loop-term.term-index c.term-item.result c.loop-term-test.true c.term-item.is))
+    c.with_term-first.ensures
 
 pub with_links-loop-link-preserved : goal.with_links-loop-link-preserved
 with_links-loop-link-preserved t c =
     least_next c.loop-link.first _ (term_faults c.args.scope.now c.link-item.result.term) (links_faults c.args.scope.now (links_of (drop (c.loop-link.link-index + 1) c.args.links.now))) _ _ c.loop-link.invariant
-      (ap (λ all. links_faults c.args.scope.now (links_of all)) (drop_next c.args.links.now c.loop-link.link-index c.link-item.result c.loop-link-test.true c.link-item.is))
-      c.with_term-first.ensures
+    (ap (λ all. links_faults c.args.scope.now (links_of all)) (drop_next c.args.links.now c.loop-link.link-index c.link-item.result c.loop-link-test.true c.link-item.is))
+    c.with_term-first.ensures
 
 pub with_members-loop-member-preserved : goal.with_members-loop-member-preserved
 with_members-loop-member-preserved t c =
@@ -36,26 +36,26 @@ with_members-loop-member-preserved t c =
     let low = term_faults c.args.scope.now c.member-item.result.low in
     let high = term_faults c.args.scope.now c.member-item.result.high in
     least_next c.with_term-first.result _ high rest _ _
-      (least_next c.loop-member.first _ low (high ++ rest) _ _ c.loop-member.invariant
-        (ap (λ all. members_faults c.args.scope.now (members_of all)) (drop_next c.args.members.now c.loop-member.member-index c.member-item.result c.loop-member-test.true c.member-item.is))
-        c.with_term-first.ensures)
-      refl
-      c.with_term-first-in-loop-member.ensures
+    (least_next c.loop-member.first _ low (high ++ rest) _ _ c.loop-member.invariant
+    (ap (λ all. members_faults c.args.scope.now (members_of all)) (drop_next c.args.members.now c.loop-member.member-index c.member-item.result c.loop-member-test.true c.member-item.is))
+    c.with_term-first.ensures)
+    refl
+    c.with_term-first-in-loop-member.ensures
 
 pub with_term-returns-in-Chain : goal.with_term-returns-in-Chain
 with_term-returns-in-Chain t c =
     let e = sym c.term.view_is ∙ ap syntax_of c.in-Chain.is in
     least_both c.args.first c.with_term-first.result c.with_links.result (term_faults c.args.scope.now c.in-Chain.operand.value) (links_faults c.args.scope.now (links_of c.in-Chain.links.items))
-      (c.with_term-first.ensures ∙ ap (λ a. least c.args.first (term_faults c.args.scope.now a)) c.deref-in-Chain.ensures)
-      (c.with_links.ensures ∙ ap (λ all. least c.with_term-first.result (links_faults c.args.scope.now (links_of all))) c.deref-in-Chain-2.ensures.value)
+    (c.with_term-first.ensures ∙ ap (λ a. least c.args.first (term_faults c.args.scope.now a)) c.deref-in-Chain.ensures)
+    (c.with_links.ensures ∙ ap (λ all. least c.with_term-first.result (links_faults c.args.scope.now (links_of all))) c.deref-in-Chain-2.ensures.value)
     ∙ ap (λ a. least c.args.first (term_faults c.args.scope.now a)) (sym e)
 
 pub with_term-returns-in-Among : goal.with_term-returns-in-Among
 with_term-returns-in-Among t c =
     let e = sym c.term.view_is ∙ ap syntax_of c.in-Among.is in
     least_both c.args.first c.with_term-first-in-Among.result c.with_members.result (term_faults c.args.scope.now c.in-Among.operand.value) (members_faults c.args.scope.now (members_of c.in-Among.members.items))
-      (c.with_term-first-in-Among.ensures ∙ ap (λ a. least c.args.first (term_faults c.args.scope.now a)) c.deref-in-Among.ensures)
-      (c.with_members.ensures ∙ ap (λ all. least c.with_term-first-in-Among.result (members_faults c.args.scope.now (members_of all))) c.deref-in-Among-2.ensures.value)
+    (c.with_term-first-in-Among.ensures ∙ ap (λ a. least c.args.first (term_faults c.args.scope.now a)) c.deref-in-Among.ensures)
+    (c.with_members.ensures ∙ ap (λ all. least c.with_term-first-in-Among.result (members_faults c.args.scope.now (members_of all))) c.deref-in-Among-2.ensures.value)
     ∙ ap (λ a. least c.args.first (term_faults c.args.scope.now a)) (sym e)
 
 pub with_term-returns-in-Loop : goal.with_term-returns-in-Loop
@@ -63,6 +63,6 @@ with_term-returns-in-Loop t c =
     let e = sym c.term.view_is ∙ ap syntax_of c.in-Loop.is in
     let inner = c.scope_within.ensures ∙ ap (λ is. scope_within is c.args.scope.now) c.as_slice.ensures in
     least_both c.args.first c.with_header-first.result c.with_term-in-Loop.result (header_faults c.in-Loop.header) (term_faults (scope_within c.in-Loop.header.indexes c.args.scope.now) c.in-Loop.body.value)
-      c.with_header-first.ensures
-      (c.with_term-in-Loop.ensures ∙ (λ k. least c.with_header-first.result (term_faults (inner k) (c.deref-in-Loop.ensures k))))
+    c.with_header-first.ensures
+    (c.with_term-in-Loop.ensures ∙ (λ k. least c.with_header-first.result (term_faults (inner k) (c.deref-in-Loop.ensures k))))
     ∙ ap (λ a. least c.args.first (term_faults c.args.scope.now a)) (sym e)

@@ -10,7 +10,7 @@ returns c =
     let formula = c.args.formula.now in
     let scope = c.formula_scope-scope.ensures ∙ ap (λ hs. scope_within (all_indexes hs) no_scope) c.as_slice-headers.ensures in
     least_three c.args.first c.with_headers-first.result c.with_word-first.result c.with_term.result
-      (flat_map header_faults formula.loops) (word_faults (formula_scope formula) formula.target formula.place) (term_faults (formula_scope formula) formula.term)
-      (c.with_headers-first.ensures ∙ ap (λ hs. least c.args.first (flat_map header_faults hs)) c.as_slice-headers.ensures)
-      (c.with_word-first.ensures ∙ (λ k. least c.with_headers-first.result (word_faults (scope k) (c.bytes.ensures k) formula.place)))
-      (c.with_term.ensures ∙ ap (λ s. least c.with_word-first.result (term_faults s formula.term)) scope)
+    (flat_map header_faults formula.loops) (word_faults (formula_scope formula) formula.target formula.place) (term_faults (formula_scope formula) formula.term)
+    (c.with_headers-first.ensures ∙ ap (λ hs. least c.args.first (flat_map header_faults hs)) c.as_slice-headers.ensures)
+    (c.with_word-first.ensures ∙ (λ k. least c.with_headers-first.result (word_faults (scope k) (c.bytes.ensures k) formula.place)))
+    (c.with_term.ensures ∙ ap (λ s. least c.with_word-first.result (term_faults s formula.term)) scope)

@@ -1,4 +1,4 @@
-use Rattle.std.proofs.Common.{◌≡◌, List, ℕ, ap, sym, subst, ◌∙◌}
+use Rattle.std.proofs.Common.{List, ℕ, ap, subst, ◌∙◌}
 use Rattle.std.proofs.Math.ListN.{set}
 use Rattle.std.specs.List.{flat_map}
 use Rattle.std.proofs.lemmas.Result.{err_from_is_err_and}
@@ -20,14 +20,14 @@ take_index-loop-value-preserved t c =
     let d = definitions_at c.args.symbols.now c.args.formula.now c.args.formula.now.slot in
     let g = λ (value : List ℕ). instances c.args.indexes.now (bind c.args.letters.now c.args.index.now.letter value) in
     let P : Letters → Type 0 = λ ls.
-        let these = flat_map d (instances c.args.indexes.now (bind ls c.args.index.now.letter c.value-item.result)) in
-        IsTaken c.loop-value.definitions.items c.take_bound.new.definitions.items these (weighed these c.args.weight) c.loop-value.count c.in_ok-count.count in
+    let these = flat_map d (instances c.args.indexes.now (bind ls c.args.index.now.letter c.value-item.result)) in
+    IsTaken c.loop-value.definitions.items c.take_bound.new.definitions.items these (weighed these c.args.weight) c.loop-value.count c.in_ok-count.count in
     record {
       letters = c.in_ok-count.ensures.letters ∙ c.loop-value.invariant.letters;
       taken =
           taken_next d g c.deref-value-items.result.now c.loop-value.value-index c.value-item.result c.args.weight c.args.total c.loop-value.count c.in_ok-count.count
-            c.args.definitions.now.items c.loop-value.definitions.items _ c.loop-value-test.true c.value-item.is c.loop-value.invariant.taken
-            (subst P c.loop-value.invariant.letters c.in_ok-count.ensures.outcome);
+          c.args.definitions.now.items c.loop-value.definitions.items _ c.loop-value-test.true c.value-item.is c.loop-value.invariant.taken
+          (subst P c.loop-value.invariant.letters c.in_ok-count.ensures.outcome);
     }
 
 pub take_index-returns-in_err-count-clause-outcome : goal.take_index-returns-in_err-count-clause-outcome
@@ -35,12 +35,12 @@ take_index-returns-in_err-count-clause-outcome t c =
     let d = definitions_at c.args.symbols.now c.args.formula.now c.args.formula.now.slot in
     let g = λ (value : List ℕ). instances c.args.indexes.now (bind c.args.letters.now c.args.index.now.letter value) in
     let P : Letters → Type 0 = λ ls.
-        IsTooMuch (weighed (flat_map d (instances c.args.indexes.now (bind ls c.args.index.now.letter c.value-item.result))) c.args.weight) c.loop-value.count c.args.item c.in_err-count.field-0.0 in
+    IsTooMuch (weighed (flat_map d (instances c.args.indexes.now (bind ls c.args.index.now.letter c.value-item.result))) c.args.weight) c.loop-value.count c.args.item c.in_err-count.field-0.0 in
     let Q : List (List ℕ) → Type 0 = λ values.
-        IsTooMuch (weighed (flat_map d (flat_map g values)) c.args.weight) c.args.total c.args.item c.in_err-count.field-0.0 in
+    IsTooMuch (weighed (flat_map d (flat_map g values)) c.args.weight) c.args.total c.args.item c.in_err-count.field-0.0 in
     let p = err_from_is_err_and c.from_residual-in_err-count.result c.from_residual-in_err-count.ensures.1 in
     rw (p.1, p.2) (λ n.
-        subst Q (c.deref-value-items.ensures.value ∙ c.in_ok-values.ensures)
-          (too_much_next d g c.deref-value-items.result.now c.loop-value.value-index c.value-item.result c.args.weight c.args.total c.loop-value.count c.args.item c.in_err-count.field-0.0
-            c.args.definitions.now.items c.loop-value.definitions.items c.loop-value-test.true c.value-item.is c.loop-value.invariant.taken
-            (subst P c.loop-value.invariant.letters (c.in_err-count.ensures.outcome n))))
+    subst Q (c.deref-value-items.ensures.value ∙ c.in_ok-values.ensures)
+    (too_much_next d g c.deref-value-items.result.now c.loop-value.value-index c.value-item.result c.args.weight c.args.total c.loop-value.count c.args.item c.in_err-count.field-0.0
+    c.args.definitions.now.items c.loop-value.definitions.items c.loop-value-test.true c.value-item.is c.loop-value.invariant.taken
+    (subst P c.loop-value.invariant.letters (c.in_err-count.ensures.outcome n))))

@@ -1,14 +1,13 @@
-use Rattle.std.proofs.Common.{◌≡◌, arith, ap, sym, refl, subst, ◌∙◌, drop, length, ◌+◌, ◌++◌, ◌∷◌, map}
+use Rattle.std.proofs.Common.{◌≡◌, arith, ap, sym, subst, ◌∙◌, length, ◌++◌, map}
 use Rattle.std.proofs.Math.ListN.{set}
 use Rattle.std.specs.Prelude.{IfOk}
-use Rattle.std.specs.List.{flat_map}
 use Rattle.m_ast.specs.Syntax.{Syntax, apply, chain, among}
 use Rattle.m_ast.specs.View.{syntax_of, terms_of, links_of, members_of}
 use Rattle.loop_values.specs.Headers.{instances}
 use Rattle.loop_values.specs.Letters.{bind}
 use Rattle.index_expand.specs.Terms.{expanded}
 use Rattle.index_expand.specs.inner.Loads.{link_expanded, member_expanded, instance_link, links_sum}
-use Rattle.index_expand.proofs.TermLemmas.{term_below, link_below, low_below, high_below, terms_map, links_map, members_map, sum_is, instances_next, instances_front, put_back}
+use Rattle.index_expand.proofs.TermLemmas.{term_below, link_below, low_below, high_below, terms_map, links_map, members_map, sum_is, instances_next, put_back}
 use Rattle.index_expand.proofs.terms.+expanded.Goals as goal
 
 pub expand_bound-returns-clause-letters : goal.expand_bound-returns-clause-letters
@@ -18,13 +17,13 @@ expand_bound-returns-clause-letters t c =
 
 pub expand_index-loop-value-preserved : goal.expand_index-loop-value-preserved
 expand_index-loop-value-preserved t c = record {
-    letters = c.in_ok-expand_bound.ensures.letters ∙ c.loop-value.invariant.letters;
-    links =
-        instances_next (instance_link c.args.cell c.args.body.now) (λ value. instances c.args.indexes.now (bind c.args.letters.now c.args.index.now.letter value)) c.deref-value-items.result.now c.loop-value.value-index c.value-item.result
-          c.loop-value.links.items _ _ c.loop-value-test.true c.value-item.is c.loop-value.invariant.links
-          (c.in_ok-expand_bound.ensures.links
-            ∙ ap (λ ls. c.loop-value.links.items ++ map (instance_link c.args.cell c.args.body.now) (instances c.args.indexes.now (bind ls c.args.index.now.letter c.value-item.result))) c.loop-value.invariant.letters);
-  }
+  letters = c.in_ok-expand_bound.ensures.letters ∙ c.loop-value.invariant.letters;
+  links =
+      instances_next (instance_link c.args.cell c.args.body.now) (λ value. instances c.args.indexes.now (bind c.args.letters.now c.args.index.now.letter value)) c.deref-value-items.result.now c.loop-value.value-index c.value-item.result
+      c.loop-value.links.items _ _ c.loop-value-test.true c.value-item.is c.loop-value.invariant.links
+      (c.in_ok-expand_bound.ensures.links
+      ∙ ap (λ ls. c.loop-value.links.items ++ map (instance_link c.args.cell c.args.body.now) (instances c.args.indexes.now (bind ls c.args.index.now.letter c.value-item.result))) c.loop-value.invariant.letters);
+}
 
 pub expanded_box-returns-in_ok-expanded_terms-in-Apply-clause-term : goal.expanded_box-returns-in_ok-expanded_terms-in-Apply-clause-term
 expanded_box-returns-in_ok-expanded_terms-in-Apply-clause-term t c =
@@ -63,30 +62,30 @@ expanded_box-returns-in_ok-expand_instances-in-Loop-clause-term t c =
     let letters = c.args.letters.now in
     let whole = sym (ap syntax_of c.in-Loop.is) ∙ c.term.view_is in
     let operands = c.in_ok-expand_instances-in-Loop.ensures.links
-        ∙ (λ k. c.new-links.ensures.items k ++ map (instance_link cell (c.deref-in-Loop.ensures k)) (instances (c.as_slice-indexes.ensures k) letters)) in
+    ∙ (λ k. c.new-links.ensures.items k ++ map (instance_link cell (c.deref-in-Loop.ensures k)) (instances (c.as_slice-indexes.ensures k) letters)) in
     let P : Syntax → Type 0 = λ s. IfOk c.summed.result (λ made. made.value ≡ s) in
     subst P (ap links_sum operands ∙ sum_is cell c.in-Loop.body.value (instances c.in-Loop.header.indexes letters) ∙ ap (expanded cell letters) whole) c.summed.ensures
 
 pub expanded_terms-expanded_box-requires : goal.expanded_terms-expanded_box-requires
 expanded_terms-expanded_box-requires t c = (
-    omega (arith, term_below c.args.terms.now c.loop-term.term-index c.term-item.result c.loop-term-test.true c.term-item.is),
-    ap length c.loop-term.invariant.letters ∙ c.requires,
-  )
+  omega (arith, term_below c.args.terms.now c.loop-term.term-index c.term-item.result c.loop-term-test.true c.term-item.is),
+  ap length c.loop-term.invariant.letters ∙ c.requires,
+)
 
 pub expanded_links-expanded_box-requires : goal.expanded_links-expanded_box-requires
 expanded_links-expanded_box-requires t c = (
-    omega (arith, link_below c.args.links.now c.loop-link.link-index c.link-item.result c.loop-link-test.true c.link-item.is),
-    ap length c.loop-link.invariant.letters ∙ c.requires,
-  )
+  omega (arith, link_below c.args.links.now c.loop-link.link-index c.link-item.result c.loop-link-test.true c.link-item.is),
+  ap length c.loop-link.invariant.letters ∙ c.requires,
+)
 
 pub expanded_members-expanded_box-requires : goal.expanded_members-expanded_box-requires
 expanded_members-expanded_box-requires t c = (
-    omega (arith, low_below c.args.members.now c.loop-member.member-index c.member-item.result c.loop-member-test.true c.member-item.is),
-    ap length c.loop-member.invariant.letters ∙ c.requires,
-  )
+  omega (arith, low_below c.args.members.now c.loop-member.member-index c.member-item.result c.loop-member-test.true c.member-item.is),
+  ap length c.loop-member.invariant.letters ∙ c.requires,
+)
 
 pub expanded_members-expanded_box-requires-in-loop-member : goal.expanded_members-expanded_box-requires-in-loop-member
 expanded_members-expanded_box-requires-in-loop-member t c = (
-    omega (arith, high_below c.args.members.now c.loop-member.member-index c.member-item.result c.loop-member-test.true c.member-item.is),
-    ap length (c.in_ok-low.ensures.letters ∙ c.loop-member.invariant.letters) ∙ c.requires,
-  )
+  omega (arith, high_below c.args.members.now c.loop-member.member-index c.member-item.result c.loop-member-test.true c.member-item.is),
+  ap length (c.in_ok-low.ensures.letters ∙ c.loop-member.invariant.letters) ∙ c.requires,
+)

@@ -1,4 +1,4 @@
-use Rattle.std.proofs.Common.{take, length, ap, ◌∙◌, ◌<◌, ◌≤◌, ltb}
+use Rattle.std.proofs.Common.{ap, ◌∙◌, ltb}
 use Rattle.std.proofs.lemmas.List.{take_all}
 use Rattle.loop_values.proofs.Marks.{mark_more, marked_none, uses}
 use Rattle.loop_values.proofs.header.repeated_letters.Goals as goal

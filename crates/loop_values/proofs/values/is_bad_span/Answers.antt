@@ -1,4 +1,4 @@
-use Rattle.std.proofs.Common.{ap, sym, ◌∙◌, eqb}
+use Rattle.std.proofs.Common.{ap, ◌∙◌, eqb}
 use Rattle.loop_values.specs.Values.{span_values}
 use Rattle.loop_values.proofs.Numbers.{nothing_by_length}
 use Rattle.loop_values.proofs.values.is_bad_span.Goals as goal

@@ -5,6 +5,6 @@ use Rattle.loop_values.proofs.values.letters_count.Goals as goal
 
 pub returns : goal.returns
 returns c = record {
-    count = c.saturating_sub.ensures ∙ sym (length-map-range_with_len letter_word c.args.from (c.args.to + 1 - c.args.from));
-    few = omega arith;
-  }
+  count = c.saturating_sub.ensures ∙ sym (length-map-range_with_len letter_word c.args.from (c.args.to + 1 - c.args.from));
+  few = omega arith;
+}

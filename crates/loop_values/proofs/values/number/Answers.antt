@@ -11,6 +11,6 @@ overflow_add-number c =
 
 pub loop-byte-preserved : goal.loop-byte-preserved
 loop-byte-preserved c = (
-    number_more c.args.word.now c.loop-byte.byte-index c.loop-byte.number c.requires.digits c.loop-byte-test.true c.loop-byte.invariant.0,
-    number_below c.args.word.now c.loop-byte.byte-index c.loop-byte.number c.requires.digits c.loop-byte-test.true c.loop-byte.invariant.1,
-  )
+  number_more c.args.word.now c.loop-byte.byte-index c.loop-byte.number c.requires.digits c.loop-byte-test.true c.loop-byte.invariant.0,
+  number_below c.args.word.now c.loop-byte.byte-index c.loop-byte.number c.requires.digits c.loop-byte-test.true c.loop-byte.invariant.1,
+)

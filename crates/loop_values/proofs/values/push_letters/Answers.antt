@@ -1,6 +1,6 @@
-use Rattle.std.proofs.Common.{arith, ◌+◌, map, ◌++◌}
+use Rattle.std.proofs.Common.{◌+◌}
 use Rattle.loop_values.proofs.Numbers.{range_push}
-use Rattle.loop_values.specs.Values.{letter_word, from_to}
+use Rattle.loop_values.specs.Values.{letter_word}
 use Rattle.loop_values.proofs.values.push_letters.Goals as goal
 
 pub loop-letter-preserved : goal.loop-letter-preserved

@@ -1,4 +1,4 @@
-use Rattle.std.proofs.Common.{arith, length, ◌+◌}
+use Rattle.std.proofs.Common.{length, ◌+◌}
 use Rattle.loop_values.proofs.Numbers.{range_push}
 use Rattle.loop_values.specs.Values.{number_word}
 use Rattle.loop_values.proofs.values.push_numbers.Goals as goal
