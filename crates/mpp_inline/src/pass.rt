@@ -5,7 +5,6 @@ ghost use Rattle.m_places.specs.Refusals.{Outcome};
 ghost use Rattle.m_symbols.specs.Declarations.{Declared, owners_from, inputs_from};
 ghost use Rattle.micro_m.specs.Bases.{IsValidBase};
 ghost use Rattle.rule_order.specs.Orders.{IsOrder};
-ghost use Rattle.driver_core.specs.Valid.{IsValidCore};
 ghost use Rattle.mpp_inline.specs.declared.fault.InlineFault.TheVariants.{Memory};
 ghost use Rattle.driver_core.specs.declared.program.Core.{Core};
 ghost use Rattle.mpp_inline.specs.Inlined.{IsInlined, HasWeight, IsTooLarge};
@@ -30,7 +29,8 @@ use std::alloc::{AllocError, Global};
 /// answers what the driver does. The inputs are those of the symbols in order, and there is an output for each requested cell.
 ///
 /// The base has the cells of the symbols and is ordered, as `order` answers it. Where the driver weighs more than 4,000,000,
-/// it is refused before any node is made. No call is as deep as a chain of functions.
+/// it is refused before any node is made. No call is as deep as a chain of functions. Where functions call each other in a
+/// ring, it gives up as for want of memory.
 pub fn inline(
     alloc: Global,
     core: &Core,
@@ -38,7 +38,6 @@ pub fn inline(
     symbols: &Symbols,
     requests: &[u32],
 ) -> Result<(Flat, Seq<FaceLabel>), InlineFault>
-    requires core { IsValidCore core.now }
     requires base { IsValidBase ordered.now.base }
     requires order { IsOrder ordered.now.base ordered.now.sequence }
     requires cells { ordered.now.base.cells ≡ length (owners_from 0 symbols.now.variables) }
