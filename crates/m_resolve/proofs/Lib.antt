@@ -1,0 +1,5 @@
+pub mod Lists
+pub mod Sizes
+pub mod Marked
+pub mod TargetLemmas
+pub mod Valid

@@ -1,0 +1,75 @@
+-- A fault among things that are said one after the other.
+use Rattle.std.proofs.Common.{◌≡◌, ◌<◌, ◌+◌, ℕ, suc, List, [], ◌∷◌, ◌++◌, length, drop, get_or, Result, Ok, Err, sym, ap, ◌∙◌, arith}
+use Rattle.std.proofs.Math.Seq.{drop-cons}
+use Rattle.m_ast.specs.Syntax.{Syntax}
+use Rattle.m_ast.specs.View.{terms_of, links_of, members_of}
+use Rattle.m_ast.specs.declared.term.Link.{Link}
+use Rattle.m_ast.specs.declared.term.Member.{Member}
+use Rattle.m_symbols.specs.Declarations.{Declared}
+use Rattle.micro_m.specs.Trees.{Tree, chain}
+use Rattle.micro_m.specs.Views.{steps_of}
+use Rattle.micro_m.specs.declared.term.Step.{Step}
+use Rattle.m_fixed.specs.declared.operator.Op.TheVariants.{Or}
+use Rattle.m_resolve.specs.Terms.{if_said, term_said, terms_said, links_said, members_said, member_said}
+use Rattle.micro_m.specs.Bases.{Definition as CellDefinition}
+use Rattle.plain_rules.specs.declared.rules.Definition.{Definition}
+use Rattle.plain_rules.specs.declared.rules.Condition.{Condition}
+use Rattle.m_resolve.specs.Bases.{Checks, conditions_said, label_said, error_named, definitions_said, new_target, cells_of, target_said}
+use Rattle.m_resolve.specs.declared.fault.ResolveFault.{ResolveFault}
+
+-- the elements from i on are the one at i and those behind it
+pub drop_next : {A : Type 0} (xs : List A) (i : ℕ) (x : A) → i < length xs → x ≡ get_or xs i x → drop i xs ≡ x ∷ drop (i + 1) xs
+drop_next xs i x h e = let one : suc i ≡ i + 1 = omega arith in drop-cons xs i x h ∙ (λ k. sym e k ∷ drop (one k) xs)
+
+pub terms_fault : (d : Declared) (before : List Tree) (all : List Syntax) (i : ℕ) (a : Syntax) (whole : Result (List Tree) ResolveFault) (fault : ResolveFault) → i < length all → a ≡ get_or all i a
+    → terms_said d before (terms_of (drop i all)) ≡ whole → term_said d a ≡ Err fault → whole ≡ Err fault
+terms_fault d before all i a whole fault h e s f =
+    sym s ∙ ap (λ l. terms_said d before (terms_of l)) (drop_next all i a h e) ∙ ap (if_said (λ t. terms_said d (before ++ t ∷ []) (terms_of (drop (i + 1) all)))) f
+
+links_fault : (d : Declared) (before : List Step) (all : List Link) (i : ℕ) (a : Link) (whole : Result (List Step) ResolveFault) (fault : ResolveFault) → i < length all → a ≡ get_or all i a
+    → links_said d before (links_of (drop i all)) ≡ whole → term_said d a.term ≡ Err fault → whole ≡ Err fault
+links_fault d before all i a whole fault h e s f =
+    sym s ∙ ap (λ l. links_said d before (links_of l)) (drop_next all i a h e)
+    ∙ ap (if_said (λ t. links_said d (before ++ record { op = a.op; term = t } ∷ []) (links_of (drop (i + 1) all)))) f
+
+-- a fault in a link of a left fold whose first operand has none
+pub chain_fault : (d : Declared) (first : Syntax) (before : List Step) (all : List Link) (i : ℕ) (a : Link) (f : Tree) (fault : ResolveFault) → term_said d first ≡ Ok f → i < length all → a ≡ get_or all i a
+    → links_said d before (links_of (drop i all)) ≡ links_said d [] (links_of all) → term_said d a.term ≡ Err fault
+    → if_said (λ g. if_said (λ steps. Ok (chain g (steps_of steps))) (links_said d [] (links_of all))) (term_said d first) ≡ Err fault
+chain_fault d first before all i a f fault o h e s k =
+    ap (if_said (λ g. if_said (λ steps. Ok (chain g (steps_of steps))) (links_said d [] (links_of all)))) o
+    ∙ ap (if_said (λ steps. Ok (chain f (steps_of steps)))) (links_fault d before all i a (links_said d [] (links_of all)) fault h e s k)
+
+pub members_fault : (d : Declared) (x : Tree) (before : List Step) (all : List Member) (i : ℕ) (a : Member) (whole : Result (List Step) ResolveFault) (fault : ResolveFault) → i < length all → a ≡ get_or all i a
+    → members_said d x before (members_of (drop i all)) ≡ whole → member_said d x a.low a.high ≡ Err fault → whole ≡ Err fault
+members_fault d x before all i a whole fault h e s f =
+    sym s ∙ ap (λ l. members_said d x before (members_of l)) (drop_next all i a h e)
+    ∙ ap (if_said (λ t. members_said d x (before ++ record { op = Or; term = t } ∷ []) (members_of (drop (i + 1) all)))) f
+
+-- a fault in the term of a condition, and in its error
+pub condition_fault : (d : Declared) (before : Checks) (all : List Condition) (i : ℕ) (a : Condition) (fault : ResolveFault) → i < length all → a ≡ get_or all i a
+    → conditions_said d before (drop i all) ≡ conditions_said d ([], []) all → term_said d a.term ≡ Err fault → conditions_said d ([], []) all ≡ Err fault
+condition_fault d before all i a fault h e s f =
+    sym s ∙ ap (conditions_said d before) (drop_next all i a h e)
+    ∙ ap (λ r. if_said (λ said. conditions_said d said (drop (i + 1) all)) (if_said (λ tree. if_said (λ label. Ok (before.0 ++ (tree, length before.1, a.place) ∷ [], before.1 ++ label ∷ [])) (label_said a (error_named d a.error))) r)) f
+
+pub label_fault : (d : Declared) (before : Checks) (all : List Condition) (i : ℕ) (a : Condition) (tree : Tree) (fault : ResolveFault) → i < length all → a ≡ get_or all i a
+    → conditions_said d before (drop i all) ≡ conditions_said d ([], []) all → term_said d a.term ≡ Ok tree → label_said a (error_named d a.error) ≡ Err fault → conditions_said d ([], []) all ≡ Err fault
+label_fault d before all i a tree fault h e s o f =
+    sym s ∙ ap (conditions_said d before) (drop_next all i a h e)
+    ∙ ap (λ r. if_said (λ said. conditions_said d said (drop (i + 1) all)) (if_said (λ t. if_said (λ label. Ok (before.0 ++ (t, length before.1, a.place) ∷ [], before.1 ++ label ∷ [])) (label_said a (error_named d a.error))) r)) o
+    ∙ ap (λ r. if_said (λ said. conditions_said d said (drop (i + 1) all)) (if_said (λ label. Ok (before.0 ++ (tree, length before.1, a.place) ∷ [], before.1 ++ label ∷ [])) r)) f
+
+-- a fault in the target of a definition, and in its term
+pub target_fault : (d : Declared) (before : List CellDefinition) (all : List Definition) (i : ℕ) (a : Definition) (fault : ResolveFault) → i < length all → a ≡ get_or all i a
+    → definitions_said d before (drop i all) ≡ definitions_said d [] all → if_said (new_target d a.place (cells_of before)) (target_said d a) ≡ Err fault → definitions_said d [] all ≡ Err fault
+target_fault d before all i a fault h e s f =
+    sym s ∙ ap (definitions_said d before) (drop_next all i a h e)
+    ∙ ap (λ r. if_said (λ said. definitions_said d (before ++ said ∷ []) (drop (i + 1) all)) (if_said (λ cell. if_said (λ tree. Ok (cell, tree, a.place)) (term_said d a.term)) r)) f
+
+pub definition_fault : (d : Declared) (before : List CellDefinition) (all : List Definition) (i : ℕ) (a : Definition) (cell : ℕ) (fault : ResolveFault) → i < length all → a ≡ get_or all i a
+    → definitions_said d before (drop i all) ≡ definitions_said d [] all → if_said (new_target d a.place (cells_of before)) (target_said d a) ≡ Ok cell → term_said d a.term ≡ Err fault → definitions_said d [] all ≡ Err fault
+definition_fault d before all i a cell fault h e s o f =
+    sym s ∙ ap (definitions_said d before) (drop_next all i a h e)
+    ∙ ap (λ r. if_said (λ said. definitions_said d (before ++ said ∷ []) (drop (i + 1) all)) (if_said (λ c. if_said (λ tree. Ok (c, tree, a.place)) (term_said d a.term)) r)) o
+    ∙ ap (λ r. if_said (λ said. definitions_said d (before ++ said ∷ []) (drop (i + 1) all)) (if_said (λ tree. Ok (cell, tree, a.place)) r)) f

@@ -1,0 +1,78 @@
+-- The cell of a target is among those that are declared.
+use Rattle.std.proofs.Common.{◌≡◌, ◌≤◌, ◌<◌, ◌+◌, ℕ, Bool, true, false, cond, nat_lt, List, length, Option, None, Some, Result, Ok, Err, refl, sym, ap, ◌∙◌, subst, arith, slice_get}
+use Rattle.std.specs.Prelude.{IfOk, IfSome}
+use Rattle.std.specs.Option.{option_and_then}
+use Rattle.std.proofs.lemmas.Bool.{ltb-true}
+use Rattle.m_places.specs.declared.place.Place.{Place}
+use Rattle.m_places.specs.Refusals.{Outcome}
+use Rattle.m_names.specs.Names.{index_of}
+use Rattle.m_ast.specs.Items.{cells_in, size_in, variable_size}
+use Rattle.m_ast.specs.declared.item.Slot.{Slot}
+use Rattle.m_ast.specs.declared.item.Slot.TheVariants.{Whole, Cell, Every}
+use Rattle.m_ast.specs.declared.variable.Role.{Role}
+use Rattle.m_ast.specs.declared.variable.Role.TheVariants.{Input, Computed, Constant}
+use Rattle.m_symbols.specs.declared.variable.Variable.{Variable}
+use Rattle.m_symbols.specs.Declarations.{Declared, names_of, owners_from}
+use Rattle.m_requests.specs.Cells.{variable_named}
+use Rattle.m_requests.specs.Placed.{IsPlaced}
+use Rattle.m_requests.proofs.Placing.{placed_ends, fits, table_sized}
+use Rattle.plain_rules.specs.declared.rules.Definition.{Definition}
+use Rattle.m_resolve.specs.Bases.{target_in, target_of, target_said, computed_target, table_target}
+use Rattle.m_resolve.specs.declared.fault.ResolveFault.{ResolveFault}
+use Rattle.m_resolve.specs.declared.fault.ResolveFault.TheVariants.{BadTarget, Memory}
+
+-- a variable of a name stands at a place
+at_place : (vs : List Variable) (o : Option ℕ) (v : Variable) → option_and_then (slice_get vs) o ≡ Some v → (i : ℕ) × (slice_get vs i ≡ Some v)
+at_place vs None v e = absurd (cc)
+at_place vs (Some i) v e = (i, e)
+
+pub named_at : (d : Declared) (name : List ℕ) (v : Variable) → variable_named d name ≡ Some v → (i : ℕ) × (slice_get d.variables i ≡ Some v)
+named_at d name v e = at_place d.variables (index_of name (names_of d.variables)) v e
+
+pub named_fits : (d : Declared) (name : List ℕ) (count : ℕ) (v : Variable) → IsPlaced d → variable_named d name ≡ Some v → count ≡ length (owners_from 0 d.variables) → v.first_cell + v.cells ≤ count
+named_fits d name count v p e c = let k = named_at d name v e in fits d k.0 count v p k.1 c
+
+pub named_sized : (d : Declared) (name : List ℕ) (v : Variable) → IsPlaced d → variable_named d name ≡ Some v → IfSome (variable_size v.item) (λ s. v.cells ≡ s)
+named_sized d name v p e = let k = named_at d name v e in table_sized d k.0 v p k.1
+
+in_table : (name : List ℕ) (place : Place) (first size all k : ℕ) (b : Bool) → nat_lt k size ≡ b → first + size ≤ all → IfOk (cond b (Ok (first + k)) (Err (BadTarget name place))) (λ c. c < all)
+in_table name place first size all k true e h = let l = ltb-true k size e in omega (arith, h, l)
+in_table name place first size all k false e h = tt
+
+in_computed : (name : List ℕ) (place : Place) (first all cells : ℕ) (size : Option ℕ) (slot : Slot) → cells ≡ cells_in size → first + cells ≤ all → IfOk (computed_target name place first size slot) (λ c. c < all)
+in_computed name place first all cells None Whole e h = omega (arith, e, h)
+in_computed name place first all cells None (Cell k) e h = tt
+in_computed name place first all cells None Every e h = tt
+in_computed name place first all cells (Some size) Whole e h = tt
+in_computed name place first all cells (Some size) (Cell k) e h = in_table name place first size all k (nat_lt k size) refl (omega (arith, e, h))
+in_computed name place first all cells (Some size) Every e h = tt
+
+in_variable : (name : List ℕ) (place : Place) (first all cells : ℕ) (slot : Slot) (role : Role) → cells ≡ cells_in (size_in role) → first + cells ≤ all → IfOk (target_in name place first slot role) (λ c. c < all)
+in_variable name place first all cells slot (Computed size) e h = in_computed name place first all cells size slot e h
+in_variable name place first all cells slot (Input code) e h = tt
+in_variable name place first all cells slot (Constant amount) e h = tt
+
+if_target : (said : Result ℕ ResolveFault) (cell all : ℕ) → said ≡ Ok cell → IfOk said (λ c. c < all) → cell < all
+if_target said cell all e h = subst (λ r. IfOk r (λ c. c < all)) e h
+
+pub target_known : (d : Declared) (name : List ℕ) (place : Place) (slot : Slot) (v : Variable) (result : Result ℕ ResolveFault) → IsPlaced d → variable_named d name ≡ Some v
+    → Outcome Memory result (λ cell. target_in name place v.first_cell slot v.item.role ≡ Ok cell) (λ fault. target_in name place v.first_cell slot v.item.role ≡ Err fault)
+    → IfOk result (λ c. c < length (owners_from 0 d.variables))
+target_known d name place slot v (Ok cell) p e o =
+    let k = named_at d name v e in
+    let m = placed_ends d k.0 v p k.1 in
+    let all = length (owners_from 0 d.variables) in
+    if_target (target_in name place v.first_cell slot v.item.role) cell all o (in_variable name place v.first_cell all v.cells slot v.item.role m.cells (omega (arith, m.ends)))
+target_known d name place slot v (Err fault) p e o = tt
+
+-- the cell of a definition's target is among those that are declared
+pub target_said_within : (d : Declared) (definition : Definition) (cell : ℕ) → IsPlaced d → target_said d definition ≡ Ok cell → cell < length (owners_from 0 d.variables)
+target_said_within d definition cell p e = by_variable (variable_named d definition.target) refl
+  where
+    by_variable : (o : Option Variable) → variable_named d definition.target ≡ o → cell < length (owners_from 0 d.variables)
+    by_variable None n = let s = sym (ap (target_of definition) n) ∙ e in absurd (cc)
+    by_variable (Some v) n =
+        let k = named_at d definition.target v n in
+        let m = placed_ends d k.0 v p k.1 in
+        if_target (target_in definition.target definition.place v.first_cell definition.slot v.item.role) cell (length (owners_from 0 d.variables)) (sym (ap (target_of definition) n) ∙ e)
+        (in_variable definition.target definition.place v.first_cell (length (owners_from 0 d.variables)) v.cells definition.slot v.item.role m.cells (omega (arith, m.ends)))

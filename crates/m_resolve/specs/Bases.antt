@@ -1,0 +1,141 @@
+-- The base of plain rules, or their first fault.
+use Rattle.std.specs.Prelude.{ℕ, ◌+◌, nat_lt, ◌==◌, Bool, true, false, ℤ, List, [], ◌∷◌, ◌++◌, length, map, drop, Option, Some, None, Result, Ok, Err, if◌then◌else◌, codes, slice_get}
+use Rattle.std.specs.List.{filter_map, flat_map}
+use Rattle.std.specs.Option.{option_and_then}
+use Rattle.m_places.specs.declared.place.Place.{Place}
+use Rattle.m_places.specs.declared.verification.Label.{Label}
+use Rattle.m_names.specs.Names.{index_of}
+use Rattle.m_ast.specs.declared.item.ErrorItem.{ErrorItem}
+use Rattle.m_ast.specs.declared.item.Slot.{Slot}
+use Rattle.m_ast.specs.declared.item.Slot.TheVariants.{Whole, Cell, Every}
+use Rattle.m_ast.specs.declared.variable.Role.{Role}
+use Rattle.m_ast.specs.declared.variable.Role.TheVariants.{Input, Computed, Constant}
+use Rattle.m_symbols.specs.declared.variable.Variable.{Variable}
+use Rattle.m_symbols.specs.Declarations.{Declared, owners_from, error_names_of}
+use Rattle.micro_m.specs.Bases.{Definition as CellDefinition, is_among}
+use Rattle.micro_m.specs.Failures.{Check}
+use Rattle.micro_m.specs.declared.base.Base.{Base}
+use Rattle.m_requests.specs.Cells.{cell_name, variable_named}
+use Rattle.plain_rules.specs.declared.rules.Plain.{Plain}
+use Rattle.plain_rules.specs.declared.rules.Definition.{Definition}
+use Rattle.plain_rules.specs.declared.rules.Condition.{Condition}
+use Rattle.m_resolve.specs.declared.fault.ResolveFault.{ResolveFault}
+use Rattle.m_resolve.specs.declared.fault.ResolveFault.TheVariants.{UnknownName, NotATable, IsATable, BadTarget, DefinedTwice, UnknownError}
+use Rattle.m_resolve.specs.Terms.{if_said, term_said}
+
+-- ---- targets
+
+-- the fault of a target that is an input or a constant
+abbrev pub unsettable_fault : List ℕ → Place → Slot → ResolveFault
+unsettable_fault name place Whole = BadTarget name place
+unsettable_fault name place (Cell k) = NotATable name place
+unsettable_fault name place Every = NotATable name place
+
+-- the cell with a number of a table of this size
+abbrev pub table_target : List ℕ → Place → ℕ → ℕ → ℕ → Result ℕ ResolveFault
+table_target name place first size k = if nat_lt k size then Ok (first + k) else Err (BadTarget name place)
+
+-- the cell that a target is of a computed variable: without an index it is no table, and with one it is. A target `T[X]` of a declared table has
+-- been replaced by its cells.
+abbrev pub computed_target : List ℕ → Place → ℕ → Option ℕ → Slot → Result ℕ ResolveFault
+computed_target name place first None Whole = Ok first
+computed_target name place first None (Cell k) = Err (NotATable name place)
+computed_target name place first None Every = Err (NotATable name place)
+computed_target name place first (Some size) Whole = Err (IsATable name place)
+computed_target name place first (Some size) (Cell k) = table_target name place first size k
+computed_target name place first (Some size) Every = Err (BadTarget name place)
+
+-- the cell that a target is of a variable
+abbrev pub target_in : List ℕ → Place → ℕ → Slot → Role → Result ℕ ResolveFault
+target_in name place first slot (Computed size) = computed_target name place first size slot
+target_in name place first slot (Input code) = Err (unsettable_fault name place slot)
+target_in name place first slot (Constant amount) = Err (unsettable_fault name place slot)
+
+abbrev pub target_of : Definition → Option Variable → Result ℕ ResolveFault
+target_of definition None = Err (UnknownName definition.target definition.place)
+target_of definition (Some v) = target_in definition.target definition.place v.first_cell definition.slot v.item.role
+
+-- the cell that a definition is of, whatever is defined besides
+abbrev pub target_said : Declared → Definition → Result ℕ ResolveFault
+target_said declared definition = target_of definition (variable_named declared definition.target)
+
+-- a cell that no earlier definition has
+abbrev pub new_target : Declared → Place → List ℕ → ℕ → Result ℕ ResolveFault
+new_target declared place earlier cell = if is_among cell earlier then Err (DefinedTwice (cell_name declared cell) place) else Ok cell
+
+-- ---- definitions
+
+abbrev pub cells_of : List CellDefinition → List ℕ
+cells_of = map (λ d. d.0)
+
+-- what a definition is behind earlier ones: its target's faults come first, and then its term's
+abbrev pub definition_said : Declared → List CellDefinition → Definition → Result CellDefinition ResolveFault
+definition_said declared before definition =
+    if_said (λ cell. if_said (λ tree. Ok (cell, tree, definition.place)) (term_said declared definition.term))
+    (if_said (new_target declared definition.place (cells_of before)) (target_said declared definition))
+
+-- definitions one after the other, behind those that are said already
+abbrev pub definitions_said : Declared → List CellDefinition → List Definition → Result (List CellDefinition) ResolveFault
+definitions_said declared before [] = Ok before
+definitions_said declared before (d ∷ ds) = if_said (λ said. definitions_said declared (before ++ said ∷ []) ds) (definition_said declared before d)
+
+-- ---- checks
+
+-- a byte of a text as it is printed: one below 32 is a space
+abbrev pub printable : ℕ → ℕ
+printable b = if nat_lt b 32 then 32 else b
+
+-- a text as it is printed, behind a colon
+abbrev pub behind_colon : List ℕ → List ℕ
+behind_colon text = 58 ∷ map printable text
+
+-- the text of an error: its texts with a colon between them, each byte below 32 a space
+abbrev pub error_text : List (List ℕ) → List ℕ
+error_text texts = drop 1 (flat_map behind_colon texts)
+
+-- what a check of this verification tells that raises this error
+abbrev pub label_of : List ℕ → ErrorItem → Label
+label_of verif e = record { verif = verif; error = e.name; kind = e.kind; text = error_text e.texts }
+
+-- the error of a name
+abbrev pub error_named : Declared → List ℕ → Option ErrorItem
+error_named declared name = option_and_then (slice_get declared.errors) (index_of name (error_names_of declared.errors))
+
+abbrev pub label_said : Condition → Option ErrorItem → Result Label ResolveFault
+label_said condition None = Err (UnknownError condition.error condition.place)
+label_said condition (Some e) = Ok (label_of condition.verif e)
+
+-- checks and their labels: check k has label k
+abbrev pub Checks : Type 0
+Checks = List Check × List Label
+
+-- what a condition is: its term's faults come first, and then an unknown error
+abbrev pub with_condition : Declared → Checks → Condition → Result Checks ResolveFault
+with_condition declared before condition =
+    if_said (λ tree. if_said (λ label. Ok (before.0 ++ (tree, length before.1, condition.place) ∷ [], before.1 ++ label ∷ [])) (label_said condition (error_named declared condition.error)))
+    (term_said declared condition.term)
+
+abbrev pub conditions_said : Declared → Checks → List Condition → Result Checks ResolveFault
+conditions_said declared before [] = Ok before
+conditions_said declared before (condition ∷ conditions) = if_said (λ said. conditions_said declared said conditions) (with_condition declared before condition)
+
+-- ---- the base
+
+-- the cell of a constant and its amount
+abbrev pub constant_in : ℕ → Role → Option (ℕ × ℤ)
+constant_in first (Constant amount) = Some (first, amount)
+constant_in first (Input code) = None
+constant_in first (Computed size) = None
+
+-- the cells of constants and their amounts, in order of declaration
+abbrev pub constants_of : Declared → List (ℕ × ℤ)
+constants_of declared = filter_map (λ v. constant_in v.first_cell v.item.role) declared.variables
+
+abbrev pub base_with : Declared → List CellDefinition → Checks → Base
+base_with declared definitions checks =
+    record { cells = length (owners_from 0 declared.variables); constants = constants_of declared; definitions = definitions; checks = checks.0; labels = checks.1 }
+
+-- The base of plain rules over the cells of what is declared, or their first fault: all definitions come first, in order, and then all conditions.
+abbrev pub resolved : Declared → Plain → Result Base ResolveFault
+resolved declared plain =
+    if_said (λ definitions. if_said (λ checks. Ok (base_with declared definitions checks)) (conditions_said declared ([], []) plain.conditions)) (definitions_said declared [] plain.definitions)

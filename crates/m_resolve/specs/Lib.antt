@@ -1,0 +1,3 @@
+pub mod Terms
+pub mod Bases
+pub mod inner

@@ -1,0 +1,105 @@
+-- What a term is over cells: each name is a cell, each table read a pick, each membership written out.
+use Rattle.std.specs.Prelude.{ℕ, Bool, true, false, List, [], ◌∷◌, ◌++◌, Option, Some, None, Result, Ok, Err, if◌then◌else◌, codes}
+use Rattle.m_fixed.specs.declared.operator.Op.TheVariants.{Eq, Ge, Le, And, Or, Not}
+use Rattle.m_fixed.specs.declared.amount.Value.TheVariants.{Undef}
+use Rattle.m_places.specs.declared.place.Place.{Place}
+use Rattle.m_ast.specs.Items.{variable_size}
+use Rattle.m_ast.specs.Syntax.{Syntax, lit, named, the_x, cell, apply, chain, among, loop, Terms, no_terms, a_term, Links, no_links, a_link, Members, no_members, a_member}
+use Rattle.m_symbols.specs.declared.variable.Variable.{Variable}
+use Rattle.m_symbols.specs.Declarations.{Declared}
+use Rattle.micro_m.specs.Trees.{Tree, lit as lit_tree, cell as cell_tree, pick, apply as apply_tree, chain as chain_tree, none, more}
+use Rattle.micro_m.specs.Views.{trees_of, steps_of}
+use Rattle.micro_m.specs.declared.term.Step.{Step}
+use Rattle.m_requests.specs.Cells.{variable_named}
+use Rattle.plain_rules.specs.Members.{is_single}
+use Rattle.m_resolve.specs.declared.fault.ResolveFault.{ResolveFault}
+use Rattle.m_resolve.specs.declared.fault.ResolveFault.TheVariants.{UnknownName, NotATable, IsATable}
+
+-- what comes of a thing that may have a fault
+abbrev pub if_said : {A B : Type 0} → (A → Result B ResolveFault) → Result A ResolveFault → Result B ResolveFault
+if_said next (Ok thing) = next thing
+if_said next (Err fault) = Err fault
+
+-- ---- names
+
+-- the cell of a variable that is no table
+abbrev pub whole_cell : List ℕ → Place → ℕ → Option ℕ → Result ℕ ResolveFault
+whole_cell name place first None = Ok first
+whole_cell name place first (Some size) = Err (IsATable name place)
+
+abbrev pub cell_of_variable : List ℕ → Place → Option Variable → Result ℕ ResolveFault
+cell_of_variable name place None = Err (UnknownName name place)
+cell_of_variable name place (Some v) = whole_cell name place v.first_cell (variable_size v.item)
+
+-- the cell of a name without an index
+abbrev pub cell_said : Declared → List ℕ → Place → Result ℕ ResolveFault
+cell_said declared name place = cell_of_variable name place (variable_named declared name)
+
+-- the first cell of a table, and its size
+abbrev pub table_cells : List ℕ → Place → ℕ → Option ℕ → Result (ℕ × ℕ) ResolveFault
+table_cells name place first None = Err (NotATable name place)
+table_cells name place first (Some size) = Ok (first, size)
+
+abbrev pub table_of_variable : List ℕ → Place → Option Variable → Result (ℕ × ℕ) ResolveFault
+table_of_variable name place None = Err (UnknownName name place)
+table_of_variable name place (Some v) = table_cells name place v.first_cell (variable_size v.item)
+
+-- the table of a name with an index
+abbrev pub table_said : Declared → List ℕ → Place → Result (ℕ × ℕ) ResolveFault
+table_said declared name place = table_of_variable name place (variable_named declared name)
+
+-- ---- memberships
+
+abbrev pub member_by : Bool → Tree → Tree → Tree → Tree
+member_by true x low high = apply_tree Eq (more x (more low none))
+member_by false x low high = chain_tree (apply_tree Ge (more x (more low none))) (steps_of (record { op = And; term = apply_tree Le (more x (more high none)) } ∷ []))
+
+-- members joined by `ou`, each with it: one member is that member itself
+abbrev pub any_of : List Step → Tree
+any_of [] = lit_tree Undef
+any_of (member ∷ []) = member.term
+any_of (member ∷ second ∷ members) = chain_tree member.term (steps_of (second ∷ members))
+
+abbrev pub membership : Bool → List Step → Tree
+membership false members = any_of members
+membership true members = apply_tree Not (more (any_of members) none)
+
+-- ---- terms
+
+-- `X` that stands in a term is a name that no variable has
+abbrev pub x_name : List ℕ
+x_name = codes "X"
+
+-- What a term is over the cells of what is declared, or the first of its faults from left to right. `A + T[1]` over `A` at cell 0 and the
+-- table `T` of the cells 1 to 3 is the cell 0, and behind it `+` and the pick of 1 out of 3 cells from 1 on. `A dans (1, 3..5)` is
+-- `A = 1 ou (A >= 3 et A <= 5)`. No loop stands in a plain term; one would be undefined.
+abbrev mutual
+  pub term_said : Declared → Syntax → Result Tree ResolveFault
+  term_said declared (lit value) = Ok (lit_tree value)
+  term_said declared (named name place) = if_said (λ c. Ok (cell_tree c)) (cell_said declared name place)
+  term_said declared (the_x place) = Err (UnknownName x_name place)
+  term_said declared (cell name index place) = if_said (λ table. if_said (λ i. Ok (pick table.0 table.1 i)) (term_said declared index)) (table_said declared name place)
+  term_said declared (apply op all) = if_said (λ arguments. Ok (apply_tree op (trees_of arguments))) (terms_said declared [] all)
+  term_said declared (chain first links) = if_said (λ f. if_said (λ steps. Ok (chain_tree f (steps_of steps))) (links_said declared [] links)) (term_said declared first)
+  term_said declared (among negated x all) = if_said (λ t. if_said (λ members. Ok (membership negated members)) (members_said declared t [] all)) (term_said declared x)
+  term_said declared (loop header body) = Ok (lit_tree Undef)
+
+  -- terms one after the other, behind those that are said already
+  pub terms_said : Declared → List Tree → Terms → Result (List Tree) ResolveFault
+  terms_said declared before no_terms = Ok before
+  terms_said declared before (a_term a rest) = if_said (λ t. terms_said declared (before ++ t ∷ []) rest) (term_said declared a)
+
+  pub links_said : Declared → List Step → Links → Result (List Step) ResolveFault
+  links_said declared before no_links = Ok before
+  links_said declared before (a_link op a rest) = if_said (λ t. links_said declared (before ++ record { op = op; term = t } ∷ []) rest) (term_said declared a)
+
+  -- members of a membership of this term, each with its `ou`
+  pub members_said : Declared → Tree → List Step → Members → Result (List Step) ResolveFault
+  members_said declared x before no_members = Ok before
+  members_said declared x before (a_member low high rest) =
+      if_said (λ m. members_said declared x (before ++ record { op = Or; term = m } ∷ []) rest)
+      (if_said (λ l. if_said (λ h. Ok (member_by (is_single low high) x l h)) (term_said declared high)) (term_said declared low))
+
+-- what a member of a membership of this term is
+abbrev pub member_said : Declared → Tree → Syntax → Syntax → Result Tree ResolveFault
+member_said declared x low high = if_said (λ l. if_said (λ h. Ok (member_by (is_single low high) x l h)) (term_said declared high)) (term_said declared low)

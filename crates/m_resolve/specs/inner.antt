@@ -1,0 +1,2 @@
+-- What inner functions speak of.
+pub mod Marks

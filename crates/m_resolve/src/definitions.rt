@@ -1,0 +1,76 @@
+//! Definitions over cells.
+
+ghost use Rattle.std.specs.Prelude.{◌≡◌, ◌<◌, ◌++◌, ◌∷◌, [], Ok, Err, not, IfOk, length, List, ℕ};
+ghost use Rattle.m_places.specs.Refusals.{Outcome};
+ghost use Rattle.m_places.specs.declared.place.Place.{Place};
+ghost use Rattle.m_symbols.specs.Declarations.{owners_from};
+ghost use Rattle.micro_m.specs.Bases.{Definition as CellDefinition, is_among};
+ghost use Rattle.m_requests.specs.Placed.{IsPlaced};
+ghost use Rattle.m_resolve.specs.Terms.{if_said, term_said};
+ghost use Rattle.m_resolve.specs.Bases.{definitions_said, definition_said, target_said, new_target, cells_of};
+ghost use Rattle.m_resolve.specs.inner.Marks.{Marks};
+ghost use Rattle.m_resolve.specs.declared.fault.ResolveFault.TheVariants.{Memory};
+
+use crate::ResolveFault;
+use crate::targets::target;
+use crate::terms::term;
+use m_places::Place;
+use m_requests::cell_name;
+use m_symbols::Symbols;
+use micro_m::MTerm;
+use plain_rules::Definition;
+use std::alloc::Global;
+
+/// Definitions over cells, in order, or the fault of the first that has one.
+pub(crate) fn definitions(
+    alloc: Global,
+    all: &[Definition],
+    symbols: &Symbols,
+) -> Result<Vec<(u32, MTerm, Place)>, ResolveFault>
+    requires { IsPlaced symbols.now }
+    ensures { Outcome Memory result (λ made. definitions_said symbols.now [] all.now ≡ Ok made.items) (λ fault. definitions_said symbols.now [] all.now ≡ Err fault) }
+{
+    let mut marked = vec![in alloc; false; symbols.cells() as usize]?;
+    let mut made = Vec::with_capacity(alloc, all.len())?;
+    for one in all {
+        let cell = new_target(alloc, one, &mut marked, symbols)?;
+        let tree = term(alloc, &one.term, symbols)?;
+        made.push((cell, Box::into_inner(tree), one.place))?;
+    }
+    Ok(made)
+}
+
+// The cell of a definition, which no earlier one has, and marks it.
+fn new_target(
+    alloc: Global,
+    definition: &Definition,
+    marked: &mut [bool],
+    symbols: &Symbols,
+) -> Result<u32, ResolveFault>
+    requires placed { IsPlaced symbols.now }
+    requires count { length marked.old ≡ length (owners_from 0 symbols.now.variables) }
+    ensures outcome { (earlier : List ℕ) → Marks marked.old earlier → Outcome Memory result
+        (λ cell. if_said (new_target symbols.now definition.now.place earlier) (target_said symbols.now definition.now) ≡ Ok cell)
+        (λ fault. if_said (new_target symbols.now definition.now.place earlier) (target_said symbols.now definition.now) ≡ Err fault) }
+    ensures marks { IfOk result (λ cell. (earlier : List ℕ) → Marks marked.old earlier → Marks marked.new (earlier ++ cell ∷ [])) }
+    ensures counted { length marked.new ≡ length marked.old }
+{
+    let cell = target(alloc, definition, symbols)?;
+    if !mark(marked, cell) {
+        let name = cell_name(alloc, symbols, cell)?;
+        return Err(ResolveFault::DefinedTwice(name, definition.place));
+    }
+    Ok(cell)
+}
+
+// Marks a cell, and says whether it wasn't marked.
+fn mark(marked: &mut [bool], cell: u32) -> bool
+    requires { cell < length marked.old }
+    ensures fresh { (cells : List ℕ) → Marks marked.old cells → result ≡ not (is_among cell cells) }
+    ensures marks { (cells : List ℕ) → Marks marked.old cells → Marks marked.new (cells ++ cell ∷ []) }
+    ensures counted { length marked.new ≡ length marked.old }
+{
+    let fresh = !marked[cell as usize];
+    marked[cell as usize] = true;
+    fresh
+}

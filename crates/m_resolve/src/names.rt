@@ -1,0 +1,62 @@
+//! Names to variables and cells.
+
+ghost use Rattle.std.specs.Prelude.{◌≡◌, Ok, Err};
+ghost use Rattle.std.specs.Option.{option_copied};
+ghost use Rattle.m_places.specs.Refusals.{Outcome};
+ghost use Rattle.m_requests.specs.Cells.{variable_named};
+ghost use Rattle.m_resolve.specs.Terms.{cell_said, cell_of_variable, table_said, table_of_variable};
+ghost use Rattle.m_resolve.specs.declared.fault.ResolveFault.TheVariants.{Memory};
+
+use crate::ResolveFault;
+use m_ast::Role;
+use m_places::{Name, Place};
+use m_symbols::{Symbols, Variable};
+use std::alloc::Global;
+
+/// The variable of a name.
+pub(crate) fn variable_named<'a>(symbols: &'a Symbols, name: &Name) -> Option<&'a Variable>
+    ensures { option_copied result ≡ variable_named symbols.now name.now }
+{
+    let number = symbols.find(name.bytes())?;
+    Some(symbols.variable(number))
+}
+
+/// The cell of a name without an index.
+pub(crate) fn cell_of(
+    alloc: Global,
+    symbols: &Symbols,
+    name: &Name,
+    place: Place,
+) -> Result<u32, ResolveFault>
+    ensures { Outcome Memory result (λ cell. cell_said symbols.now name.now place ≡ Ok cell) (λ fault. cell_said symbols.now name.now place ≡ Err fault) }
+{
+    let Some(variable) = variable_named(symbols, name) else {
+        return Err(ResolveFault::UnknownName(name.copy(alloc)?, place));
+    };
+    match &variable.item.role {
+        Role::Computed(Some(_)) => Err(ResolveFault::IsATable(name.copy(alloc)?, place)),
+        Role::Computed(None) => Ok(variable.first_cell),
+        Role::Input(_) => Ok(variable.first_cell),
+        Role::Constant(_) => Ok(variable.first_cell),
+    }
+}
+
+/// The first cell of a table, and its size.
+pub(crate) fn table_of(
+    alloc: Global,
+    symbols: &Symbols,
+    name: &Name,
+    place: Place,
+) -> Result<(u32, u32), ResolveFault>
+    ensures { Outcome Memory result (λ table. table_said symbols.now name.now place ≡ Ok table) (λ fault. table_said symbols.now name.now place ≡ Err fault) }
+{
+    let Some(variable) = variable_named(symbols, name) else {
+        return Err(ResolveFault::UnknownName(name.copy(alloc)?, place));
+    };
+    match &variable.item.role {
+        Role::Computed(Some(size)) => Ok((variable.first_cell, *size)),
+        Role::Computed(None) => Err(ResolveFault::NotATable(name.copy(alloc)?, place)),
+        Role::Input(_) => Err(ResolveFault::NotATable(name.copy(alloc)?, place)),
+        Role::Constant(_) => Err(ResolveFault::NotATable(name.copy(alloc)?, place)),
+    }
+}

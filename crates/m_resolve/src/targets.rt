@@ -1,0 +1,94 @@
+//! The cells that formulas set.
+
+ghost use Rattle.std.specs.Prelude.{◌≡◌, ◌<◌, ◌≤◌, ◌+◌, ◌^◌, Ok, Err, IfOk, IfSome, length};
+ghost use Rattle.m_places.specs.Refusals.{Outcome};
+ghost use Rattle.m_ast.specs.Items.{variable_size};
+ghost use Rattle.m_symbols.specs.Declarations.{owners_from};
+ghost use Rattle.m_requests.specs.Placed.{IsPlaced};
+ghost use Rattle.m_resolve.specs.Bases.{target_said, target_in, table_target, unsettable_fault};
+ghost use Rattle.m_resolve.specs.declared.fault.ResolveFault.TheVariants.{Memory};
+
+use crate::ResolveFault;
+use crate::names::variable_named;
+use m_ast::{Role, Slot};
+use m_places::{Name, Place};
+use m_symbols::{Symbols, Variable};
+use plain_rules::Definition;
+use std::alloc::Global;
+
+/// The cell that a definition is of, whatever is defined besides.
+pub(crate) fn target(
+    alloc: Global,
+    definition: &Definition,
+    symbols: &Symbols,
+) -> Result<u32, ResolveFault>
+    requires { IsPlaced symbols.now }
+    ensures outcome { Outcome Memory result (λ cell. target_said symbols.now definition.now ≡ Ok cell) (λ fault. target_said symbols.now definition.now ≡ Err fault) }
+    ensures known { IfOk result (λ cell. cell < length (owners_from 0 symbols.now.variables)) }
+{
+    let Some(variable) = variable_named(symbols, &definition.target) else {
+        return Err(ResolveFault::UnknownName(definition.target.copy(alloc)?, definition.place));
+    };
+    target_in(alloc, definition, variable, symbols.cells())
+}
+
+// The cell that a definition is of in this variable. There are so many cells.
+fn target_in(
+    alloc: Global,
+    definition: &Definition,
+    variable: &Variable,
+    all: u32,
+) -> Result<u32, ResolveFault>
+    requires fits { variable.now.first_cell + variable.now.cells ≤ all }
+    requires size { IfSome (variable_size variable.now.item) (λ size. variable.now.cells ≡ size) }
+    ensures { Outcome Memory result
+        (λ cell. target_in definition.now.target definition.now.place variable.now.first_cell definition.now.slot variable.now.item.role ≡ Ok cell)
+        (λ fault. target_in definition.now.target definition.now.place variable.now.first_cell definition.now.slot variable.now.item.role ≡ Err fault) }
+{
+    let name = &definition.target;
+    let place = definition.place;
+    match &variable.item.role {
+        Role::Computed(Some(size)) => match definition.slot {
+            Slot::Whole => Err(ResolveFault::IsATable(name.copy(alloc)?, place)),
+            Slot::Cell(k) => table_target(alloc, name, place, variable.first_cell, *size, k),
+            Slot::Every => Err(ResolveFault::BadTarget(name.copy(alloc)?, place)),
+        },
+        Role::Computed(None) => match definition.slot {
+            Slot::Whole => Ok(variable.first_cell),
+            Slot::Cell(_) => Err(ResolveFault::NotATable(name.copy(alloc)?, place)),
+            Slot::Every => Err(ResolveFault::NotATable(name.copy(alloc)?, place)),
+        },
+        Role::Input(_) => unsettable(alloc, name, place, definition.slot),
+        Role::Constant(_) => unsettable(alloc, name, place, definition.slot),
+    }
+}
+
+// The fault of a target that is an input or a constant.
+fn unsettable(alloc: Global, name: &Name, place: Place, slot: Slot) -> Result<u32, ResolveFault>
+    ensures { Outcome Memory result (λ cell. ⊥) (λ fault. fault ≡ unsettable_fault name.now place slot) }
+{
+    match slot {
+        Slot::Whole => Err(ResolveFault::BadTarget(name.copy(alloc)?, place)),
+        Slot::Cell(_) => Err(ResolveFault::NotATable(name.copy(alloc)?, place)),
+        Slot::Every => Err(ResolveFault::NotATable(name.copy(alloc)?, place)),
+    }
+}
+
+// The cell of a table with this number.
+fn table_target(
+    alloc: Global,
+    name: &Name,
+    place: Place,
+    first: u32,
+    size: u32,
+    k: u32,
+) -> Result<u32, ResolveFault>
+    requires { first + size < 2 ^ 32 }
+    ensures { Outcome Memory result (λ cell. table_target name.now place first size k ≡ Ok cell) (λ fault. table_target name.now place first size k ≡ Err fault) }
+{
+    if k < size {
+        Ok(first + k)
+    } else {
+        Err(ResolveFault::BadTarget(name.copy(alloc)?, place))
+    }
+}

@@ -1,0 +1,256 @@
+//! Terms over names to terms over cells.
+
+ghost use Rattle.std.specs.Prelude.{◌≡◌, Ok, Err, [], false, IfOk};
+ghost use Rattle.m_places.specs.Refusals.{Outcome};
+ghost use Rattle.micro_m.specs.Trees.{cell as cell_tree, pick, apply, chain, none, more};
+ghost use Rattle.micro_m.specs.Views.{tree_of, trees_of, steps_of};
+ghost use Rattle.m_ast.specs.View.{terms_of, links_of, members_of};
+ghost use Rattle.m_resolve.specs.Terms.{cell_said, table_said, term_said, terms_said, links_said, members_said, member_said, member_by, membership, any_of, x_name, if_said};
+ghost use Rattle.m_resolve.specs.declared.fault.ResolveFault.TheVariants.{Memory};
+
+use crate::ResolveFault;
+use crate::names::{cell_of, table_of};
+use m_ast::{Link, Member, Node, Term};
+use m_fixed::{Op, Value};
+use m_places::{Name, Place};
+use m_symbols::Symbols;
+use micro_m::{MNode, MTerm, Step};
+use plain_rules::is_single;
+use std::alloc::{AllocError, Global};
+
+/// The name that `X` is in a term.
+const X: &[u8] = b"X";
+
+/// What a term is over cells, or the first of its faults from left to right.
+#[cycle(term)]
+pub(crate) fn term(
+    alloc: Global,
+    term: &Term,
+    symbols: &Symbols,
+) -> Result<Box<MTerm>, ResolveFault>
+    ensures { Outcome Memory result (λ tree. term_said symbols.now term.now ≡ Ok tree.value) (λ fault. term_said symbols.now term.now ≡ Err fault) }
+{
+    match &term.node {
+        Node::Lit(value) => Ok(boxed(alloc, MNode::Lit(*value))?),
+        Node::Named(name, place) => named(alloc, name, *place, symbols),
+        Node::X(place) => Err(ResolveFault::UnknownName(Name::new(alloc, X)?, *place)),
+        Node::Cell(name, index, place) => table_read(alloc, name, index, *place, symbols),
+        Node::Apply(op, arguments) => applied(alloc, *op, arguments, symbols),
+        Node::Chain(first, links) => chained(alloc, first, links, symbols),
+        Node::Among(negated, x, members) => among(alloc, *negated, x, members, symbols),
+        Node::Loop(_, _) => Ok(boxed(alloc, MNode::Lit(Value::Undef))?),
+    }
+}
+
+// A node in a box.
+fn boxed(alloc: Global, node: MNode) -> Result<Box<MTerm>, AllocError>
+    ensures { IfOk result (λ t. t.value ≡ tree_of node) }
+{
+    Ok(Box::new(alloc, MTerm::new(node))?)
+}
+
+// A name without an index.
+fn named(
+    alloc: Global,
+    name: &Name,
+    place: Place,
+    symbols: &Symbols,
+) -> Result<Box<MTerm>, ResolveFault>
+    ensures { Outcome Memory result (λ tree. if_said (λ c. Ok (cell_tree c)) (cell_said symbols.now name.now place) ≡ Ok tree.value) (λ fault. if_said (λ c. Ok (cell_tree c)) (cell_said symbols.now name.now place) ≡ Err fault) }
+{
+    let cell = cell_of(alloc, symbols, name, place)?;
+    Ok(boxed(alloc, MNode::Cell(cell))?)
+}
+
+// A table read.
+#[cycle(term)]
+fn table_read(
+    alloc: Global,
+    name: &Name,
+    index: &Term,
+    place: Place,
+    symbols: &Symbols,
+) -> Result<Box<MTerm>, ResolveFault>
+    ensures { Outcome Memory result
+        (λ tree. if_said (λ table. if_said (λ i. Ok (pick table.0 table.1 i)) (term_said symbols.now index.now)) (table_said symbols.now name.now place) ≡ Ok tree.value)
+        (λ fault. if_said (λ table. if_said (λ i. Ok (pick table.0 table.1 i)) (term_said symbols.now index.now)) (table_said symbols.now name.now place) ≡ Err fault) }
+{
+    let (first, size) = table_of(alloc, symbols, name, place)?;
+    let index = term(alloc, index, symbols)?;
+    Ok(boxed(alloc, MNode::Pick(first, size, index))?)
+}
+
+// An operator and its arguments.
+#[cycle(term)]
+fn applied(
+    alloc: Global,
+    op: Op,
+    arguments: &[Term],
+    symbols: &Symbols,
+) -> Result<Box<MTerm>, ResolveFault>
+    ensures { Outcome Memory result
+        (λ tree. if_said (λ all. Ok (apply op (trees_of all))) (terms_said symbols.now [] (terms_of arguments.now)) ≡ Ok tree.value)
+        (λ fault. if_said (λ all. Ok (apply op (trees_of all))) (terms_said symbols.now [] (terms_of arguments.now)) ≡ Err fault) }
+{
+    let arguments = terms(alloc, arguments, symbols)?;
+    Ok(boxed(alloc, MNode::Apply(op, arguments))?)
+}
+
+// Terms one after the other.
+#[cycle(term)]
+fn terms(alloc: Global, all: &[Term], symbols: &Symbols) -> Result<Vec<MTerm>, ResolveFault>
+    ensures { Outcome Memory result (λ trees. terms_said symbols.now [] (terms_of all.now) ≡ Ok trees.items) (λ fault. terms_said symbols.now [] (terms_of all.now) ≡ Err fault) }
+{
+    let mut trees = Vec::with_capacity(alloc, all.len())?;
+    for one in all {
+        let tree = term(alloc, one, symbols)?;
+        trees.push(Box::into_inner(tree))?;
+    }
+    Ok(trees)
+}
+
+// A left fold.
+#[cycle(term)]
+fn chained(
+    alloc: Global,
+    first: &Term,
+    links: &[Link],
+    symbols: &Symbols,
+) -> Result<Box<MTerm>, ResolveFault>
+    ensures { Outcome Memory result
+        (λ tree. if_said (λ f. if_said (λ steps. Ok (chain f (steps_of steps))) (links_said symbols.now [] (links_of links.now))) (term_said symbols.now first.now) ≡ Ok tree.value)
+        (λ fault. if_said (λ f. if_said (λ steps. Ok (chain f (steps_of steps))) (links_said symbols.now [] (links_of links.now))) (term_said symbols.now first.now) ≡ Err fault) }
+{
+    let first = term(alloc, first, symbols)?;
+    let mut steps = Vec::with_capacity(alloc, links.len())?;
+    for link in links {
+        let tree = term(alloc, &link.term, symbols)?;
+        steps.push(Step {
+            op: link.op,
+            term: Box::into_inner(tree),
+        })?;
+    }
+    Ok(boxed(alloc, MNode::Chain(first, steps))?)
+}
+
+// A membership.
+#[cycle(term)]
+fn among(
+    alloc: Global,
+    negated: bool,
+    x: &Term,
+    members: &[Member],
+    symbols: &Symbols,
+) -> Result<Box<MTerm>, ResolveFault>
+    ensures { Outcome Memory result
+        (λ tree. if_said (λ t. if_said (λ all. Ok (membership negated all)) (members_said symbols.now t [] (members_of members.now))) (term_said symbols.now x.now) ≡ Ok tree.value)
+        (λ fault. if_said (λ t. if_said (λ all. Ok (membership negated all)) (members_said symbols.now t [] (members_of members.now))) (term_said symbols.now x.now) ≡ Err fault) }
+{
+    let tested = term(alloc, x, symbols)?;
+    let all = member_steps(alloc, x, &tested, members, symbols)?;
+    Ok(joined(alloc, negated, all)?)
+}
+
+// The members of a membership of x, which is this tree, each with an `ou`.
+#[cycle(term)]
+fn member_steps(
+    alloc: Global,
+    x: &Term,
+    tested: &MTerm,
+    members: &[Member],
+    symbols: &Symbols,
+) -> Result<Vec<Step>, ResolveFault>
+    requires { term_said symbols.now x.now ≡ Ok tested.now }
+    ensures { Outcome Memory result (λ steps. members_said symbols.now tested.now [] (members_of members.now) ≡ Ok steps.items) (λ fault. members_said symbols.now tested.now [] (members_of members.now) ≡ Err fault) }
+{
+    let mut steps = Vec::with_capacity(alloc, members.len())?;
+    for one in members {
+        let member = member(alloc, x, tested, one, symbols)?;
+        steps.push(Step {
+            op: Op::Or,
+            term: member,
+        })?;
+    }
+    Ok(steps)
+}
+
+// A member of a membership of x, which is this tree.
+#[cycle(term)]
+fn member(
+    alloc: Global,
+    x: &Term,
+    tested: &MTerm,
+    member: &Member,
+    symbols: &Symbols,
+) -> Result<MTerm, ResolveFault>
+    requires { term_said symbols.now x.now ≡ Ok tested.now }
+    ensures { Outcome Memory result (λ tree. member_said symbols.now tested.now member.now.low member.now.high ≡ Ok tree) (λ fault. member_said symbols.now tested.now member.now.low member.now.high ≡ Err fault) }
+{
+    let low = term(alloc, &member.low, symbols)?;
+    let high = term(alloc, &member.high, symbols)?;
+    let first = term(alloc, x, symbols)?;
+    if is_single(&member.low, &member.high) {
+        return Ok(two(alloc, Op::Eq, first, low)?);
+    }
+    let second = term(alloc, x, symbols)?;
+    Ok(between(alloc, first, second, low, high)?)
+}
+
+// An operator on two terms.
+fn two(alloc: Global, op: Op, a: Box<MTerm>, b: Box<MTerm>) -> Result<MTerm, AllocError>
+    ensures { IfOk result (λ t. t ≡ apply op (more a.value (more b.value none))) }
+{
+    let mut arguments = Vec::with_capacity(alloc, 2)?;
+    arguments.push(Box::into_inner(a))?;
+    arguments.push(Box::into_inner(b))?;
+    Ok(MTerm::new(MNode::Apply(op, arguments)))
+}
+
+// `x >= low et x <= high`, where both of the first two are x.
+fn between(
+    alloc: Global,
+    first: Box<MTerm>,
+    second: Box<MTerm>,
+    low: Box<MTerm>,
+    high: Box<MTerm>,
+) -> Result<MTerm, AllocError>
+    requires { first.value ≡ second.value }
+    ensures { IfOk result (λ t. t ≡ member_by false first.value low.value high.value) }
+{
+    let above = two(alloc, Op::Ge, first, low)?;
+    let below = two(alloc, Op::Le, second, high)?;
+    let mut steps = Vec::with_capacity(alloc, 1)?;
+    steps.push(Step {
+        op: Op::And,
+        term: below,
+    })?;
+    Ok(MTerm::new(MNode::Chain(Box::new(alloc, above)?, steps)))
+}
+
+// The members joined, and with `non` the opposite of that.
+fn joined(alloc: Global, negated: bool, members: Vec<Step>) -> Result<Box<MTerm>, AllocError>
+    ensures { IfOk result (λ t. t.value ≡ membership negated members.items) }
+{
+    let any = any_of(alloc, members)?;
+    if !negated {
+        return Ok(Box::new(alloc, any)?);
+    }
+    let mut arguments = Vec::with_capacity(alloc, 1)?;
+    arguments.push(any)?;
+    boxed(alloc, MNode::Apply(Op::Not, arguments))
+}
+
+// The members joined by `ou`.
+fn any_of(alloc: Global, members: Vec<Step>) -> Result<MTerm, AllocError>
+    ensures { IfOk result (λ t. t ≡ any_of members.items) }
+{
+    let mut members = members;
+    if members.is_empty() {
+        return Ok(MTerm::new(MNode::Lit(Value::Undef)));
+    }
+    let first = members.remove(0).term;
+    if members.is_empty() {
+        return Ok(first);
+    }
+    Ok(MTerm::new(MNode::Chain(Box::new(alloc, first)?, members)))
+}

@@ -1,0 +1,74 @@
+-- Members of a membership that are single: both ends are one.
+use Rattle.std.specs.Prelude.{ℤ, ℕ, Bool, true, false, ◌||◌, List, Option, None, Some, if◌then◌else◌}
+use Rattle.std.specs.Str.{bytes_eq}
+use Rattle.std.specs.Ordering.{int_eq}
+use Rattle.m_fixed.specs.declared.amount.Value.{Value}
+use Rattle.m_fixed.specs.declared.amount.Value.TheVariants.{Num, Undef, Over}
+use Rattle.m_fixed.specs.declared.operator.Op.{Op}
+use Rattle.m_fixed.specs.declared.operator.Op.TheVariants.{Neg}
+use Rattle.m_ast.specs.Syntax.{Syntax, lit, named, the_x, cell, apply, chain, among, loop, Terms, no_terms, a_term}
+
+abbrev pub amount_in : Value → Option ℤ
+amount_in (Num z) = Some z
+amount_in Undef = None
+amount_in Over = None
+
+-- the amount of a literal
+abbrev pub amount_of : Syntax → Option ℤ
+amount_of (lit v) = amount_in v
+amount_of (named w p) = None
+amount_of (the_x p) = None
+amount_of (cell w a p) = None
+amount_of (apply op all) = None
+amount_of (chain a all) = None
+amount_of (among negated a all) = None
+amount_of (loop h a) = None
+
+-- the amount of a literal that stands alone
+abbrev pub only_amount : Terms → Option ℤ
+only_amount no_terms = None
+only_amount (a_term a no_terms) = amount_of a
+only_amount (a_term a (a_term b rest)) = None
+
+abbrev pub is_negation : Op → Bool
+is_negation Neg = true
+is_negation _ = false
+
+-- the amount of a literal behind a minus
+abbrev pub opposite_of : Syntax → Option ℤ
+opposite_of (lit v) = None
+opposite_of (named w p) = None
+opposite_of (the_x p) = None
+opposite_of (cell w a p) = None
+opposite_of (apply op all) = if is_negation op then only_amount all else None
+opposite_of (chain a all) = None
+opposite_of (among negated a all) = None
+opposite_of (loop h a) = None
+
+-- the word that a term is
+abbrev pub word_of : Syntax → Option (List ℕ)
+word_of (lit v) = None
+word_of (named w p) = Some w
+word_of (the_x p) = None
+word_of (cell w a p) = None
+word_of (apply op all) = None
+word_of (chain a all) = None
+word_of (among negated a all) = None
+word_of (loop h a) = None
+
+abbrev pub is_same_amount : Option ℤ → Option ℤ → Bool
+is_same_amount (Some a) (Some b) = int_eq a b
+is_same_amount (Some a) None = false
+is_same_amount None b = false
+
+abbrev pub is_same_word : Option (List ℕ) → Option (List ℕ) → Bool
+is_same_word (Some a) (Some b) = bytes_eq a b
+is_same_word (Some a) None = false
+is_same_word None b = false
+
+-- Whether a member with these ends is a single one: both are one number, one number behind a minus, or one word. `3..3.0` is
+-- single, and `-0..0` is a range.
+abbrev pub is_single : Syntax → Syntax → Bool
+is_single low high =
+    is_same_amount (amount_of low) (amount_of high)
+    || (is_same_amount (opposite_of low) (opposite_of high) || is_same_word (word_of low) (word_of high))
