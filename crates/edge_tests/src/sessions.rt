@@ -11,7 +11,8 @@ use m_batch::run_batch;
 use m_fixed::{Amount, Op, Value};
 use m_names::Names;
 use m_places::{Name, Seq};
-use m_ports::MemSink;
+use m_ports::{MemSink, MemSource};
+use serve_loop::{ServeEnd, serve};
 use std::alloc::{AllocError, Global};
 use std::test::Fail;
 use std::thread::Threads;
@@ -193,6 +194,48 @@ fn failed_writes(rt: HostRuntime) -> Result<(), Fail> {
     let shown = session.show(&mut out).is_ok();
     assert!(rt; set && failed && shown);
     assert_eq!(rt; out.written(), b"oIRN = -995\n.\n".as_slice());
+    Ok(())
+}
+
+// Two lines, one of 5,000 letters, an empty one, one that ends in a carriage return, and a last one without its line feed.
+fn typed(alloc: Global) -> Result<Vec<u8>, AllocError> {
+    let mut bytes = Vec::new(alloc);
+    bytes.extend_from_slice(b"set 1AJ 2500.5\nshow\n")?;
+    let letters = vec![in alloc; b'a'; 5_000]?;
+    bytes.extend_from_slice(&letters)?;
+    bytes.extend_from_slice(b"\n\nclear 1AJ\r\nshow")?;
+    Ok(bytes)
+}
+
+/// What is written where nothing fails.
+const WRITTEN: &[u8] = b"ok\nIRN = 1500.5\n.\nrefused line too long\nok\nIRN = -1000\n.\n";
+
+/// How many bytes each call takes, the call that fails of the input and that of the output (whose calls give one byte), how
+/// the loop ends, and how many bytes of the above are written.
+const SERVED: [(usize, u64, u64, ServeEnd, usize); 8] = [
+    (1, 0, 0, ServeEnd::Done, 57),
+    (7, 0, 0, ServeEnd::Done, 57),
+    (4_096, 0, 0, ServeEnd::Done, 57),
+    (1_000_000, 0, 0, ServeEnd::Done, 57),
+    (18, 2, 0, ServeEnd::ReadFault, 3),
+    (20, 2, 0, ServeEnd::ReadFault, 18),
+    (7, 0, 2, ServeEnd::WriteFault, 1),
+    (7, 0, 57, ServeEnd::WriteFault, 56),
+];
+
+#[test]
+fn served(rt: HostRuntime) -> Result<(), Fail> {
+    let alloc = rt.alloc();
+    for (piece, read, write, end, written) in SERVED {
+        let mut session = started(alloc)?;
+        let mut input = MemSource::new(typed(alloc)?, piece.max(1), vec![in alloc; read]?);
+        let mut out = MemSink::new(alloc, 1, vec![in alloc; write]?)?;
+        let ended = serve(&mut session, &mut input, &mut out);
+        let told = out.written();
+        if ended != end || told.len() != written || !WRITTEN.starts_with(told) {
+            return Err(Fail::from(format!(in alloc; "pieces of {piece} end in {ended:?}")?));
+        }
+    }
     Ok(())
 }
 

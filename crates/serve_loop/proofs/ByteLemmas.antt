@@ -1,7 +1,7 @@
 -- Lines and pieces as code cuts them from bytes.
 use Rattle.std.proofs.Common.{◌≡◌, ◌≢◌, ℕ, ◌+◌, ◌-◌, ◌<◌, ◌≤◌, zero, suc, min, length, length-take, length-drop, take, drop, get_or, List, [], ◌∷◌, ◌++◌, zero-add, refl, sym, ◌∙◌, ap, subst, inl, inr, arith}
 use Rattle.std.specs.List.{copy_within}
-use Rattle.std.proofs.lemmas.Bool.{cases_eq}
+use Rattle.std.proofs.lemmas.Bool.{cases_eq, cases_lt}
 use Rattle.std.proofs.lemmas.List.{take-append-drop, drop-drop, drop_more, take_all, drop-take, get_or-take, get_or-drop}
 use Rattle.std.proofs.lemmas.List.Edits.{take-paste}
 use Rattle.m_text.specs.Bytes.{RunsTo, line_feed}
@@ -40,6 +40,35 @@ run_cut bytes from end runs h =
     ∙ ap (λ rest. take (end - from) (drop from bytes) ++ rest)
     (drop-drop (end - from) from bytes ∙ ap (λ (k : ℕ). drop k bytes) there ∙ drop_more bytes end 0 h ∙ ap (λ byte. byte ∷ drop (end + 1) bytes) feed)
 
+unended_at : (bytes : List ℕ) (k : ℕ) → IsUnended bytes → k < length bytes → get_or bytes k 0 ≢ 10
+unended_at [] k free h = absurd (omega arith)
+unended_at (byte ∷ bytes) zero free h = free.0
+unended_at (byte ∷ bytes) (suc k) free h = unended_at bytes k free.1 (omega arith)
+
+-- a run behind bytes without a line feed is one from the front
+pub run_from_front : (bytes : List ℕ) (held end : ℕ) → held ≤ length bytes → IsUnended (take held bytes) → RunsTo (λ b. b ≢ line_feed) bytes held end
+    → RunsTo (λ b. b ≢ line_feed) bytes 0 end
+run_from_front bytes held end within free runs = record {
+  onward = omega arith;
+  within = runs.within;
+  each = λ k low h. elim (cases_lt k held) [
+    | inl early ↦ λ same. unended_at (take held bytes) k free (omega (arith, length-take held bytes)) (get_or-take held bytes k 0 early ∙ same)
+    | inr late ↦ runs.each k late h
+  ];
+  stops = runs.stops;
+}
+
+take_less : (n m : ℕ) (l : List ℕ) → n ≤ m → take n (take m l) ≡ take n l
+take_less zero m l h = refl
+take_less (suc n) zero l h = absurd (omega arith)
+take_less (suc n) (suc m) [] h = refl
+take_less (suc n) (suc m) (x ∷ l) h = ap (λ r. x ∷ r) (take_less n m l (omega arith))
+
+-- what stands in front already is kept where it is
+pub kept_there : (room : List ℕ) (from filled count : ℕ) → from ≡ 0 → count ≤ filled → take count room ≡ take count (drop from (take filled room))
+kept_there room from filled count is h =
+    sym (ap (λ (k : ℕ). take count (drop k (take filled room))) is ∙ take_less count filled room h)
+
 -- what is kept of the bytes between two places
 pub kept_front : (room new : List ℕ) (from filled count : ℕ) → from ≤ filled → filled ≤ length room → count ≡ min (filled - from) 4097
     → new ≡ copy_within room from (from + count) 0 → take count new ≡ take count (drop from (take filled room))
@@ -55,9 +84,3 @@ kept_front room new from filled count order within is copied =
     ap (take count) copied ∙ moved
     ∙ sym (ap (take count) (ap (λ (n : ℕ). drop from (take n room)) (sym rest) ∙ drop-take from (filled - from) room)
     ∙ take_less count (filled - from) (drop from room) (omega arith))
-  where
-    take_less : (n m : ℕ) (l : List ℕ) → n ≤ m → take n (take m l) ≡ take n l
-    take_less zero m l h = refl
-    take_less (suc n) zero l h = absurd (omega arith)
-    take_less (suc n) (suc m) [] h = refl
-    take_less (suc n) (suc m) (x ∷ l) h = ap (λ r. x ∷ r) (take_less n m l (omega arith))

@@ -1,5 +1,5 @@
 //! The lines that stand whole among bytes.
-ghost use Rattle.std.specs.Prelude.{◌≡◌, ◌≤◌, ◌++◌, List, ℕ, length, drop, IfOk, OnErr};
+ghost use Rattle.std.specs.Prelude.{◌≡◌, ◌≤◌, ◌++◌, List, ℕ, length, take, drop, IfOk, OnErr};
 ghost use Rattle.m_ports.specs.Counts.{Rose};
 ghost use Rattle.m_ports.specs.Sink.{AppendsPrefix};
 ghost use Rattle.household_session.specs.Replies.{IsUnended, replies_of};
@@ -9,19 +9,23 @@ use household_session::Session;
 use m_ports::{Failed, Sink};
 use m_text::line_end;
 
-/// Does each line that has its line feed among the bytes, and answers where the bytes behind the last one begin.
+/// Does each line that has its line feed among the bytes, of which the first `held` have none, and answers where the bytes
+/// behind the last one begin.
 pub(crate) fn do_ended<K: Sink>(
     session: &mut Session,
     bytes: &[u8],
+    held: usize,
     out: &mut K,
 ) -> Result<usize, Failed>
+    requires within { held ≤ length bytes.now }
+    requires unended { IsUnended (take held bytes.now) }
     ensures goes { IfOk result (λ from. Goes K.written K.faults out.old out.new session.old session.new bytes.now (drop from bytes.now)) }
     ensures place { IfOk result (λ from. (from ≤ length bytes.now) × IsUnended (drop from bytes.now)) }
     ensures failed { OnErr result (Rose (K.faults out.old) (K.faults out.new)) }
     ensures prefix { OnErr result ((rest : List ℕ) → AppendsPrefix (K.written out.old) (K.written out.new) (replies_of session.old (bytes.now ++ rest))) }
 {
     let mut from = 0;
-    let mut end = line_end(bytes, 0);
+    let mut end = line_end(bytes, held);
     while end < bytes.len() {
         session.command(&bytes[from..end], out)?;
         from = end + 1;

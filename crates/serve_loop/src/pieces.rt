@@ -53,6 +53,9 @@ pub(crate) fn keep(room: &mut [u8], from: usize, filled: usize) -> usize
     ensures front { take result room.new ≡ take result (drop from (take filled room.old)) }
 {
     let count = (filled - from).min(MOST_HELD);
+    if from == 0 {
+        return count;
+    }
     room.copy_within(from..from + count, 0);
     count
 }

@@ -86,7 +86,7 @@ fn turn<S: Source, K: Sink>(
         Ok(0) => return Err(finish(session, &room[..held], out)),
         Ok(count) => count,
     };
-    match do_ended(session, &room[..held + count], out) {
+    match do_ended(session, &room[..held + count], held, out) {
         Err(Failed) => Err(ServeEnd::WriteFault),
         Ok(from) => Ok((keep(room, from, held + count), count)),
     }

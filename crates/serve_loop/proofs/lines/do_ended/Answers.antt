@@ -2,13 +2,13 @@ use Rattle.std.proofs.Common.{sym, subst, arith}
 use Rattle.std.proofs.lemmas.Result.{err_from_is_err_and}
 use Rattle.household_session.specs.Sessions.{Sitting}
 use Rattle.serve_loop.specs.inner.Going.{Goes}
-use Rattle.serve_loop.proofs.ByteLemmas.{run_cut, run_to_end, run_unended}
+use Rattle.serve_loop.proofs.ByteLemmas.{run_cut, run_from_front, run_to_end, run_unended}
 use Rattle.serve_loop.proofs.GoingLemmas.{goes_broken, goes_line, goes_none}
 use Rattle.std.specs.Prelude.{drop, ◌+◌}
 use Rattle.serve_loop.proofs.lines.do_ended.Goals as goal
 
 pub loop-end-init : goal.loop-end-init
-loop-end-init g c = record { runs = c.line_end-end.ensures; goes = goes_none _ _ _ _ _ }
+loop-end-init g c = record { runs = run_from_front c.args.bytes.now c.args.held c.line_end-end.result c.requires.within c.requires.unended c.line_end-end.ensures; goes = goes_none _ _ _ _ _ }
 
 pub returns-in_err-command-clause-prefix : goal.returns-in_err-command-clause-prefix
 returns-in_err-command-clause-prefix g c =
