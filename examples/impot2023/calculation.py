@@ -1,0 +1,118 @@
+"""The tax on the incomes of 2023 a second time, from the articles of the code général des impôts, in exact fractions.
+
+It knows nothing of the rule files: the scale is applied to the income for one part, as article 197 words it.
+"""
+from dataclasses import dataclass
+from fractions import Fraction
+from math import floor
+
+SCALE = [(11294, Fraction(11, 100)), (28797, Fraction(30, 100)), (82341, Fraction(41, 100)), (177106, Fraction(45, 100))]
+
+
+@dataclass
+class Household:
+    couple: bool = False
+    box_t: bool = False
+    children: int = 0
+    wages: tuple = (0, 0)
+    pensions: tuple = (0, 0)
+    gifts_to_aid: int = 0
+    other_gifts: int = 0
+
+
+def nearest(amount):
+    """To the nearest unit, a half up (1657)."""
+    return floor(amount + Fraction(1, 2))
+
+
+def wage_deduction(wage):
+    """Ten per cent, at least 495 and at most the wage, at most 14,171 (83 3°)."""
+    return min(Fraction(14171), max(Fraction(wage, 10), Fraction(min(495, wage))))
+
+
+def pension_deduction(pensions):
+    """Ten per cent, at least 442 for a person and at most the pension, at most 4,321 for a household (158 5 a)."""
+    of_persons = [max(Fraction(pension, 10), Fraction(min(442, pension))) for pension in pensions]
+    return min(Fraction(4321), sum(of_persons))
+
+
+def taxable_income(household):
+    wages = sum(Fraction(wage) - wage_deduction(wage) for wage in household.wages)
+    return nearest(wages + sum(household.pensions) - pension_deduction(household.pensions))
+
+
+def base_parts(household):
+    return Fraction(2 if household.couple else 1)
+
+
+def alone_with_children(household):
+    return household.box_t and not household.couple and household.children > 0
+
+
+def parts(household):
+    """194 and 195: half a part for the first two children each, one for each further one, half a part more in box T."""
+    result = base_parts(household)
+    for child in range(1, household.children + 1):
+        result += Fraction(1, 2) if child <= 2 else 1
+    if alone_with_children(household):
+        result += Fraction(1, 2)
+    return result
+
+
+def scale(income_of_a_part):
+    """197 I 1: each rate on what lies between its threshold and the next one."""
+    tax = Fraction(0)
+    for number, (threshold, rate) in enumerate(SCALE):
+        above = SCALE[number + 1][0] if number + 1 < len(SCALE) else None
+        top = income_of_a_part if above is None else min(income_of_a_part, Fraction(above))
+        tax += rate * max(Fraction(0), top - threshold)
+    return tax
+
+
+def by_parts(income, count):
+    return scale(Fraction(income) / count) * count
+
+
+def greatest_advantage(household):
+    """197 I 2: 1,759 for each half part of the children; 4,149 for the whole part of the first one in box T."""
+    halves = 2 * (parts(household) - base_parts(household))
+    if alone_with_children(household):
+        return 4149 + 1759 * (halves - 2)
+    return 1759 * halves
+
+
+def rebate(household, tax):
+    """197 I 4."""
+    greatest = 1444 if household.couple else 873
+    return max(Fraction(0), greatest - Fraction(4525, 10000) * tax)
+
+
+def gifts_reduction(household, income):
+    """200: 75 % of gifts to aid bodies up to 1,000; 66 % of the rest, of at most a fifth of the taxable income."""
+    to_aid = min(1000, household.gifts_to_aid)
+    rest = household.gifts_to_aid - to_aid + household.other_gifts
+    return Fraction(3, 4) * to_aid + Fraction(66, 100) * min(Fraction(income, 5), Fraction(rest))
+
+
+def contribution(household, income):
+    """223 sexies."""
+    persons = 2 if household.couple else 1
+    low, high = 250000 * persons, 500000 * persons
+    return nearest(Fraction(3, 100) * max(0, min(income, high) - low) + Fraction(4, 100) * max(0, income - high))
+
+
+def income_tax(household):
+    income = taxable_income(household)
+    with_children = by_parts(income, parts(household))
+    without = by_parts(income, base_parts(household))
+    tax = max(with_children, without - greatest_advantage(household))
+    tax = max(Fraction(0), tax - rebate(household, tax))
+    tax = nearest(max(Fraction(0), tax - gifts_reduction(household, income)))
+    return 0 if tax < 61 else tax
+
+
+def answer(household):
+    """What the rules return of the same names."""
+    income = taxable_income(household)
+    tax, more = income_tax(household), contribution(household, income)
+    return {"RNI": income, "IINET": tax, "CHR": more, "TOTAL": tax + more}
