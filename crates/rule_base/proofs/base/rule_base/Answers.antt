@@ -1,0 +1,29 @@
+use Rattle.m_requests.proofs.Outcomes.{told}
+use Rattle.rule_base.specs.Faults.{of_a_file}
+use Rattle.rule_base.proofs.Steps.{declare_told, over_told, finished, declared_placed, placed_after}
+use Rattle.rule_base.proofs.base.rule_base.Goals as goal
+
+pub returns-in_err-items-clause-outcome : goal.returns-in_err-items-clause-outcome
+returns-in_err-items-clause-outcome c = told _ _ _ _ _ c.from_residual.ensures.1 (λ n. of_a_file (c.in_err-items.ensures.outcome n))
+
+pub returns-in_err-symbols-clause-outcome : goal.returns-in_err-symbols-clause-outcome
+returns-in_err-symbols-clause-outcome c =
+    told _ _ _ _ _ c.from_residual-in_err-symbols.ensures.1
+    (declare_told c.args.texts.now c.args.application.now _ _ c.in_ok-items.ensures.outcome (rw c.deref.ensures.value at c.in_err-symbols.ensures.outcome))
+
+pub returns-in_err-base-clause-outcome : goal.returns-in_err-base-clause-outcome
+returns-in_err-base-clause-outcome c =
+    told _ _ _ _ _ c.from_residual-in_err-base.ensures.1
+    (λ n. over_told c.args.texts.now c.args.application.now _ _ _ c.in_ok-items.ensures.outcome (rw c.deref.ensures.value at c.in_ok-symbols.ensures.outcome)
+    (rw c.deref-2.ensures.value at c.in_err-base.ensures.outcome n))
+
+pub returns-clause-outcome : goal.returns-clause-outcome
+returns-clause-outcome c =
+    finished c.args.texts.now c.args.application.now _ _ _ _ c.in_ok-items.ensures.outcome (rw c.deref.ensures.value at c.in_ok-symbols.ensures.outcome)
+    (rw c.deref-2.ensures.value at c.in_ok-base.ensures.outcome) c.ordered_base.ensures.outcome
+
+pub base_over-requires-clause-placed : goal.base_over-requires-clause-placed
+base_over-requires-clause-placed c = declared_placed c.in_ok-items.items.items _ (rw c.deref.ensures.value at c.in_ok-symbols.ensures.outcome).1
+
+pub returns-clause-placed : goal.returns-clause-placed
+returns-clause-placed c = placed_after _ _ _ _ (declared_placed c.in_ok-items.items.items _ (rw c.deref.ensures.value at c.in_ok-symbols.ensures.outcome).1) c.ordered_base.ensures.outcome

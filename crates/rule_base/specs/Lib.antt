@@ -1,0 +1,4 @@
+pub mod Files
+pub mod Base
+pub mod Faults
+pub mod inner

@@ -1,0 +1,28 @@
+-- The steps behind the declarations, each by itself.
+use Rattle.std.specs.Prelude.{◌≡◌, ℕ, List, map, Some, None, Ok, Err}
+use Rattle.m_ast.specs.declared.item.Item.{Item}
+use Rattle.m_symbols.specs.Declarations.{Declared}
+use Rattle.index_expand.specs.Expansion.{expansion}
+use Rattle.index_expand.specs.Faults.{expand_fault}
+use Rattle.index_expand.specs.declared.fault.ExpandFault.{ExpandFault}
+use Rattle.m_resolve.specs.Bases.{resolved}
+use Rattle.m_resolve.specs.declared.fault.ResolveFault.{ResolveFault}
+use Rattle.micro_m.specs.declared.base.Base.{Base}
+use Rattle.micro_m.specs.Reads.{IsCycle, BeginsWithLeast}
+use Rattle.m_requests.specs.Cells.{cell_name}
+use Rattle.rule_base.specs.declared.fault.RuleFault.{RuleFault}
+use Rattle.rule_base.specs.declared.fault.RuleFault.TheVariants.{Expand, Resolve, Cycle}
+
+-- the rules of the items are this base over what is declared
+pub record IsBaseOver (items : List Item) (application : List ℕ) (declared : Declared) (base : Base) : Type 0 where
+  pub expands : expand_fault items application declared ≡ None
+  pub resolves : resolved declared (expansion items application declared) ≡ Ok base
+
+-- why the rules of the items are no base
+pub data IsOverFault (items : List Item) (application : List ℕ) (declared : Declared) : RuleFault → Type 0 where
+  loops : {fault : ExpandFault} → expand_fault items application declared ≡ Some fault → IsOverFault items application declared (Expand fault)
+  names : {fault : ResolveFault} → expand_fault items application declared ≡ None → resolved declared (expansion items application declared) ≡ Err fault → IsOverFault items application declared (Resolve fault)
+
+-- a cycle of the base, shown by the names of its cells
+pub data ShowsNamedCycle (declared : Declared) (base : Base) : RuleFault → Type 0 where
+  shown : (cells : List ℕ) → IsCycle base cells → BeginsWithLeast cells → ShowsNamedCycle declared base (Cycle (map (cell_name declared) cells))

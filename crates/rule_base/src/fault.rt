@@ -1,0 +1,122 @@
+//! Why rule files have no base.
+
+ghost use Rattle.std.specs.Prelude.{◌≡◌};
+ghost use Rattle.rule_base.specs.declared.fault.RuleFault.TheVariants.{Memory};
+ghost use Rattle.rule_base.specs.inner.Steps.{lex_step, parse_step, declare_step, expand_step, resolve_step};
+
+use index_expand::ExpandFault;
+use m_items::ParseFault;
+use m_lexer::LexFault;
+use m_places::{Name, Seq};
+use m_resolve::ResolveFault;
+use m_symbols::DeclareFault;
+use std::alloc::{AllocError, AllocFailed};
+
+/// Why rule files have no base: the fault of the earliest step that has one. A fault of a step is never that step's
+/// want of memory, which is the one `Memory` of this type.
+#[derive(Drop)]
+pub enum RuleFault {
+    /// A file has no tokens.
+    Lex(LexFault),
+    /// The tokens of a file are no items.
+    Parse(ParseFault),
+    /// A declaration has a fault.
+    Declare(DeclareFault),
+    /// A loop has a fault.
+    Expand(ExpandFault),
+    /// A name has a fault.
+    Resolve(ResolveFault),
+    /// Cells that read each other in a ring, by their names.
+    Cycle(Seq<Name>),
+    /// There was no memory.
+    Memory,
+}
+
+impl From<LexFault> for RuleFault {
+    ghost from_gives = { λ e f. f ≡ lex_step e };
+
+    fn from(fault: LexFault) -> RuleFault {
+        match fault {
+            LexFault::Memory => RuleFault::Memory,
+            LexFault::BadByte(place) => RuleFault::Lex(LexFault::BadByte(place)),
+            LexFault::OpenString(place) => RuleFault::Lex(LexFault::OpenString(place)),
+            LexFault::NumberTooGreat(place) => RuleFault::Lex(LexFault::NumberTooGreat(place)),
+        }
+    }
+}
+
+impl From<ParseFault> for RuleFault {
+    ghost from_gives = { λ e f. f ≡ parse_step e };
+
+    fn from(fault: ParseFault) -> RuleFault {
+        match fault {
+            ParseFault::Memory => RuleFault::Memory,
+            ParseFault::TooDeep(place) => RuleFault::Parse(ParseFault::TooDeep(place)),
+            ParseFault::Syntax(place) => RuleFault::Parse(ParseFault::Syntax(place)),
+        }
+    }
+}
+
+impl From<DeclareFault> for RuleFault {
+    ghost from_gives = { λ e f. f ≡ declare_step e };
+
+    fn from(fault: DeclareFault) -> RuleFault {
+        RuleFault::Declare(match fault {
+            DeclareFault::Memory => return RuleFault::Memory,
+            DeclareFault::DeclaredTwice(name, earlier, later) => {
+                DeclareFault::DeclaredTwice(name, earlier, later)
+            }
+            DeclareFault::AliasTwice(code, earlier, later) => {
+                DeclareFault::AliasTwice(code, earlier, later)
+            }
+            DeclareFault::TableSize(place) => DeclareFault::TableSize(place),
+            DeclareFault::TooManyCells(place) => DeclareFault::TooManyCells(place),
+        })
+    }
+}
+
+impl From<ExpandFault> for RuleFault {
+    ghost from_gives = { λ e f. f ≡ expand_step e };
+
+    fn from(fault: ExpandFault) -> RuleFault {
+        RuleFault::Expand(match fault {
+            ExpandFault::Memory => return RuleFault::Memory,
+            ExpandFault::BadRange(place) => ExpandFault::BadRange(place),
+            ExpandFault::LoopTooLarge(place) => ExpandFault::LoopTooLarge(place),
+            ExpandFault::UnboundIndex(place) => ExpandFault::UnboundIndex(place),
+            ExpandFault::TooManyParts(place) => ExpandFault::TooManyParts(place),
+        })
+    }
+}
+
+impl From<ResolveFault> for RuleFault {
+    ghost from_gives = { λ e f. f ≡ resolve_step e };
+
+    fn from(fault: ResolveFault) -> RuleFault {
+        RuleFault::Resolve(match fault {
+            ResolveFault::Memory => return RuleFault::Memory,
+            ResolveFault::UnknownName(name, place) => ResolveFault::UnknownName(name, place),
+            ResolveFault::NotATable(name, place) => ResolveFault::NotATable(name, place),
+            ResolveFault::IsATable(name, place) => ResolveFault::IsATable(name, place),
+            ResolveFault::BadTarget(name, place) => ResolveFault::BadTarget(name, place),
+            ResolveFault::DefinedTwice(name, place) => ResolveFault::DefinedTwice(name, place),
+            ResolveFault::UnknownError(name, place) => ResolveFault::UnknownError(name, place),
+        })
+    }
+}
+
+impl From<AllocError> for RuleFault {
+    ghost from_gives = { λ _ f. f ≡ Memory };
+
+    fn from(_error: AllocError) -> RuleFault {
+        RuleFault::Memory
+    }
+}
+
+impl<T: Drop> From<AllocFailed<T>> for RuleFault {
+    ghost from_gives = { λ _ f. f ≡ Memory };
+
+    fn from(_error: AllocFailed<T>) -> RuleFault {
+        RuleFault::Memory
+    }
+}

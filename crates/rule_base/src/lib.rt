@@ -1,0 +1,13 @@
+//! From the texts of rule files to the base of an application: its declarations, and its rules over cells in an
+//! order in which each stands behind those that it reads.
+//!
+//! This crate puts the steps of the language one behind the other. It knows nothing of files on a disk, of drivers
+//! or households.
+#![tactic(auto)]
+
+mod base;
+mod fault;
+mod files;
+
+pub use base::{RuleBase, rule_base};
+pub use fault::RuleFault;
