@@ -1,3 +1,4 @@
 pub mod Letters
 pub mod Values
 pub mod Headers
+pub mod inner

@@ -1,7 +1,9 @@
 //! Headers: how many instances they have, and which of their indexes are faulty.
-ghost use Rattle.std.specs.Prelude.{◌≡◌, ℕ, ◌*◌, ◌<◌, ◌≤◌, ◌++◌, ◌||◌, false, IfOk, OnOk, min, slice_index_or};
+ghost use Rattle.std.specs.Prelude.{◌≡◌, ℕ, ◌*◌, ◌<◌, ◌≤◌, ◌∷◌, ◌++◌, ◌||◌, List, false, IfOk, OnOk, min, slice_index_or};
 ghost use Rattle.loop_values.specs.Headers as spec;
 ghost use Rattle.loop_values.specs.Letters.{Letters};
+ghost use Rattle.loop_values.specs.inner.Kept.{AreKept};
+ghost use Rattle.m_ast.specs.declared.header.Index.{Index};
 
 use crate::values::{MANY, index_count};
 use m_ast::{Header, Index};
@@ -15,6 +17,17 @@ pub fn instance_count(before: u64, indexes: &[Index]) -> u64
     let mut count = before;
     for index in indexes {
         count = (count * index_count(index)).min(MANY);
+    }
+    count
+}
+
+/// How many instances all headers of a formula have together, or `MANY` where they have more.
+pub fn headers_count(headers: &[Header]) -> u64
+    ensures { result ≡ min (spec.instance_count (spec.all_indexes headers.now)) 2000001 }
+{
+    let mut count = 1;
+    for header in headers {
+        count = instance_count(count, header.indexes.as_slice());
     }
     count
 }
@@ -39,23 +52,58 @@ fn either(a: bool, b: bool) -> bool
     a || b
 }
 
-/// Indexes that have the instances of all indexes of headers, from the outermost to the innermost.
+/// Indexes that have the instances of all indexes of headers, from the outermost to the innermost. An index of one value is
+/// left out where an inner one binds its letter again, so there are few of them where there are few instances. Its only
+/// error is want of memory.
 pub fn kept_indexes(alloc: Global, headers: &[Header]) -> Result<Vec<Index>, AllocError>
     ensures { IfOk result (λ kept. (letters : Letters)
         → spec.instances kept.items letters ≡ spec.instances (spec.all_indexes headers.now) letters) }
 {
     let mut kept = Vec::new(alloc);
-    for header in headers {
-        push_indexes(alloc, &mut kept, header.indexes.as_slice())?;
+    let mut bound = [false; 256];
+    let mut left = headers.len();
+    while left > 0 {
+        left -= 1;
+        keep_all(
+            alloc,
+            &mut kept,
+            &mut bound,
+            headers[left].indexes.as_slice(),
+        )?;
     }
     Ok(kept)
 }
 
-fn push_indexes(alloc: Global, kept: &mut Vec<Index>, indexes: &[Index]) -> Result<(), AllocError>
-    ensures { OnOk result (kept.new.items ≡ kept.old.items ++ indexes.now) }
+// Puts the indexes that are kept of these before those of all inner ones, whose letters are bound.
+fn keep_all(
+    alloc: Global,
+    kept: &mut Vec<Index>,
+    bound: &mut [bool; 256],
+    indexes: &[Index],
+) -> Result<(), AllocError>
+    ensures { OnOk result ((all : List Index) → AreKept kept.old.items bound.old all → AreKept kept.new.items bound.new (indexes.now ++ all)) }
 {
-    for index in indexes {
-        kept.push(index.copy(alloc)?)?;
+    let mut left = indexes.len();
+    while left > 0 {
+        left -= 1;
+        keep(alloc, kept, bound, &indexes[left])?;
     }
+    Ok(())
+}
+
+fn keep(
+    alloc: Global,
+    kept: &mut Vec<Index>,
+    bound: &mut [bool; 256],
+    index: &Index,
+) -> Result<(), AllocError>
+    ensures { OnOk result ((all : List Index) → AreKept kept.old.items bound.old all → AreKept kept.new.items bound.new (index.now ∷ all)) }
+{
+    if bound[index.letter as usize] && index_count(index) == 1 {
+        return Ok(());
+    }
+    let copy = index.copy(alloc)?;
+    kept.insert(0, copy)?;
+    bound[index.letter as usize] = true;
     Ok(())
 }

@@ -8,6 +8,6 @@ mod header;
 mod letters;
 mod values;
 
-pub use header::{instance_count, kept_indexes, repeated_letters};
+pub use header::{headers_count, instance_count, kept_indexes, repeated_letters};
 pub use letters::{no_letters, replaced};
 pub use values::{MANY, has_bad_span, index_count, index_values, is_digits, number};

@@ -3,4 +3,6 @@
 #![tactic(auto)]
 
 #[cfg(test)]
+mod expansion;
+#[cfg(test)]
 mod symbols;
