@@ -1,0 +1,266 @@
+//! Drivers over the input A and the variables B and C, without rules: what their flat programs answer.
+ghost use Rattle.std.specs.Prelude.{◌≡◌, IfOk};
+ghost use Rattle.micro_m.specs.Bases.{IsValidBase};
+
+use driver_core::{CCommand, CCommandNode, CNode, CTerm, Core};
+use driver_weight::weight;
+use flat_code::{Answer, run_flat};
+use m_ast::{Item, Role, VariableItem};
+use m_fixed::{Amount, Op, Value};
+use m_places::{Name, Place, Seq};
+use m_symbols::{Symbols, declare};
+use micro_m::Base;
+use mpp_inline::inline;
+use rule_order::order;
+use std::alloc::{AllocError, Global};
+use std::process::Abort;
+use std::test::Fail;
+
+// So many whole units.
+fn units(n: i64) -> Value {
+    match Amount::new(n as i128 * 1_000_000) {
+        Some(amount) => Value::Num(amount),
+        None => Value::Undef,
+    }
+}
+
+fn variable(alloc: Global, name: &[u8], role: Role) -> Result<Item, AllocError> {
+    Ok(Item::Variable(VariableItem {
+        name: Name::new(alloc, name)?,
+        place: Place {
+            file: 0,
+            byte: 0,
+            line: 1,
+        },
+        role,
+        words: Seq::from_vec(Vec::new(alloc)),
+        pairs: Seq::from_vec(Vec::new(alloc)),
+        value_word: None,
+    }))
+}
+
+// The input A, and B and C.
+fn items(alloc: Global) -> Result<Vec<Item>, AllocError> {
+    let mut all = Vec::new(alloc);
+    all.push(variable(alloc, b"A", Role::Input(Name::new(alloc, b"1AJ")?))?)?;
+    all.push(variable(alloc, b"B", Role::Computed(None))?)?;
+    all.push(variable(alloc, b"C", Role::Computed(None))?)?;
+    Ok(all)
+}
+
+// A base without rules.
+fn no_rules(alloc: Global, cells: u32) -> Base
+    ensures valid { IsValidBase result }
+    ensures cells { result.cells ≡ cells }
+{
+    Base {
+        cells,
+        constants: Seq::from_vec(Vec::new(alloc)),
+        definitions: Seq::from_vec(Vec::new(alloc)),
+        checks: Seq::from_vec(Vec::new(alloc)),
+        labels: Seq::from_vec(Vec::new(alloc)),
+    }
+}
+
+// What a run tells: the value of C, a stop, or nothing where the call gave up.
+#[derive(Clone, Copy, Debug, PartialEq, Eq)]
+enum Told {
+    Value(Value),
+    Stopped,
+    Nothing,
+}
+
+fn reading(answer: &Answer) -> Told {
+    match answer {
+        Answer::Values(values) => match values.as_slice().first() {
+            Some(value) => Told::Value(*value),
+            None => Told::Nothing,
+        },
+        Answer::Stopped(_) => Told::Stopped,
+    }
+}
+
+// What a driver tells of C for this value of A.
+fn told_by(alloc: Global, core: &Core, symbols: &Symbols, a: Value) -> Result<Told, AllocError> {
+    let base = no_rules(alloc, symbols.cells());
+    let Ok(ordered) = order(alloc, base) else {
+        return Ok(Told::Nothing);
+    };
+    match inline(alloc, core, &ordered, symbols, &[2]) {
+        Ok((flat, _)) => {
+            if flat.inputs != 1 {
+                return Ok(Told::Nothing);
+            }
+            let answer = run_flat(alloc, &flat, &[a])?;
+            Ok(reading(&answer))
+        }
+        Err(_) => Ok(Told::Nothing),
+    }
+}
+
+// B = n or C = n.
+fn set(cell: u32, n: i64) -> CCommand {
+    CCommand::new(CCommandNode::Set(1, cell, CTerm::new(CNode::Lit(units(n)))))
+}
+
+fn one(alloc: Global, command: CCommand) -> Result<Vec<CCommand>, AllocError> {
+    let mut block = Vec::new(alloc);
+    block.push(command)?;
+    Ok(block)
+}
+
+fn cells(alloc: Global, all: &[u32]) -> Result<Seq<u32>, AllocError> {
+    Ok(Seq::from_vec(Vec::from_slice(alloc, all)?))
+}
+
+// A times so much, which is over where that is great.
+fn times(alloc: Global, n: i64) -> Result<CTerm, AllocError> {
+    let mut arguments = Vec::new(alloc);
+    arguments.push(CTerm::new(CNode::Cell(0)))?;
+    arguments.push(CTerm::new(CNode::Lit(units(n))))?;
+    Ok(CTerm::new(CNode::Apply(Op::Mul, arguments)))
+}
+
+// `if` this condition: C = 1, `else`: C = 2.
+fn choice(alloc: Global, condition: CTerm) -> Result<CCommand, AllocError> {
+    let first = one(alloc, set(2, 1))?;
+    let second = one(alloc, set(2, 2))?;
+    Ok(CCommand::new(CCommandNode::If(1, condition, first, second)))
+}
+
+// `if A:` a condition that may be over, `else:` nothing.
+fn nested(alloc: Global) -> Result<CCommand, AllocError> {
+    let inner = one(alloc, choice(alloc, times(alloc, 9_000_000_000_000)?)?)?;
+    let none = Vec::new(alloc);
+    Ok(CCommand::new(CCommandNode::If(2, CTerm::new(CNode::Cell(0)), inner, none)))
+}
+
+// `partition` with A: C is 1 where A is defined in it, and else 2.
+fn partition(alloc: Global) -> Result<CCommand, AllocError> {
+    let exists = CTerm::new(CNode::Exists(cells(alloc, &[0])?));
+    let block = one(alloc, choice(alloc, exists)?)?;
+    Ok(CCommand::new(CCommandNode::Partition(3, cells(alloc, &[0])?, block)))
+}
+
+// The commands of `main`, by the number of a driver.
+fn main_of(alloc: Global, driver: u32) -> Result<Vec<CCommand>, AllocError> {
+    match driver {
+        0 => one(alloc, choice(alloc, CTerm::new(CNode::Cell(0)))?),
+        1 => one(alloc, nested(alloc)?),
+        2 => one(alloc, partition(alloc)?),
+        3 => {
+            let mut block = one(alloc, partition(alloc)?)?;
+            block.push(choice(alloc, CTerm::new(CNode::Cell(0)))?)?;
+            Ok(block)
+        }
+        4 => one(
+            alloc,
+            CCommand::new(CCommandNode::Call(1, cells(alloc, &[2])?, 1)),
+        ),
+        _ => one(
+            alloc,
+            CCommand::new(CCommandNode::Call(1, cells(alloc, &[1])?, 1)),
+        ),
+    }
+}
+
+// A driver: its `main`, and the function that sets C to 7.
+fn core(alloc: Global, driver: u32) -> Result<Core, AllocError> {
+    let mut bodies = Vec::new(alloc);
+    bodies.push(Seq::from_vec(main_of(alloc, driver)?))?;
+    bodies.push(Seq::from_vec(one(alloc, set(2, 7))?))?;
+    let mut names = Vec::new(alloc);
+    names.push(Name::new(alloc, b"main")?)?;
+    names.push(Name::new(alloc, b"f")?)?;
+    Ok(Core {
+        cells: 3,
+        names: Seq::from_vec(names),
+        bodies: Seq::from_vec(bodies),
+        main: 0,
+    })
+}
+
+fn found(alloc: Global, driver: u32, a: Value) -> Result<Told, AllocError> {
+    let all = items(alloc)?;
+    let Ok(symbols) = declare(alloc, &all) else {
+        return Ok(Told::Nothing);
+    };
+    told_by(alloc, &core(alloc, driver)?, &symbols, a)
+}
+
+// For each driver the value of A, and what is told of C: 0 stands for undefined.
+const ROWS: [(u32, i64, i64); 8] = [
+    (0, 5, 1),
+    (0, 0, 2),
+    (1, 0, 0),
+    (1, 1, 1),
+    (2, 5, 2),
+    (3, 5, 1),
+    (4, 5, 7),
+    (5, 5, 0),
+];
+
+fn wanted(c: i64) -> Told {
+    if c == 0 {
+        Told::Value(Value::Undef)
+    } else {
+        Told::Value(units(c))
+    }
+}
+
+fn is_told(told: Told, wanted: Told) -> bool {
+    told == wanted
+}
+
+#[test]
+fn drivers_answer(rt: HostRuntime) -> Result<(), Fail> {
+    let alloc = rt.alloc();
+    for (driver, a, c) in ROWS {
+        let told = found(alloc, driver, units(a))?;
+        assert!(rt; is_told(told, wanted(c)), "driver {driver} for {a}");
+    }
+    Ok(())
+}
+
+// An undefined condition runs the second block; one that is over stops, but not in a branch that isn't taken.
+#[test]
+fn conditions_stop(rt: HostRuntime) -> Result<(), Fail> {
+    let alloc = rt.alloc();
+    assert!(rt;
+        is_told(found(alloc, 0, Value::Undef)?, wanted(2)),
+        "undefined"
+    );
+    assert!(rt;
+        is_told(found(alloc, 0, Value::Over)?, Told::Stopped),
+        "over"
+    );
+    assert!(rt;
+        is_told(found(alloc, 1, units(9))?, Told::Stopped),
+        "over in a branch"
+    );
+    assert!(rt;
+        is_told(found(alloc, 1, Value::Undef)?, wanted(0)),
+        "over in no branch"
+    );
+    Ok(())
+}
+
+// Calls of 300,000 functions, each by the one before, weigh 3 each and the assignment 1.
+#[test]
+fn a_chain_of_functions_is_weighed(rt: HostRuntime) -> Result<(), Fail> {
+    let alloc = rt.alloc();
+    let mut bodies = Vec::new(alloc);
+    for n in 0..300_000_u32 {
+        let call = CCommand::new(CCommandNode::Call(1, cells(alloc, &[2])?, n + 1));
+        bodies.push(Seq::from_vec(one(alloc, call)?))?;
+    }
+    bodies.push(Seq::from_vec(one(alloc, set(2, 9))?))?;
+    let core = Core {
+        cells: 3,
+        names: Seq::from_vec(Vec::new(alloc)),
+        bodies: Seq::from_vec(bodies),
+        main: 0,
+    };
+    assert_eq!(rt; weight(alloc, &core, &no_rules(alloc, 3))?, 900_001);
+    Ok(())
+}
