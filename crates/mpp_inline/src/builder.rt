@@ -13,7 +13,8 @@ pub const ZERO: u32 = 1;
 /// The literal 1, the guard of what is always reached.
 pub const ONE: u32 = 2;
 
-/// The most nodes, and the most checks. A driver of the greatest weight needs a fifth of them.
+/// The most nodes, and the most checks. A driver of the greatest weight needs about a fifth of them, where no call of the
+/// rules gives one cell back many times.
 pub const MOST: usize = 100_000_000;
 
 /// The program so far: how many inputs there are, the nodes, the checks, and what the labels tell.

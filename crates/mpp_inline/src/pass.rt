@@ -55,7 +55,7 @@ pub fn inline(
 }
 
 /// The same, whatever the driver weighs. It gives up as for want of memory where it comes to more than 100,000,000 nodes,
-/// checks or turns, which no driver of the greatest weight does where each command weighs 1.
+/// checks or turns.
 fn flat_program(
     alloc: Global,
     core: &Core,
