@@ -2,4 +2,5 @@ pub mod FaultLemmas
 pub mod TermLemmas
 pub mod TakenLemmas
 pub mod TableLemmas
+pub mod ManyLemmas
 pub mod PlainLemmas

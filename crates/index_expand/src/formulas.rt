@@ -1,8 +1,9 @@
 //! Formulas: a definition for each instance of their loops, and for each cell of a table.
-ghost use Rattle.std.specs.Prelude.{◌≡◌, ◌∷◌, ◌≤◌, [], OnOk, length, map};
+ghost use Rattle.std.specs.Prelude.{◌≡◌, ◌≢◌, ◌∷◌, ◌≤◌, [], IfSome, OnOk, length, map};
 ghost use Rattle.std.specs.List.{flat_map, range_with_len};
 ghost use Rattle.m_places.specs.Refusals.{Outcome};
 ghost use Rattle.plain_rules.specs.Plain.{table_size};
+ghost use Rattle.m_symbols.specs.Declarations.{Declared};
 ghost use Rattle.loop_values.specs.Headers.{instances};
 ghost use Rattle.loop_values.specs.Letters.{bind, no_letters};
 ghost use Rattle.index_expand.specs.Expansion.{defined, defined_cell, definitions_at, formula_definitions};
@@ -12,7 +13,7 @@ ghost use Rattle.index_expand.specs.inner.Taken.{IsTaken, IsTooMuch, weighed};
 use crate::ExpandFault;
 use crate::parts::{MOST, parts};
 use crate::terms::expanded;
-use loop_values::{index_values, kept_indexes, replaced};
+use loop_values::{headers_count, index_values, kept_indexes, replaced};
 use m_ast::{Formula, Index, Role, Slot};
 use m_places::{Name, Place};
 use m_symbols::Symbols;
@@ -39,6 +40,9 @@ pub(crate) fn take_formula(
         (λ fault. IsTooMuch (formula_parts symbols.now formula.now) total item fault) }
     ensures letters { OnOk result (letters.new ≡ letters.old) }
 {
+    if let Some(fault) = refusal(item, formula) {
+        return Err(fault);
+    }
     let weight = parts(&formula.term) + 1;
     let indexes = kept_indexes(alloc, formula.loops.as_slice())?;
     take_instances(
@@ -52,6 +56,31 @@ pub(crate) fn take_formula(
         definitions,
         total,
     )
+}
+
+/// With more headers than this, a formula whose instances are too many isn't looked at further.
+const MANY_HEADERS: usize = 1_000;
+
+// The fault of a formula with more instances than there may be parts. Where it is for each cell of a table, only its making
+// shows how many definitions it has. With very many headers that isn't tried.
+fn refusal(item: Place, formula: &Formula) -> Option<ExpandFault>
+    ensures { IfSome result (λ fault. fault ≢ ExpandFault.Memory → (declared : Declared) → IsTooMuch (formula_parts declared formula.now) 0 item fault) }
+{
+    let headers = formula.loops.as_slice();
+    if headers_count(headers) <= MOST {
+        return None;
+    }
+    match formula.slot {
+        Slot::Whole => Some(ExpandFault::TooManyParts(item)),
+        Slot::Cell(_) => Some(ExpandFault::TooManyParts(item)),
+        Slot::Every => {
+            if headers.len() > MANY_HEADERS {
+                Some(ExpandFault::Memory)
+            } else {
+                None
+            }
+        }
+    }
 }
 
 // The definitions of the instances of indexes.
