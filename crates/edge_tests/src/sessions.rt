@@ -150,10 +150,15 @@ const LINES: [(&[u8], &[u8]); 30] = [
     (b"show", b"IRN = -1000.5\n.\n"),
 ];
 
+// The table, out of reach of the proof of what goes over it.
+fn rows() -> &'static [(&'static [u8], &'static [u8])] {
+    &LINES
+}
+
 #[test]
 fn lines(rt: HostRuntime) -> Result<(), Fail> {
     let mut session = started(rt.alloc())?;
-    for (line, reply) in LINES {
+    for (line, reply) in rows() {
         check_line(rt.alloc(), &mut session, line, reply)?;
     }
     Ok(())
@@ -223,17 +228,51 @@ const SERVED: [(usize, u64, u64, ServeEnd, usize); 8] = [
     (7, 0, 57, ServeEnd::WriteFault, 56),
 ];
 
+// The table, out of reach of the proof of what goes over it.
+fn runs() -> &'static [(usize, u64, u64, ServeEnd, usize)] {
+    &SERVED
+}
+
+// An input in pieces of so many bytes, of which one call fails.
+fn input(alloc: Global, piece: usize, read: u64) -> Result<MemSource, Fail> {
+    let failing = vec![in alloc; read]?;
+    Ok(MemSource::new(typed(alloc)?, piece.max(1), failing))
+}
+
+// Whether the loop ends so, and writes so many bytes.
+fn ends(
+    session: &mut Session,
+    input: &mut MemSource,
+    out: &mut MemSink,
+    end: ServeEnd,
+    written: usize,
+) -> bool {
+    let ended = serve(session, input, out);
+    let told = out.written();
+    ended == end && told.len() == written && WRITTEN.starts_with(told)
+}
+
+// The same, where a call of the input and one of the output fail.
+fn serves(
+    alloc: Global,
+    piece: usize,
+    read: u64,
+    write: u64,
+    end: ServeEnd,
+    written: usize,
+) -> Result<bool, Fail> {
+    let failing = vec![in alloc; write]?;
+    let mut out = MemSink::new(alloc, 1, failing)?;
+    let mut input = input(alloc, piece, read)?;
+    let mut session = started(alloc)?;
+    Ok(ends(&mut session, &mut input, &mut out, end, written))
+}
+
 #[test]
 fn served(rt: HostRuntime) -> Result<(), Fail> {
-    let alloc = rt.alloc();
-    for (piece, read, write, end, written) in SERVED {
-        let mut session = started(alloc)?;
-        let mut input = MemSource::new(typed(alloc)?, piece.max(1), vec![in alloc; read]?);
-        let mut out = MemSink::new(alloc, 1, vec![in alloc; write]?)?;
-        let ended = serve(&mut session, &mut input, &mut out);
-        let told = out.written();
-        if ended != end || told.len() != written || !WRITTEN.starts_with(told) {
-            return Err(Fail::from(format!(in alloc; "pieces of {piece} end in {ended:?}")?));
+    for (piece, read, write, end, written) in runs() {
+        if !serves(rt.alloc(), *piece, *read, *write, *end, *written)? {
+            return Err(Fail::from(format!(in rt.alloc(); "pieces of {piece}")?));
         }
     }
     Ok(())
