@@ -1,0 +1,66 @@
+-- What a driver is over cells, and when it has a fault; and the driver of rules without one.
+use Rattle.std.specs.Prelude.{◌≡◌, ℕ, List, [], ◌∷◌, Option, Some, None, Result, Ok, Err, Bool, false, not, codes, length, map, filter, slice_index_or}
+use Rattle.std.specs.Option.{option_map_or}
+use Rattle.m_ast.specs.Items.{is_constant}
+use Rattle.m_symbols.specs.declared.variable.Variable.{Variable}
+use Rattle.m_symbols.specs.Declarations.{Declared, owners_from}
+use Rattle.micro_m.specs.Reads.{BeginsWithLeast}
+use Rattle.m_requests.specs.Cells.{owner_of}
+use Rattle.mpp_parser.specs.declared.command.Driver.{Driver}
+use Rattle.mpp_parser.specs.declared.command.Function.{Function}
+use Rattle.driver_core.specs.declared.program.Core.{Core}
+use Rattle.driver_core.specs.Actions.{solve}
+use Rattle.driver_core.specs.Valid.{IsRing, HasNoRing}
+use Rattle.mpp_core.specs.Names.{if_said, names_said, main_said}
+use Rattle.mpp_core.specs.Bodies.{bodies_said}
+use Rattle.mpp_core.specs.declared.fault.CoreFault.{CoreFault}
+use Rattle.mpp_core.specs.declared.fault.CoreFault.TheVariants.{FunctionTwice, NoMain, UnknownInDriver, BadTargetInDriver, DriverRecursion, Memory}
+
+-- ---- a driver of a source
+
+-- The functions of a driver over the cells of what is declared, or the first fault of its names: a name that an earlier function has comes
+-- first, then that there is no `main`, and then the first name from the top and from left to right.
+abbrev pub core_of : Driver → Declared → Result Core CoreFault
+core_of driver declared =
+    if_said
+    (λ names. if_said (λ main. if_said (λ bodies. Ok (record { cells = length (owners_from 0 declared.variables); names = names; bodies = bodies; main = main })) (bodies_said declared names [] driver.functions)) (main_said names))
+    (names_said [] driver.functions)
+
+-- No name of the driver has a fault, this is the driver over cells, and no function reaches itself by calls.
+pub record IsCore (driver : Driver) (declared : Declared) (core : Core) : Type 0 where
+  pub named : core_of driver declared ≡ Ok core
+  pub no_ring : HasNoRing core
+
+-- No name of the driver has a fault, and these are the names of a ring: of distinct functions, each calling the next and the last the first,
+-- beginning with the one that stands first in the file.
+pub record ShowsRing (driver : Driver) (declared : Declared) (names : List (List ℕ)) : Type 0 where
+  pub core : Core
+  pub named : core_of driver declared ≡ Ok core
+  pub functions : List ℕ
+  pub ring : IsRing core functions
+  pub first : BeginsWithLeast functions
+  pub shown : names ≡ map (λ f. slice_index_or core.names f []) functions
+
+-- the fault of a driver: the first of its names, or a ring of its functions
+abbrev pub IsCoreFault : Driver → Declared → CoreFault → Type 0
+IsCoreFault driver declared (FunctionTwice name line) = core_of driver declared ≡ Err (FunctionTwice name line)
+IsCoreFault driver declared NoMain = core_of driver declared ≡ Err NoMain
+IsCoreFault driver declared (UnknownInDriver name line) = core_of driver declared ≡ Err (UnknownInDriver name line)
+IsCoreFault driver declared (BadTargetInDriver name line) = core_of driver declared ≡ Err (BadTargetInDriver name line)
+IsCoreFault driver declared (DriverRecursion names) = ShowsRing driver declared names
+IsCoreFault driver declared Memory = ⊥
+
+-- ---- the driver of rules without one
+
+-- whether a cell is that of a constant
+abbrev pub is_constant_cell : Declared → ℕ → Bool
+is_constant_cell declared cell = option_map_or (λ (v : Variable). is_constant v.item.role) (owner_of declared cell) false
+
+-- the requests without the cells of constants, which no call gives back
+abbrev pub received_cells : List ℕ → Declared → List ℕ
+received_cells requests declared = filter (λ cell. not (is_constant_cell declared cell)) requests
+
+-- the function `main` with one call of the rules that gives back the requests without the cells of constants
+abbrev pub plain_core : List ℕ → Declared → Core
+plain_core requests declared =
+    record { cells = length (owners_from 0 declared.variables); names = codes "main" ∷ []; bodies = (solve 1 (received_cells requests declared) ∷ []) ∷ []; main = 0 }

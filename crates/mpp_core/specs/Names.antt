@@ -1,0 +1,95 @@
+-- What the names of a driver name: cells, cells that may be changed, the inputs of a kind, and functions.
+use Rattle.std.specs.Prelude.{ℕ, ◌+◌, nat_lt, ◌||◌, Bool, true, false, List, [], ◌∷◌, ◌++◌, Option, Some, None, Result, Ok, Err, if◌then◌else◌, codes, map, filter}
+use Rattle.std.specs.Option.{option_map_or}
+use Rattle.std.specs.Str.{bytes_eq}
+use Rattle.m_names.specs.Names.{has, index_of}
+use Rattle.m_ast.specs.Items.{variable_size, is_constant}
+use Rattle.m_symbols.specs.declared.variable.Variable.{Variable}
+use Rattle.m_symbols.specs.Declarations.{Declared}
+use Rattle.m_symbols.specs.Kinds.{is_of_kind}
+use Rattle.m_requests.specs.Cells.{variable_named}
+use Rattle.mpp_parser.specs.declared.term.CellName.{CellName}
+use Rattle.mpp_parser.specs.declared.term.Kind.{Kind}
+use Rattle.mpp_parser.specs.declared.term.Kind.TheVariants.{Attribute}
+use Rattle.mpp_parser.specs.declared.command.Function.{Function}
+use Rattle.mpp_core.specs.declared.fault.CoreFault.{CoreFault}
+use Rattle.mpp_core.specs.declared.fault.CoreFault.TheVariants.{FunctionTwice, NoMain, UnknownInDriver, BadTargetInDriver}
+
+-- what comes of a thing that may have a fault
+abbrev pub if_said : {A B : Type 0} → (A → Result B CoreFault) → Result A CoreFault → Result B CoreFault
+if_said next (Ok thing) = next thing
+if_said next (Err fault) = Err fault
+
+-- ---- cells
+
+-- the cell with this number of a table of this size
+abbrev pub table_cell : List ℕ → ℕ → ℕ → ℕ → ℕ → Result ℕ CoreFault
+table_cell name line first size k = if nat_lt k size then Ok (first + k) else Err (UnknownInDriver name line)
+
+-- The cell of a variable with this first cell and size, at an index or without one: a table has an index below its size, and every
+-- other variable none.
+abbrev pub cell_at : List ℕ → ℕ → ℕ → Option ℕ → Option ℕ → Result ℕ CoreFault
+cell_at name line first None None = Ok first
+cell_at name line first None (Some size) = Err (UnknownInDriver name line)
+cell_at name line first (Some k) None = Err (UnknownInDriver name line)
+cell_at name line first (Some k) (Some size) = table_cell name line first size k
+
+abbrev pub cell_of_variable : ℕ → CellName → Option Variable → Result ℕ CoreFault
+cell_of_variable line c None = Err (UnknownInDriver c.name line)
+cell_of_variable line c (Some v) = cell_at c.name line v.first_cell c.index (variable_size v.item)
+
+-- The cell that a name on this line names: where `T` is a table of 3 cells from the cell 5 on, `T[1]` is the cell 6, and `T` and `T[3]`
+-- name none.
+abbrev pub cell_said : Declared → ℕ → CellName → Result ℕ CoreFault
+cell_said declared line c = cell_of_variable line c (variable_named declared c.name)
+
+-- a constant is no target, and with an index it is no name at all
+abbrev pub constant_target : List ℕ → ℕ → Option ℕ → Result ℕ CoreFault
+constant_target name line None = Err (BadTargetInDriver name line)
+constant_target name line (Some k) = Err (UnknownInDriver name line)
+
+abbrev pub target_of_variable : ℕ → CellName → Option Variable → Result ℕ CoreFault
+target_of_variable line c None = Err (UnknownInDriver c.name line)
+target_of_variable line c (Some v) =
+    if is_constant v.item.role then constant_target c.name line c.index else cell_at c.name line v.first_cell c.index (variable_size v.item)
+
+-- the cell that a name on this line names, which is assigned, deleted or received: of any variable but a constant
+abbrev pub target_said : Declared → ℕ → CellName → Result ℕ CoreFault
+target_said declared line c = target_of_variable line c (variable_named declared c.name)
+
+-- targets from left to right, behind those that are said already
+abbrev pub targets_said : Declared → ℕ → List ℕ → List CellName → Result (List ℕ) CoreFault
+targets_said declared line before [] = Ok before
+targets_said declared line before (c ∷ cs) = if_said (λ cell. targets_said declared line (before ++ cell ∷ []) cs) (target_said declared line c)
+
+-- ---- kinds
+
+-- the cells of variables that are of a kind
+abbrev pub cells_of_kind : List ℕ → List Variable → Kind → List ℕ
+cells_of_kind before [] (Attribute attribute values) = before
+cells_of_kind before (v ∷ vs) (Attribute attribute values) =
+    cells_of_kind (if is_of_kind v attribute values then before ++ v.first_cell ∷ [] else before) vs (Attribute attribute values)
+
+-- the cells of the inputs of a kind in order of declaration: a kind that no input has is empty
+abbrev pub kind_cells : Declared → Kind → List ℕ
+kind_cells declared kind = cells_of_kind [] declared.variables kind
+
+-- ---- functions
+
+-- the name that calls the rules
+abbrev pub rules_name : List ℕ
+rules_name = codes "call_m"
+
+-- the names of functions in order behind these, of which none stands twice and none calls the rules
+abbrev pub names_said : List (List ℕ) → List Function → Result (List (List ℕ)) CoreFault
+names_said before [] = Ok before
+names_said before (f ∷ fs) =
+    if bytes_eq f.name rules_name || has f.name before then Err (FunctionTwice f.name f.line) else names_said (before ++ f.name ∷ []) fs
+
+-- the number of `main` among the functions of these names
+abbrev pub main_said : List (List ℕ) → Result ℕ CoreFault
+main_said names = option_map_or (λ f. Ok f) (index_of (codes "main") names) (Err NoMain)
+
+-- the number of the function that a name on this line names
+abbrev pub function_said : List (List ℕ) → ℕ → List ℕ → Result ℕ CoreFault
+function_said names line name = option_map_or (λ f. Ok f) (index_of name names) (Err (UnknownInDriver name line))

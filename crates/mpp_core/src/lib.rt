@@ -1,0 +1,13 @@
+//! Names of drivers to cells and functions: from the trees of a driver to a driver over the cells of what is declared, or the first fault.
+//!
+//! This crate stands on the trees of drivers, on what is declared, and on drivers over cells. It knows nothing of rules, nor of what a
+//! command does.
+#![tactic(auto)]
+
+mod fault;
+mod plain;
+mod resolving;
+
+pub use fault::CoreFault;
+pub use plain::plain_driver;
+pub use resolving::resolve_driver;
