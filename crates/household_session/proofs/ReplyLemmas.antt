@@ -1,13 +1,11 @@
 -- The lines of an input and the replies to them, from one line to the next, and by the bytes in front of the next line feed.
-use Rattle.std.proofs.Common.{◌≡◌, ◌≢◌, ℕ, ◌+◌, ◌<◌, ◌≤◌, zero, suc, Bool, true, false, eqb, List, [], ◌∷◌, ◌++◌, length, length-append, append-nil, refl, sym, ap, ◌∙◌, arith}
-use Rattle.std.specs.Prelude.{codes, nat_le}
-use Rattle.std.specs.List.{AllByRecursion}
+use Rattle.std.proofs.Common.{◌≡◌, ◌≢◌, ℕ, ◌<◌, List, [], ◌∷◌, ◌++◌, length, length-append, append-nil, refl, sym, ap, ◌∙◌, arith}
 use Rattle.std.proofs.lemmas.Bool.{ne_eqb, lt-leb}
 use Rattle.m_places.specs.declared.limits.TheConstants.{SESSION_LINE_BYTES}
 use Rattle.m_text.specs.Bytes.{line_feed}
-use Rattle.m_text.specs.Lines.{onto_first, without_return}
-use Rattle.household_session.specs.Sessions.{Sitting, line}
-use Rattle.household_session.specs.Commands.{Command, too_long, command_of, words_command, words_of}
+use Rattle.m_text.specs.Lines.{onto_first}
+use Rattle.household_session.specs.Sessions.{Sitting}
+use Rattle.household_session.specs.Commands.{Command, too_long, command_of}
 use Rattle.household_session.specs.Replies.{command_reply, after_command, reply_of, after_line, input_lines, onto_ended, ended_lines, replies_to, replies_of, IsUnended}
 
 -- ---- a line that ends

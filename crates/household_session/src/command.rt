@@ -1,5 +1,5 @@
 //! What a line asks for.
-ghost use Rattle.std.specs.Prelude.{◌≡◌, [], ◌∷◌};
+ghost use Rattle.std.specs.Prelude.{◌≡◌, ◌∷◌};
 ghost use Rattle.household_session.specs.Commands.{command_of, words_command, words_of};
 ghost use Rattle.household_session.specs.inner.Ready.{command_in};
 

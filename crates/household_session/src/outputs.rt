@@ -1,5 +1,5 @@
 //! The lines of an answer, from the values of all nodes and without the answer as a list.
-ghost use Rattle.std.specs.Prelude.{◌≡◌, ◌<◌, ◌≤◌, ◌^◌, map, length};
+ghost use Rattle.std.specs.Prelude.{◌≡◌, ◌<◌, ◌^◌, map, length};
 ghost use Rattle.std.specs.List.{AllByRecursion};
 ghost use Rattle.text_pieces.specs.Giving.{Gives};
 ghost use Rattle.flat_code.specs.Runs.{IsFlat, answer_by, flat_run, value_at};

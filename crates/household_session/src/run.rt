@@ -1,5 +1,5 @@
 //! A flat program's run in place: the values of its nodes are written over those of the run before, so that it takes no memory.
-ghost use Rattle.std.specs.Prelude.{◌≡◌, ◌<◌, length};
+ghost use Rattle.std.specs.Prelude.{◌≡◌, length};
 ghost use Rattle.std.specs.List.{AllByRecursion};
 ghost use Rattle.m_fixed.specs.declared.amount.Value.{Value};
 ghost use Rattle.flat_code.specs.Runs.{IsNode, AreNodes, IsCheck, entry_of, values_for, node_values, is_one, stop_of, check_stop, first_stop};

@@ -6,7 +6,6 @@ ghost use Rattle.flat_code.specs.Runs.{IsFlat};
 ghost use Rattle.household.specs.Household.{inputs_of};
 ghost use Rattle.household_session.specs.Sessions.{IsFaceOf, answered, begun, clear_of, edited, set_of, shown};
 ghost use Rattle.household_session.specs.Replies.{after_line, answer_reply, reply_of};
-ghost use Rattle.household_session.specs.inner.Ready.{command_in};
 
 use crate::EditFault;
 use crate::command::{Asked, asked_by};

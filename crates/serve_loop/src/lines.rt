@@ -1,5 +1,5 @@
 //! The lines that stand whole among bytes.
-ghost use Rattle.std.specs.Prelude.{◌≡◌, ◌≤◌, ◌++◌, List, ℕ, length, take, drop, IfOk, OnErr};
+ghost use Rattle.std.specs.Prelude.{◌≤◌, ◌++◌, List, ℕ, length, take, drop, IfOk, OnErr};
 ghost use Rattle.m_ports.specs.Counts.{Rose};
 ghost use Rattle.m_ports.specs.Sink.{AppendsPrefix};
 ghost use Rattle.household_session.specs.Replies.{IsUnended, replies_of};

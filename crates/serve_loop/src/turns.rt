@@ -1,5 +1,5 @@
 //! The loop over an input.
-ghost use Rattle.std.specs.Prelude.{◌≡◌, ◌+◌, ◌<◌, ◌≤◌, ◌++◌, [], List, ℕ, length, take, IfOk, IfErr};
+ghost use Rattle.std.specs.Prelude.{◌≡◌, ◌<◌, ◌≤◌, length, take};
 ghost use Rattle.household_session.specs.Replies.{IsUnended};
 ghost use Rattle.serve_loop.specs.Serving.{Counts, Ends};
 ghost use Rattle.serve_loop.specs.inner.Going.{Finished, Turned};
