@@ -1,1 +1,3 @@
 pub mod PlainCore
+pub mod NameLemmas
+pub mod ListLemmas

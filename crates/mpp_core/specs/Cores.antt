@@ -11,7 +11,7 @@ use Rattle.mpp_parser.specs.declared.command.Function.{Function}
 use Rattle.driver_core.specs.declared.program.Core.{Core}
 use Rattle.driver_core.specs.Actions.{solve}
 use Rattle.driver_core.specs.Valid.{IsRing, HasNoRing}
-use Rattle.mpp_core.specs.Names.{if_said, names_said, main_said}
+use Rattle.mpp_core.specs.Names.{if_said, name_in, names_said, main_said}
 use Rattle.mpp_core.specs.Bodies.{bodies_said}
 use Rattle.mpp_core.specs.declared.fault.CoreFault.{CoreFault}
 use Rattle.mpp_core.specs.declared.fault.CoreFault.TheVariants.{FunctionTwice, NoMain, UnknownInDriver, BadTargetInDriver, DriverRecursion, Memory}
@@ -23,7 +23,7 @@ use Rattle.mpp_core.specs.declared.fault.CoreFault.TheVariants.{FunctionTwice, N
 abbrev pub core_of : Driver → Declared → Result Core CoreFault
 core_of driver declared =
     if_said
-    (λ names. if_said (λ main. if_said (λ bodies. Ok (record { cells = length (owners_from 0 declared.variables); names = names; bodies = bodies; main = main })) (bodies_said declared names [] driver.functions)) (main_said names))
+    (λ names. if_said (λ main. if_said (λ bodies. Ok (record { cells = length (owners_from 0 declared.variables); names = map name_in driver.functions; bodies = bodies; main = main })) (bodies_said declared names [] driver.functions)) (main_said names))
     (names_said [] driver.functions)
 
 -- No name of the driver has a fault, this is the driver over cells, and no function reaches itself by calls.

@@ -64,15 +64,18 @@ targets_said declared line before (c ∷ cs) = if_said (λ cell. targets_said de
 
 -- ---- kinds
 
--- the cells of variables that are of a kind
-abbrev pub cells_of_kind : List ℕ → List Variable → Kind → List ℕ
-cells_of_kind before [] (Attribute attribute values) = before
-cells_of_kind before (v ∷ vs) (Attribute attribute values) =
-    cells_of_kind (if is_of_kind v attribute values then before ++ v.first_cell ∷ [] else before) vs (Attribute attribute values)
+-- cells, and behind them that of a variable, if it is of a kind
+abbrev pub with_kind : Kind → List ℕ → Variable → List ℕ
+with_kind (Attribute attribute values) before v = if is_of_kind v attribute values then before ++ v.first_cell ∷ [] else before
+
+-- the cells of variables that are of a kind, behind these
+abbrev pub cells_of_kind : Kind → List ℕ → List Variable → List ℕ
+cells_of_kind kind before [] = before
+cells_of_kind kind before (v ∷ vs) = cells_of_kind kind (with_kind kind before v) vs
 
 -- the cells of the inputs of a kind in order of declaration: a kind that no input has is empty
 abbrev pub kind_cells : Declared → Kind → List ℕ
-kind_cells declared kind = cells_of_kind [] declared.variables kind
+kind_cells declared kind = cells_of_kind kind [] declared.variables
 
 -- ---- functions
 
@@ -80,11 +83,17 @@ kind_cells declared kind = cells_of_kind [] declared.variables kind
 abbrev pub rules_name : List ℕ
 rules_name = codes "call_m"
 
--- the names of functions in order behind these, of which none stands twice and none calls the rules
+abbrev pub name_in : Function → List ℕ
+name_in f = f.name
+
+-- these names, and behind them that of a further function, which none of them is and which doesn't call the rules
+abbrev pub name_said : List (List ℕ) → Function → Result (List (List ℕ)) CoreFault
+name_said before f = if bytes_eq f.name rules_name || has f.name before then Err (FunctionTwice f.name f.line) else Ok (before ++ f.name ∷ [])
+
+-- the names of functions in order, behind these
 abbrev pub names_said : List (List ℕ) → List Function → Result (List (List ℕ)) CoreFault
 names_said before [] = Ok before
-names_said before (f ∷ fs) =
-    if bytes_eq f.name rules_name || has f.name before then Err (FunctionTwice f.name f.line) else names_said (before ++ f.name ∷ []) fs
+names_said before (f ∷ fs) = if_said (λ names. names_said names fs) (name_said before f)
 
 -- the number of `main` among the functions of these names
 abbrev pub main_said : List (List ℕ) → Result ℕ CoreFault

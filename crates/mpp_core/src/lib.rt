@@ -4,9 +4,13 @@
 //! command does.
 #![tactic(auto)]
 
+mod commands;
 mod fault;
+mod functions;
+mod names;
 mod plain;
 mod resolving;
+mod terms;
 
 pub use fault::CoreFault;
 pub use plain::plain_driver;

@@ -1,14 +1,15 @@
 //! Whole drivers.
 
-ghost use Rattle.std.specs.Prelude.{◌≡◌, IfOk, length};
+ghost use Rattle.std.specs.Prelude.{◌≡◌, Ok, Err, IfOk, length};
 ghost use Rattle.m_places.specs.Refusals.{Outcome};
 ghost use Rattle.m_symbols.specs.Declarations.{owners_from};
 ghost use Rattle.m_requests.specs.Placed.{IsPlaced};
 ghost use Rattle.driver_core.specs.Valid.{IsValidCore};
-ghost use Rattle.mpp_core.specs.Cores.{IsCore, IsCoreFault};
+ghost use Rattle.mpp_core.specs.Cores.{IsCore, IsCoreFault, core_of};
 ghost use Rattle.mpp_core.specs.declared.fault.CoreFault.TheVariants.{Memory};
 
 use crate::CoreFault;
+use crate::functions::{bodies, copied_names, function_names, main_of};
 use driver_core::Core;
 use m_symbols::Symbols;
 use mpp_parser::Driver;
@@ -28,4 +29,29 @@ pub fn resolve_driver(
     ensures cells { IfOk result (λ core. core.cells ≡ length (owners_from 0 _symbols.now.variables)) }
 {
     Err(CoreFault::Memory)
+}
+
+/// The driver over the cells of what is declared, or the first fault of its names: a name that two functions have, then that there is no
+/// `main`, and then the first name from the top and from left to right that isn't what is needed there. Functions may call each other in
+/// a ring.
+pub fn resolve_names(
+    alloc: Global,
+    driver: &Driver,
+    symbols: &Symbols,
+) -> Result<Core, CoreFault>
+    requires { IsPlaced symbols.now }
+    ensures outcome { Outcome Memory result (λ core. core_of driver.now symbols.now ≡ Ok core) (λ fault. core_of driver.now symbols.now ≡ Err fault) }
+    ensures cells { IfOk result (λ core. core.cells ≡ length (owners_from 0 symbols.now.variables)) }
+{
+    let functions = driver.functions.as_slice();
+    let names = function_names(alloc, functions)?;
+    let main = main_of(&names)?;
+    let bodies = bodies(alloc, functions, &names, symbols)?;
+    let names = copied_names(alloc, functions)?;
+    Ok(Core {
+        cells: symbols.cells(),
+        names,
+        bodies,
+        main,
+    })
 }

@@ -1,0 +1,171 @@
+//! Commands over names to commands over cells and functions.
+
+ghost use Rattle.std.specs.Prelude.{◌≡◌, Ok, Err, [], IfOk};
+ghost use Rattle.m_places.specs.Refusals.{Outcome};
+ghost use Rattle.m_requests.specs.Placed.{IsPlaced};
+ghost use Rattle.mpp_parser.specs.CommandView.{block_of as acts_of};
+ghost use Rattle.driver_core.specs.Actions.{assign, clear, branch, partition};
+ghost use Rattle.driver_core.specs.ActionView.{action_of, block_of};
+ghost use Rattle.mpp_core.specs.Names.{if_said, target_said, targets_said, kind_cells, function_said, rules_name};
+ghost use Rattle.mpp_core.specs.Bodies.{term_said, act_said, acts_said, call_said};
+ghost use Rattle.mpp_core.specs.declared.fault.CoreFault.TheVariants.{Memory};
+
+use crate::CoreFault;
+use crate::names::{kind_cells, target_of, targets_of, unknown};
+use crate::terms::term;
+use driver_core::{CCommand, CCommandNode};
+use m_names::Names;
+use m_places::{Name, Seq};
+use m_symbols::Symbols;
+use mpp_parser::{CellName, Command, CommandNode, DTerm, Kind};
+use std::alloc::{AllocError, Global};
+
+/// What a command is over cells and the functions of these names, or the first of its faults.
+#[cycle(command)]
+fn command(
+    alloc: Global,
+    command: &Command,
+    names: &Names,
+    symbols: &Symbols,
+) -> Result<CCommand, CoreFault>
+    requires { IsPlaced symbols.now }
+    ensures { Outcome Memory result (λ c. act_said symbols.now names.now command.now ≡ Ok c) (λ fault. act_said symbols.now names.now command.now ≡ Err fault) }
+{
+    match &command.node {
+        CommandNode::Set(line, cell, value) => assigned(alloc, *line, cell, value, symbols),
+        CommandNode::Del(line, cell) => cleared(alloc, *line, cell, symbols),
+        CommandNode::If(line, condition, first, second) => {
+            branched(alloc, *line, condition, first, second, names, symbols)
+        }
+        CommandNode::Partition(line, kind, block) => {
+            partitioned(alloc, *line, kind, block, names, symbols)
+        }
+        CommandNode::Call(line, cells, name) => {
+            let received = targets_of(alloc, symbols, *line, cells.as_slice())?;
+            called(alloc, *line, received, name, names)
+        }
+    }
+}
+
+// An assignment: the target, and then the term.
+fn assigned(
+    alloc: Global,
+    line: u32,
+    cell: &CellName,
+    value: &DTerm,
+    symbols: &Symbols,
+) -> Result<CCommand, CoreFault>
+    requires { IsPlaced symbols.now }
+    ensures { Outcome Memory result
+        (λ c. if_said (λ cell. if_said (λ t. Ok (assign line cell t)) (term_said symbols.now line value.now)) (target_said symbols.now line cell.now) ≡ Ok c)
+        (λ fault. if_said (λ cell. if_said (λ t. Ok (assign line cell t)) (term_said symbols.now line value.now)) (target_said symbols.now line cell.now) ≡ Err fault) }
+{
+    let cell = target_of(alloc, symbols, line, cell)?;
+    let value = term(alloc, value, line, symbols)?;
+    Ok(CCommand::new(CCommandNode::Set(
+        line,
+        cell,
+        Box::into_inner(value),
+    )))
+}
+
+// A cell that becomes undefined.
+fn cleared(
+    alloc: Global,
+    line: u32,
+    cell: &CellName,
+    symbols: &Symbols,
+) -> Result<CCommand, CoreFault>
+    requires { IsPlaced symbols.now }
+    ensures { Outcome Memory result
+        (λ c. if_said (λ cell. Ok (clear line cell)) (target_said symbols.now line cell.now) ≡ Ok c)
+        (λ fault. if_said (λ cell. Ok (clear line cell)) (target_said symbols.now line cell.now) ≡ Err fault) }
+{
+    let cell = target_of(alloc, symbols, line, cell)?;
+    Ok(CCommand::new(CCommandNode::Del(line, cell)))
+}
+
+// A condition with two blocks.
+#[cycle(command)]
+fn branched(
+    alloc: Global,
+    line: u32,
+    condition: &DTerm,
+    first: &[Command],
+    second: &[Command],
+    names: &Names,
+    symbols: &Symbols,
+) -> Result<CCommand, CoreFault>
+    requires { IsPlaced symbols.now }
+    ensures { Outcome Memory result
+        (λ c. if_said (λ t. if_said (λ a. if_said (λ b. Ok (branch line t (block_of a) (block_of b))) (acts_said symbols.now names.now [] (acts_of second.now))) (acts_said symbols.now names.now [] (acts_of first.now))) (term_said symbols.now line condition.now) ≡ Ok c)
+        (λ fault. if_said (λ t. if_said (λ a. if_said (λ b. Ok (branch line t (block_of a) (block_of b))) (acts_said symbols.now names.now [] (acts_of second.now))) (acts_said symbols.now names.now [] (acts_of first.now))) (term_said symbols.now line condition.now) ≡ Err fault) }
+{
+    let condition = term(alloc, condition, line, symbols)?;
+    let first = commands(alloc, first, names, symbols)?;
+    let second = commands(alloc, second, names, symbols)?;
+    Ok(CCommand::new(CCommandNode::If(
+        line,
+        Box::into_inner(condition),
+        first,
+        second,
+    )))
+}
+
+// A block with the inputs of a kind undefined.
+#[cycle(command)]
+fn partitioned(
+    alloc: Global,
+    line: u32,
+    kind: &Kind,
+    block: &[Command],
+    names: &Names,
+    symbols: &Symbols,
+) -> Result<CCommand, CoreFault>
+    requires { IsPlaced symbols.now }
+    ensures { Outcome Memory result
+        (λ c. if_said (λ a. Ok (partition line (kind_cells symbols.now kind.now) (block_of a))) (acts_said symbols.now names.now [] (acts_of block.now)) ≡ Ok c)
+        (λ fault. if_said (λ a. Ok (partition line (kind_cells symbols.now kind.now) (block_of a))) (acts_said symbols.now names.now [] (acts_of block.now)) ≡ Err fault) }
+{
+    let cells = kind_cells(alloc, symbols, kind)?;
+    let block = commands(alloc, block, names, symbols)?;
+    Ok(CCommand::new(CCommandNode::Partition(line, cells, block)))
+}
+
+// A call that gives back these cells: of the rules, or of a function.
+fn called(
+    alloc: Global,
+    line: u32,
+    received: Seq<u32>,
+    name: &Name,
+    names: &Names,
+) -> Result<CCommand, CoreFault>
+    ensures { Outcome Memory result (λ c. call_said names.now line name.now received ≡ Ok c) (λ fault. call_said names.now line name.now received ≡ Err fault) }
+{
+    if name.bytes() == b"call_m".as_slice() {
+        return Ok(CCommand::new(CCommandNode::Rules(line, received)));
+    }
+    match names.find(name.bytes()) {
+        Some(function) => Ok(CCommand::new(CCommandNode::Call(line, received, function))),
+        None => Err(unknown(alloc, name, line)),
+    }
+}
+
+/// Commands one after the other.
+#[cycle(command)]
+pub(crate) fn commands(
+    alloc: Global,
+    all: &[Command],
+    names: &Names,
+    symbols: &Symbols,
+) -> Result<Vec<CCommand>, CoreFault>
+    requires { IsPlaced symbols.now }
+    ensures { Outcome Memory result (λ said. acts_said symbols.now names.now [] (acts_of all.now) ≡ Ok said.items) (λ fault. acts_said symbols.now names.now [] (acts_of all.now) ≡ Err fault) }
+{
+    let mut said = Vec::with_capacity(alloc, all.len())?;
+    for one in all {
+        let c = command(alloc, one, names, symbols)?;
+        said.push(c)?;
+    }
+    Ok(said)
+}

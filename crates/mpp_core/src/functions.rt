@@ -1,0 +1,103 @@
+//! The functions of a driver: their names, and their bodies.
+
+ghost use Rattle.std.specs.Prelude.{◌≡◌, ◌≢◌, Ok, Err, [], IfOk, map};
+ghost use Rattle.m_places.specs.Refusals.{Outcome};
+ghost use Rattle.m_requests.specs.Placed.{IsPlaced};
+ghost use Rattle.mpp_core.specs.Names.{name_said, names_said, main_said, name_in};
+ghost use Rattle.mpp_core.specs.Bodies.{bodies_said};
+ghost use Rattle.mpp_core.specs.declared.fault.CoreFault.TheVariants.{Memory, FunctionTwice};
+
+use crate::CoreFault;
+use crate::commands::commands;
+use driver_core::CCommand;
+use m_names::{Key, Names, NamesDigest};
+use m_places::{Name, Seq};
+use m_symbols::Symbols;
+use mpp_parser::Function;
+use std::alloc::{AllocError, Global};
+
+/// The names of functions in order, of which none stands twice and none calls the rules.
+pub(crate) fn function_names(alloc: Global, functions: &[Function]) -> Result<Names, CoreFault>
+    ensures { Outcome Memory result (λ names. names_said [] functions.now ≡ Ok names) (λ fault. names_said [] functions.now ≡ Err fault) }
+{
+    let mut names = Names::under(alloc, key_of(functions));
+    for function in functions {
+        add_name(alloc, function, &mut names)?;
+    }
+    Ok(names)
+}
+
+// A key that is made of all names, so that nobody can choose them to collide.
+fn key_of(functions: &[Function]) -> Key {
+    let mut digest = NamesDigest::new();
+    for function in functions {
+        digest.take(function.name.bytes());
+    }
+    digest.key()
+}
+
+// Adds the name of one more function.
+fn add_name(alloc: Global, function: &Function, names: &mut Names) -> Result<(), CoreFault>
+    ensures { Outcome Memory result (λ _. name_said names.old function.now ≡ Ok names.new) (λ fault. name_said names.old function.now ≡ Err fault) }
+{
+    if function.name.bytes() == b"call_m".as_slice() {
+        return Err(twice(alloc, function));
+    }
+    if !names.add(alloc, function.name.bytes())? {
+        return Err(twice(alloc, function));
+    }
+    Ok(())
+}
+
+// The fault of a function whose name is taken.
+fn twice(alloc: Global, function: &Function) -> CoreFault
+    ensures { result ≢ Memory → result ≡ FunctionTwice function.now.name function.now.line }
+{
+    match function.name.copy(alloc) {
+        Ok(name) => CoreFault::FunctionTwice(name, function.line),
+        Err(_) => CoreFault::Memory,
+    }
+}
+
+/// The number of `main` among the functions of these names.
+pub(crate) fn main_of(names: &Names) -> Result<u32, CoreFault>
+    ensures { Outcome Memory result (λ main. main_said names.now ≡ Ok main) (λ fault. main_said names.now ≡ Err fault) }
+{
+    match names.find(b"main") {
+        Some(main) => Ok(main),
+        None => Err(CoreFault::NoMain),
+    }
+}
+
+/// The names of functions in order, as a list of their own.
+pub(crate) fn copied_names(
+    alloc: Global,
+    functions: &[Function],
+) -> Result<Seq<Name>, AllocError>
+    ensures { IfOk result (λ names. names ≡ map name_in functions.now) }
+{
+    let mut names = Vec::with_capacity(alloc, functions.len())?;
+    for function in functions {
+        let name = function.name.copy(alloc)?;
+        names.push(name)?;
+    }
+    Ok(Seq::from_vec(names))
+}
+
+/// The bodies of functions over cells and the functions of these names, or the first of their faults from the top.
+pub(crate) fn bodies(
+    alloc: Global,
+    functions: &[Function],
+    names: &Names,
+    symbols: &Symbols,
+) -> Result<Seq<Seq<CCommand>>, CoreFault>
+    requires { IsPlaced symbols.now }
+    ensures { Outcome Memory result (λ bodies. bodies_said symbols.now names.now [] functions.now ≡ Ok bodies) (λ fault. bodies_said symbols.now names.now [] functions.now ≡ Err fault) }
+{
+    let mut bodies = Vec::with_capacity(alloc, functions.len())?;
+    for function in functions {
+        let body = commands(alloc, function.body.as_slice(), names, symbols)?;
+        bodies.push(Seq::from_vec(body))?;
+    }
+    Ok(Seq::from_vec(bodies))
+}

@@ -1,0 +1,168 @@
+//! Names to cells, kinds of inputs and functions.
+
+ghost use Rattle.std.specs.Prelude.{◌≡◌, ◌≢◌, ◌+◌, ◌≤◌, ◌<◌, Ok, Err, Some, IfOk, IfSome, OnOk, [], length, option_map, slice_get};
+ghost use Rattle.std.specs.Option.{option_copied};
+ghost use Rattle.m_places.specs.Refusals.{Outcome};
+ghost use Rattle.m_ast.specs.Items.{variable_size};
+ghost use Rattle.m_requests.specs.Cells.{variable_named};
+ghost use Rattle.m_requests.specs.Placed.{IsPlaced};
+ghost use Rattle.mpp_core.specs.Names.{cell_said, cell_at, target_said, constant_target, targets_said, kind_cells, with_kind};
+ghost use Rattle.mpp_core.specs.declared.fault.CoreFault.TheVariants.{Memory, UnknownInDriver};
+
+use crate::CoreFault;
+use m_ast::Role;
+use m_places::{Name, Seq};
+use m_symbols::{Symbols, Variable};
+use mpp_parser::{CellName, Kind};
+use std::alloc::{AllocError, Global};
+
+// The variable of a name.
+fn variable_named<'a>(symbols: &'a Symbols, name: &Name) -> Option<&'a Variable>
+    ensures { option_copied result ≡ variable_named symbols.now name.now }
+{
+    let number = symbols.find(name.bytes())?;
+    Some(symbols.variable(number))
+}
+
+/// The fault of a name on a line that isn't one of what is needed there.
+pub(crate) fn unknown(alloc: Global, name: &Name, line: u32) -> CoreFault
+    ensures { result ≢ Memory → result ≡ UnknownInDriver name.now line }
+{
+    match name.copy(alloc) {
+        Ok(name) => CoreFault::UnknownInDriver(name, line),
+        Err(_) => CoreFault::Memory,
+    }
+}
+
+/// The cell that a name on this line names.
+pub(crate) fn cell_of(
+    alloc: Global,
+    symbols: &Symbols,
+    line: u32,
+    name: &CellName,
+) -> Result<u32, CoreFault>
+    requires { IsPlaced symbols.now }
+    ensures { Outcome Memory result (λ cell. cell_said symbols.now line name.now ≡ Ok cell) (λ fault. cell_said symbols.now line name.now ≡ Err fault) }
+{
+    let Some(variable) = variable_named(symbols, &name.name) else {
+        return Err(unknown(alloc, &name.name, line));
+    };
+    cell_at(alloc, variable, line, name, symbols.cells())
+}
+
+// The cell of a variable at the index of a name, or without one. There are so many cells.
+fn cell_at(
+    alloc: Global,
+    variable: &Variable,
+    line: u32,
+    name: &CellName,
+    all: u32,
+) -> Result<u32, CoreFault>
+    requires fits { variable.now.first_cell + variable.now.cells ≤ all }
+    requires size { IfSome (variable_size variable.now.item) (λ size. variable.now.cells ≡ size) }
+    ensures { Outcome Memory result
+        (λ cell. cell_at name.now.name line variable.now.first_cell name.now.index (variable_size variable.now.item) ≡ Ok cell)
+        (λ fault. cell_at name.now.name line variable.now.first_cell name.now.index (variable_size variable.now.item) ≡ Err fault) }
+{
+    match (size_of(variable), name.index) {
+        (None, None) => Ok(variable.first_cell),
+        (Some(size), Some(k)) if k < size => Ok(variable.first_cell + k),
+        _ => Err(unknown(alloc, &name.name, line)),
+    }
+}
+
+fn size_of(variable: &Variable) -> Option<u32>
+    ensures { result ≡ variable_size variable.now.item }
+{
+    match &variable.item.role {
+        Role::Computed(size) => *size,
+        Role::Input(_) => None,
+        Role::Constant(_) => None,
+    }
+}
+
+/// The cell that a name on this line names, which isn't a constant's.
+pub(crate) fn target_of(
+    alloc: Global,
+    symbols: &Symbols,
+    line: u32,
+    name: &CellName,
+) -> Result<u32, CoreFault>
+    requires { IsPlaced symbols.now }
+    ensures { Outcome Memory result (λ cell. target_said symbols.now line name.now ≡ Ok cell) (λ fault. target_said symbols.now line name.now ≡ Err fault) }
+{
+    let Some(variable) = variable_named(symbols, &name.name) else {
+        return Err(unknown(alloc, &name.name, line));
+    };
+    if let Role::Constant(_) = &variable.item.role {
+        return Err(constant_fault(alloc, line, name));
+    }
+    cell_at(alloc, variable, line, name, symbols.cells())
+}
+
+// Why the name of a constant is no target.
+fn constant_fault(alloc: Global, line: u32, name: &CellName) -> CoreFault
+    ensures { result ≢ Memory → constant_target name.now.name line name.now.index ≡ Err result }
+{
+    if let Some(_) = name.index {
+        return unknown(alloc, &name.name, line);
+    }
+    match name.name.copy(alloc) {
+        Ok(name) => CoreFault::BadTargetInDriver(name, line),
+        Err(_) => CoreFault::Memory,
+    }
+}
+
+/// The cells that names on this line name, none of which is a constant's.
+pub(crate) fn targets_of(
+    alloc: Global,
+    symbols: &Symbols,
+    line: u32,
+    names: &[CellName],
+) -> Result<Seq<u32>, CoreFault>
+    requires { IsPlaced symbols.now }
+    ensures { Outcome Memory result (λ cells. targets_said symbols.now line [] names.now ≡ Ok cells) (λ fault. targets_said symbols.now line [] names.now ≡ Err fault) }
+{
+    let mut cells = Vec::with_capacity(alloc, names.len())?;
+    for name in names {
+        let cell = target_of(alloc, symbols, line, name)?;
+        cells.push(cell)?;
+    }
+    Ok(Seq::from_vec(cells))
+}
+
+/// The cells of the inputs of a kind, in order of declaration.
+pub(crate) fn kind_cells(
+    alloc: Global,
+    symbols: &Symbols,
+    kind: &Kind,
+) -> Result<Seq<u32>, AllocError>
+    ensures { IfOk result (λ cells. cells ≡ kind_cells symbols.now kind.now) }
+{
+    let mut cells = Vec::new(alloc);
+    for v in 0..symbols.count() {
+        add_of_kind(symbols, v, kind, &mut cells)?;
+    }
+    Ok(Seq::from_vec(cells))
+}
+
+// Adds the cell of the variable of this number, if it is of a kind.
+fn add_of_kind(
+    symbols: &Symbols,
+    v: u32,
+    kind: &Kind,
+    cells: &mut Vec<u32>,
+) -> Result<(), AllocError>
+    requires { v < length symbols.now.variables }
+    ensures { OnOk result (option_map (with_kind kind.now cells.old.items) (slice_get symbols.now.variables v) ≡ Some cells.new.items) }
+{
+    let variable = symbols.variable(v);
+    match kind {
+        Kind::Attribute(attribute, values) => {
+            if symbols.in_kind(v, attribute.bytes(), values.as_slice()) {
+                cells.push(variable.first_cell)?;
+            }
+        }
+    }
+    Ok(())
+}

@@ -1,0 +1,126 @@
+//! Terms over names to terms over cells.
+
+ghost use Rattle.std.specs.Prelude.{◌≡◌, Ok, Err, [], IfOk};
+ghost use Rattle.m_places.specs.Refusals.{Outcome};
+ghost use Rattle.m_requests.specs.Placed.{IsPlaced};
+ghost use Rattle.mpp_parser.specs.TermView.{terms_of, links_of};
+ghost use Rattle.driver_core.specs.Formulas.{cell as cell_formula, apply, chain};
+ghost use Rattle.driver_core.specs.FormulaView.{formula_of, formulas_of, steps_of};
+ghost use Rattle.mpp_core.specs.Names.{if_said, cell_said};
+ghost use Rattle.mpp_core.specs.Bodies.{term_said, terms_said, links_said};
+ghost use Rattle.mpp_core.specs.declared.fault.CoreFault.TheVariants.{Memory};
+
+use crate::CoreFault;
+use crate::names::{cell_of, kind_cells};
+use driver_core::{CNode, CStep, CTerm};
+use m_fixed::Op;
+use m_symbols::Symbols;
+use mpp_parser::{CellName, DLink, DNode, DTerm};
+use std::alloc::{AllocError, Global};
+
+/// What a term on this line is over cells, or the first of its faults from left to right.
+#[cycle(term)]
+pub(crate) fn term(
+    alloc: Global,
+    term: &DTerm,
+    line: u32,
+    symbols: &Symbols,
+) -> Result<Box<CTerm>, CoreFault>
+    requires { IsPlaced symbols.now }
+    ensures { Outcome Memory result (λ t. term_said symbols.now line term.now ≡ Ok t.value) (λ fault. term_said symbols.now line term.now ≡ Err fault) }
+{
+    match &term.node {
+        DNode::Lit(value) => Ok(boxed(alloc, CNode::Lit(*value))?),
+        DNode::Named(name) => named(alloc, name, line, symbols),
+        DNode::Apply(op, arguments) => applied(alloc, *op, arguments, line, symbols),
+        DNode::Chain(first, links) => chained(alloc, first, links, line, symbols),
+        DNode::Exists(kind) => {
+            let cells = kind_cells(alloc, symbols, kind)?;
+            Ok(boxed(alloc, CNode::Exists(cells))?)
+        }
+    }
+}
+
+// A node in a box.
+fn boxed(alloc: Global, node: CNode) -> Result<Box<CTerm>, AllocError>
+    ensures { IfOk result (λ t. t.value ≡ formula_of node) }
+{
+    Ok(Box::new(alloc, CTerm::new(node))?)
+}
+
+// A name.
+fn named(
+    alloc: Global,
+    name: &CellName,
+    line: u32,
+    symbols: &Symbols,
+) -> Result<Box<CTerm>, CoreFault>
+    requires { IsPlaced symbols.now }
+    ensures { Outcome Memory result (λ t. if_said (λ c. Ok (cell_formula c)) (cell_said symbols.now line name.now) ≡ Ok t.value) (λ fault. if_said (λ c. Ok (cell_formula c)) (cell_said symbols.now line name.now) ≡ Err fault) }
+{
+    let cell = cell_of(alloc, symbols, line, name)?;
+    Ok(boxed(alloc, CNode::Cell(cell))?)
+}
+
+// An operator and its arguments.
+#[cycle(term)]
+fn applied(
+    alloc: Global,
+    op: Op,
+    arguments: &[DTerm],
+    line: u32,
+    symbols: &Symbols,
+) -> Result<Box<CTerm>, CoreFault>
+    requires { IsPlaced symbols.now }
+    ensures { Outcome Memory result
+        (λ t. if_said (λ all. Ok (apply op (formulas_of all))) (terms_said symbols.now line [] (terms_of arguments.now)) ≡ Ok t.value)
+        (λ fault. if_said (λ all. Ok (apply op (formulas_of all))) (terms_said symbols.now line [] (terms_of arguments.now)) ≡ Err fault) }
+{
+    let arguments = terms(alloc, arguments, line, symbols)?;
+    Ok(boxed(alloc, CNode::Apply(op, arguments))?)
+}
+
+// Terms one after the other.
+#[cycle(term)]
+fn terms(
+    alloc: Global,
+    all: &[DTerm],
+    line: u32,
+    symbols: &Symbols,
+) -> Result<Vec<CTerm>, CoreFault>
+    requires { IsPlaced symbols.now }
+    ensures { Outcome Memory result (λ said. terms_said symbols.now line [] (terms_of all.now) ≡ Ok said.items) (λ fault. terms_said symbols.now line [] (terms_of all.now) ≡ Err fault) }
+{
+    let mut said = Vec::with_capacity(alloc, all.len())?;
+    for one in all {
+        let t = term(alloc, one, line, symbols)?;
+        said.push(Box::into_inner(t))?;
+    }
+    Ok(said)
+}
+
+// A left fold.
+#[cycle(term)]
+fn chained(
+    alloc: Global,
+    first: &DTerm,
+    links: &[DLink],
+    line: u32,
+    symbols: &Symbols,
+) -> Result<Box<CTerm>, CoreFault>
+    requires { IsPlaced symbols.now }
+    ensures { Outcome Memory result
+        (λ t. if_said (λ f. if_said (λ steps. Ok (chain f (steps_of steps))) (links_said symbols.now line [] (links_of links.now))) (term_said symbols.now line first.now) ≡ Ok t.value)
+        (λ fault. if_said (λ f. if_said (λ steps. Ok (chain f (steps_of steps))) (links_said symbols.now line [] (links_of links.now))) (term_said symbols.now line first.now) ≡ Err fault) }
+{
+    let first = term(alloc, first, line, symbols)?;
+    let mut steps = Vec::with_capacity(alloc, links.len())?;
+    for link in links {
+        let t = term(alloc, &link.term, line, symbols)?;
+        steps.push(CStep {
+            op: link.op,
+            term: Box::into_inner(t),
+        })?;
+    }
+    Ok(boxed(alloc, CNode::Chain(first, steps))?)
+}
