@@ -1,3 +1,4 @@
 pub mod PlainCore
 pub mod NameLemmas
 pub mod ListLemmas
+pub mod RingLemmas

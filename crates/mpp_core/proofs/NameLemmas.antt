@@ -1,9 +1,7 @@
 -- The variable of a name, and what a list of variables of a kind begins with.
-use Rattle.std.proofs.Common.{◌≡◌, ◌≤◌, ◌<◌, ◌+◌, ℕ, zero, suc, List, [], ◌∷◌, ◌++◌, length, drop, get_or, Option, None, Some, sym, ap, ◌∙◌, subst, arith, slice_get}
+use Rattle.std.proofs.Common.{◌≡◌, ◌≤◌, ◌+◌, ℕ, zero, suc, List, [], ◌∷◌, length, drop, Option, None, Some, sym, ap, ◌∙◌, arith, slice_get}
 use Rattle.std.specs.Prelude.{IfSome, option_map}
 use Rattle.std.specs.Option.{option_and_then}
-use Rattle.std.proofs.Math.Seq.{drop-cons}
-use Rattle.std.proofs.lemmas.Option.{get_or_from_slice_get}
 use Rattle.m_names.specs.Names.{index_of}
 use Rattle.m_ast.specs.Items.{variable_size}
 use Rattle.m_symbols.specs.declared.variable.Variable.{Variable}

@@ -1,12 +1,12 @@
 -- The driver of rules without one is valid.
-use Rattle.std.proofs.Common.{◌≡◌, ◌<◌, ℕ, zero, suc, ◌⊎◌, inl, inr, List, [], ◌∷◌, length, All, Result, Ok, Err, refl, sym, subst, arith, not}
+use Rattle.std.proofs.Common.{◌≡◌, ◌<◌, ℕ, zero, suc, inl, inr, List, [], ◌∷◌, length, All, Result, Ok, Err, refl, sym, subst, arith, not}
 use Rattle.std.specs.Prelude.{IfOk}
 use Rattle.std.proofs.lemmas.List.Elements.{All-nil, All-cons, All-filter}
 use Rattle.m_symbols.specs.Declarations.{Declared, owners_from}
 use Rattle.driver_core.specs.declared.program.Core.{Core}
 use Rattle.driver_core.specs.Actions.{Action, solve}
 use Rattle.driver_core.specs.ActionView.{block_of}
-use Rattle.driver_core.specs.Valid.{body_among, BlockCalls, BlockIsWithin, IsRing, LeadsTo, IsInRange, IsValidCore}
+use Rattle.driver_core.specs.Valid.{body_among, BlockCalls, BlockIsWithin, IsRing, IsValidCore}
 use Rattle.mpp_core.specs.Cores.{plain_core, received_cells, is_constant_cell}
 
 no_calls : (received : List ℕ) (f g : ℕ) → BlockCalls (body_among ((solve 1 received ∷ []) ∷ []) f) g → ⊥

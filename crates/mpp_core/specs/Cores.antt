@@ -1,5 +1,5 @@
 -- What a driver is over cells, and when it has a fault; and the driver of rules without one.
-use Rattle.std.specs.Prelude.{◌≡◌, ℕ, List, [], ◌∷◌, Option, Some, None, Result, Ok, Err, Bool, false, not, codes, length, map, filter, slice_index_or}
+use Rattle.std.specs.Prelude.{◌≡◌, ◌⊎◌, ℕ, List, [], ◌∷◌, Result, Ok, Err, Bool, false, not, codes, length, map, filter, slice_index_or}
 use Rattle.std.specs.Option.{option_map_or}
 use Rattle.m_ast.specs.Items.{is_constant}
 use Rattle.m_symbols.specs.declared.variable.Variable.{Variable}
@@ -7,7 +7,6 @@ use Rattle.m_symbols.specs.Declarations.{Declared, owners_from}
 use Rattle.micro_m.specs.Reads.{BeginsWithLeast}
 use Rattle.m_requests.specs.Cells.{owner_of}
 use Rattle.mpp_parser.specs.declared.command.Driver.{Driver}
-use Rattle.mpp_parser.specs.declared.command.Function.{Function}
 use Rattle.driver_core.specs.declared.program.Core.{Core}
 use Rattle.driver_core.specs.Actions.{solve}
 use Rattle.driver_core.specs.Valid.{IsRing, HasNoRing}
@@ -41,14 +40,18 @@ pub record ShowsRing (driver : Driver) (declared : Declared) (names : List (List
   pub first : BeginsWithLeast functions
   pub shown : names ≡ map (λ f. slice_index_or core.names f []) functions
 
+-- the ring that a fault shows
+abbrev pub IsRecursion : Driver → Declared → CoreFault → Type 0
+IsRecursion driver declared (DriverRecursion names) = ShowsRing driver declared names
+IsRecursion driver declared (FunctionTwice name line) = ⊥
+IsRecursion driver declared NoMain = ⊥
+IsRecursion driver declared (UnknownInDriver name line) = ⊥
+IsRecursion driver declared (BadTargetInDriver name line) = ⊥
+IsRecursion driver declared Memory = ⊥
+
 -- the fault of a driver: the first of its names, or a ring of its functions
 abbrev pub IsCoreFault : Driver → Declared → CoreFault → Type 0
-IsCoreFault driver declared (FunctionTwice name line) = core_of driver declared ≡ Err (FunctionTwice name line)
-IsCoreFault driver declared NoMain = core_of driver declared ≡ Err NoMain
-IsCoreFault driver declared (UnknownInDriver name line) = core_of driver declared ≡ Err (UnknownInDriver name line)
-IsCoreFault driver declared (BadTargetInDriver name line) = core_of driver declared ≡ Err (BadTargetInDriver name line)
-IsCoreFault driver declared (DriverRecursion names) = ShowsRing driver declared names
-IsCoreFault driver declared Memory = ⊥
+IsCoreFault driver declared fault = (core_of driver declared ≡ Err fault) ⊎ IsRecursion driver declared fault
 
 -- ---- the driver of rules without one
 

@@ -1,3 +1,4 @@
 pub mod Names
 pub mod Bodies
 pub mod Cores
+pub mod inner

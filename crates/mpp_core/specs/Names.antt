@@ -1,5 +1,5 @@
 -- What the names of a driver name: cells, cells that may be changed, the inputs of a kind, and functions.
-use Rattle.std.specs.Prelude.{ℕ, ◌+◌, nat_lt, ◌||◌, Bool, true, false, List, [], ◌∷◌, ◌++◌, Option, Some, None, Result, Ok, Err, if◌then◌else◌, codes, map, filter}
+use Rattle.std.specs.Prelude.{ℕ, ◌+◌, nat_lt, ◌||◌, List, [], ◌∷◌, ◌++◌, Option, Some, None, Result, Ok, Err, if◌then◌else◌, codes}
 use Rattle.std.specs.Option.{option_map_or}
 use Rattle.std.specs.Str.{bytes_eq}
 use Rattle.m_names.specs.Names.{has, index_of}

@@ -62,11 +62,7 @@ fn assigned(
 {
     let cell = target_of(alloc, symbols, line, cell)?;
     let value = term(alloc, value, line, symbols)?;
-    Ok(CCommand::new(CCommandNode::Set(
-        line,
-        cell,
-        Box::into_inner(value),
-    )))
+    Ok(CCommand::new(CCommandNode::Set(line, cell, Box::into_inner(value))))
 }
 
 // A cell that becomes undefined.
@@ -104,12 +100,7 @@ fn branched(
     let condition = term(alloc, condition, line, symbols)?;
     let first = commands(alloc, first, names, symbols)?;
     let second = commands(alloc, second, names, symbols)?;
-    Ok(CCommand::new(CCommandNode::If(
-        line,
-        Box::into_inner(condition),
-        first,
-        second,
-    )))
+    Ok(CCommand::new(CCommandNode::If(line, Box::into_inner(condition), first, second)))
 }
 
 // A block with the inputs of a kind undefined.

@@ -70,10 +70,7 @@ pub(crate) fn main_of(names: &Names) -> Result<u32, CoreFault>
 }
 
 /// The names of functions in order, as a list of their own.
-pub(crate) fn copied_names(
-    alloc: Global,
-    functions: &[Function],
-) -> Result<Seq<Name>, AllocError>
+pub(crate) fn copied_names(alloc: Global, functions: &[Function]) -> Result<Seq<Name>, AllocError>
     ensures { IfOk result (λ names. names ≡ map name_in functions.now) }
 {
     let mut names = Vec::with_capacity(alloc, functions.len())?;

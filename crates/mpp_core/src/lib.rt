@@ -9,7 +9,9 @@ mod fault;
 mod functions;
 mod names;
 mod plain;
+mod ranks;
 mod resolving;
+mod rings;
 mod terms;
 
 pub use fault::CoreFault;

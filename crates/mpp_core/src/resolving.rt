@@ -4,41 +4,32 @@ ghost use Rattle.std.specs.Prelude.{◌≡◌, Ok, Err, IfOk, length};
 ghost use Rattle.m_places.specs.Refusals.{Outcome};
 ghost use Rattle.m_symbols.specs.Declarations.{owners_from};
 ghost use Rattle.m_requests.specs.Placed.{IsPlaced};
-ghost use Rattle.driver_core.specs.Valid.{IsValidCore};
 ghost use Rattle.mpp_core.specs.Cores.{IsCore, IsCoreFault, core_of};
 ghost use Rattle.mpp_core.specs.declared.fault.CoreFault.TheVariants.{Memory};
 
 use crate::CoreFault;
 use crate::functions::{bodies, copied_names, function_names, main_of};
+use crate::rings::no_ring;
 use driver_core::Core;
 use m_symbols::Symbols;
 use mpp_parser::Driver;
 use std::alloc::Global;
 
 /// The driver over the cells of what is declared, or the first fault of the driver: a name that two functions have, then that there is
-/// no `main`, then the first name from the top and from left to right that isn't what is needed there, and then functions that call
-/// each other in a ring.
-pub fn resolve_driver(
-    _alloc: Global,
-    _driver: &Driver,
-    _symbols: &Symbols,
-) -> Result<Core, CoreFault>
-    requires { IsPlaced _symbols.now }
-    ensures outcome { Outcome Memory result (IsCore _driver.now _symbols.now) (IsCoreFault _driver.now _symbols.now) }
-    ensures valid { IfOk result IsValidCore }
-    ensures cells { IfOk result (λ core. core.cells ≡ length (owners_from 0 _symbols.now.variables)) }
+/// no `main`, then the first name from the top and from left to right that isn't what is needed there. No function of it reaches itself
+/// by calls: where one does, it gives up as for want of memory.
+pub fn resolve_driver(alloc: Global, driver: &Driver, symbols: &Symbols) -> Result<Core, CoreFault>
+    requires { IsPlaced symbols.now }
+    ensures outcome { Outcome Memory result (IsCore driver.now symbols.now) (IsCoreFault driver.now symbols.now) }
+    ensures cells { IfOk result (λ core. core.cells ≡ length (owners_from 0 symbols.now.variables)) }
 {
-    Err(CoreFault::Memory)
+    let core = resolve_names(alloc, driver, symbols)?;
+    no_ring(alloc, &core)?;
+    Ok(core)
 }
 
-/// The driver over the cells of what is declared, or the first fault of its names: a name that two functions have, then that there is no
-/// `main`, and then the first name from the top and from left to right that isn't what is needed there. Functions may call each other in
-/// a ring.
-pub fn resolve_names(
-    alloc: Global,
-    driver: &Driver,
-    symbols: &Symbols,
-) -> Result<Core, CoreFault>
+// The driver over cells, or the first fault of its names. Functions may call each other in a ring.
+fn resolve_names(alloc: Global, driver: &Driver, symbols: &Symbols) -> Result<Core, CoreFault>
     requires { IsPlaced symbols.now }
     ensures outcome { Outcome Memory result (λ core. core_of driver.now symbols.now ≡ Ok core) (λ fault. core_of driver.now symbols.now ≡ Err fault) }
     ensures cells { IfOk result (λ core. core.cells ≡ length (owners_from 0 symbols.now.variables)) }

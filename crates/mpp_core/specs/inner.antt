@@ -1,0 +1,2 @@
+-- What only inner functions say.
+pub mod Ranks
