@@ -2,3 +2,4 @@ pub mod PlainCore
 pub mod NameLemmas
 pub mod ListLemmas
 pub mod RingLemmas
+pub mod ShownLemmas

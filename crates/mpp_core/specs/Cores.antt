@@ -1,5 +1,5 @@
 -- What a driver is over cells, and when it has a fault; and the driver of rules without one.
-use Rattle.std.specs.Prelude.{◌≡◌, ◌⊎◌, ℕ, List, [], ◌∷◌, Result, Ok, Err, Bool, false, not, codes, length, map, filter, slice_index_or}
+use Rattle.std.specs.Prelude.{◌≡◌, ◌⊎◌, ℕ, List, [], ◌∷◌, Option, Some, None, Result, Ok, Err, Bool, false, not, codes, length, map, filter, slice_get}
 use Rattle.std.specs.Option.{option_map_or}
 use Rattle.m_ast.specs.Items.{is_constant}
 use Rattle.m_symbols.specs.declared.variable.Variable.{Variable}
@@ -30,28 +30,34 @@ pub record IsCore (driver : Driver) (declared : Declared) (core : Core) : Type 0
   pub named : core_of driver declared ≡ Ok core
   pub no_ring : HasNoRing core
 
--- No name of the driver has a fault, and these are the names of a ring: of distinct functions, each calling the next and the last the first,
--- beginning with the one that stands first in the file.
-pub record ShowsRing (driver : Driver) (declared : Declared) (names : List (List ℕ)) : Type 0 where
-  pub core : Core
-  pub named : core_of driver declared ≡ Ok core
+-- the name of a function
+abbrev pub name_or_none : Option (List ℕ) → List ℕ
+name_or_none None = []
+name_or_none (Some name) = name
+
+abbrev pub function_name : List (List ℕ) → ℕ → List ℕ
+function_name names f = name_or_none (slice_get names f)
+
+-- These are the names of a ring: of distinct functions, each calling the next and the last the first, beginning with the one that stands
+-- first in the file.
+pub record ShowsRing (core : Core) (names : List (List ℕ)) : Type 0 where
   pub functions : List ℕ
   pub ring : IsRing core functions
   pub first : BeginsWithLeast functions
-  pub shown : names ≡ map (λ f. slice_index_or core.names f []) functions
+  pub shown : names ≡ map (function_name core.names) functions
 
 -- the ring that a fault shows
-abbrev pub IsRecursion : Driver → Declared → CoreFault → Type 0
-IsRecursion driver declared (DriverRecursion names) = ShowsRing driver declared names
-IsRecursion driver declared (FunctionTwice name line) = ⊥
-IsRecursion driver declared NoMain = ⊥
-IsRecursion driver declared (UnknownInDriver name line) = ⊥
-IsRecursion driver declared (BadTargetInDriver name line) = ⊥
-IsRecursion driver declared Memory = ⊥
+abbrev pub IsRecursion : Core → CoreFault → Type 0
+IsRecursion core (DriverRecursion names) = ShowsRing core names
+IsRecursion core (FunctionTwice name line) = ⊥
+IsRecursion core NoMain = ⊥
+IsRecursion core (UnknownInDriver name line) = ⊥
+IsRecursion core (BadTargetInDriver name line) = ⊥
+IsRecursion core Memory = ⊥
 
--- the fault of a driver: the first of its names, or a ring of its functions
+-- the fault of a driver: the first of its names, or where no name has one a ring of its functions
 abbrev pub IsCoreFault : Driver → Declared → CoreFault → Type 0
-IsCoreFault driver declared fault = (core_of driver declared ≡ Err fault) ⊎ IsRecursion driver declared fault
+IsCoreFault driver declared fault = (core_of driver declared ≡ Err fault) ⊎ ((core : Core) × (core_of driver declared ≡ Ok core) × IsRecursion core fault)
 
 -- ---- the driver of rules without one
 

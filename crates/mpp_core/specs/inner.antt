@@ -1,2 +1,3 @@
 -- What only inner functions say.
 pub mod Ranks
+pub mod Rings

@@ -12,6 +12,7 @@ mod plain;
 mod ranks;
 mod resolving;
 mod rings;
+mod shown;
 mod terms;
 
 pub use fault::CoreFault;

@@ -90,6 +90,75 @@ fn ranks_along(
     Ok(ranks)
 }
 
+/// Functions that may be a ring, beginning with the least number: of those without a rank, each with one that it calls.
+pub(crate) fn ring_of(
+    alloc: Global,
+    bodies: &[Seq<CCommand>],
+    ranks: &[usize],
+) -> Result<Vec<usize>, AllocError> {
+    let mut edges = Vec::new(alloc);
+    for f in 0..bodies.len() {
+        if at(ranks, f) == 0 {
+            add_calls(bodies[f].as_slice(), f, &mut edges)?;
+        }
+    }
+    let next = next_calls(alloc, &edges, ranks)?;
+    let least = least_on_ring(&next, first_open(ranks));
+    along(alloc, &next, least)
+}
+
+// For each function without a rank one of those that it calls.
+fn next_calls(alloc: Global, edges: &[Edge], ranks: &[usize]) -> Result<Vec<usize>, AllocError> {
+    let mut next = vec![in alloc; 0usize; ranks.len()]?;
+    for edge in edges {
+        if at(ranks, edge.called) == 0 {
+            put(&mut next, edge.caller, edge.called);
+        }
+    }
+    Ok(next)
+}
+
+// The first function without a rank.
+fn first_open(ranks: &[usize]) -> usize {
+    for f in 0..ranks.len() {
+        if ranks[f] == 0 {
+            return f;
+        }
+    }
+    0
+}
+
+// The least number on the ring that is reached from a function.
+fn least_on_ring(next: &[usize], first: usize) -> usize {
+    let mut f = first;
+    for _ in 0..next.len() {
+        f = at(next, f);
+    }
+    let mut least = f;
+    for _ in 0..next.len() {
+        f = at(next, f);
+        if f < least {
+            least = f;
+        }
+    }
+    least
+}
+
+// The functions from this one on until it comes again.
+fn along(alloc: Global, next: &[usize], first: usize) -> Result<Vec<usize>, AllocError> {
+    let mut ring = Vec::new(alloc);
+    ring.push(first)?;
+    let mut f = at(next, first);
+    for _ in 0..next.len() {
+        if f == first {
+            return Ok(ring);
+        }
+        ring.push(f)?;
+        f = at(next, f);
+    }
+    Ok(ring)
+}
+
 // Closes all calls of a function, of which this is the last, one more than its number.
 fn close_calls(
     edges: &[Edge],
@@ -113,14 +182,14 @@ fn close_calls(
     Ok(())
 }
 
-fn at(numbers: &[usize], place: usize) -> usize {
+pub(crate) fn at(numbers: &[usize], place: usize) -> usize {
     match numbers.get(place) {
         Some(number) => *number,
         None => 0,
     }
 }
 
-fn put(numbers: &mut Vec<usize>, place: usize, number: usize) {
+pub(crate) fn put(numbers: &mut Vec<usize>, place: usize, number: usize) {
     if place < numbers.len() {
         numbers[place] = number;
     }

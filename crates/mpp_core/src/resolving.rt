@@ -16,8 +16,8 @@ use mpp_parser::Driver;
 use std::alloc::Global;
 
 /// The driver over the cells of what is declared, or the first fault of the driver: a name that two functions have, then that there is
-/// no `main`, then the first name from the top and from left to right that isn't what is needed there. No function of it reaches itself
-/// by calls: where one does, it gives up as for want of memory.
+/// no `main`, then the first name from the top and from left to right that isn't what is needed there, and then functions that call
+/// each other in a ring.
 pub fn resolve_driver(alloc: Global, driver: &Driver, symbols: &Symbols) -> Result<Core, CoreFault>
     requires { IsPlaced symbols.now }
     ensures outcome { Outcome Memory result (IsCore driver.now symbols.now) (IsCoreFault driver.now symbols.now) }

@@ -1,30 +1,32 @@
 //! Whether functions call each other in a ring.
 //!
 //! The functions get ranks, by a search of which nothing is proved, and then each call is seen to go to a function of a lower rank: so no
-//! function reaches itself.
+//! function reaches itself. Where a call goes elsewhere, a ring is shown, and it is seen to be one.
 
 ghost use Rattle.std.specs.Prelude.{◌≡◌, true, slice_get};
 ghost use Rattle.m_places.specs.Refusals.{Outcome};
 ghost use Rattle.driver_core.specs.ActionView.{block_of};
 ghost use Rattle.driver_core.specs.Valid.{HasNoRing};
+ghost use Rattle.mpp_core.specs.Cores.{IsRecursion};
 ghost use Rattle.mpp_core.specs.inner.Ranks.{rank_is_below, action_descends, block_descends, bodies_descend};
 ghost use Rattle.mpp_core.specs.declared.fault.CoreFault.TheVariants.{Memory};
 
 use crate::CoreFault;
 use crate::ranks::ranks_of;
+use crate::shown::shown_ring;
 use driver_core::{CCommand, CCommandNode, Core};
 use m_places::Seq;
 use std::alloc::Global;
 
-/// Goes on where no function of a driver reaches itself by calls, and else gives up.
+/// Goes on where no function of a driver reaches itself by calls, and else shows a ring.
 pub(crate) fn no_ring(alloc: Global, core: &Core) -> Result<(), CoreFault>
-    ensures { Outcome Memory result (λ _. HasNoRing core.now) (λ _. ⊥) }
+    ensures { Outcome Memory result (λ _. HasNoRing core.now) (λ fault. IsRecursion core.now fault) }
 {
     let ranks = ranks_of(alloc, core.bodies.as_slice())?;
     if descends(core, &ranks) {
         Ok(())
     } else {
-        Err(CoreFault::Memory)
+        Err(shown_ring(alloc, core, &ranks)?)
     }
 }
 
