@@ -14,8 +14,6 @@ mod large;
 #[cfg(test)]
 mod records;
 #[cfg(test)]
-mod sessions;
-#[cfg(test)]
 mod tables;
 #[cfg(test)]
 mod threads;
