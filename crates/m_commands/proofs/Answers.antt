@@ -7,7 +7,7 @@ use Rattle.first_form.specs.declared.outcome.Outcome.{Outcome}
 use Rattle.first_form.specs.declared.outcome.Outcome.TheVariants.{Lines, Syntax, NotBuilt}
 use Rattle.m_plan.specs.Status.{IsOfEnd}
 use Rattle.m_source.specs.Source.{AreWithin}
-use Rattle.m_source.specs.declared.source.Source.{Source}
+use Rattle.rule_text.specs.declared.Source.{Source}
 use Rattle.rule_text.specs.declared.Text.{Text}
 use Rattle.m_plan.specs.Views.{OutputView}
 use Rattle.m_plan.specs.declared.status.Status.{Status}

@@ -21,9 +21,9 @@ command_of (word ∷ list ∷ driver ∷ requests ∷ household ∷ []) =
     then Some (Run (record { list = list; driver = driver; requests = requests }) household) else None
 command_of _ = None
 
--- a source without a driver and without requests: others aren't built yet
+-- a source without a driver: others aren't built yet
 abbrev pub is_plain : SourceNames → Bool
-is_plain names = is_none names.driver && is_none names.requests
+is_plain names = is_none names.driver
 
 -- a run gathers its source, and behind it the household
 abbrev pub run_plan : SourceNames → List ℕ → Plan Work

@@ -1,20 +1,30 @@
 //! What a command answers with what it has gathered, printed as it is made.
-ghost use Rattle.std.specs.Prelude.{◌≡◌, ◌≤◌, IfOk, length, option_map};
-ghost use Rattle.m_plan.specs.Printing.{Prints};
+ghost use Rattle.std.specs.Prelude.{◌≡◌, ◌≤◌, ℕ, ℤ, List, IfOk, length, option_map, Ok, Err, Some};
+ghost use Rattle.m_plan.specs.Printing.{Prints, IsAnswered};
 ghost use Rattle.m_plan.specs.Views.{output_view};
-ghost use Rattle.m_source.specs.Source.{AreWithin};
-ghost use Rattle.m_commands.specs.Answer.{KeepsLimits, IsSourceOutcome, only_text, outcome_text, outcome_status};
-ghost use Rattle.m_commands.specs.inner.Courses.{WorkIsAnswered};
+ghost use Rattle.m_places.specs.Refusals.{Outcome};
+ghost use Rattle.fault_lines.specs.Lines.{fault_line};
+ghost use Rattle.rule_text.specs.Limits.{KeepsLimits as SourceKeepsLimits};
+ghost use Rattle.rule_text.specs.declared.Source.{Source};
+ghost use Rattle.household.specs.Household.{household_of, values_of};
+ghost use Rattle.household.specs.declared.fault.HouseholdFault.TheVariants.{Memory};
+ghost use Rattle.flat_code.specs.Runs.{flat_run};
+ghost use Rattle.tax_print.specs.Lines.{answer_lines};
+ghost use Rattle.m_compile.specs.Compiled.{IsCompiled, IsRunnable};
+ghost use Rattle.m_commands.specs.Answer.{KeepsLimits, household_fault_line, answer_status};
+ghost use Rattle.m_commands.specs.inner.Courses.{WorkIsAnswered, RunIsAnswered};
 
 use crate::work::Work;
-use fault_lines::Fault;
-use first_form::Outcome;
+use fault_lines::{Fault, RowFault};
+use flat_code::{Answer, run_flat};
+use household::{HouseholdFault, read_household, values};
+use m_compile::{Compiled, compile, told_fault};
 use m_places::Seq;
 use m_plan::{Status, print_fault, printed};
-use m_ports::{Sink, give_all};
-use m_source::Source;
-use rule_text::Text;
-use std::alloc::{AllocError, Global};
+use m_ports::Sink;
+use rule_text::Source;
+use std::alloc::Global;
+use tax_print::print_answer;
 
 /// Answers what was gathered, and tells how the command ended.
 pub fn answer<K: Sink>(alloc: Global, work: &Work, out: &mut K) -> Status
@@ -26,45 +36,77 @@ pub fn answer<K: Sink>(alloc: Global, work: &Work, out: &mut K) -> Status
     }
 }
 
-/// Prints the answer of a run.
+/// Compiles the source of a run, and prints its answer to the household.
 fn answer_run<K: Sink>(alloc: Global, source: &Source, household: &Seq<u8>, out: &mut K) -> Status
-    requires { AreWithin source.now.texts }
+    requires { SourceKeepsLimits source.now }
     ensures { WorkIsAnswered (Work.Run source.now household.now) (output_view K.written K.faults out.old) (output_view K.written K.faults out.new) result }
 {
-    match outcome_of(alloc, source, household.as_slice()) {
-        Ok(outcome) => print_outcome(out, &outcome),
-        Err(AllocError) => Status::Memory,
+    match compile(alloc, source) {
+        Ok(compiled) => answer_household(alloc, &compiled, household.as_slice(), out),
+        Err(fault) => match told_fault(source.texts.as_slice(), &fault) {
+            Some(told) => print_fault(out, told, Status::Refused),
+            None => Status::Memory,
+        },
     }
 }
 
-/// What comes of a source and a household. Its only error is want of memory.
-fn outcome_of(alloc: Global, source: &Source, household: &[u8]) -> Result<Outcome, AllocError>
-    requires { AreWithin source.now.texts }
-    ensures { IfOk result (IsSourceOutcome source.now household.now) }
+/// Prints what a compiled source answers to a household.
+fn answer_household<K: Sink>(
+    alloc: Global,
+    compiled: &Compiled,
+    household: &[u8],
+    out: &mut K,
+) -> Status
+    requires { IsRunnable compiled.now }
+    ensures { (source : Source) → IsCompiled source compiled.now → RunIsAnswered source household.now (output_view K.written K.faults out.old) (output_view K.written K.faults out.new) result }
 {
-    match only_text(source.texts.as_slice()) {
-        Some(rules) => first_form::answer(alloc, source.application.bytes(), rules, household),
-        None => Ok(Outcome::NotBuilt),
+    match answer_of(alloc, compiled, household) {
+        Ok(answer) => printed(
+            print_answer(&compiled.face, &answer, out),
+            status_of(&answer),
+        ),
+        Err(fault) => match told_household(fault) {
+            Some(told) => print_fault(out, told, Status::Refused),
+            None => Status::Memory,
+        },
     }
 }
 
-/// The bytes of the only rule file, where there is one alone.
-fn only_text(texts: &[Text]) -> Option<&[u8]>
-    ensures { option_map (λ bytes. bytes.now) result ≡ only_text texts.now }
+/// What a compiled source answers to a household, or the household's fault.
+fn answer_of(alloc: Global, compiled: &Compiled, household: &[u8]) -> Result<Answer, HouseholdFault>
+    requires { IsRunnable compiled.now }
+    ensures { Outcome Memory result
+        (λ answer. (pairs : List (ℕ × ℤ)) × (household_of compiled.now.codes household.now ≡ Ok pairs) × (answer ≡ flat_run compiled.now.flat (values_of pairs compiled.now.flat.inputs)))
+        (λ fault. household_of compiled.now.codes household.now ≡ Err fault) }
 {
-    match texts {
-        [text] => Some(text.bytes.as_slice()),
-        _ => None,
+    let given = read_household(alloc, household, &compiled.codes)?;
+    let values = values(alloc, &given, compiled.flat.inputs)?;
+    Ok(run_flat(alloc, &compiled.flat, &values)?)
+}
+
+/// The status of an answer: values, or what stopped the run.
+fn status_of(answer: &Answer) -> Status
+    ensures { result ≡ answer_status answer.now }
+{
+    match answer {
+        Answer::Values(_) => Status::Done,
+        Answer::Stopped(_) => Status::Stopped,
     }
 }
 
-/// Prints an outcome: the lines of the answer, or the line of its refusal. It takes no memory.
-fn print_outcome<K: Sink>(out: &mut K, outcome: &Outcome) -> Status
-    ensures { Prints (outcome_text outcome.now) (outcome_status outcome.now) (output_view K.written K.faults out.old) (output_view K.written K.faults out.new) result }
+/// What the fault of a household or a table is told as. Nothing is told of want of memory.
+fn told_household<'a>(fault: HouseholdFault) -> Option<Fault<'a>>
+    ensures { option_map fault_line result ≡ household_fault_line fault }
 {
-    match outcome {
-        Outcome::Lines(text) => printed(give_all(out, text.as_slice()), Status::Done),
-        Outcome::Syntax => print_fault(out, Fault::NoTokens, Status::Refused),
-        Outcome::NotBuilt => print_fault(out, Fault::NotBuilt, Status::Refused),
+    match fault {
+        HouseholdFault::BadHeader => Some(Fault::HouseholdHeader),
+        HouseholdFault::TooManyRows => Some(Fault::TooManyRows),
+        HouseholdFault::BadRow(line) => Some(Fault::HouseholdLine(line, RowFault::BadRow)),
+        HouseholdFault::UnknownCode(line) => {
+            Some(Fault::HouseholdLine(line, RowFault::UnknownCode))
+        }
+        HouseholdFault::BadAmount(line) => Some(Fault::HouseholdLine(line, RowFault::BadAmount)),
+        HouseholdFault::CodeTwice(line) => Some(Fault::HouseholdLine(line, RowFault::CodeTwice)),
+        HouseholdFault::Memory => None,
     }
 }

@@ -44,9 +44,9 @@ fn gather_run<F: Files>(
     Ok(Work::Run(source, rows))
 }
 
-/// Whether a source has neither a driver nor requests.
+/// Whether a source has no driver.
 fn is_plain(names: &SourceNames) -> bool
     ensures { result ≡ is_plain names.now }
 {
-    is_none(&names.driver) && is_none(&names.requests)
+    is_none(&names.driver)
 }

@@ -10,6 +10,10 @@ use m_places::Name;
 pub enum Refusal {
     /// A form that isn't built yet.
     NotBuilt,
+    /// The line of the list with this number, from 1, isn't what it must be.
+    ListLine(u32),
+    /// The list has more rule files than a list may have.
+    TooManyFiles,
     /// The file of this name is past its limit.
     FileTooLong(Name),
 }
@@ -21,6 +25,8 @@ impl Refusal {
     {
         match self {
             Refusal::NotBuilt => Fault::NotBuilt,
+            Refusal::ListLine(line) => Fault::ListLine(*line),
+            Refusal::TooManyFiles => Fault::TooManyFiles,
             Refusal::FileTooLong(name) => Fault::FileTooLong(name.bytes()),
         }
     }

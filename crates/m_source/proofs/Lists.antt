@@ -1,17 +1,22 @@
 -- How a list that was fetched goes on.
-use Rattle.std.proofs.Common.{◌≡◌, ℕ, List, Ok, Err, sym, subst}
+use Rattle.std.proofs.Common.{◌≡◌, ℕ, List, Ok, Err, sym, subst, ap, ◌∙◌}
 use Rattle.m_list.specs.Listing.{list_of}
 use Rattle.m_list.specs.declared.listing.Listing.{Listing}
 use Rattle.m_list.specs.declared.fault.ListFault.{ListFault}
+use Rattle.m_list.specs.declared.fault.ListFault.TheVariants.{BadLine, TooManyFiles}
 use Rattle.m_plan.specs.Trips.{GoesAlong}
 use Rattle.m_plan.specs.Views.{FilesView}
 use Rattle.m_plan.specs.declared.ending.Ending.TheVariants.{Refused}
-use Rattle.m_plan.specs.declared.refusal.Refusal.TheVariants.{NotBuilt}
+use Rattle.m_plan.specs.declared.refusal.Refusal.TheVariants.{ListLine, TooManyFiles as TooMany}
 use Rattle.m_plan.proofs.Trips.{along_done, along_refused}
 use Rattle.m_source.specs.Source.{listed}
 
 pub listed_ok : (view : FilesView) (bytes : List ℕ) (listing : Listing) → list_of bytes ≡ Ok listing → GoesAlong (listed (list_of bytes)) view view (Ok listing)
 listed_ok view bytes listing e = subst (λ r. GoesAlong (listed r) view view (Ok listing)) (sym e) (along_done view listing)
 
-pub listed_refused : (view : FilesView) (bytes : List ℕ) (fault : ListFault) → list_of bytes ≡ Err fault → GoesAlong (listed (list_of bytes)) view view (Err (Refused NotBuilt))
-listed_refused view bytes fault e = subst (λ r. GoesAlong (listed r) view view (Err (Refused NotBuilt))) (sym e) (along_refused view NotBuilt)
+pub listed_bad : (view : FilesView) (bytes : List ℕ) (fault : ListFault) (number : ℕ) → fault ≡ BadLine number → list_of bytes ≡ Err fault → GoesAlong (listed (list_of bytes)) view view (Err (Refused (ListLine number)))
+listed_bad view bytes fault number is e =
+    subst (λ r. GoesAlong (listed r) view view (Err (Refused (ListLine number)))) (sym (e ∙ ap Err is)) (along_refused view (ListLine number))
+
+pub listed_many : (view : FilesView) (bytes : List ℕ) (fault : ListFault) → fault ≡ TooManyFiles → list_of bytes ≡ Err fault → GoesAlong (listed (list_of bytes)) view view (Err (Refused TooMany))
+listed_many view bytes fault is e = subst (λ r. GoesAlong (listed r) view view (Err (Refused TooMany))) (sym (e ∙ ap Err is)) (along_refused view TooMany)

@@ -10,7 +10,8 @@ use Rattle.m_plan.specs.Views.{FilesView}
 use Rattle.m_plan.specs.declared.ending.Ending.{Ending}
 use Rattle.m_plan.specs.declared.ending.Ending.TheVariants.{Memory}
 use Rattle.m_plan.proofs.Trips.{along_then, along_ended, along_done, along_without_memory}
-use Rattle.m_source.specs.Source.{rules_plan, AreWithin}
+use Rattle.m_source.specs.Source.{rules_plan}
+use Rattle.rule_text.specs.Limits.{AreWithin}
 use Rattle.rule_text.specs.declared.Text.{Text}
 
 -- texts that were gathered, and what comes of the rest

@@ -5,9 +5,10 @@ use Rattle.m_places.specs.declared.limits.TheConstants.{FILE_BYTES, RULE_BYTES}
 use Rattle.m_list.specs.Listing.{list_of}
 use Rattle.m_list.specs.declared.listing.Listing.{Listing}
 use Rattle.m_list.specs.declared.fault.ListFault.{ListFault}
+use Rattle.m_list.specs.declared.fault.ListFault.TheVariants.{BadLine, TooManyFiles, Memory}
 use Rattle.m_plan.specs.Plan.{Plan, done, refuses, file_plan, and_then}
-use Rattle.fault_lines.specs.Lines.{not_built_line}
-use Rattle.m_source.specs.declared.source.Source.{Source}
+use Rattle.fault_lines.specs.Lines.{list_line, too_many_files_line}
+use Rattle.rule_text.specs.declared.Source.{Source}
 use Rattle.m_source.specs.declared.source.SourceNames.{SourceNames}
 use Rattle.rule_text.specs.declared.Text.{Text}
 
@@ -15,10 +16,16 @@ use Rattle.rule_text.specs.declared.Text.{Text}
 abbrev pub is_none : List ℕ → Bool
 is_none name = bytes_eq name (codes "-")
 
+-- the line of a list's fault; want of memory, which no list has, has none
+abbrev pub list_fault_line : ListFault → List ℕ
+list_fault_line (BadLine number) = list_line number
+list_fault_line TooManyFiles = too_many_files_line
+list_fault_line Memory = []
+
 -- what the list says, or its refusal
 abbrev pub listed : Result Listing ListFault → Plan Listing
 listed (Ok listing) = done listing
-listed (Err fault) = refuses not_built_line
+listed (Err fault) = refuses (list_fault_line fault)
 
 -- the list is fetched, and read
 abbrev pub list_plan : List ℕ → Plan Listing
@@ -45,8 +52,3 @@ parts_plan names application texts =
 abbrev pub source_plan : SourceNames → Plan Source
 source_plan names =
     and_then (list_plan names.list) (λ listing. and_then (rules_plan RULE_BYTES listing.files) (λ texts. parts_plan names listing.application texts))
-
--- no rule file has more bytes than a file may have
-abbrev pub AreWithin : List Text → Type 0
-AreWithin [] = Unit {0}
-AreWithin (text ∷ texts) = (length text.bytes ≤ FILE_BYTES) × AreWithin texts

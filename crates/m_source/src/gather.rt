@@ -3,15 +3,16 @@ ghost use Rattle.std.specs.Prelude.{◌≡◌, IfOk};
 ghost use Rattle.m_places.specs.declared.limits.TheConstants.{RULE_BYTES};
 ghost use Rattle.m_plan.specs.Trips.{GoesAlong};
 ghost use Rattle.m_plan.specs.Views.{files_view};
-ghost use Rattle.m_source.specs.Source.{AreWithin, is_none, list_plan, rules_plan, optional_plan, parts_plan, source_plan};
+ghost use Rattle.rule_text.specs.Limits.{AreWithin, IsWithin, KeepsLimits};
+ghost use Rattle.m_source.specs.Source.{is_none, list_plan, rules_plan, optional_plan, parts_plan, source_plan};
 
-use crate::{Source, SourceNames};
+use crate::SourceNames;
 use m_list::{ListFault, Listing, read_list};
 use m_places::limits::{FILE_BYTES, RULE_BYTES};
 use m_places::{Name, Seq};
 use m_plan::{Ending, Refusal, fetch};
 use m_ports::Files;
-use rule_text::Text;
+use rule_text::{Source, Text};
 use std::alloc::Global;
 
 /// The name of a driver or of requests where there are none.
@@ -26,7 +27,7 @@ pub fn gather_source<F: Files>(
 ) -> Result<Source, Ending>
     ensures along { GoesAlong (source_plan names.now) (files_view F.told F.attempts F.taken files.old)
         (files_view F.told F.attempts F.taken files.new) result }
-    ensures within { IfOk result (λ source. AreWithin source.texts) }
+    ensures within { IfOk result KeepsLimits }
 {
     let Listing {
         application,
@@ -45,8 +46,8 @@ fn gather_list<F: Files>(alloc: Global, files: &mut F, name: &Name) -> Result<Li
     match read_list(alloc, bytes.as_slice()) {
         Ok(listing) => Ok(listing),
         Err(ListFault::Memory) => Err(Ending::Memory),
-        Err(ListFault::BadLine(_)) => Err(Ending::Refused(Refusal::NotBuilt)),
-        Err(ListFault::TooManyFiles) => Err(Ending::Refused(Refusal::NotBuilt)),
+        Err(ListFault::BadLine(line)) => Err(Ending::Refused(Refusal::ListLine(line))),
+        Err(ListFault::TooManyFiles) => Err(Ending::Refused(Refusal::TooManyFiles)),
     }
 }
 
@@ -80,8 +81,9 @@ fn gather_optional<F: Files>(
     files: &mut F,
     name: &Name,
 ) -> Result<Option<Seq<u8>>, Ending>
-    ensures { GoesAlong (optional_plan name.now) (files_view F.told F.attempts F.taken files.old)
+    ensures along { GoesAlong (optional_plan name.now) (files_view F.told F.attempts F.taken files.old)
         (files_view F.told F.attempts F.taken files.new) result }
+    ensures within { IfOk result IsWithin }
 {
     if is_none(name) {
         return Ok(None);
@@ -101,6 +103,8 @@ fn gather_parts<F: Files>(
     ensures along { GoesAlong (parts_plan names.now application texts) (files_view F.told F.attempts F.taken files.old)
         (files_view F.told F.attempts F.taken files.new) result }
     ensures texts { IfOk result (λ source. source.texts ≡ texts) }
+    ensures driver { IfOk result (λ source. IsWithin source.driver) }
+    ensures requests { IfOk result (λ source. IsWithin source.requests) }
 {
     let driver = gather_optional(alloc, files, &names.driver)?;
     let requests = gather_optional(alloc, files, &names.requests)?;

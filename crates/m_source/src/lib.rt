@@ -7,4 +7,4 @@ mod gather;
 mod source;
 
 pub use gather::{gather_source, is_none};
-pub use source::{Source, SourceNames};
+pub use source::SourceNames;

@@ -7,14 +7,19 @@ use Rattle.m_plan.specs.Views.{FilesView, OutputView}
 use Rattle.m_plan.specs.declared.ending.Ending.{Ending}
 use Rattle.m_plan.specs.declared.status.Status.{Status}
 use Rattle.m_plan.specs.declared.status.Status.TheVariants.{Usage, Memory}
-use Rattle.m_commands.specs.Answer.{Replies}
+use Rattle.m_commands.specs.Answer.{Replies, RunReplies}
 use Rattle.m_commands.specs.Command.{command_of, plan_of}
 use Rattle.m_commands.specs.declared.command.Command.{Command}
+use Rattle.rule_text.specs.declared.Source.{Source}
 use Rattle.m_commands.specs.declared.work.Work.{Work}
 
 -- what answers with what was gathered, whatever is typed
 abbrev pub AlwaysReplies : Work → List ℕ → Status → Type 0
 AlwaysReplies work text status = (typed : List ℕ) → Replies work typed text status
+
+-- a run was answered, whatever is typed
+pub record RunIsAnswered (source : Source) (rows : List ℕ) (old new : OutputView) (status : Status) : Type 0 where
+  pub answered : IsAnswered (RunReplies source rows) old new status
 
 -- what was gathered was answered
 pub record WorkIsAnswered (work : Work) (old new : OutputView) (status : Status) : Type 0 where

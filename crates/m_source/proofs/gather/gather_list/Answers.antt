@@ -1,5 +1,5 @@
 use Rattle.m_plan.proofs.Trips.{along_then, along_without_memory, exits_ended}
-use Rattle.m_source.proofs.Lists.{listed_ok, listed_refused}
+use Rattle.m_source.proofs.Lists.{listed_ok, listed_bad, listed_many}
 use Rattle.m_source.proofs.gather.gather_list.Goals as goal
 
 pub returns-in_err-bytes : goal.returns-in_err-bytes
@@ -17,9 +17,9 @@ returns-in-Err-Memory g c = along_then _ _ _ _ _ _ _ c.in_ok-bytes.ensures.along
 pub returns-in-Err-BadLine : goal.returns-in-Err-BadLine
 returns-in-Err-BadLine g c =
     along_then _ _ _ _ _ _ _ c.in_ok-bytes.ensures.along
-    (listed_refused _ c.in_ok-bytes.bytes _ (rw c.as_slice.ensures at (c.in-Err-BadLine.ensures.outcome (λ e. let f = c.in-Err-BadLine.field-0-is in cc (e, f)))))
+    (listed_bad _ c.in_ok-bytes.bytes _ _ c.in-Err-BadLine.field-0-is (rw c.as_slice.ensures at (c.in-Err-BadLine.ensures.outcome (λ e. let f = c.in-Err-BadLine.field-0-is in cc (e, f)))))
 
 pub returns : goal.returns
 returns g c =
     along_then _ _ _ _ _ _ _ c.in_ok-bytes.ensures.along
-    (listed_refused _ c.in_ok-bytes.bytes _ (rw c.as_slice.ensures at (c.in-Err-TooManyFiles.ensures.outcome (λ e. let f = c.in-Err-TooManyFiles.field-0-is in cc (e, f)))))
+    (listed_many _ c.in_ok-bytes.bytes _ c.in-Err-TooManyFiles.field-0-is (rw c.as_slice.ensures at (c.in-Err-TooManyFiles.ensures.outcome (λ e. let f = c.in-Err-TooManyFiles.field-0-is in cc (e, f)))))

@@ -3,14 +3,14 @@ use Rattle.m_source.specs.Source.{optional_plan}
 use Rattle.m_source.proofs.gather.gather_parts.Goals as goal
 
 pub returns-in_err-driver-clause-along : goal.returns-in_err-driver-clause-along
-returns-in_err-driver-clause-along g c = exits_ended (optional_plan c.args.names.now.driver) _ _ _ _ _ c.in_err-driver.ensures c.from_residual.ensures.1
+returns-in_err-driver-clause-along g c = exits_ended (optional_plan c.args.names.now.driver) _ _ _ _ _ c.in_err-driver.ensures.along c.from_residual.ensures.1
 
 pub returns-in_err-requests-clause-along : goal.returns-in_err-requests-clause-along
 returns-in_err-requests-clause-along g c =
-    along_then (optional_plan c.args.names.now.driver) _ _ _ _ _ _ c.in_ok-driver.ensures
-    (exits_ended (optional_plan c.args.names.now.requests) _ _ _ _ _ c.in_err-requests.ensures c.from_residual-in_err-requests.ensures.1)
+    along_then (optional_plan c.args.names.now.driver) _ _ _ _ _ _ c.in_ok-driver.ensures.along
+    (exits_ended (optional_plan c.args.names.now.requests) _ _ _ _ _ c.in_err-requests.ensures.along c.from_residual-in_err-requests.ensures.1)
 
 pub returns-clause-along : goal.returns-clause-along
 returns-clause-along g c =
-    along_then (optional_plan c.args.names.now.driver) _ _ _ _ _ _ c.in_ok-driver.ensures
-    (along_then (optional_plan c.args.names.now.requests) _ _ _ _ _ _ c.in_ok-requests.ensures (along_done _ _))
+    along_then (optional_plan c.args.names.now.driver) _ _ _ _ _ _ c.in_ok-driver.ensures.along
+    (along_then (optional_plan c.args.names.now.requests) _ _ _ _ _ _ c.in_ok-requests.ensures.along (along_done _ _))

@@ -1,6 +1,6 @@
 use Rattle.m_source.proofs.Rules.{resumes_first, rules_turn, rules_end, rules_stop, rules_whole, within_push}
 use Rattle.std.proofs.Common.{sym, subst}
-use Rattle.m_source.specs.Source.{AreWithin}
+use Rattle.rule_text.specs.Limits.{AreWithin}
 use Rattle.m_source.proofs.gather.gather_rules.Goals as goal
 
 pub loop-name-init : goal.loop-name-init

@@ -1,7 +1,8 @@
 use Rattle.std.proofs.Common.{drop}
 use Rattle.m_places.specs.declared.limits.TheConstants.{RULE_BYTES}
 use Rattle.m_plan.specs.Views.{files_view}
-use Rattle.m_source.specs.Source.{rules_plan, AreWithin}
+use Rattle.m_source.specs.Source.{rules_plan}
+use Rattle.rule_text.specs.Limits.{AreWithin}
 use Rattle.m_source.proofs.Rules.{Resumes}
 use Rattle.m_source.proofs.gather.gather_rules.Given as goal
 

@@ -1,0 +1,42 @@
+-- The fault of a source: that of its earliest faulty step.
+use Rattle.std.specs.Prelude.{◌≡◌, ℕ, ◌<◌, List, Option, Some, Err, Ok, min}
+use Rattle.m_places.specs.declared.limits.TheConstants.{DRIVER_WEIGHT}
+use Rattle.rule_text.specs.declared.Source.{Source}
+use Rattle.m_symbols.specs.Declarations.{Declared}
+use Rattle.micro_m.specs.declared.base.Base.{Base}
+use Rattle.driver_core.specs.declared.program.Core.{Core}
+use Rattle.driver_core.specs.Weights.{weight_of}
+use Rattle.m_requests.specs.declared.fault.RequestFault.{RequestFault}
+use Rattle.m_requests.specs.Requests.{requests_said}
+use Rattle.mpp_lexer.specs.declared.fault.DriverFault.{DriverFault}
+use Rattle.mpp_parser.specs.declared.command.Driver.{Driver}
+use Rattle.mpp_parser.specs.Faults.{IsDriver, IsFault}
+use Rattle.mpp_core.specs.declared.fault.CoreFault.{CoreFault}
+use Rattle.mpp_core.specs.Cores.{IsCoreFault}
+use Rattle.rule_base.specs.declared.fault.RuleFault.{RuleFault}
+use Rattle.rule_base.specs.Faults.{IsRuleFault}
+use Rattle.m_compile.specs.declared.fault.SourceFault.{SourceFault}
+use Rattle.m_compile.specs.declared.fault.SourceFault.TheVariants.{Rules, Driver as DriverIs, Core as CoreIs, Requests, DriverTooLarge}
+use Rattle.m_compile.specs.Sources.{HasRules, IsWritten, running}
+
+-- the greatest number of 64 bits, which is told of a weight that is greater
+abbrev pub most_weight : ℕ
+most_weight = 18_446_744_073_709_551_615
+
+-- what is told of a driver that weighs too much over a base
+abbrev pub told_weight : Core → Base → ℕ
+told_weight core base = min (weight_of core base) most_weight
+
+-- The steps in their order: the rule files, the lines of the driver, its names, the requests, the weight of the whole. A fault stands only where the steps
+-- before its own have none.
+pub data IsSourceFault (source : Source) : SourceFault → Type 0 where
+  of_rules : {fault : RuleFault} → IsRuleFault source.texts source.application fault → IsSourceFault source (Rules fault)
+  of_driver : {declared : Declared} {base : Base} {bytes : List ℕ} {fault : DriverFault} → HasRules source declared base
+      → source.driver ≡ Some bytes → IsFault bytes fault → IsSourceFault source (DriverIs fault)
+  of_core : {declared : Declared} {base : Base} {bytes : List ℕ} {fault : CoreFault} (driver : Driver) → HasRules source declared base
+      → source.driver ≡ Some bytes → IsDriver bytes driver → IsCoreFault driver declared fault → IsSourceFault source (CoreIs fault)
+  of_requests : {declared : Declared} {base : Base} {written : Option Core} {fault : RequestFault} → HasRules source declared base
+      → IsWritten declared source.driver written → requests_said source.requests declared ≡ Err fault → IsSourceFault source (Requests fault)
+  of_weight : {declared : Declared} {base : Base} {written : Option Core} {requests : List ℕ} → HasRules source declared base
+      → IsWritten declared source.driver written → requests_said source.requests declared ≡ Ok requests
+      → DRIVER_WEIGHT < weight_of (running written requests declared) base → IsSourceFault source (DriverTooLarge (told_weight (running written requests declared) base))

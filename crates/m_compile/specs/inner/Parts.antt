@@ -1,0 +1,43 @@
+-- The last steps by themselves: from rules in an order and what is asked for to a program with its face.
+use Rattle.std.specs.Prelude.{◌≡◌, ℕ, ◌<◌, ◌≤◌, List, Option, map, Some}
+use Rattle.m_places.specs.declared.limits.TheConstants.{DRIVER_WEIGHT}
+use Rattle.m_fixed.specs.declared.amount.Value.{Value}
+use Rattle.m_symbols.specs.Declarations.{Declared, codes_of}
+use Rattle.micro_m.specs.declared.base.Base.{Base}
+use Rattle.flat_code.specs.Runs.{flat_run}
+use Rattle.flat_code.specs.Answers.{told_of}
+use Rattle.driver_core.specs.declared.program.Core.{Core}
+use Rattle.driver_core.specs.Answers.{answer_of}
+use Rattle.driver_core.specs.Weights.{weight_of}
+use Rattle.m_requests.specs.Cells.{cell_name}
+use Rattle.mpp_lexer.specs.declared.fault.DriverFault.{DriverFault}
+use Rattle.mpp_parser.specs.declared.command.Driver.{Driver}
+use Rattle.mpp_parser.specs.Faults.{IsDriver, IsFault}
+use Rattle.mpp_core.specs.declared.fault.CoreFault.{CoreFault}
+use Rattle.mpp_core.specs.Cores.{IsCoreFault}
+use Rattle.m_compile.specs.declared.compiling.Compiled.{Compiled}
+use Rattle.m_compile.specs.declared.fault.SourceFault.{SourceFault}
+use Rattle.m_compile.specs.declared.fault.SourceFault.TheVariants.{Driver as DriverIs, Core as CoreIs, DriverTooLarge}
+use Rattle.m_compile.specs.Faults.{told_weight}
+use Rattle.m_compile.specs.Compiled.{IsRunnable}
+
+-- why the bytes of a driver are refused over what is declared: its lines, or else its names
+pub data IsDriverFault (declared : Declared) : List ℕ → SourceFault → Type 0 where
+  of_lines : {bytes : List ℕ} {fault : DriverFault} → IsFault bytes fault → IsDriverFault declared bytes (DriverIs fault)
+  of_names : {bytes : List ℕ} {fault : CoreFault} (driver : Driver) → IsDriver bytes driver → IsCoreFault driver declared fault → IsDriverFault declared bytes (CoreIs fault)
+
+-- the same where there may be none, which has no fault
+pub data IsFaultOf (declared : Declared) : Option (List ℕ) → SourceFault → Type 0 where
+  of_bytes : {bytes : List ℕ} {fault : SourceFault} → IsDriverFault declared bytes fault → IsFaultOf declared (Some bytes) fault
+
+-- what a driver over rules in an order is compiled to, where these cells are asked for
+pub record IsProgram (declared : Declared) (base : Base) (core : Core) (requests : List ℕ) (compiled : Compiled) : Type 0 where
+  pub light : weight_of core base ≤ DRIVER_WEIGHT
+  pub runnable : IsRunnable compiled
+  pub codes : compiled.codes ≡ codes_of declared.variables
+  pub outputs : compiled.face.outputs ≡ map (cell_name declared) requests
+  pub answers : (inputs : List Value) → told_of compiled.face.labels (flat_run compiled.flat inputs) ≡ Some (answer_of core base declared requests inputs)
+
+-- a driver that weighs too much
+pub data IsHeavy (core : Core) (base : Base) : SourceFault → Type 0 where
+  heavy : DRIVER_WEIGHT < weight_of core base → IsHeavy core base (DriverTooLarge (told_weight core base))

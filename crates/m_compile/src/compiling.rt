@@ -1,0 +1,126 @@
+//! The steps of the compiler, one behind the other.
+
+ghost use Rattle.std.specs.Prelude.{◌≡◌, ◌<◌, ◌≤◌, All, IfOk, IfSome, Ok, length};
+ghost use Rattle.m_places.specs.Refusals.{Outcome};
+ghost use Rattle.m_places.specs.declared.limits.TheConstants.{FILE_BYTES, REQUESTS};
+ghost use Rattle.rule_text.specs.Limits.{KeepsLimits, IsWithin};
+ghost use Rattle.m_symbols.specs.Declarations.{owners_from};
+ghost use Rattle.m_requests.specs.Placed.{IsPlaced};
+ghost use Rattle.micro_m.specs.Bases.{IsValidBase};
+ghost use Rattle.rule_order.specs.Orders.{IsOrder};
+ghost use Rattle.m_compile.specs.Sources.{IsWritten, running};
+ghost use Rattle.m_compile.specs.Faults.{IsSourceFault};
+ghost use Rattle.m_compile.specs.Compiled.{IsCompiled, IsRunnable};
+ghost use Rattle.m_compile.specs.inner.Parts.{IsProgram, IsHeavy, IsDriverFault, IsFaultOf};
+ghost use Rattle.m_compile.specs.declared.fault.SourceFault.TheVariants.{Memory};
+
+use crate::SourceFault;
+use crate::face::face_of;
+use driver_core::Core;
+use flat_code::{Face, Flat};
+use household::Codes;
+use m_places::Seq;
+use m_requests::read_requests;
+use m_symbols::Symbols;
+use mpp_core::{plain_driver, resolve_driver};
+use mpp_inline::inline;
+use mpp_parser::parse_driver;
+use rule_base::{RuleBase, rule_base};
+use rule_text::Source;
+use std::alloc::{AllocError, Global};
+
+/// What a source is compiled to.
+#[derive(Drop)]
+pub struct Compiled {
+    /// The codes of the inputs, the labels of the stops, and the names of what is asked for.
+    pub face: Face,
+    /// The program.
+    pub flat: Flat,
+    /// The codes of the inputs, by which households are read.
+    pub codes: Codes,
+}
+
+/// Compiles a source, or tells the fault of its earliest step that has one: the rule files, the lines of the driver, its names,
+/// the requests, the weight.
+///
+/// For every list of values of the inputs the program answers, read through its face, what the source says.
+pub fn compile(alloc: Global, source: &Source) -> Result<Compiled, SourceFault>
+    requires { KeepsLimits source.now }
+    ensures outcome { Outcome Memory result (IsCompiled source.now) (IsSourceFault source.now) }
+    ensures runnable { IfOk result IsRunnable }
+{
+    let made = rule_base(alloc, source.texts.as_slice(), source.application.bytes())?;
+    let written = written(alloc, &source.driver, &made.symbols)?;
+    let requests = read_requests(alloc, &source.requests, &made.symbols)?;
+    let core = running(alloc, written, requests.as_slice(), &made.symbols)?;
+    program(alloc, made, &core, requests.as_slice())
+}
+
+// The driver over the cells of what is declared, if there is one.
+fn written(
+    alloc: Global,
+    driver: &Option<Seq<u8>>,
+    symbols: &Symbols,
+) -> Result<Option<Core>, SourceFault>
+    requires within { IsWithin driver.now }
+    requires placed { IsPlaced symbols.now }
+    ensures { Outcome Memory result (IsWritten symbols.now driver.now) (IsFaultOf symbols.now driver.now) }
+{
+    let Some(bytes) = driver else {
+        return Ok(None);
+    };
+    let core = core_of(alloc, bytes.as_slice(), symbols)?;
+    Ok(Some(core))
+}
+
+// The driver of these bytes over the cells of what is declared.
+fn core_of(alloc: Global, bytes: &[u8], symbols: &Symbols) -> Result<Core, SourceFault>
+    requires within { length bytes.now ≤ FILE_BYTES }
+    requires placed { IsPlaced symbols.now }
+    ensures { Outcome Memory result (λ core. IsWritten symbols.now (Some bytes.now) (Some core)) (IsDriverFault symbols.now bytes.now) }
+{
+    let driver = parse_driver(alloc, bytes)?;
+    let core = resolve_driver(alloc, &driver, symbols)?;
+    Ok(core)
+}
+
+// The driver that runs: the one that was written, or one call of the rules. Its only error is want of memory.
+fn running(
+    alloc: Global,
+    written: Option<Core>,
+    requests: &[u32],
+    symbols: &Symbols,
+) -> Result<Core, AllocError>
+    requires { All (λ c. c < length (owners_from 0 symbols.now.variables)) requests.now }
+    ensures { IfOk result (λ core. core ≡ running written requests.now symbols.now) }
+{
+    match written {
+        Some(core) => Ok(core),
+        None => plain_driver(alloc, requests, symbols),
+    }
+}
+
+// The program of a driver over rules in an order, with its face.
+fn program(
+    alloc: Global,
+    made: RuleBase,
+    core: &Core,
+    requests: &[u32],
+) -> Result<Compiled, SourceFault>
+    requires base { IsValidBase made.ordered.base }
+    requires order { IsOrder made.ordered.base made.ordered.sequence }
+    requires cells { made.ordered.base.cells ≡ length (owners_from 0 made.symbols.variables) }
+    requires known { All (λ c. c < length (owners_from 0 made.symbols.variables)) requests.now }
+    requires few { length requests.now ≤ REQUESTS }
+    ensures outcome { Outcome Memory result (IsProgram made.symbols made.ordered.base core.now requests.now) (IsHeavy core.now made.ordered.base) }
+    ensures runnable { IfOk result IsRunnable }
+{
+    let RuleBase { symbols, ordered } = made;
+    let (flat, labels) = inline(alloc, core, &ordered, &symbols, requests)?;
+    let face = face_of(alloc, &symbols, labels, requests)?;
+    Ok(Compiled {
+        face,
+        flat,
+        codes: Codes::new(symbols.into_codes()),
+    })
+}

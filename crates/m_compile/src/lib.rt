@@ -1,0 +1,14 @@
+//! The compiler: from a source, as bytes, to a flat program, or the fault of the earliest step that has one.
+//!
+//! It puts the steps one behind the other, and knows what each fault is told as. It knows nothing of files on a disk,
+//! of the command line or of what a household is.
+#![tactic(auto)]
+
+mod compiling;
+mod face;
+mod fault;
+mod told;
+
+pub use compiling::{Compiled, compile};
+pub use fault::SourceFault;
+pub use told::told_fault;
