@@ -7,6 +7,7 @@ use Rattle.std.proofs.lemmas.List.{length-map}
 use Rattle.std.proofs.lemmas.List.Elements.{All-head, All-tail}
 use Rattle.m_fixed.specs.declared.amount.Value.{Value}
 use Rattle.rule_text.specs.declared.Source.{Source}
+use Rattle.rule_text.specs.declared.Text.{Text}
 use Rattle.flat_code.specs.declared.answer.Answer.{Answer}
 use Rattle.flat_code.specs.declared.answer.Answer.TheVariants.{Values, Stopped as AnswerStopped}
 use Rattle.flat_code.specs.declared.answer.Stop.{Stop}
@@ -18,10 +19,14 @@ use Rattle.flat_code.specs.Runs.{value_at, node_values, first_stop, flat_run}
 use Rattle.household_session.proofs.OutputLemmas.{stop_label}
 use Rattle.household.specs.Household.{household_of, values_of}
 use Rattle.household.specs.declared.fault.HouseholdFault.{HouseholdFault}
+use Rattle.household.specs.declared.fault.HouseholdFault.TheVariants.{Memory as HouseholdMemory}
 use Rattle.tax_print.specs.Lines.{IsWithin, told_lines, answer_lines}
 use Rattle.m_compile.specs.declared.compiling.Compiled.{Compiled}
 use Rattle.m_compile.specs.Answers.{Answers, answer_to}
 use Rattle.m_compile.specs.Compiled.{IsCompiled, IsRunnable}
+use Rattle.m_compile.specs.Lines.{source_line}
+use Rattle.m_compile.specs.declared.fault.SourceFault.{SourceFault}
+use Rattle.m_compile.specs.declared.fault.SourceFault.TheVariants.{Memory as SourceMemory}
 use Rattle.m_plan.specs.Printing.{Prints, IsAnswered, printed, no_memory}
 use Rattle.m_plan.specs.Status.{IsOfEnd}
 use Rattle.m_plan.specs.Views.{OutputView}
@@ -36,7 +41,7 @@ use Rattle.m_commands.specs.declared.work.Work.TheVariants.{Run}
 
 all_labels : (n : ℕ) (checks : List Check) → All (λ (check : Check). check.label < n) checks → AllByRecursion (λ (check : Check). check.label < n) checks
 all_labels n [] all = tt
-all_labels n (check ∷ checks) all = (All-head _ check checks all, all_labels n checks (All-tail _ check checks all))
+all_labels n (check ∷ checks) all = (All-head (λ (c : Check). c.label < n) check checks all, all_labels n checks (All-tail (λ (c : Check). c.label < n) check checks all))
 
 within_by : (face : Face) (vs : List Value) (outputs : List ℕ) (found : Option Stop) → length outputs ≡ length face.outputs
     → ((stop : Stop) → found ≡ Some stop → label_number stop < length face.labels) → IsWithin face (option_map_or AnswerStopped found (Values (map (value_at vs) outputs)))
@@ -93,6 +98,17 @@ pub refused_reply : (source : Source) (compiled : Compiled) (rows line : List �
     → household_of compiled.codes rows ≡ Err fault → household_fault_line fault ≡ Some line → RunReplies source rows line Refused
 refused_reply source compiled rows line fault made given says =
     household_is_refused fault made.valid (subst (λ (codes : List (List ℕ)). household_of codes rows ≡ Err fault) made.codes given) says
+
+-- want of memory has no line
+pub household_line_known : (fault : HouseholdFault) (line : List ℕ) → household_fault_line fault ≡ Some line → fault ≡ HouseholdMemory → ⊥
+household_line_known fault line says e =
+    let none : household_fault_line HouseholdMemory ≡ Some line = subst (λ (f : HouseholdFault). household_fault_line f ≡ Some line) e says in
+    cc none
+
+pub source_line_known : (texts : List Text) (fault : SourceFault) (line : List ℕ) → source_line texts fault ≡ Some line → fault ≡ SourceMemory → ⊥
+source_line_known texts fault line says e =
+    let none : source_line texts SourceMemory ≡ Some line = subst (λ (f : SourceFault). source_line texts f ≡ Some line) e says in
+    cc none
 
 -- ---- what was printed answers
 

@@ -39,11 +39,11 @@ one_line texts fault other t u (laws.the_same e) a b =
 one_line texts fault other t u (laws.both_cycles {names = ns} {others = os}) a b =
     let c : cycle_line ns ≡ t = cc a in
     let d : cycle_line os ≡ u = cc b in
-    subst (λ (x : List ℕ). AreOneOutput x Refused u Refused) c (subst (λ (x : List ℕ). AreOneOutput (cycle_line ns) Refused x Refused) d both_cycles)
+    subst (λ (x : List ℕ). AreOneOutput x Refused u Refused) c (subst (λ (x : List ℕ). AreOneOutput (cycle_line ns) Refused x Refused) d (both_cycles ns os))
 one_line texts fault other t u (laws.both_rings {names = ns} {others = os}) a b =
     let c : recursion_line ns ≡ t = cc a in
     let d : recursion_line os ≡ u = cc b in
-    subst (λ (x : List ℕ). AreOneOutput x Refused u Refused) c (subst (λ (x : List ℕ). AreOneOutput (recursion_line ns) Refused x Refused) d both_recursions)
+    subst (λ (x : List ℕ). AreOneOutput x Refused u Refused) c (subst (λ (x : List ℕ). AreOneOutput (recursion_line ns) Refused x Refused) d (both_recursions ns os))
 
 -- ---- two answers of a valid source
 

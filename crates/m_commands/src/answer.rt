@@ -20,6 +20,7 @@ use fault_lines::{Fault, RowFault};
 use flat_code::{Answer, Face, run_flat};
 use household::{HouseholdFault, read_household, values};
 use m_compile::{Compiled, compile, told_fault};
+use m_places::Seq;
 use m_plan::{Status, print_fault, printed};
 use m_ports::Sink;
 use rule_text::Source;
@@ -32,17 +33,17 @@ pub fn answer<K: Sink>(alloc: Global, work: &Work, out: &mut K) -> Status
     ensures { WorkIsAnswered work.now (output_view K.written K.faults out.old) (output_view K.written K.faults out.new) result }
 {
     match work {
-        Work::Run(source, rows) => answer_run(alloc, source, rows.as_slice(), out),
+        Work::Run(source, rows) => answer_run(alloc, source, rows, out),
     }
 }
 
 /// Compiles the source of a run, and prints its answer to the household.
-fn answer_run<K: Sink>(alloc: Global, source: &Source, household: &[u8], out: &mut K) -> Status
+fn answer_run<K: Sink>(alloc: Global, source: &Source, household: &Seq<u8>, out: &mut K) -> Status
     requires { SourceKeepsLimits source.now }
     ensures { RunIsAnswered source.now household.now (output_view K.written K.faults out.old) (output_view K.written K.faults out.new) result }
 {
     match compile(alloc, source) {
-        Ok(compiled) => answer_household(alloc, &compiled, household, out),
+        Ok(compiled) => answer_household(alloc, &compiled, household.as_slice(), out),
         Err(fault) => refuse(told_fault(source.texts.as_slice(), &fault), out),
     }
 }
