@@ -120,8 +120,9 @@ fn add_failure(alloc: Global, text: &mut Vec<u8>, failure: Failure) -> Result<()
 
 // Whether the values of all cells are those of the definition.
 fn are_defined(base: &Base, given: &[Value], values: &[Value]) -> bool {
-    for (cell, value) in values.iter().enumerate() {
-        if slow_value(base, given, cell as u32, TURNS) != *value {
+    for cell in 0..base.cells {
+        let wanted = slow_value(base, given, cell, TURNS);
+        if values.get(cell as usize).copied() != Some(wanted) {
             return false;
         }
     }
