@@ -13,7 +13,6 @@ use Rattle.rule_text.specs.declared.Source.{Source}
 use Rattle.rule_text.specs.declared.Text.{Text}
 use Rattle.tax_print.specs.Lines.{told_lines}
 use Rattle.m_compile.specs.Sources.{IsValid}
-use Rattle.m_compile.specs.Faults.{IsSourceFault}
 use Rattle.m_compile.specs.Lines.{source_line}
 use Rattle.m_compile.specs.Answers.{Answers, answer_to_pairs}
 use Rattle.m_compile.specs.declared.fault.SourceFault.{SourceFault}
@@ -27,8 +26,9 @@ use Rattle.m_commands.specs.Output.{Output, usage, refuses, answers, AreOneOutpu
 use Rattle.m_commands.specs.declared.command.Command.{Command}
 use Rattle.m_commands.specs.declared.work.Work.{Work}
 use Rattle.m_commands.specs.declared.work.Work.TheVariants.{Run}
-use Rattle.m_commands.proofs.Laws.{no_valid_and_fault, one_validity, one_fault, AreOneFault}
-use Rattle.m_commands.proofs.Laws as laws
+use Rattle.m_compile.specs.Faults.{AreOneFault}
+use Rattle.m_compile.specs.Faults as laws
+use Rattle.m_compile.proofs.OneLaws.{no_valid_and_fault, one_validity, one_fault}
 
 -- ---- two refusals of a source
 

@@ -29,7 +29,7 @@ use Rattle.m_commands.specs.Output.{IsValid}
 use Rattle.m_commands.specs.declared.command.Command.{Command}
 use Rattle.m_commands.specs.declared.work.Work.{Work}
 use Rattle.m_commands.specs.declared.work.Work.TheVariants.{Run}
-use Rattle.m_commands.proofs.Laws.{no_valid_and_fault, one_validity}
+use Rattle.m_compile.proofs.OneLaws.{no_valid_and_fault, one_validity}
 use Rattle.m_commands.specs.inner.Courses.{Course, is_no_command, has_no_memory, ended, answered}
 
 -- what is told is the end of a command that did all of its work
