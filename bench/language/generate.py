@@ -1,5 +1,6 @@
 #!/usr/bin/env python3
-"""Writes a rule base in the shape of the administration's, in one or several files, and a household with a row for each input.
+"""Writes a rule base in the shape of the administration's, in one or several files, and a household with a row for each input, as
+far as a household has room.
 
     generate.py BYTES FILES FOLDER
 
@@ -11,6 +12,7 @@ import os
 import sys
 
 LINES = 20
+ROWS = 100_000
 
 
 def declared(k):
@@ -69,7 +71,7 @@ def main():
                 k += 1
     with open(os.path.join(folder, "household.csv"), "w") as out:
         out.write("code,amount\n")
-        for copy in range(k):
+        for copy in range(min(k, ROWS // (2 * LINES + 2))):
             out.writelines(amounts(copy))
 
 
