@@ -98,6 +98,14 @@ row 0 "IRN undefined" run "$dir/product.list" - - "$dir/none.csv"
 printf 'code,amount\n1AJ,10000000000000\n' >"$dir/rich.csv"
 row 0 "IRN over" run "$dir/product.list" - - "$dir/rich.csv"
 
+# A table of households, and a generated base.
+row 0 "household dupont
+IRN = 1500.5
+household martin
+IRN = -1000" batch $list - - examples/first/table.csv
+row 0 "large 3
+T2 = 994" large 3
+
 # Wrong words.
 row 2 "$usage"
 row 2 "$usage" walk
