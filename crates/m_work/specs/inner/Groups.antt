@@ -9,6 +9,8 @@ use Rattle.flat_code.specs.declared.program.Flat.{Flat}
 use Rattle.household.specs.declared.table.Row.{Row}
 use Rattle.m_batch.specs.Batch.{answer_of}
 use Rattle.tax_print.specs.Lines.{household_lines}
+use Rattle.m_plan.specs.declared.status.Status.{Status}
+use Rattle.m_plan.specs.declared.status.Status.TheVariants.{Done, WriteFault, Memory as NoMemory}
 use Rattle.m_work.specs.declared.groups.GroupFault.{GroupFault}
 use Rattle.m_work.specs.declared.groups.GroupFault.TheVariants.{Memory, Failed}
 
@@ -33,3 +35,9 @@ pub record Writes {S T : Type 0} (written : S → Option (List ℕ)) (faults : S
   pub all : OnOk result (written new ≡ append_known (written old) text)
   pub prefix : OnErr result (AppendsPrefix (written old) (written new) text)
   pub counted : Counted result (faults old) (faults new)
+
+-- the status behind rows that were written or not
+abbrev pub group_status : {T : Type 0} → Result T GroupFault → Status
+group_status (Ok value) = Done
+group_status (Err Memory) = NoMemory
+group_status (Err Failed) = WriteFault
