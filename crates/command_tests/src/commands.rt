@@ -159,27 +159,26 @@ fn fetches(rt: HostRuntime) -> Result<(), Fail> {
         ),
         ("run - - - -", LIST, 0, "unreadable -\n", "-! "),
         (
-            "run l.txt d.txt - h.csv",
+            "run l.txt d.txt r.txt h.csv",
             LIST,
             0,
-            "refused not built\n",
-            "",
+            "unreadable d.txt\n",
+            "l.txt a.m d.txt! ",
         ),
         (
-            "run l.txt - d.txt h.csv",
+            "run l.txt - r.txt h.csv",
             LIST,
             0,
-            "refused not built\n",
-            "",
+            "unreadable r.txt\n",
+            "l.txt a.m r.txt! ",
         ),
-        (RUN, "", 0, "refused not built\n", "l.txt "),
-        (RUN, "iliad\n", 0, "refused not built\n", "l.txt h.csv "),
+        (RUN, "", 0, "refused list line 1\n", "l.txt "),
         (
             RUN,
-            "iliad\na.m\nl.txt\n",
+            "iliad\na.m\na.m\n",
             0,
-            "refused not built\n",
-            "l.txt a.m l.txt h.csv ",
+            "refused a.m line 1 byte 0: declared twice REV\n",
+            "l.txt a.m a.m h.csv ",
         ),
         (
             RUN,
@@ -199,7 +198,7 @@ fn fetches(rt: HostRuntime) -> Result<(), Fail> {
             RUN,
             "iliad\nl.txt\n",
             0,
-            "refused syntax\n",
+            "refused l.txt line 2 byte 7: bad byte\n",
             "l.txt l.txt h.csv ",
         ),
     ];
@@ -248,7 +247,11 @@ fn fails_to_write(rt: HostRuntime) -> Result<(), Fail> {
     let table = [
         (RUN, "IRN = 1500.5\n", Status::Done),
         ("run x - - h.csv", "unreadable x\n", Status::ReadFault),
-        ("run l.txt d - x", "refused not built\n", Status::Refused),
+        (
+            "run d.txt - - h.csv",
+            "refused list line 1\n",
+            Status::Refused,
+        ),
         ("run", USAGE, Status::Usage),
     ];
     for (line, text, want) in table {
@@ -282,10 +285,19 @@ const FRONTS: [(usize, &str); 13] = [
     (157, "IRN = -1000\n"),
     (158, "IRN = -1000\n"),
     // within a text
-    (44, "refused syntax\n"),
-    (45, "refused syntax\n"),
-    (100, "refused syntax\n"),
-    (101, "refused syntax\n"),
+    (44, "refused a.m line 1 byte 43: open string\n"),
+    (45, "refused a.m line 1 byte 43: open string\n"),
+    (100, "refused a.m line 3 byte 99: open string\n"),
+    (101, "refused a.m line 3 byte 99: open string\n"),
+];
+
+/// What a front prints whose last item isn't whole, where it has fewer bytes than this: the fault stands where the item
+/// begins.
+const ITEMS: [(usize, &str); 4] = [
+    (48, "refused a.m line 1 byte 0: syntax\n"),
+    (71, "refused a.m line 2 byte 49: syntax\n"),
+    (104, "refused a.m line 3 byte 72: syntax\n"),
+    (157, "refused a.m line 4 byte 105: syntax\n"),
 ];
 
 /// What the first so many bytes of the rules of `prefixes` print without rows.
@@ -295,7 +307,12 @@ fn prefix_text(bytes: usize) -> &'static str {
             return text;
         }
     }
-    "refused not built\n"
+    for (end, text) in ITEMS {
+        if bytes < end {
+            return text;
+        }
+    }
+    ""
 }
 
 #[test]

@@ -34,8 +34,6 @@ fn faults_of_words_and_files(rt: HostRuntime) -> Result<(), Fail> {
             Fault::Usage,
             "usage: m_tax run|serve LIST DRIVER REQUESTS HOUSEHOLD, batch LIST DRIVER REQUESTS TABLE, compile LIST DRIVER REQUESTS, exec CODEFILE HOUSEHOLD, large N\n",
         ),
-        (Fault::NotBuilt, "refused not built\n"),
-        (Fault::NoTokens, "refused syntax\n"),
         (Fault::ListLine(1), "refused list line 1\n"),
         (
             Fault::ListLine(4_294_967_295),

@@ -3,7 +3,7 @@ use Rattle.std.specs.Prelude.{ℕ, List, [], ◌∷◌, ◌++◌, codes, decimal
 use Rattle.text_pieces.specs.Pieces.{joined}
 use Rattle.m_places.specs.declared.place.Place.{Place}
 use Rattle.fault_lines.specs.declared.fault.Fault.{Fault}
-use Rattle.fault_lines.specs.declared.fault.Fault.TheVariants.{Usage, NotBuilt, NoTokens, ListLine, TooManyFiles, FileTooLong, AtPlace, AtName, Cycle, DriverLine, DriverName, NoMain, DriverRecursion, DriverTooLarge, RequestLine, TooManyRequests, HouseholdHeader, TooManyRows, HouseholdLine, CodeHeader, CodeLine, InputTooLong, Unreadable, UnreadableInput}
+use Rattle.fault_lines.specs.declared.fault.Fault.TheVariants.{Usage, ListLine, TooManyFiles, FileTooLong, AtPlace, AtName, Cycle, DriverLine, DriverName, NoMain, DriverRecursion, DriverTooLarge, RequestLine, TooManyRequests, HouseholdHeader, TooManyRows, HouseholdLine, CodeHeader, CodeLine, InputTooLong, Unreadable, UnreadableInput}
 use Rattle.fault_lines.specs.declared.fault.PlaceFault.{PlaceFault}
 use Rattle.fault_lines.specs.declared.fault.NameFault.{NameFault}
 use Rattle.fault_lines.specs.declared.fault.DriverFault.{DriverFault}
@@ -28,12 +28,6 @@ place_pieces file place behind =
 
 abbrev pub usage_line : List ℕ
 usage_line = joined (codes "usage: m_tax run|serve LIST DRIVER REQUESTS HOUSEHOLD, batch LIST DRIVER REQUESTS TABLE, compile LIST DRIVER REQUESTS, exec CODEFILE HOUSEHOLD, large N" ∷ line_feed ∷ [])
-
-abbrev pub not_built_line : List ℕ
-not_built_line = joined (codes "refused not built" ∷ line_feed ∷ [])
-
-abbrev pub no_tokens_line : List ℕ
-no_tokens_line = joined (codes "refused syntax" ∷ line_feed ∷ [])
 
 abbrev pub list_line : ℕ → List ℕ
 list_line line = joined (codes "refused list line " ∷ decimal line ∷ line_feed ∷ [])
@@ -102,8 +96,6 @@ unreadable_input_line = joined (codes "unreadable input" ∷ line_feed ∷ [])
 -- are for those who speak of one fault alone.
 abbrev pub fault_line : Fault → List ℕ
 fault_line Usage = usage_line
-fault_line NotBuilt = not_built_line
-fault_line NoTokens = no_tokens_line
 fault_line (ListLine line) = list_line line
 fault_line TooManyFiles = too_many_files_line
 fault_line (FileTooLong name) = too_long_line name.now

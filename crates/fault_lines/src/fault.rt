@@ -6,10 +6,6 @@ use m_places::{Name, Place};
 pub enum Fault<'a> {
     /// The words are no command: `usage: m_tax run|serve ..`.
     Usage,
-    /// A form that isn't built yet: `refused not built`.
-    NotBuilt,
-    /// A rule file that has no tokens, as long as faults of rule files have no places: `refused syntax`.
-    NoTokens,
     /// A bad line of the list: `refused list line 2`.
     ListLine(u32),
     /// More rule files than a list may have: `refused too many files`.

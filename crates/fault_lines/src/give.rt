@@ -21,8 +21,6 @@ pub fn give_fault<K: Sink>(fault: Fault<'_>, out: &mut K) -> Result<(), Failed>
 {
     match fault {
         Fault::Usage => give_words(out, USAGE, b""),
-        Fault::NotBuilt => give_words(out, b"refused not built", b""),
-        Fault::NoTokens => give_words(out, b"refused syntax", b""),
         Fault::ListLine(line) => give_number(out, b"refused list line ", line.into(), b"", b""),
         Fault::TooManyFiles => give_words(out, b"refused too many files", b""),
         Fault::FileTooLong(name) => give_words(out, b"refused file too long ", name),

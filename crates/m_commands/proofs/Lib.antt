@@ -1,7 +1,7 @@
 pub mod Answers
 pub mod Clauses
 pub mod Faults
-pub mod Gathers
+pub mod Laws
 pub mod OneOutput
 pub mod Reading
 pub mod Taken

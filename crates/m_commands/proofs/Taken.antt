@@ -1,11 +1,10 @@
 -- The clause on the bytes that were taken.
-use Rattle.std.proofs.Common.{◌≡◌, ◌≤◌, ◌+◌, ◌*◌, ℕ, Bool, true, false, List, ◌++◌, length, Some, Ok, Err, sym, ap, ◌∙◌, subst, cond, arith, length-append}
+use Rattle.std.proofs.Common.{◌≡◌, ◌≤◌, ◌+◌, ◌*◌, ℕ, List, ◌++◌, length, Some, Ok, Err, sym, ap, ◌∙◌, subst, arith, length-append}
 use Rattle.std.specs.Option.{option_map_or}
 use Rattle.m_ports.specs.declared.files.Attempt.{Attempt}
 use Rattle.m_places.specs.declared.limits.TheConstants.{FILE_BYTES}
 use Rattle.m_plan.specs.Attempts.{allowance, TakesWithin}
-use Rattle.m_plan.specs.Plan.{Plan, refuses, KeepsWithin}
-use Rattle.fault_lines.specs.Lines.{not_built_line}
+use Rattle.m_plan.specs.Plan.{KeepsWithin}
 use Rattle.m_plan.specs.Views.{FilesView, OutputView}
 use Rattle.m_plan.specs.declared.ending.Ending.TheVariants as ending
 use Rattle.m_plan.specs.declared.status.Status.{Status}
@@ -14,21 +13,15 @@ use Rattle.m_plan.proofs.Walks.{walks_within}
 use Rattle.m_plan.proofs.Within.{within_then}
 use Rattle.m_source.specs.Source.{source_plan}
 use Rattle.m_source.proofs.Within.{source_within}
-use Rattle.m_commands.specs.Command.{command_of, plan_of, run_plan, is_plain, file_limit, limit_of}
+use Rattle.m_commands.specs.Command.{command_of, plan_of, file_limit, limit_of}
 use Rattle.m_commands.specs.declared.command.Command.{Command}
 use Rattle.m_commands.specs.declared.command.Command.TheVariants.{Run}
 use Rattle.m_commands.specs.inner.Courses.{Course, is_no_command, has_no_memory, ended, answered}
 
--- a plan that is chosen by a test
-chosen : {A : Type 0} (most : ℕ) (test : Bool) (one other : Plan A) → KeepsWithin most one → KeepsWithin most other → KeepsWithin most (cond test one other)
-chosen most true one other h k = h
-chosen most false one other h k = k
-
 -- the files of a command keep its limit
 keeps_limit : (command : Command) → KeepsWithin (file_limit command) (plan_of command)
 keeps_limit (Run names household) =
-    chosen FILE_BYTES (is_plain names) (run_plan names household) (refuses not_built_line)
-    (within_then FILE_BYTES (source_plan names) _ (source_within names) (λ source. (omega arith, λ bytes. tt))) tt
+    within_then FILE_BYTES (source_plan names) _ (source_within names) (λ source. (omega arith, λ bytes. tt))
 
 -- what is taken without a slack for want of memory
 no_slack : (most : ℕ) (before after : FilesView) (status : Status) → after.taken + allowance most before.attempts ≤ before.taken + allowance most after.attempts → TakesWithin most before after status

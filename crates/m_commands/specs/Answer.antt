@@ -48,7 +48,7 @@ answer_status (AnswerStopped stop) = Stopped
 -- source tells to the household.
 pub data RunReplies (source : Source) (rows : List ℕ) : List ℕ → Status → Type 0 where
   source_is_refused : {line : List ℕ} (fault : SourceFault) → IsSourceFault source fault → source_line source.texts fault ≡ Some line → RunReplies source rows line Refused
-  household_is_refused : {line : List ℕ} {declared : Declared} {base : Base} {requests : List ℕ} {core : Core} (fault : HouseholdFault) → IsValid source declared base requests core
+  household_is_refused : {line : List ℕ} {declared : Declared} {base : Base} {written : Option Core} {requests : List ℕ} (fault : HouseholdFault) → IsValid source declared base written requests
       → household_of (codes_of declared.variables) rows ≡ Err fault → household_fault_line fault ≡ Some line → RunReplies source rows line Refused
   is_told : {names : List (List ℕ)} {told : Told} → Answers source rows names told → RunReplies source rows (told_lines names told) (told_status told)
 
@@ -60,9 +60,9 @@ Replies (Run source rows) typed = RunReplies source rows
 pub record RunHasAnswer (source : Source) (rows : List ℕ) : Type 0 where
   pub declared : Declared
   pub base : Base
+  pub written : Option Core
   pub requests : List ℕ
-  pub core : Core
-  pub valid : IsValid source declared base requests core
+  pub valid : IsValid source declared base written requests
   pub pairs : List (ℕ × ℤ)
   pub given : household_of (codes_of declared.variables) rows ≡ Ok pairs
 

@@ -4,9 +4,8 @@ use Rattle.std.specs.List.{list_all}
 use Rattle.std.specs.Option.{option_map_or}
 use Rattle.std.specs.Str.{bytes_eq, is_utf8}
 use Rattle.m_places.specs.declared.limits.TheConstants.{FILE_BYTES}
-use Rattle.m_plan.specs.Plan.{Plan, done, refuses, file_plan, and_then}
-use Rattle.fault_lines.specs.Lines.{not_built_line}
-use Rattle.m_source.specs.Source.{is_none, source_plan}
+use Rattle.m_plan.specs.Plan.{Plan, done, file_plan, and_then}
+use Rattle.m_source.specs.Source.{source_plan}
 use Rattle.m_source.specs.declared.source.SourceNames.{SourceNames}
 use Rattle.m_commands.specs.declared.command.Command.{Command}
 use Rattle.m_commands.specs.declared.command.Command.TheVariants.{Run}
@@ -21,17 +20,13 @@ command_of (word ∷ list ∷ driver ∷ requests ∷ household ∷ []) =
     then Some (Run (record { list = list; driver = driver; requests = requests }) household) else None
 command_of _ = None
 
--- a source without a driver: others aren't built yet
-abbrev pub is_plain : SourceNames → Bool
-is_plain names = is_none names.driver
-
 -- a run gathers its source, and behind it the household
 abbrev pub run_plan : SourceNames → List ℕ → Plan Work
 run_plan names household = and_then (source_plan names) (λ source. and_then (file_plan household FILE_BYTES) (λ rows. done (work.Run source rows)))
 
 -- The plan of a command: which files it fetches in which order, where it refuses, and what it has gathered at its end.
 abbrev pub plan_of : Command → Plan Work
-plan_of (Run names household) = if is_plain names then run_plan names household else refuses not_built_line
+plan_of (Run names household) = run_plan names household
 
 -- the most bytes of a file that a command fetches
 abbrev pub file_limit : Command → ℕ

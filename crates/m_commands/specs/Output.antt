@@ -1,7 +1,7 @@
 -- What is fetched and what is printed for these words, files and input.
 use Rattle.std.specs.Prelude.{◌≡◌, ℕ, List, [], Some, None}
 use Rattle.std.specs.Option.{option_map_or}
-use Rattle.fault_lines.specs.Lines.{usage_line}
+use Rattle.fault_lines.specs.Lines.{usage_line, cycle_line, recursion_line}
 use Rattle.m_plan.specs.Plan.{end_of, gathered, refused, names_fetched}
 use Rattle.m_plan.specs.Views.{Disk}
 use Rattle.m_plan.specs.declared.status.Status.{Status}
@@ -31,3 +31,10 @@ pub record IsValid (words : List (List ℕ)) (disk : Disk) : Type 0 where
   pub work : Work
   pub gathers : end_of disk (plan_of command) ≡ gathered work
   pub answer : HasAnswer work
+
+-- Two outputs are one: they have the same text and the same status, or they refuse rule files that have several cycles, or a driver that has
+-- several recursions, and show one of them each.
+pub data AreOneOutput : List ℕ → Status → List ℕ → Status → Type 0 where
+  the_same : {text other : List ℕ} {status outcome : Status} → text ≡ other → status ≡ outcome → AreOneOutput text status other outcome
+  both_cycles : {names others : List (List ℕ)} → AreOneOutput (cycle_line names) Refused (cycle_line others) Refused
+  both_recursions : {names others : List (List ℕ)} → AreOneOutput (recursion_line names) Refused (recursion_line others) Refused

@@ -3,15 +3,15 @@ ghost use Rattle.std.specs.Prelude.{◌≡◌, IfOk};
 ghost use Rattle.m_plan.specs.Trips.{GoesAlong};
 ghost use Rattle.m_plan.specs.Views.{files_view};
 ghost use Rattle.m_commands.specs.Answer.{KeepsLimits};
-ghost use Rattle.m_commands.specs.Command.{is_plain, plan_of};
+ghost use Rattle.m_commands.specs.Command.{plan_of};
 
 use crate::command::Command;
 use crate::work::Work;
 use m_places::Name;
 use m_places::limits::FILE_BYTES;
-use m_plan::{Ending, Refusal, fetch};
+use m_plan::{Ending, fetch};
 use m_ports::Files;
-use m_source::{SourceNames, gather_source, is_none};
+use m_source::{SourceNames, gather_source};
 use std::alloc::Global;
 
 /// Gathers the files of a command. What ends it before it has them is the error.
@@ -36,17 +36,7 @@ fn gather_run<F: Files>(
         (files_view F.told F.attempts F.taken files.new) result }
     ensures within { IfOk result KeepsLimits }
 {
-    if !is_plain(names) {
-        return Err(Ending::Refused(Refusal::NotBuilt));
-    }
     let source = gather_source(alloc, files, names)?;
     let rows = fetch(alloc, files, household, FILE_BYTES)?;
     Ok(Work::Run(source, rows))
-}
-
-/// Whether a source has no driver.
-fn is_plain(names: &SourceNames) -> bool
-    ensures { result ≡ is_plain names.now }
-{
-    is_none(&names.driver)
 }

@@ -6,7 +6,7 @@ ghost use Rattle.m_plan.specs.Views.{Disk, files_view, input_view, output_view};
 ghost use Rattle.m_plan.specs.declared.status.Status.{Status};
 ghost use Rattle.m_commands.specs.Command.{limit_of, reads_input, writes_early};
 ghost use Rattle.m_commands.specs.Clauses.{PrintsOutput, Reading, WritesFront, AnswersValid, IsToldUsage};
-ghost use Rattle.m_commands.specs.Output.{Output};
+ghost use Rattle.m_commands.specs.Output.{Output, AreOneOutput};
 ghost use Rattle.m_commands.specs.inner.Courses.{Course};
 
 use crate::answer::answer;
@@ -83,9 +83,9 @@ pub fn m_tax<R: Threads + Sync, F: Files, S: Source, K: Sink>(
     perform(alloc, words, files, out)
 }
 
-/// The same words, files and input have one output: one text and one status. It holds of each command, and will of
-/// those to come, but for two refusals of rule bases that show one cycle or one recursion of several.
+/// The same words, files and input have one output: one text and one status, but for which of several cycles or recursions a
+/// refusal shows. It holds of each command.
 pub fn one_output()
     ensures { (words : List (List ℕ)) (disk : Disk) (typed one other : List ℕ) (status outcome : Status) →
-        Output words disk typed one status → Output words disk typed other outcome → (one ≡ other) × (status ≡ outcome) }
+        Output words disk typed one status → Output words disk typed other outcome → AreOneOutput one status other outcome }
 {}

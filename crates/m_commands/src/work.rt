@@ -1,5 +1,5 @@
 use m_places::Seq;
-use m_source::Source;
+use rule_text::Source;
 
 /// What a command has gathered, and is left to answer.
 #[derive(Drop)]

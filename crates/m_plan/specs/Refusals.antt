@@ -1,12 +1,11 @@
 -- The line of each refusal that ends a command before it has its files.
 use Rattle.std.specs.Prelude.{ℕ, List}
-use Rattle.fault_lines.specs.Lines.{not_built_line, list_line, too_many_files_line, too_long_line}
+use Rattle.fault_lines.specs.Lines.{list_line, too_many_files_line, too_long_line}
 use Rattle.m_plan.specs.declared.refusal.Refusal.{Refusal}
-use Rattle.m_plan.specs.declared.refusal.Refusal.TheVariants.{NotBuilt, ListLine, TooManyFiles, FileTooLong}
+use Rattle.m_plan.specs.declared.refusal.Refusal.TheVariants.{ListLine, TooManyFiles, FileTooLong}
 
 -- the line of a refusal: of the file `a.m` past its limit `refused file too long a.m`
 abbrev pub refusal_line : Refusal → List ℕ
-refusal_line NotBuilt = not_built_line
 refusal_line (ListLine line) = list_line line
 refusal_line TooManyFiles = too_many_files_line
 refusal_line (FileTooLong name) = too_long_line name

@@ -8,8 +8,6 @@ use m_places::Name;
 /// Why the input is refused before a command has its files.
 #[derive(Drop)]
 pub enum Refusal {
-    /// A form that isn't built yet.
-    NotBuilt,
     /// The line of the list with this number, from 1, isn't what it must be.
     ListLine(u32),
     /// The list has more rule files than a list may have.
@@ -24,7 +22,6 @@ impl Refusal {
         ensures { fault_line result ≡ refusal_line self.now }
     {
         match self {
-            Refusal::NotBuilt => Fault::NotBuilt,
             Refusal::ListLine(line) => Fault::ListLine(*line),
             Refusal::TooManyFiles => Fault::TooManyFiles,
             Refusal::FileTooLong(name) => Fault::FileTooLong(name.bytes()),

@@ -3,12 +3,6 @@ use Rattle.fault_lines.proofs.give.give_fault.Goals as goal
 pub returns-in-Usage : goal.returns-in-Usage
 returns-in-Usage g c = rw c.in-Usage.is c.give_words.ensures
 
-pub returns-in-NotBuilt : goal.returns-in-NotBuilt
-returns-in-NotBuilt g c = rw c.in-NotBuilt.is c.give_words-in-NotBuilt.ensures
-
-pub returns-in-NoTokens : goal.returns-in-NoTokens
-returns-in-NoTokens g c = rw c.in-NoTokens.is c.give_words-in-NoTokens.ensures
-
 pub returns-in-ListLine : goal.returns-in-ListLine
 returns-in-ListLine g c = rw c.in-ListLine.is (rw c.into.ensures at c.give_number.ensures)
 

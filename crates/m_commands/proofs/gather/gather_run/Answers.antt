@@ -1,27 +1,18 @@
-use Rattle.std.proofs.Common.{sym}
 use Rattle.m_places.specs.declared.limits.TheConstants.{FILE_BYTES}
 use Rattle.m_plan.specs.Plan.{file_plan}
 use Rattle.m_plan.proofs.Trips.{along_then, along_done, exits_ended}
 use Rattle.m_source.specs.Source.{source_plan}
-use Rattle.m_commands.proofs.Gathers.{gathers_not, gathers_plain}
 use Rattle.m_commands.proofs.gather.gather_run.Goals as goal
 
-pub returns-then-not-is_plain-clause-along : goal.returns-then-not-is_plain-clause-along
-returns-then-not-is_plain-clause-along g c = gathers_not _ c.args.names.now c.args.household.now (sym c.if-not-is_plain.ensures)
-
 pub returns-in_err-source-clause-along : goal.returns-in_err-source-clause-along
-returns-in_err-source-clause-along g c =
-    gathers_plain _ _ c.args.names.now c.args.household.now _ (sym c.if-not-is_plain.ensures)
-    (exits_ended (source_plan c.args.names.now) _ _ _ _ _ c.in_err-source.ensures.along c.from_residual.ensures.1)
+returns-in_err-source-clause-along g c = exits_ended (source_plan c.args.names.now) _ _ _ _ _ c.in_err-source.ensures.along c.from_residual.ensures.1
 
 pub returns-in_err-rows-clause-along : goal.returns-in_err-rows-clause-along
 returns-in_err-rows-clause-along g c =
-    gathers_plain _ _ c.args.names.now c.args.household.now _ (sym c.if-not-is_plain.ensures)
-    (along_then (source_plan c.args.names.now) _ _ _ _ _ _ c.in_ok-source.ensures.along
-    (exits_ended (file_plan c.args.household.now FILE_BYTES) _ _ _ _ _ c.in_err-rows.ensures.along c.from_residual-in_err-rows.ensures.1))
+    along_then (source_plan c.args.names.now) _ _ _ _ _ _ c.in_ok-source.ensures.along
+    (exits_ended (file_plan c.args.household.now FILE_BYTES) _ _ _ _ _ c.in_err-rows.ensures.along c.from_residual-in_err-rows.ensures.1)
 
 pub returns-clause-along : goal.returns-clause-along
 returns-clause-along g c =
-    gathers_plain _ _ c.args.names.now c.args.household.now _ (sym c.if-not-is_plain.ensures)
-    (along_then (source_plan c.args.names.now) _ _ _ _ _ _ c.in_ok-source.ensures.along
-    (along_then (file_plan c.args.household.now FILE_BYTES) _ _ _ _ _ _ c.in_ok-rows.ensures.along (along_done _ _)))
+    along_then (source_plan c.args.names.now) _ _ _ _ _ _ c.in_ok-source.ensures.along
+    (along_then (file_plan c.args.household.now FILE_BYTES) _ _ _ _ _ _ c.in_ok-rows.ensures.along (along_done _ _))

@@ -1,0 +1,3 @@
+TOT : calculee restituee : "t" ;
+regle 1 : application : iliad ;
+TOT = IRN * 2 ;

@@ -1,4 +1,0 @@
-pub mod Form
-pub mod Lines
-pub mod Meaning
-pub mod inner

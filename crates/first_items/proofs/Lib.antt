@@ -1,9 +1,0 @@
-pub mod Tokens
-pub mod Lists
-pub mod Sequences
-pub mod Formulas
-pub mod Sums
-pub mod Variables
-pub mod Attributes
-pub mod Rules
-pub mod Readings

@@ -1,2 +1,0 @@
--- What the contracts of inner functions speak of. Those of the public calls need none of it.
-pub mod Endings

@@ -1,4 +1,0 @@
-pub mod Formulas
-pub mod Solutions
-pub mod Values
-pub mod inner

@@ -1,0 +1,2 @@
+# again
+SEUIL : const = 1000 ;

@@ -1,0 +1,3 @@
+TOT : calculee : "" ;
+regle 1 : application : iliad ;
+TOT = 1 + OUBLI ;

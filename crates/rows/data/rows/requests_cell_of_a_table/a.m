@@ -1,0 +1,10 @@
+REV : saisie revenu classe = 0 alias 1AJ : "s" ;
+SEUIL : const = 1000 ;
+IRN : calculee restituee : "n" ;
+T : tableau[3] calculee : "t" ;
+P : calculee restituee : "n" ;
+Q : calculee restituee : "n" ;
+R : calculee restituee : "n" ;
+S : calculee restituee : "n" ;
+regle 10 : application : iliad ;
+IRN = max(0, REV - SEUIL) ; T[X] = X * 10 ; P = T[2.9] ; Q = T[-1] ; R = T[3] ; S = T[REV] ;

@@ -1,0 +1,3 @@
+# nothingé
+
+   # more

@@ -1,0 +1,8 @@
+REV : saisie revenu classe = 0 alias 1AJ : "s" ;
+SEUIL : const = 1000 ;
+IRN : calculee restituee : "n" ;
+regle 10 : application : iliad ;
+IRN = max(0, REV - SEUIL) ;
+enchaineur c1 application : iliad ;
+regle 11 : application : iliad ; enchaineur : c1 ;
+OUBLI = somme(i=3..1: REVi) ;

@@ -1,0 +1,3 @@
+TOT : calculee : "t" ;
+regle 1 : application : iliad ;
+TOT = REV ;

@@ -1,0 +1,7 @@
+REV : saisie revenu classe = 0 alias 1AJ : "s" ;
+SEUIL : const = 1000 ;
+IRN : calculee restituee : "n" ;
+regle 10 : application : iliad ;
+IRN = max(0, REV - SEUIL) ;
+IRN : anomalie : "A" : "1" : "0" : "t" ;
+verif 1 : application : iliad ; si REV < 0 alors erreur IRN ;

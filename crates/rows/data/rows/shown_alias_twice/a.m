@@ -1,0 +1,1 @@
+A : saisie alias 1AA : "" ; B : saisie alias 1AA : "" ;

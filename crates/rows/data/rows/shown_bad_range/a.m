@@ -1,0 +1,1 @@
+regle 1 : application : iliad ; A = somme(i=2..1: i) ;

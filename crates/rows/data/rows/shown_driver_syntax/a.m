@@ -1,0 +1,1 @@
+A : calculee : "" ; K : const = 1 ;

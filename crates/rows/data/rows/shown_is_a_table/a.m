@@ -1,0 +1,1 @@
+T : tableau[1] calculee : "" ; regle 1 : application : iliad ; T = 1 ;

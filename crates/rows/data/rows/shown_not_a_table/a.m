@@ -1,0 +1,1 @@
+A : calculee : "" ; regle 1 : application : iliad ; A[0] = 1 ;

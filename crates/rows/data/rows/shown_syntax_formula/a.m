@@ -1,0 +1,1 @@
+A : const = 1 ; regle 1 : application : iliad ; A = ;

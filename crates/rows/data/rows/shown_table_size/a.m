@@ -1,0 +1,1 @@
+T : tableau[0] calculee : "" ;

@@ -1,0 +1,1 @@
+regle 1 : application : iliad ; Ai = 1 ;

@@ -1,0 +1,1 @@
+regle 1 : application : iliad ; A = 1 ;

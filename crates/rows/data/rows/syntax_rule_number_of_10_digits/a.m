@@ -1,0 +1,7 @@
+REV : saisie revenu classe = 0 alias 1AJ : "s" ;
+SEUIL : const = 1000 ;
+IRN : calculee restituee : "n" ;
+regle 10 : application : iliad ;
+IRN = 1 ;
+regle 1234567890 : application : iliad ;
+TOT = 1 ;

@@ -1,0 +1,7 @@
+verif 1 : application : iliad ; si IRN > 0 alors erreur A20 ;
+A20 : anomalie : "A" : "20" : "00" : "revenu nul" : "N" ;
+REV : saisie revenu classe = 0 alias 1AJ : "s" ;
+SEUIL : const = 1000 ;
+IRN : calculee restituee : "n" ;
+regle 10 : application : iliad ;
+IRN = max(0, REV - SEUIL) ;

@@ -1,0 +1,1 @@
+verif 2 : application : iliad ; si REV > 0 alors erreur A20 ;

@@ -1,0 +1,7 @@
+REV : saisie revenu classe = 0 alias 1AJ : "s" ;
+SEUIL : const = 1000 ;
+IRN : calculee restituee : "n" ;
+regle 10 : application : iliad ;
+IRN = max(0, REV - SEUIL) ;
+I1 : informative : "I" : "1" : "0" : "t" : "" ;
+verif 3 : application : iliad ; si 1 alors erreur I1 ;

@@ -1,0 +1,8 @@
+REV : saisie revenu classe = 0 alias 1AJ : "s" ;
+SEUIL : const = 1000 ;
+IRN : calculee restituee : "n" ;
+regle 10 : application : iliad ;
+IRN = max(0, REV - SEUIL) ;
+A1 : anomalie : "A" : "1" : "0" : "one
+two	threeé" ;
+verif 3 : application : iliad ; si 1 alors erreur A1 ;
