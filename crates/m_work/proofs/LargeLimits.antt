@@ -8,7 +8,7 @@ use Rattle.m_large.specs.Large.{line_feed, declaration, declarations, rule, rule
 use Rattle.m_work.specs.Larges.{large_requests, large_source}
 
 -- the lengths of pieces together
-total : List (List ℕ) → ℕ
+abbrev total : List (List ℕ) → ℕ
 total [] = 0
 total (piece ∷ pieces) = length piece + total pieces
 

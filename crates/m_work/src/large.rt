@@ -114,6 +114,7 @@ fn print_large<K: Sink>(n: u32, face: &Face, answer: &Answer, out: &mut K) -> Re
     ensures { Gives K.written K.faults out.old out.new result (large_line n ++ answer_lines face.now answer.now) }
 {
     let mut buffer = Buffer::new();
-    give_pieces(out, &[b"large ", buffer.format(n).as_bytes(), b"\n"])?;
+    let digits = buffer.format(n).as_bytes();
+    give_pieces(out, &[b"large ", digits, b"\n"])?;
     print_answer(face, answer, out)
 }

@@ -11,10 +11,10 @@ use Rattle.m_work.proofs.Ways.{batch_refused, batch_written}
 use Rattle.m_work.proofs.batch.print_table.Goals as goal
 
 pub print_rows-requires-clause-face : goal.print_rows-requires-clause-face
-print_rows-requires-clause-face g c = face_is c.args.compiled.now c.requires
+print_rows-requires-clause-face g c = λ κs held. face_is c.args.compiled.now c.requires
 
 pub print_rows-requires-clause-inputs : goal.print_rows-requires-clause-inputs
-print_rows-requires-clause-inputs g c =
+print_rows-requires-clause-inputs g c = λ κs held.
     rw (c.as_slice.ensures, c.requires.inputs) (rows_below (length c.args.compiled.now.codes) c.in-Ok.rows c.in-Ok.ensures.inputs)
 
 pub returns-in-Ok : goal.returns-in-Ok
