@@ -1,8 +1,9 @@
-pub mod Answers
 pub mod Clauses
 pub mod Faults
 pub mod Laws
 pub mod OneOutput
 pub mod Reading
+pub mod Schemes
 pub mod Taken
 pub mod Valid
+pub mod Ways

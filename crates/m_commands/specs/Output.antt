@@ -36,5 +36,5 @@ pub record IsValid (words : List (List ℕ)) (disk : Disk) : Type 0 where
 -- several recursions, and show one of them each.
 pub data AreOneOutput : List ℕ → Status → List ℕ → Status → Type 0 where
   the_same : {text other : List ℕ} {status outcome : Status} → text ≡ other → status ≡ outcome → AreOneOutput text status other outcome
-  both_cycles : {names others : List (List ℕ)} → AreOneOutput (cycle_line names) Refused (cycle_line others) Refused
-  both_recursions : {names others : List (List ℕ)} → AreOneOutput (recursion_line names) Refused (recursion_line others) Refused
+  both_cycles : (names others : List (List ℕ)) → AreOneOutput (cycle_line names) Refused (cycle_line others) Refused
+  both_recursions : (names others : List (List ℕ)) → AreOneOutput (recursion_line names) Refused (recursion_line others) Refused
