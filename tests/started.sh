@@ -105,27 +105,44 @@ row 3 "unreadable $dir/nowhere.m" run "$dir/missing.list" - - $household
 listing directory.list "$dir"
 row 3 "unreadable $dir" run "$dir/directory.list" - - $household
 
-# What isn't built: a driver, requests, and a household with a wrong code, a wrong amount or a code twice.
-row 1 "refused not built" run $list driver.mpp - $household
-row 1 "refused not built" run $list - requests.txt $household
+# A driver and requests: missing, and there.
+row 3 "unreadable driver.mpp" run $list driver.mpp - $household
+row 3 "unreadable requests.txt" run $list - requests.txt $household
+printf 'SEUIL\nREV\n' >"$dir/requests.txt"
+row 0 "SEUIL = 1000
+REV = 2500.5" run $list - "$dir/requests.txt" $household
+printf 'main():\n  IRN <- call_m()\n  IRN = IRN + 1\n' >"$dir/driver.mpp"
+row 0 "IRN = 1501.5" run $list "$dir/driver.mpp" - $household
+
+# A verification that fails.
+cp examples/first/base.m "$dir/failing.m"
+printf 'A20 : anomalie : "A" : "20" : "00" : "too little" : "N" ;\nverif 20 : application : iliad ; si IRN < 5000 alors erreur A20 ;\n' >>"$dir/failing.m"
+listing failing.list "$dir/failing.m"
+row 6 "failed 20 A20 anomalie
+A:20:00:too little:N" run "$dir/failing.list" - - $household
+
+# A household with a wrong code, a wrong amount or a code twice.
 printf 'code,amount\n9ZZ,1\n' >"$dir/code.csv"
-row 1 "refused not built" run $list - - "$dir/code.csv"
+row 1 "refused household line 2: unknown code" run $list - - "$dir/code.csv"
 printf 'code,amount\n1AJ,much\n' >"$dir/amount.csv"
-row 1 "refused not built" run $list - - "$dir/amount.csv"
+row 1 "refused household line 2: bad amount" run $list - - "$dir/amount.csv"
 printf 'code,amount\n1AJ,1\n1AJ,1\n' >"$dir/twice.csv"
-row 1 "refused not built" run $list - - "$dir/twice.csv"
+row 1 "refused household line 3: code twice" run $list - - "$dir/twice.csv"
 
 # Bytes that mean nothing, an empty file, and a file without end, in each place.
 printf '\000\377\201;=+-*/()"#\n\r\t\033iliad' >"$dir/bytes"
 : >"$dir/empty"
-row 1 "refused not built" run "$dir/bytes" - - $household
-row 1 "refused not built" run $list - - "$dir/bytes"
+row 1 "refused list line 1" run "$dir/bytes" - - $household
+row 1 "refused household: bad header" run $list - - "$dir/bytes"
 listing bytes.list "$dir/bytes"
-row 1 "refused syntax" run "$dir/bytes.list" - - $household
-row 1 "refused not built" run "$dir/empty" - - $household
-row 1 "refused not built" run $list - - "$dir/empty"
+row 1 "refused $dir/bytes line 1 byte 0: bad byte" run "$dir/bytes.list" - - $household
+row 1 "refused driver line 1: bad token" run $list "$dir/bytes" - $household
+row 1 "refused requests line 1" run $list - "$dir/bytes" $household
+row 1 "refused list line 1" run "$dir/empty" - - $household
+row 1 "refused household: bad header" run $list - - "$dir/empty"
+row 1 "refused driver: no main" run $list "$dir/empty" - $household
 listing empty.list "$dir/empty"
-row 1 "refused not built" run "$dir/empty.list" - - $household
+row 1 "refused household line 2: unknown code" run "$dir/empty.list" - - $household
 row 1 "refused file too long /dev/zero" run /dev/zero - - $household
 row 1 "refused file too long /dev/zero" run $list - - /dev/zero
 

@@ -1,6 +1,5 @@
 pub mod Clauses
 pub mod Faults
-pub mod Laws
 pub mod OneOutput
 pub mod Reading
 pub mod Schemes

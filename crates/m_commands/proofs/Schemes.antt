@@ -11,8 +11,9 @@ use Rattle.m_work.specs.Households.{household_fault_line}
 use Rattle.m_work.specs.Schemes.{Scheme}
 use Rattle.m_work.specs.Sources.{IsScheme, Refuses, scheme_said, source_is_refused, households_are_refused}
 use Rattle.m_commands.specs.Output.{AreOneOutput, the_same, both_cycles, both_recursions}
-use Rattle.m_commands.proofs.Laws.{no_valid_and_fault, one_validity, one_fault, AreOneFault}
-use Rattle.m_commands.proofs.Laws as laws
+use Rattle.m_compile.specs.Faults.{AreOneFault}
+use Rattle.m_compile.specs.Faults as laws
+use Rattle.m_compile.proofs.OneLaws.{no_valid_and_fault, one_validity, one_fault}
 
 -- a source has one scheme
 pub one_scheme : (source : Source) (one other : Scheme) → IsScheme source one → IsScheme source other → one ≡ other

@@ -12,8 +12,10 @@ use Rattle.mpp_lexer.specs.declared.fault.DriverFault.{DriverFault}
 use Rattle.mpp_parser.specs.declared.command.Driver.{Driver}
 use Rattle.mpp_parser.specs.Faults.{IsDriver, IsFault}
 use Rattle.mpp_core.specs.declared.fault.CoreFault.{CoreFault}
+use Rattle.mpp_core.specs.declared.fault.CoreFault.TheVariants.{DriverRecursion}
 use Rattle.mpp_core.specs.Cores.{IsCoreFault}
 use Rattle.rule_base.specs.declared.fault.RuleFault.{RuleFault}
+use Rattle.rule_base.specs.declared.fault.RuleFault.TheVariants.{Cycle}
 use Rattle.rule_base.specs.Faults.{IsRuleFault}
 use Rattle.m_compile.specs.declared.fault.SourceFault.{SourceFault}
 use Rattle.m_compile.specs.declared.fault.SourceFault.TheVariants.{Rules, Driver as DriverIs, Core as CoreIs, Requests, DriverTooLarge}
@@ -40,3 +42,9 @@ pub data IsSourceFault (source : Source) : SourceFault → Type 0 where
   of_weight : {declared : Declared} {base : Base} {written : Option Core} {requests : List ℕ} → HasRules source declared base
       → IsWritten declared source.driver written → requests_said source.requests declared ≡ Ok requests
       → DRIVER_WEIGHT < weight_of (running written requests declared) base → IsSourceFault source (DriverTooLarge (told_weight (running written requests declared) base))
+
+-- Two faults are one where they are the same, or where both show a cycle of cells, or both a ring of functions, of which any true one may be shown.
+pub data AreOneFault : SourceFault → SourceFault → Type 0 where
+  the_same : {fault other : SourceFault} → fault ≡ other → AreOneFault fault other
+  both_cycles : {names others : List (List ℕ)} → AreOneFault (Rules (Cycle names)) (Rules (Cycle others))
+  both_rings : {names others : List (List ℕ)} → AreOneFault (CoreIs (DriverRecursion names)) (CoreIs (DriverRecursion others))

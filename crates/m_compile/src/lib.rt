@@ -7,8 +7,10 @@
 mod compiling;
 mod face;
 mod fault;
+mod laws;
 mod told;
 
 pub use compiling::{Compiled, compile};
 pub use fault::SourceFault;
+pub use laws::{no_valid_and_fault, one_fault, one_validity};
 pub use told::told_fault;

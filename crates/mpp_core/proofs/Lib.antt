@@ -3,3 +3,4 @@ pub mod NameLemmas
 pub mod ListLemmas
 pub mod RingLemmas
 pub mod ShownLemmas
+pub mod OneLaws

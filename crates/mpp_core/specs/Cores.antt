@@ -59,6 +59,11 @@ IsRecursion core Memory = ⊥
 abbrev pub IsCoreFault : Driver → Declared → CoreFault → Type 0
 IsCoreFault driver declared fault = (core_of driver declared ≡ Err fault) ⊎ ((core : Core) × (core_of driver declared ≡ Ok core) × IsRecursion core fault)
 
+-- Two faults are one where they are the same, or where both show a ring, of which any true one may be shown.
+pub data AreOneFault : CoreFault → CoreFault → Type 0 where
+  the_same : {fault other : CoreFault} → fault ≡ other → AreOneFault fault other
+  both_rings : {names others : List (List ℕ)} → AreOneFault (DriverRecursion names) (DriverRecursion others)
+
 -- ---- the driver of rules without one
 
 -- whether a cell is that of a constant

@@ -7,6 +7,7 @@
 mod commands;
 mod fault;
 mod functions;
+mod laws;
 mod names;
 mod plain;
 mod ranks;
@@ -16,5 +17,6 @@ mod shown;
 mod terms;
 
 pub use fault::CoreFault;
+pub use laws::{no_core_and_fault, one_core, one_fault};
 pub use plain::plain_driver;
 pub use resolving::resolve_driver;

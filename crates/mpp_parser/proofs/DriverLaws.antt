@@ -157,3 +157,11 @@ one_driver ls r d e a b longest =
     let same = (q.same (omega (arith, short, q.far))).0 in
     let other = (w.same (omega (arith, short, w.far))).0 in
     λ i. record { functions = (sym same ∙ other) i }
+
+-- the longest front ends where reading does
+pub one_rest : (ls r : List Line) (d : Driver) → SpellsDriver d ls r → IsLongest ls r → (functions_at ls).1 ≡ r
+unfolding functions_at
+one_rest ls r d a longest =
+    let short = longest (record { functions = (functions_at ls).0 }) (functions_at ls).1 (driver_read ls) in
+    let q = many_greedy SpellsFunction function_at function_sound function_shrinks function_greedy function_apart (length ls) [] a (omega arith) in
+    (q.same (omega (arith, short, q.far))).1

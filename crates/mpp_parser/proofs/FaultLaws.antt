@@ -1,18 +1,18 @@
 -- Bytes spell at most one driver, and have no fault where they spell one.
-use Rattle.std.proofs.Common.{◌≡◌, ℕ, List, [], ◌∷◌, Result, Ok, Err, refl, subst, arith}
+use Rattle.std.proofs.Common.{◌≡◌, ℕ, List, [], ◌∷◌, Result, Ok, Err, refl, sym, ap, ◌∙◌, subst, arith}
 use Rattle.m_places.specs.Refusals.{Outcome}
 use Rattle.m_text.specs.Lines.{lines_of}
 use Rattle.mpp_lexer.specs.declared.piece.Line.{Line}
 use Rattle.mpp_lexer.specs.declared.fault.DriverFault.{DriverFault}
 use Rattle.mpp_lexer.specs.declared.fault.DriverFault.TheVariants.{DriverToken, DriverTooDeep, DriverSyntax, Memory}
-use Rattle.mpp_lexer.proofs.OneReading.{one_list, lines_or_fault}
+use Rattle.mpp_lexer.proofs.OneReading.{one_list, lines_or_fault, one_first_fault}
 use Rattle.mpp_parser.specs.declared.command.Driver.{Driver}
 use Rattle.mpp_parser.specs.declared.command.Function.{Function}
 use Rattle.mpp_parser.specs.Depths.{FirstTooDeep, here, later, Shallow, none, next}
 use Rattle.mpp_parser.specs.Drivers.{SpellsDriver, IsLongest}
 use Rattle.mpp_parser.specs.Faults.{HasLines, IsDriver, StopsAt, IsLineFault, IsFault}
 use Rattle.mpp_parser.specs.inner.Blocks.{functions_at}
-use Rattle.mpp_parser.proofs.DriverLaws.{one_driver, driver_read, driver_longest}
+use Rattle.mpp_parser.proofs.DriverLaws.{one_driver, driver_read, driver_longest, one_rest}
 
 -- what the reading of lines is
 pub read_all : (ls : List Line) (fs : List Function) (rest : List Line) → functions_at ls ≡ (fs, rest) → rest ≡ [] → SpellsDriver (record { functions = fs }) ls []
@@ -49,6 +49,40 @@ driver_or_fault bytes d (DriverSyntax n) a f =
     let short = stop.longest d [] (subst (λ ls. SpellsDriver d ls []) same a.spelled) in
     omega arith
 driver_or_fault bytes d Memory a f = f
+
+-- One fault.
+one_deep : {earlier ls : List Line} {m n : ℕ} → FirstTooDeep earlier ls m → FirstTooDeep earlier ls n → m ≡ n
+one_deep (here e) (here f) = refl
+one_deep (here e) (later f d) = absurd (cc)
+one_deep (later e d) (here f) = absurd (cc)
+one_deep (later e d) (later f c) = one_deep d c
+
+one_stop : (ls : List Line) (m n : ℕ) → StopsAt ls m → StopsAt ls n → m ≡ n
+one_stop ls m n a b =
+    let e : (a.line ∷ a.others) ≡ (b.line ∷ b.others) = sym (one_rest ls (a.line ∷ a.others) a.driver a.spelled a.longest) ∙ one_rest ls (b.line ∷ b.others) b.driver b.spelled b.longest in
+    let f : a.line ≡ b.line = cc in
+    a.numbered ∙ (ap (λ (l : Line). l.number) f ∙ sym b.numbered)
+
+pub one_fault : (bytes : List ℕ) (fault other : DriverFault) → IsFault bytes fault → IsFault bytes other → fault ≡ other
+one_fault bytes (DriverToken m) (DriverToken n) a b = ap DriverToken (one_first_fault 1 (lines_of bytes) m n a b)
+one_fault bytes (DriverToken m) (DriverTooDeep n) a b = absurd (lines_or_fault 1 (lines_of bytes) b.0 m b.1 a)
+one_fault bytes (DriverToken m) (DriverSyntax n) a b = absurd (lines_or_fault 1 (lines_of bytes) b.0 m b.1 a)
+one_fault bytes (DriverTooDeep m) (DriverToken n) a b = absurd (lines_or_fault 1 (lines_of bytes) a.0 n a.1 b)
+one_fault bytes (DriverTooDeep m) (DriverTooDeep n) a b =
+    let same = one_list 1 (lines_of bytes) a.0 b.0 a.1 b.1 in
+    ap DriverTooDeep (one_deep (subst (λ ls. FirstTooDeep [] ls m) same a.2) b.2)
+one_fault bytes (DriverTooDeep m) (DriverSyntax n) a b =
+    let same = one_list 1 (lines_of bytes) a.0 b.0 a.1 b.1 in
+    absurd (shallow_or_deep b.2 (subst (λ ls. FirstTooDeep [] ls m) same a.2))
+one_fault bytes (DriverSyntax m) (DriverToken n) a b = absurd (lines_or_fault 1 (lines_of bytes) a.0 n a.1 b)
+one_fault bytes (DriverSyntax m) (DriverTooDeep n) a b =
+    let same = one_list 1 (lines_of bytes) b.0 a.0 b.1 a.1 in
+    absurd (shallow_or_deep a.2 (subst (λ ls. FirstTooDeep [] ls n) same b.2))
+one_fault bytes (DriverSyntax m) (DriverSyntax n) a b =
+    let same = one_list 1 (lines_of bytes) a.0 b.0 a.1 b.1 in
+    ap DriverSyntax (one_stop b.0 m n (subst (λ ls. StopsAt ls m) same a.3) b.3)
+one_fault bytes Memory other a b = absurd a
+one_fault bytes fault Memory a b = absurd b
 
 -- what holds of the lines of bytes holds of the bytes
 pub of_bytes : (bytes : List ℕ) (ls : List Line) (result : Result Driver DriverFault) → HasLines bytes ls → Outcome Memory result (λ driver. Shallow [] ls × SpellsDriver driver ls []) (IsLineFault ls) → Outcome Memory result (IsDriver bytes) (IsFault bytes)

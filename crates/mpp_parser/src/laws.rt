@@ -22,3 +22,8 @@ pub fn one_driver()
 pub fn no_driver_and_fault()
     ensures { (bytes : List ℕ) (d : Driver) (fault : DriverFault) → IsDriver bytes d → IsFault bytes fault → ⊥ }
 {}
+
+/// Bytes have at most one fault.
+pub fn one_fault()
+    ensures { (bytes : List ℕ) (fault other : DriverFault) → IsFault bytes fault → IsFault bytes other → fault ≡ other }
+{}

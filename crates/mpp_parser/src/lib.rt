@@ -18,7 +18,7 @@ mod unread;
 mod whole;
 
 pub use command::{Command, CommandNode, Driver, Function, command_made};
-pub use laws::{no_driver_and_fault, one_driver, one_longest_driver};
+pub use laws::{no_driver_and_fault, one_driver, one_fault, one_longest_driver};
 pub use parse::parse_driver;
 pub use sentence::{Sentence, one_sentence, read_sentence};
 pub use term::{CellName, DLink, DNode, DTerm, Kind, term_made};

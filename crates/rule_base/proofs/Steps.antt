@@ -54,8 +54,8 @@ lex_told number text (lex.NumberTooGreat p) h k = of_tokens (h (λ e. cc))
 pub parse_told : (number : ℕ) (text : Text) (tokens : List Token) (fault : ParseFault) → Lexes (start_of number) text.bytes tokens → (fault ≢ parse.Memory → IsParseFault tokens fault)
     → parse_step fault ≢ Memory → IsFileFault number text (parse_step fault)
 parse_told number text tokens parse.Memory l h k = absurd (k refl)
-parse_told number text tokens (parse.TooDeep p) l h k = of_items tokens l (h (λ e. cc))
-parse_told number text tokens (parse.Syntax p) l h k = of_items tokens l (h (λ e. cc))
+parse_told number text tokens (parse.TooDeep p) l h k = of_items tokens l (λ e. cc) (h (λ e. cc))
+parse_told number text tokens (parse.Syntax p) l h k = of_items tokens l (λ e. cc) (h (λ e. cc))
 
 -- the faults of the steps behind the declarations
 pub expand_told : (items : List Item) (application : List ℕ) (declared : Declared) (fault : ExpandFault) → (fault ≢ expand.Memory → expand_fault items application declared ≡ Some fault)

@@ -28,3 +28,8 @@ pub data IsRuleFault (texts : List Text) (application : List ℕ) : RuleFault �
       → resolved (declared_by items) (expansion items application (declared_by items)) ≡ Err fault → IsRuleFault texts application (Resolve fault)
   of_a_cycle : {declared : Declared} {base : Base} (cells : List ℕ) → IsBaseOf texts application declared base → IsCycle base cells → BeginsWithLeast cells
       → IsRuleFault texts application (Cycle (map (cell_name declared) cells))
+
+-- Two faults are one where they are the same, or where both show a cycle, of which any true one may be shown.
+pub data AreOneFault : RuleFault → RuleFault → Type 0 where
+  the_same : {fault other : RuleFault} → fault ≡ other → AreOneFault fault other
+  both_cycles : {names others : List (List ℕ)} → AreOneFault (Cycle names) (Cycle others)

@@ -8,6 +8,8 @@
 mod base;
 mod fault;
 mod files;
+mod laws;
 
 pub use base::{RuleBase, rule_base};
 pub use fault::RuleFault;
+pub use laws::{no_base_and_fault, one_base, one_fault};

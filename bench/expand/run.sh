@@ -1,0 +1,53 @@
+#!/bin/sh
+# Counts instructions, times and memory of unrolling loops, over generated rules of 2,000,000 parts and of a tenth of that. It builds
+# a program of its own in a copy of the repository, which proves the crates below it. It needs `rt`, Python, GNU `time` and
+# `valgrind`.
+#
+#     sh bench/expand/run.sh
+set -eu
+here=$(cd "$(dirname "$0")" && pwd)
+root=$(cd "$here/../.." && pwd)
+work=$(mktemp -d "${TMPDIR:-/tmp}/bench_expand.XXXXXX")
+trap 'rm -rf "$work"' EXIT
+mkdir -p "$work/repository/crates"
+for crate in m_places m_fixed m_names m_text m_lexer m_ast m_terms declaration_items rule_items m_items m_symbols plain_rules loop_values index_expand; do
+    mkdir "$work/repository/crates/$crate"
+    for part in src specs proofs; do
+        if [ -d "$root/crates/$crate/$part" ]; then cp -r "$root/crates/$crate/$part" "$work/repository/crates/$crate/"; fi
+    done
+    grep "^$crate:" "$root/crates.txt" >>"$work/repository/crates.txt"
+done
+echo "bench_expand: m_places m_lexer m_items m_symbols plain_rules index_expand anyhow" >>"$work/repository/crates.txt"
+cp "$root/HANDLES" "$work/repository/"
+bench=$work/repository/crates/bench_expand
+mkdir -p "$bench/src"
+cp "$here/main.rt.txt" "$bench/src/main.rt"
+(cd "$bench" && rt run >"$work/rt.log" 2>&1) || { cat "$work/rt.log" >&2; exit 1; }
+
+# The instructions of the program up to this step, in thousands.
+instructions() {
+    valgrind --tool=cachegrind --cache-sim=no --cachegrind-out-file=/dev/null "$bench/out/bench_expand" "$@" 2>&1 >/dev/null |
+        awk '/I *refs/ { gsub(",", "", $NF); printf "%d", $NF / 1000 }'
+}
+
+# The most memory that the program holds, in KiB.
+peak() {
+    /usr/bin/time -f '%M' -o "$work/peak" "$bench/out/bench_expand" "$@" >/dev/null
+    cat "$work/peak"
+}
+
+for kind in short sums long headers; do
+    for size in 1 10; do
+        file=$work/$kind$size.m
+        python3 "$here/generate.py" "$kind" "$size" "$file"
+        echo "### $kind, $size tenths, $(wc -c <"$file") bytes"
+        echo
+        for _ in 1 2 3; do
+            echo "items, definitions, microseconds of expand: $("$bench/out/bench_expand" expand "$file")"
+        done
+        for step in items expand; do
+            echo "up to $step: $(instructions "$step" "$file") thousand instructions, $(peak "$step" "$file") KiB"
+        done
+        echo
+    done
+done

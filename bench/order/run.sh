@@ -1,0 +1,61 @@
+#!/bin/sh
+# Times the order of definitions and the values of cells, over generated rules, in the ordinary stack of 8,192 KiB. It builds a
+# program of its own in a copy of the repository, which proves the crates below it. It needs `rt`, Python, GNU `time` and `valgrind`.
+#
+#     sh bench/order/run.sh
+set -eu
+here=$(cd "$(dirname "$0")" && pwd)
+root=$(cd "$here/../.." && pwd)
+work=$(mktemp -d "${TMPDIR:-/tmp}/bench_order.XXXXXX")
+trap 'rm -rf "$work"' EXIT
+mkdir -p "$work/repository/crates"
+for crate in m_places m_fixed m_names m_ports m_text text_pieces rule_text m_lexer m_ast m_terms declaration_items rule_items m_items m_symbols plain_rules loop_values index_expand m_requests micro_m m_resolve rule_order rule_base; do
+    mkdir "$work/repository/crates/$crate"
+    for part in src specs proofs; do
+        if [ -d "$root/crates/$crate/$part" ]; then cp -r "$root/crates/$crate/$part" "$work/repository/crates/$crate/"; fi
+    done
+    grep "^$crate:" "$root/crates.txt" >>"$work/repository/crates.txt"
+done
+echo "bench_order: m_places m_fixed micro_m rule_order rule_text rule_base anyhow" >>"$work/repository/crates.txt"
+cp "$root/HANDLES" "$work/repository/"
+bench=$work/repository/crates/bench_order
+mkdir -p "$bench/src"
+cp "$here/main.rt.txt" "$bench/src/main.rt"
+(cd "$bench" && rt run >"$work/rt.log" 2>&1) || { cat "$work/rt.log" >&2; exit 1; }
+
+ulimit -s 8192
+
+# The instructions of the program up to this step, in thousands.
+instructions() {
+    valgrind --tool=cachegrind --cache-sim=no --cachegrind-out-file=/dev/null "$bench/out/bench_order" "$@" 2>&1 >/dev/null |
+        awk '/I *refs/ { gsub(",", "", $NF); printf "%d", $NF / 1000 }'
+}
+
+# Three runs of so many definitions of a kind, and the memory that they hold.
+times() {
+    python3 "$here/generate.py" "$1" "$2" "$work/$1$2"
+    echo "### $1, $2 definitions"
+    echo
+    for _ in 1 2 3; do
+        /usr/bin/time -f '%M KiB at the most' "$bench/out/bench_order" fill "$work/$1$2"/*.m 2>&1
+    done
+    echo
+}
+
+# The instructions of each step for so many definitions of a kind.
+counts() {
+    for step in base order fill; do
+        echo "up to $step: $(instructions "$step" "$work/$1$2"/*.m) thousand instructions"
+    done
+    echo
+}
+
+for kind in chain sum dynamic ring; do
+    for count in 10000 100000; do
+        times "$kind" "$count"
+        counts "$kind" "$count"
+    done
+done
+times dynamic 300000
+times ring 200000
+times chain 1000000

@@ -1,0 +1,27 @@
+//! What holds of the definitions: a source says one thing or has one fault, and not both.
+ghost use Rattle.std.specs.Prelude.{◌≡◌, ℕ, List, Option};
+ghost use Rattle.rule_text.specs.declared.Source.{Source};
+ghost use Rattle.m_symbols.specs.Declarations.{Declared};
+ghost use Rattle.micro_m.specs.declared.base.Base.{Base};
+ghost use Rattle.driver_core.specs.declared.program.Core.{Core};
+ghost use Rattle.m_compile.specs.Sources.{IsValid};
+ghost use Rattle.m_compile.specs.Faults.{IsSourceFault, AreOneFault};
+ghost use Rattle.m_compile.specs.declared.fault.SourceFault.{SourceFault};
+
+/// A valid source declares one thing, its rules are one base, one driver was written or none, and these cells alone are asked for.
+pub fn one_validity()
+    ensures { (source : Source) (declared others : Declared) (base other : Base) (written another : Option Core) (requests asked : List ℕ) →
+        IsValid source declared base written requests → IsValid source others other another asked →
+        (declared ≡ others) × (base ≡ other) × (written ≡ another) × (requests ≡ asked) }
+{}
+
+/// A valid source has no fault, so a source that has one is none.
+pub fn no_valid_and_fault()
+    ensures { (source : Source) (declared : Declared) (base : Base) (written : Option Core) (requests : List ℕ) (fault : SourceFault) →
+        IsValid source declared base written requests → IsSourceFault source fault → ⊥ }
+{}
+
+/// A source has at most one fault, but for which cycle of cells or which ring of functions is shown.
+pub fn one_fault()
+    ensures { (source : Source) (fault other : SourceFault) → IsSourceFault source fault → IsSourceFault source other → AreOneFault fault other }
+{}

@@ -1,0 +1,27 @@
+//! What holds of the definitions: rule files have one base or one fault, and not both.
+ghost use Rattle.std.specs.Prelude.{◌≡◌, ℕ, List};
+ghost use Rattle.rule_text.specs.declared.Text.{Text};
+ghost use Rattle.m_symbols.specs.Declarations.{Declared};
+ghost use Rattle.micro_m.specs.declared.base.Base.{Base};
+ghost use Rattle.micro_m.specs.Reads.{HasNoCycle};
+ghost use Rattle.rule_base.specs.Base.{IsBaseOf};
+ghost use Rattle.rule_base.specs.Faults.{IsRuleFault, AreOneFault};
+ghost use Rattle.rule_base.specs.declared.fault.RuleFault.{RuleFault};
+
+/// The rule files of an application declare one thing, and are one base over it.
+pub fn one_base()
+    ensures { (texts : List Text) (application : List ℕ) (declared others : Declared) (base other : Base) →
+        IsBaseOf texts application declared base → IsBaseOf texts application others other → (declared ≡ others) × (base ≡ other) }
+{}
+
+/// Rule files that are a base without a cycle have no fault, so those that have a fault are no such base.
+pub fn no_base_and_fault()
+    ensures { (texts : List Text) (application : List ℕ) (declared : Declared) (base : Base) (fault : RuleFault) →
+        IsBaseOf texts application declared base → HasNoCycle base → IsRuleFault texts application fault → ⊥ }
+{}
+
+/// Rule files have at most one fault, but for which cycle is shown.
+pub fn one_fault()
+    ensures { (texts : List Text) (application : List ℕ) (fault other : RuleFault) →
+        IsRuleFault texts application fault → IsRuleFault texts application other → AreOneFault fault other }
+{}

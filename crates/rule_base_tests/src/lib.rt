@@ -1,0 +1,12 @@
+//! Tests of rules over cells, of source text through the base of rule files: names that become cells, orders and cycles, and
+//! what the rules are worth.
+#![tactic(auto)]
+
+#[cfg(test)]
+mod orders;
+#[cfg(test)]
+mod resolution;
+#[cfg(test)]
+mod runs;
+#[cfg(test)]
+mod source;

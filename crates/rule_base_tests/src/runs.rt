@@ -1,0 +1,182 @@
+//! The values that ordered rules give, also by their definition, and the first verification that stops.
+ghost use Rattle.std.specs.Prelude.{◌≡◌, IfOk, length};
+ghost use Rattle.micro_m.specs.Bases.{IsValidBase};
+ghost use Rattle.rule_order.specs.Orders.{IsOrder};
+
+use crate::source::{CELLS, add_number, add_space, base_of};
+use m_fixed::{Amount, Value};
+use micro_m::{Base, Failure, slow_value};
+use rule_order::{Ordered, fill_values, first_failure};
+use std::alloc::{AllocError, Global};
+use std::test::Fail;
+
+// More turns than any base of these tests has definitions.
+const TURNS: u32 = 9;
+
+// The number of E's cell.
+const GIVEN: usize = 7;
+
+// The greatest amount that there is, in millionths.
+const GREATEST: i128 = 10_000_000_000_000_000_000;
+
+// Formulas, E in millionths, and the whole units of A to D with the number of the label that stops.
+const RUNS: [(&[u8], Option<i128>, &[u8]); 17] = [
+    (b"B = A - 1 ; A = E + E ;", Some(3_000_000), b"6 5 ? ?"),
+    (b"B = A - 1 ; A = E + E ;", None, b"? -1 ? ?"),
+    (
+        b"D = C * C ; C = B + A ; B = A + 1 ; A = E ;",
+        Some(2_000_000),
+        b"2 3 5 25",
+    ),
+    (b"A = T[E] ; T[X] = X + 5 ;", Some(2_900_000), b"7 ? ? ?"),
+    (b"A = T[E] ; T[X] = X + 5 ;", Some(-900_000), b"5 ? ? ?"),
+    (b"A = T[E] ; T[X] = X + 5 ;", Some(-1_000_000), b"0 ? ? ?"),
+    (b"A = T[E] ; T[X] = X + 5 ;", Some(3_000_000), b"? ? ? ?"),
+    (b"A = T[E] ; T[X] = X + 5 ;", None, b"? ? ? ?"),
+    (
+        b"A = T[E * E] ; T[X] = X + 5 ;",
+        Some(GREATEST),
+        b"over ? ? ?",
+    ),
+    (
+        b"A = si E > 0 alors 1 sinon E * E finsi ;",
+        Some(GREATEST),
+        b"1 ? ? ?",
+    ),
+    (
+        b"A = E ; verif 9 : application : iliad ; si A > 0 alors erreur P ; verif 1 : application : iliad ; si A > 0 alors erreur Q ;",
+        Some(1_000_000),
+        b"1 ? ? ? failed 0",
+    ),
+    (
+        b"A = E ; verif 1 : application : iliad ; si B alors erreur P ; si A alors erreur Q ;",
+        Some(-1_000_000),
+        b"-1 ? ? ? failed 1",
+    ),
+    (
+        b"A = E ; verif 1 : application : iliad ; si A * A > 0 alors erreur P ; si A alors erreur Q ;",
+        Some(GREATEST),
+        b"10000000000000 ? ? ? over 0",
+    ),
+    (
+        b"A = E ; verif 1 : application : iliad ; si A alors erreur P ; si A * A > 0 alors erreur Q ;",
+        Some(GREATEST),
+        b"10000000000000 ? ? ? failed 0",
+    ),
+    (
+        b"A = E ; verif 1 : application : iliad ; si A - A alors erreur P ;",
+        Some(1_000_000),
+        b"1 ? ? ?",
+    ),
+    (
+        b"A = E ; verif 1 : application : batch ; si A alors erreur P ;",
+        Some(1_000_000),
+        b"1 ? ? ?",
+    ),
+    (
+        b"A = E ; verif 1 : application : iliad ; si B > 1 alors erreur P ; regle 2 : application : iliad ; B = A + 1 ;",
+        Some(1_000_000),
+        b"1 2 ? ? failed 0",
+    ),
+];
+
+fn amount(millionths: i128) -> Value {
+    match Amount::new(millionths) {
+        Some(amount) => Value::Num(amount),
+        None => Value::Over,
+    }
+}
+
+// Undefined for each cell, and what is given for E.
+fn environment(alloc: Global, cells: u32, given: Option<i128>) -> Result<Vec<Value>, AllocError>
+    ensures { IfOk result (λ values. length values.items ≡ cells) }
+{
+    let mut values = vec![in alloc; Value::Undef; cells as usize]?;
+    if let Some(millionths) = given {
+        if GIVEN < values.len() {
+            values[GIVEN] = amount(millionths);
+        }
+    }
+    Ok(values)
+}
+
+fn add_value(alloc: Global, text: &mut Vec<u8>, value: Value) -> Result<(), AllocError> {
+    add_space(text)?;
+    match value {
+        Value::Num(amount) => add_number(alloc, text, amount.millionths() / 1_000_000),
+        Value::Undef => text.extend_from_slice(b"?"),
+        Value::Over => text.extend_from_slice(b"over"),
+    }
+}
+
+fn add_failure(alloc: Global, text: &mut Vec<u8>, failure: Failure) -> Result<(), AllocError> {
+    let (words, label): (&[u8], u32) = match failure {
+        Failure::Failed(label) => (b" failed ", label),
+        Failure::Over(label) => (b" over ", label),
+    };
+    text.extend_from_slice(words)?;
+    add_number(alloc, text, label as i128)
+}
+
+// Whether the values of all cells are those of the definition.
+fn are_defined(base: &Base, given: &[Value], values: &[Value]) -> bool {
+    for cell in 0..base.cells {
+        let wanted = slow_value(base, given, cell, TURNS);
+        if values.get(cell as usize).copied() != Some(wanted) {
+            return false;
+        }
+    }
+    true
+}
+
+fn shown(alloc: Global, ordered: &Ordered, values: &[Value]) -> Result<Vec<u8>, AllocError> {
+    let mut text = Vec::new(alloc);
+    for value in values.iter().take(4) {
+        add_value(alloc, &mut text, *value)?;
+    }
+    if let Some(failure) = first_failure(ordered, values) {
+        add_failure(alloc, &mut text, failure)?;
+    }
+    Ok(text)
+}
+
+fn run(alloc: Global, ordered: &Ordered, given: Option<i128>) -> Result<Vec<u8>, AllocError>
+    requires valid { IsValidBase ordered.now.base }
+    requires order { IsOrder ordered.now.base ordered.now.sequence }
+{
+    let given = environment(alloc, ordered.base.cells, given)?;
+    let mut values = given.clone()?;
+    fill_values(ordered, &mut values);
+    if !are_defined(&ordered.base, &given, &values) {
+        return Vec::from_slice(alloc, b"not as defined");
+    }
+    shown(alloc, ordered, &values)
+}
+
+fn answer(alloc: Global, formulas: &[u8], given: Option<i128>) -> Result<Vec<u8>, AllocError> {
+    match base_of(alloc, formulas, CELLS) {
+        Ok(made) => run(alloc, &made.ordered, given),
+        Err(_) => Vec::from_slice(alloc, b"refused"),
+    }
+}
+
+fn gives(
+    alloc: Global,
+    formulas: &[u8],
+    given: Option<i128>,
+    wanted: &[u8],
+) -> Result<bool, AllocError> {
+    let answer = answer(alloc, formulas, given)?;
+    Ok(answer.as_slice() == wanted)
+}
+
+#[test]
+fn values_and_verifications(rt: HostRuntime) -> Result<(), Fail> {
+    for (formulas, given, wanted) in RUNS {
+        assert!(rt;
+            gives(rt.alloc(), formulas, given, wanted)?,
+            "in {formulas:?} at {given:?}"
+        );
+    }
+    Ok(())
+}

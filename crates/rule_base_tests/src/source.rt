@@ -1,0 +1,58 @@
+//! The base that a test's formulas come to.
+ghost use Rattle.std.specs.Prelude.{◌≡◌, ◌≤◌, IfOk, length};
+ghost use Rattle.micro_m.specs.Bases.{IsValidBase};
+ghost use Rattle.rule_order.specs.Orders.{IsOrder};
+
+use m_places::{Name, Seq};
+use rule_base::{RuleBase, RuleFault, rule_base};
+use rule_text::Text;
+use std::alloc::{AllocError, Global};
+
+/// Declarations in which A to D are the cells 0 to 3, T is the cells 4 to 6, and E is the cell 7.
+pub const CELLS: &[u8] =
+    b" A : calculee : \"a\" ; B : calculee : \"b\" ; C : calculee : \"c\" ; D : calculee : \"d\" ; T : tableau[3] calculee : \"t\" ; E : saisie alias 1AA : \"e\" ; P : anomalie : \"p\" : \"p\" : \"p\" : \"p\" ; Q : anomalie : \"q\" : \"q\" : \"q\" : \"q\" ;";
+
+/// The base of a rule of iliad with these formulas, whatever stands behind them, and declarations.
+pub fn base_of(alloc: Global, formulas: &[u8], declared: &[u8]) -> Result<RuleBase, RuleFault>
+    ensures valid { IfOk result (λ made. IsValidBase made.ordered.base) }
+    ensures order { IfOk result (λ made. IsOrder made.ordered.base made.ordered.sequence) }
+{
+    let bytes = source(alloc, formulas, declared)?;
+    if bytes.len() > 4_096 {
+        return Err(RuleFault::Memory);
+    }
+    base_over(alloc, bytes)
+}
+
+fn source(alloc: Global, formulas: &[u8], declared: &[u8]) -> Result<Vec<u8>, AllocError> {
+    let mut text = Vec::from_slice(alloc, b"regle 1 : application : iliad ; ")?;
+    text.extend_from_slice(formulas)?;
+    text.extend_from_slice(declared)?;
+    Ok(text)
+}
+
+fn base_over(alloc: Global, bytes: Vec<u8>) -> Result<RuleBase, RuleFault>
+    requires { length bytes.items ≤ 4096 }
+    ensures valid { IfOk result (λ made. IsValidBase made.ordered.base) }
+    ensures order { IfOk result (λ made. IsOrder made.ordered.base made.ordered.sequence) }
+{
+    let text = Text {
+        name: Name::new(alloc, b"rules.m")?,
+        bytes: Seq::from_vec(bytes),
+    };
+    rule_base(alloc, &[text], b"iliad")
+}
+
+/// Appends a number in decimal.
+pub fn add_number(alloc: Global, text: &mut Vec<u8>, number: i128) -> Result<(), AllocError> {
+    let digits = format!(in alloc; "{number}")?;
+    text.extend_from_slice(digits.as_bytes())
+}
+
+/// Appends a space, unless nothing stands there yet.
+pub fn add_space(text: &mut Vec<u8>) -> Result<(), AllocError> {
+    if !text.is_empty() {
+        text.push(b' ')?;
+    }
+    Ok(())
+}
