@@ -1,9 +1,11 @@
--- The clauses on the text, where nothing failed and where a write did.
-use Rattle.std.proofs.Common.{◌≡◌, ℕ, List, Some, Ok, Err, refl, sym, ◌∙◌, subst, inl, inr}
+-- The clauses on the text, where nothing failed, where a write did, and where there was no memory.
+use Rattle.std.proofs.Common.{◌≡◌, ℕ, List, Some, Ok, Err, refl, sym, ap, ◌∙◌, subst, inl, inr}
+use Rattle.std.specs.Prelude.{◌⊎◌, ◌++◌}
 use Rattle.std.specs.Io.KnownBytes.{append_known}
 use Rattle.m_ports.specs.Sink.{AppendsPrefix}
-use Rattle.m_plan.specs.Printing.{Prints, printed, no_memory}
 use Rattle.fault_lines.specs.Lines.{usage_line, unreadable_line}
+use Rattle.m_plan.specs.Plan.{end_of, gathered}
+use Rattle.m_plan.specs.Printing.{Prints}
 use Rattle.m_plan.specs.Refusals.{refusal_line}
 use Rattle.m_plan.specs.Status.{IsFaultless, IsOfEnd}
 use Rattle.m_plan.specs.Trips.{GoesAlong}
@@ -11,15 +13,16 @@ use Rattle.m_plan.specs.Views.{Disk, FilesView, InputView, OutputView}
 use Rattle.m_plan.specs.declared.ending.Ending.TheVariants as ending
 use Rattle.m_plan.specs.declared.refusal.Refusal.{Refusal}
 use Rattle.m_plan.specs.declared.status.Status.{Status}
-use Rattle.m_plan.specs.declared.status.Status.TheVariants.{Refused, Usage, ReadFault, WriteFault}
+use Rattle.m_plan.specs.declared.status.Status.TheVariants.{Done, Memory, Refused, Usage, ReadFault, WriteFault}
 use Rattle.m_plan.proofs.Walks.{walks_to_end, walks_fit}
-use Rattle.m_commands.specs.Answer.{Replies}
+use Rattle.m_commands.specs.Answer.{InFull, Replies}
 use Rattle.m_commands.specs.Command.{command_of, plan_of}
-use Rattle.m_commands.specs.Clauses.{PrintsOutput, WritesFront, IsWhole, output, unreadable}
+use Rattle.m_commands.specs.Clauses.{IsTyped, PrintsOutput, StopsInFront, WritesFront, IsWhole, output, unreadable, cut_off, in_full, cuts_off}
 use Rattle.m_commands.specs.Output.{Output, usage, refuses, answers}
 use Rattle.m_commands.specs.declared.command.Command.{Command}
 use Rattle.m_commands.specs.declared.work.Work.{Work}
-use Rattle.m_commands.specs.inner.Courses.{Course, is_no_command, has_no_memory, ended, answered}
+use Rattle.m_commands.specs.inner.Courses.{Course, IsWorkOf, is_no_command, has_no_memory, ended, answered}
+use Rattle.m_commands.proofs.Ways.{Way, way_of, tells, lacks_memory, breaks_off, serves_all, serves_part, serves_most, serves_front, serve_reads, typed_all, typed_rest, typed_left}
 
 -- a plan that was refused has an output
 refused_output : (words : List (List ℕ)) (disk : Disk) (typed : List ℕ) (before after : FilesView) (command : Command) (refusal : Refusal) → before.told ≡ Some disk → command_of words ≡ Some command
@@ -27,11 +30,10 @@ refused_output : (words : List (List ℕ)) (disk : Disk) (typed : List ℕ) (bef
 refused_output words disk typed before after command refusal t c g =
     refuses command c (walks_to_end before.told disk (plan_of command) g.made g.spent (Err (ending.Refused refusal)) g.walk t)
 
--- a plan that was gathered has the output that its work replies
-answered_output : (words : List (List ℕ)) (disk : Disk) (typed text : List ℕ) (own : Status) (before after : FilesView) (command : Command) (work : Work) → before.told ≡ Some disk → command_of words ≡ Some command
-    → GoesAlong (plan_of command) before after (Ok work) → Replies work typed text own → Output words disk typed text own
-answered_output words disk typed text own before after command work t c g r =
-    answers command work c (walks_to_end before.told disk (plan_of command) g.made g.spent (Ok work) g.walk t) r
+-- what a plan has gathered
+pub gathers : (disk : Disk) (before after : FilesView) (command : Command) (work : Work) → before.told ≡ Some disk → GoesAlong (plan_of command) before after (Ok work)
+    → end_of disk (plan_of command) ≡ gathered work
+gathers disk before after command work t g = walks_to_end before.told disk (plan_of command) g.made g.spent (Ok work) g.walk t
 
 -- an output that was printed
 shown : (words : List (List ℕ)) (disk : Disk) (typed text : List ℕ) (own : Status) (old new : OutputView) (status : Status)
@@ -45,34 +47,98 @@ read_failed : (text : List ℕ) (old new : OutputView) (status : Status) → Pri
 read_failed text old new status (inl p) f = subst IsFaultless p.1 f
 read_failed text old new status (inr p) f = subst IsFaultless p.1 f
 
-pub text_of : (words : List (List ℕ)) (before after : FilesView) (input : InputView) (old new : OutputView) (status : Status) → Course words before after old new status → PrintsOutput words before input old new status
-text_of words before after input old new status (is_no_command n s p) disk typed t i f = shown words disk typed usage_line Usage old new status p f (usage n)
-text_of words before after input old new status (has_no_memory s o e) disk typed t i f = absurd (subst IsFaultless e f)
-text_of words before after input old new status (ended command (ending.Refused refusal) c g p) disk typed t i f =
+-- ---- where nothing failed
+
+text_way : (words : List (List ℕ)) (disk : Disk) (typed : List ℕ) (heard told : InputView) (old new : OutputView) (status : Status) (command : Command) (work : Work)
+    → command_of words ≡ Some command → end_of disk (plan_of command) ≡ gathered work → IsWorkOf command work → IsTyped words heard typed → IsFaultless status → Way work heard told old new status
+    → (text : List ℕ) × (new.written ≡ append_known old.written text) × Output words disk typed text status
+text_way words disk typed heard told old new status command work c g k i f (tells text own r o same p) =
+    shown words disk typed text own old new status p f (answers command work c g (r typed))
+text_way words disk typed heard told old new status command work c g k i f (lacks_memory same n m) = absurd (subst IsFaultless m f)
+text_way words disk typed heard told old new status command work c g k i f (breaks_off text own r b same a n m) = absurd (subst IsFaultless m f)
+text_way words disk typed heard told old new status command work c g k i f (serves_all taken text s moved none calm r a is) =
+    let e = typed_all told.left typed taken (sym (i (serve_reads words command work c k s)) ∙ moved) none in
+    (text, a.0, subst (λ (x : Status). Output words disk typed text x) (sym is) (answers command work c g (subst (λ (b : List ℕ). Replies work b text Done) (sym e) r)))
+text_way words disk typed heard told old new status command work c g k i f (serves_part taken text s moved rose cut p) = absurd (read_failed text old new status p f)
+text_way words disk typed heard told old new status command work c g k i f (serves_most taken text s moved full calm r p) =
+    let e = typed_rest told.left typed taken (sym (i (serve_reads words command work c k s)) ∙ moved) in
+    shown words disk typed text Refused old new status p f (answers command work c g (subst (λ (b : List ℕ). Replies work b text Refused) (sym e.1) (r e.0)))
+text_way words disk typed heard told old new status command work c g k i f (serves_front taken rest text s moved left calm full b is) = absurd (subst IsFaultless is f)
+
+pub text_of : (words : List (List ℕ)) (before after : FilesView) (heard told : InputView) (old new : OutputView) (status : Status) → Course words before after heard told old new status → PrintsOutput words before heard old new status
+text_of words before after heard told old new status (is_no_command n s h p) disk typed t i f = shown words disk typed usage_line Usage old new status p f (usage n)
+text_of words before after heard told old new status (has_no_memory s h o e) disk typed t i f = absurd (subst IsFaultless e f)
+text_of words before after heard told old new status (ended command (ending.Refused refusal) c g h p) disk typed t i f =
     shown words disk typed (refusal_line refusal) Refused old new status p f (refused_output words disk typed before after command refusal t c g)
-text_of words before after input old new status (ended command (ending.Unreadable name) c g p) disk typed t i f = absurd (read_failed (unreadable_line name) old new status p f)
-text_of words before after input old new status (ended command ending.Memory c g p) disk typed t i f = absurd (subst IsFaultless p.1 f)
-text_of words before after input old new status (answered command work c g (printed text own r o p)) disk typed t i f =
-    shown words disk typed text own old new status p f (answered_output words disk typed text own before after command work t c g (r typed))
-text_of words before after input old new status (answered command work c g (no_memory n e)) disk typed t i f = absurd (subst IsFaultless e f)
+text_of words before after heard told old new status (ended command (ending.Unreadable name) c g h p) disk typed t i f = absurd (read_failed (unreadable_line name) old new status p f)
+text_of words before after heard told old new status (ended command ending.Memory c g h p) disk typed t i f = absurd (subst IsFaultless p.1 f)
+text_of words before after heard told old new status (answered command work c g k a) disk typed t i f =
+    text_way words disk typed heard told old new status command work c (gathers disk before after command work t g) k i f (way_of work heard told old new status a)
+
+-- ---- where a write failed
 
 -- a front of a whole text was written
-front : (words : List (List ℕ)) (disk : Disk) (typed text : List ℕ) (own : Status) (before after : FilesView) (old new : OutputView) (status : Status)
-    → Prints text own old new status → (own ≡ WriteFault → ⊥) → status ≡ WriteFault → IsWhole words disk typed before after text
-    → (all : List ℕ) × IsWhole words disk typed before after all × AppendsPrefix old.written new.written all
-front words disk typed text own before after old new status (inl p) unlike e w = absurd (unlike (sym p.1 ∙ e))
-front words disk typed text own before after old new status (inr p) unlike e w = (text, w, p.0.0)
+front : (words : List (List ℕ)) (disk : Disk) (typed text : List ℕ) (own : Status) (before after : FilesView) (heard told : InputView) (old new : OutputView) (status : Status)
+    → Prints text own old new status → (own ≡ WriteFault → ⊥) → status ≡ WriteFault → IsWhole words disk typed before after heard told text
+    → (all : List ℕ) × IsWhole words disk typed before after heard told all × AppendsPrefix old.written new.written all
+front words disk typed text own before after heard told old new status (inl p) unlike e w = absurd (unlike (sym p.1 ∙ e))
+front words disk typed text own before after heard told old new status (inr p) unlike e w = (text, w, p.0.0)
 
-pub writing_of : (words : List (List ℕ)) (before after : FilesView) (input : InputView) (old new : OutputView) (status : Status) → Course words before after old new status → WritesFront words before after input old new status
-writing_of words before after input old new status (is_no_command n s p) disk typed t i e =
-    front words disk typed usage_line Usage before after old new status p (λ x. cc) e (output (usage n))
-writing_of words before after input old new status (has_no_memory s o m) disk typed t i e = cc (m, e)
-writing_of words before after input old new status (ended command (ending.Refused refusal) c g p) disk typed t i e =
-    front words disk typed (refusal_line refusal) Refused before after old new status p (λ x. cc) e (output (refused_output words disk typed before after command refusal t c g))
-writing_of words before after input old new status (ended command (ending.Unreadable name) c g p) disk typed t i e =
-    front words disk typed (unreadable_line name) ReadFault before after old new status p (λ x. cc) e
+writing_way : (words : List (List ℕ)) (disk : Disk) (typed : List ℕ) (before after : FilesView) (heard told : InputView) (old new : OutputView) (status : Status) (command : Command) (work : Work)
+    → command_of words ≡ Some command → end_of disk (plan_of command) ≡ gathered work → IsWorkOf command work → IsTyped words heard typed → status ≡ WriteFault → Way work heard told old new status
+    → (text : List ℕ) × IsWhole words disk typed before after heard told text × AppendsPrefix old.written new.written text
+writing_way words disk typed before after heard told old new status command work c g k i e (tells text own r o same p) =
+    front words disk typed text own before after heard told old new status p (λ x. subst IsOfEnd x o) e (output (answers command work c g (r typed)))
+writing_way words disk typed before after heard told old new status command work c g k i e (lacks_memory same n m) = cc (m, e)
+writing_way words disk typed before after heard told old new status command work c g k i e (breaks_off text own r b same a n m) = cc (m, e)
+writing_way words disk typed before after heard told old new status command work c g k i e (serves_all taken text s moved none calm r a is) = cc (is, e)
+writing_way words disk typed before after heard told old new status command work c g k i e (serves_part taken text s moved rose cut p) =
+    front words disk typed text ReadFault before after heard told old new status p (λ x. cc) e (cut_off taken moved (cuts_off command work c g cut))
+writing_way words disk typed before after heard told old new status command work c g k i e (serves_most taken text s moved full calm r p) =
+    let t = typed_rest told.left typed taken (sym (i (serve_reads words command work c k s)) ∙ moved) in
+    front words disk typed text Refused before after heard told old new status p (λ x. cc) e
+    (output (answers command work c g (subst (λ (b : List ℕ). Replies work b text Refused) (sym t.1) (r t.0))))
+writing_way words disk typed before after heard told old new status command work c g k i e (serves_front taken rest text s moved left calm full b is) =
+    let t = typed_left told.left typed taken rest (sym (i (serve_reads words command work c k s)) ∙ moved) left in
+    (text, in_full command work c g (subst (λ (b : List ℕ). InFull work b text) (sym t) full), b.0)
+
+pub writing_of : (words : List (List ℕ)) (before after : FilesView) (heard told : InputView) (old new : OutputView) (status : Status) → Course words before after heard told old new status
+    → WritesFront words before after heard told old new status
+writing_of words before after heard told old new status (is_no_command n s h p) disk typed t i e =
+    front words disk typed usage_line Usage before after heard told old new status p (λ x. cc) e (output (usage n))
+writing_of words before after heard told old new status (has_no_memory s h o m) disk typed t i e = cc (m, e)
+writing_of words before after heard told old new status (ended command (ending.Refused refusal) c g h p) disk typed t i e =
+    front words disk typed (refusal_line refusal) Refused before after heard told old new status p (λ x. cc) e (output (refused_output words disk typed before after command refusal t c g))
+writing_of words before after heard told old new status (ended command (ending.Unreadable name) c g h p) disk typed t i e =
+    front words disk typed (unreadable_line name) ReadFault before after heard told old new status p (λ x. cc) e
     (unreadable g.attempts (walks_fit before.told (plan_of command) g.made g.spent (Err (ending.Unreadable name)) g.walk) refl)
-writing_of words before after input old new status (ended command ending.Memory c g p) disk typed t i e = cc (p.1, e)
-writing_of words before after input old new status (answered command work c g (printed text own r o p)) disk typed t i e =
-    front words disk typed text own before after old new status p (λ x. subst IsOfEnd x o) e (output (answered_output words disk typed text own before after command work t c g (r typed)))
-writing_of words before after input old new status (answered command work c g (no_memory n m)) disk typed t i e = cc (m, e)
+writing_of words before after heard told old new status (ended command ending.Memory c g h p) disk typed t i e = cc (p.1, e)
+writing_of words before after heard told old new status (answered command work c g k a) disk typed t i e =
+    writing_way words disk typed before after heard told old new status command work c (gathers disk before after command work t g) k i e (way_of work heard told old new status a)
+
+-- ---- where there was no memory
+
+-- a text that was printed doesn't end so
+no_memory_told : (text : List ℕ) (own : Status) (old new : OutputView) (status : Status) → Prints text own old new status → (own ≡ Memory → ⊥) → status ≡ Memory → ⊥
+no_memory_told text own old new status (inl p) unlike m = unlike (sym p.1 ∙ m)
+no_memory_told text own old new status (inr p) unlike m = cc (p.1, m)
+
+stopping_way : (words : List (List ℕ)) (disk : Disk) (typed : List ℕ) (heard told : InputView) (old new : OutputView) (status : Status) (command : Command) (work : Work)
+    → command_of words ≡ Some command → end_of disk (plan_of command) ≡ gathered work → status ≡ Memory → Way work heard told old new status
+    → (new.written ≡ old.written) ⊎ ((text : List ℕ) × (own : Status) × Output words disk typed text own × AppendsPrefix old.written new.written text)
+stopping_way words disk typed heard told old new status command work c g m (tells text own r o same p) = absurd (no_memory_told text own old new status p (λ x. subst IsOfEnd x o) m)
+stopping_way words disk typed heard told old new status command work c g m (lacks_memory same n e) = inl (ap (λ (o : OutputView). o.written) n)
+stopping_way words disk typed heard told old new status command work c g m (breaks_off text own r b same a n e) = inr (text, own, answers command work c g (r typed), a)
+stopping_way words disk typed heard told old new status command work c g m (serves_all taken text s moved none calm r a is) = cc (is, m)
+stopping_way words disk typed heard told old new status command work c g m (serves_part taken text s moved rose cut p) = absurd (no_memory_told text ReadFault old new status p (λ x. cc) m)
+stopping_way words disk typed heard told old new status command work c g m (serves_most taken text s moved full calm r p) = absurd (no_memory_told text Refused old new status p (λ x. cc) m)
+stopping_way words disk typed heard told old new status command work c g m (serves_front taken rest text s moved left calm full b is) = cc (is, m)
+
+pub stopping_of : (words : List (List ℕ)) (before after : FilesView) (heard told : InputView) (old new : OutputView) (status : Status) → Course words before after heard told old new status → StopsInFront words before old new status
+stopping_of words before after heard told old new status (is_no_command n s h p) disk typed t m = absurd (no_memory_told usage_line Usage old new status p (λ x. cc) m)
+stopping_of words before after heard told old new status (has_no_memory s h o e) disk typed t m = inl (ap (λ (x : OutputView). x.written) o)
+stopping_of words before after heard told old new status (ended command (ending.Refused refusal) c g h p) disk typed t m = absurd (no_memory_told (refusal_line refusal) Refused old new status p (λ x. cc) m)
+stopping_of words before after heard told old new status (ended command (ending.Unreadable name) c g h p) disk typed t m = absurd (no_memory_told (unreadable_line name) ReadFault old new status p (λ x. cc) m)
+stopping_of words before after heard told old new status (ended command ending.Memory c g h p) disk typed t m = inl (ap (λ (x : OutputView). x.written) p.0)
+stopping_of words before after heard told old new status (answered command work c g k a) disk typed t m =
+    stopping_way words disk typed heard told old new status command work c (gathers disk before after command work t g) m (way_of work heard told old new status a)

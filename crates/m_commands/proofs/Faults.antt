@@ -1,67 +1,149 @@
--- What the output and the status say of each other.
-use Rattle.std.proofs.Common.{◌≡◌, ◌<◌, ℕ, List, sym, ap, ◌∙◌, subst, arith, inl, inr}
+-- What the output, the input and the status say of each other.
+use Rattle.std.proofs.Common.{◌≡◌, ◌<◌, ℕ, Bool, true, false, List, Some, None, refl, sym, ap, ◌∙◌, subst, arith, inl, inr}
 use Rattle.std.specs.Prelude.{◌⊎◌}
 use Rattle.m_ports.specs.Counts.{Rose}
-use Rattle.m_plan.specs.Printing.{Prints, printed, no_memory}
 use Rattle.fault_lines.specs.Lines.{usage_line, unreadable_line}
+use Rattle.m_plan.specs.Printing.{Prints}
 use Rattle.m_plan.specs.Refusals.{refusal_line}
 use Rattle.m_plan.specs.Status.{IsOfEnd}
-use Rattle.m_plan.specs.Views.{FilesView, OutputView}
+use Rattle.m_plan.specs.Views.{FilesView, InputView, OutputView}
 use Rattle.m_plan.specs.declared.ending.Ending.TheVariants as ending
 use Rattle.m_plan.specs.declared.status.Status.{Status}
-use Rattle.m_plan.specs.declared.status.Status.TheVariants.{Refused, Usage, ReadFault, WriteFault, Memory}
+use Rattle.m_plan.specs.declared.status.Status.TheVariants.{Done, Refused, Usage, ReadFault, WriteFault, Memory}
 use Rattle.m_commands.specs.Clauses.{IsToldUsage}
-use Rattle.m_commands.specs.inner.Courses.{Course, is_no_command, has_no_memory, ended, answered}
+use Rattle.m_commands.specs.Command.{command_of, reads_input, writes_early}
+use Rattle.m_commands.specs.declared.command.Command.{Command}
+use Rattle.m_commands.specs.declared.work.Work.{Work}
+use Rattle.m_commands.specs.inner.Courses.{Course, IsWorkOf, is_no_command, has_no_memory, ended, answered}
+use Rattle.m_commands.proofs.Ways.{Way, way_of, tells, lacks_memory, breaks_off, serves_all, serves_part, serves_most, serves_front, serve_reads, batch_writes}
 
--- a text was printed whose own status is no fault of the output or of memory, or nothing was
-pub data Printed (old new : OutputView) (status : Status) : Type 0 where
-  some : (text : List ℕ) (own : Status) → (own ≡ WriteFault → ⊥) → (own ≡ Memory → ⊥) → Prints text own old new status → Printed old new status
-  nothing : new ≡ old → status ≡ Memory → Printed old new status
+-- ---- the count of faults of the output
 
-pub printed_of : (words : List (List ℕ)) (before after : FilesView) (old new : OutputView) (status : Status) → Course words before after old new status → Printed old new status
-printed_of words before after old new status (is_no_command n s p) = some usage_line Usage (λ e. cc) (λ e. cc) p
-printed_of words before after old new status (has_no_memory s o e) = nothing o e
-printed_of words before after old new status (ended command (ending.Refused refusal) c g p) = some (refusal_line refusal) Refused (λ e. cc) (λ e. cc) p
-printed_of words before after old new status (ended command (ending.Unreadable name) c g p) = some (unreadable_line name) ReadFault (λ e. cc) (λ e. cc) p
-printed_of words before after old new status (ended command ending.Memory c g p) = nothing p.0 p.1
-printed_of words before after old new status (answered command work c g (printed text own r o p)) = some text own (λ e. subst IsOfEnd e o) (λ e. subst IsOfEnd e o) p
-printed_of words before after old new status (answered command work c g (no_memory n e)) = nothing n e
+-- a write fault is told only where one happened and always where one did
+pub record Counted (old new : OutputView) (status : Status) : Type 0 where
+  pub only : status ≡ WriteFault → Rose old.faults new.faults
+  pub always : old.faults < new.faults → status ≡ WriteFault
 
--- a write fault is told only where one happened
-pub write_fault_of : (old new : OutputView) (status : Status) → Printed old new status → status ≡ WriteFault → Rose old.faults new.faults
-write_fault_of old new status (some text own w m (inl p)) e = absurd (w (sym p.1 ∙ e))
-write_fault_of old new status (some text own w m (inr p)) e = p.0.1
-write_fault_of old new status (nothing n s) e = cc (s, e)
+-- no write failed
+calm : (old new : OutputView) (status : Status) → new.faults ≡ old.faults → (status ≡ WriteFault → ⊥) → Counted old new status
+calm old new status same unlike = record { only = λ e. absurd (unlike e); always = λ h. absurd (omega (arith, same, h)) }
 
--- and always where one did
-pub write_told_of : (old new : OutputView) (status : Status) → Printed old new status → old.faults < new.faults → status ≡ WriteFault
-write_told_of old new status (some text own w m (inl p)) h = absurd (omega (arith, p.0.1, h))
-write_told_of old new status (some text own w m (inr p)) h = p.1
-write_told_of old new status (nothing n s) h = absurd (omega (arith, ap (λ (o : OutputView). o.faults) n, h))
+prints_counted : (text : List ℕ) (own : Status) (old new : OutputView) (status : Status) → Prints text own old new status → (own ≡ WriteFault → ⊥) → Counted old new status
+prints_counted text own old new status (inl p) unlike = calm old new status p.0.1 (λ e. unlike (sym p.1 ∙ e))
+prints_counted text own old new status (inr p) unlike = record { only = λ e. p.0.1; always = λ h. p.1 }
 
--- without memory nothing was written
-pub memory_of : (old new : OutputView) (status : Status) → Printed old new status → status ≡ Memory → new.written ≡ old.written
-memory_of old new status (some text own w m (inl p)) e = absurd (m (sym p.1 ∙ e))
-memory_of old new status (some text own w m (inr p)) e = cc (p.1, e)
-memory_of old new status (nothing n s) e = ap (λ (o : OutputView). o.written) n
+still_counted : (old new : OutputView) (status : Status) → new ≡ old → status ≡ Memory → Counted old new status
+still_counted old new status same m = calm old new status (ap (λ (o : OutputView). o.faults) same) (λ e. cc (m, e))
+
+counted_way : (work : Work) (heard told : InputView) (old new : OutputView) (status : Status) → Way work heard told old new status → Counted old new status
+counted_way work heard told old new status (tells text own r o same p) = prints_counted text own old new status p (λ x. subst IsOfEnd x o)
+counted_way work heard told old new status (lacks_memory same n m) = still_counted old new status n m
+counted_way work heard told old new status (breaks_off text own r b same a n m) = calm old new status n (λ e. cc (m, e))
+counted_way work heard told old new status (serves_all taken text s moved none quiet r a is) = calm old new status a.1 (λ e. cc (is, e))
+counted_way work heard told old new status (serves_part taken text s moved rose cut p) = prints_counted text ReadFault old new status p (λ x. cc)
+counted_way work heard told old new status (serves_most taken text s moved full quiet r p) = prints_counted text Refused old new status p (λ x. cc)
+counted_way work heard told old new status (serves_front taken rest text s moved left quiet full b is) = record { only = λ e. b.1; always = λ h. is }
+
+pub counted_of : (words : List (List ℕ)) (before after : FilesView) (heard told : InputView) (old new : OutputView) (status : Status) → Course words before after heard told old new status → Counted old new status
+counted_of words before after heard told old new status (is_no_command n s h p) = prints_counted usage_line Usage old new status p (λ x. cc)
+counted_of words before after heard told old new status (has_no_memory s h o m) = still_counted old new status o m
+counted_of words before after heard told old new status (ended command (ending.Refused refusal) c g h p) = prints_counted (refusal_line refusal) Refused old new status p (λ x. cc)
+counted_of words before after heard told old new status (ended command (ending.Unreadable name) c g h p) = prints_counted (unreadable_line name) ReadFault old new status p (λ x. cc)
+counted_of words before after heard told old new status (ended command ending.Memory c g h p) = still_counted old new status p.0 p.1
+counted_of words before after heard told old new status (answered command work c g k a) = counted_way work heard told old new status (way_of work heard told old new status a)
+
+-- ---- memory
+
+not_memory : (text : List ℕ) (own : Status) (old new : OutputView) (status : Status) → Prints text own old new status → (own ≡ Memory → ⊥) → status ≡ Memory → ⊥
+not_memory text own old new status (inl p) unlike m = unlike (sym p.1 ∙ m)
+not_memory text own old new status (inr p) unlike m = cc (p.1, m)
+
+no_bool : (b : Bool) → b ≡ true → b ≡ false → ⊥
+no_bool b t f = cc (t, f)
+
+-- without memory nothing was written, but by a command that writes in parts
+memory_way : (words : List (List ℕ)) (command : Command) (work : Work) (heard told : InputView) (old new : OutputView) (status : Status) → command_of words ≡ Some command → IsWorkOf command work
+    → Way work heard told old new status → status ≡ Memory → writes_early words ≡ false → new.written ≡ old.written
+memory_way words command work heard told old new status c k (tells text own r o same p) m early = absurd (not_memory text own old new status p (λ x. subst IsOfEnd x o) m)
+memory_way words command work heard told old new status c k (lacks_memory same n e) m early = ap (λ (o : OutputView). o.written) n
+memory_way words command work heard told old new status c k (breaks_off text own r b same a n e) m early = absurd (no_bool (writes_early words) (batch_writes words command work c k b) early)
+memory_way words command work heard told old new status c k (serves_all taken text s moved none quiet r a is) m early = cc (is, m)
+memory_way words command work heard told old new status c k (serves_part taken text s moved rose cut p) m early = absurd (not_memory text ReadFault old new status p (λ x. cc) m)
+memory_way words command work heard told old new status c k (serves_most taken text s moved full quiet r p) m early = absurd (not_memory text Refused old new status p (λ x. cc) m)
+memory_way words command work heard told old new status c k (serves_front taken rest text s moved left quiet full b is) m early = cc (is, m)
+
+pub memory_of : (words : List (List ℕ)) (before after : FilesView) (heard told : InputView) (old new : OutputView) (status : Status) → Course words before after heard told old new status
+    → status ≡ Memory → writes_early words ≡ false → new.written ≡ old.written
+memory_of words before after heard told old new status (is_no_command n s h p) m early = absurd (not_memory usage_line Usage old new status p (λ x. cc) m)
+memory_of words before after heard told old new status (has_no_memory s h o e) m early = ap (λ (v : OutputView). v.written) o
+memory_of words before after heard told old new status (ended command (ending.Refused refusal) c g h p) m early = absurd (not_memory (refusal_line refusal) Refused old new status p (λ x. cc) m)
+memory_of words before after heard told old new status (ended command (ending.Unreadable name) c g h p) m early = absurd (not_memory (unreadable_line name) ReadFault old new status p (λ x. cc) m)
+memory_of words before after heard told old new status (ended command ending.Memory c g h p) m early = ap (λ (v : OutputView). v.written) p.0
+memory_of words before after heard told old new status (answered command work c g k a) m early =
+    memory_way words command work heard told old new status c k (way_of work heard told old new status a) m early
+
+-- ---- the input
+
+-- without memory nothing was taken
+quiet_way : (work : Work) (heard told : InputView) (old new : OutputView) (status : Status) → Way work heard told old new status → status ≡ Memory → told ≡ heard
+quiet_way work heard told old new status (tells text own r o same p) m = same
+quiet_way work heard told old new status (lacks_memory same n e) m = same
+quiet_way work heard told old new status (breaks_off text own r b same a n e) m = same
+quiet_way work heard told old new status (serves_all taken text s moved none quiet r a is) m = cc (is, m)
+quiet_way work heard told old new status (serves_part taken text s moved rose cut p) m = absurd (not_memory text ReadFault old new status p (λ x. cc) m)
+quiet_way work heard told old new status (serves_most taken text s moved full quiet r p) m = absurd (not_memory text Refused old new status p (λ x. cc) m)
+quiet_way work heard told old new status (serves_front taken rest text s moved left quiet full b is) m = cc (is, m)
+
+pub quiet_of : (words : List (List ℕ)) (before after : FilesView) (heard told : InputView) (old new : OutputView) (status : Status) → Course words before after heard told old new status → status ≡ Memory → told ≡ heard
+quiet_of words before after heard told old new status (is_no_command n s h p) m = h
+quiet_of words before after heard told old new status (has_no_memory s h o e) m = h
+quiet_of words before after heard told old new status (ended command ending c g h p) m = h
+quiet_of words before after heard told old new status (answered command work c g k a) m = quiet_way work heard told old new status (way_of work heard told old new status a) m
+
+-- a command that doesn't read the input leaves it
+left_way : (words : List (List ℕ)) (command : Command) (work : Work) (heard told : InputView) (old new : OutputView) (status : Status) → command_of words ≡ Some command → IsWorkOf command work
+    → Way work heard told old new status → reads_input words ≡ false → told ≡ heard
+left_way words command work heard told old new status c k (tells text own r o same p) f = same
+left_way words command work heard told old new status c k (lacks_memory same n e) f = same
+left_way words command work heard told old new status c k (breaks_off text own r b same a n e) f = same
+left_way words command work heard told old new status c k (serves_all taken text s moved none quiet r a is) f = absurd (no_bool (reads_input words) (serve_reads words command work c k s) f)
+left_way words command work heard told old new status c k (serves_part taken text s moved rose cut p) f = absurd (no_bool (reads_input words) (serve_reads words command work c k s) f)
+left_way words command work heard told old new status c k (serves_most taken text s moved full quiet r p) f = absurd (no_bool (reads_input words) (serve_reads words command work c k s) f)
+left_way words command work heard told old new status c k (serves_front taken rest text s moved left quiet full b is) f = absurd (no_bool (reads_input words) (serve_reads words command work c k s) f)
+
+pub left_of : (words : List (List ℕ)) (before after : FilesView) (heard told : InputView) (old new : OutputView) (status : Status) → Course words before after heard told old new status → reads_input words ≡ false → told ≡ heard
+left_of words before after heard told old new status (is_no_command n s h p) f = h
+left_of words before after heard told old new status (has_no_memory s h o e) f = h
+left_of words before after heard told old new status (ended command ending c g h p) f = h
+left_of words before after heard told old new status (answered command work c g k a) f = left_way words command work heard told old new status c k (way_of work heard told old new status a) f
+
+-- ---- the usage line
 
 -- a text was printed whose own status isn't that of the usage line
 no_usage : (text : List ℕ) (own : Status) (old new : OutputView) (status : Status) → (own ≡ Usage → ⊥) → Prints text own old new status → status ≡ Usage → ⊥
 no_usage text own old new status u (inl p) e = u (sym p.1 ∙ e)
 no_usage text own old new status u (inr p) e = cc (p.1, e)
 
-pub usage_of : (words : List (List ℕ)) (before after : FilesView) (old new : OutputView) (status : Status) → Course words before after old new status → IsToldUsage words status
-usage_of words before after old new status (is_no_command n s p) = record { only = λ e. n; always = λ none. told p }
+usage_way : (work : Work) (heard told : InputView) (old new : OutputView) (status : Status) → Way work heard told old new status → status ≡ Usage → ⊥
+usage_way work heard told old new status (tells text own r o same p) u = no_usage text own old new status (λ x. subst IsOfEnd x o) p u
+usage_way work heard told old new status (lacks_memory same n m) u = cc (m, u)
+usage_way work heard told old new status (breaks_off text own r b same a n m) u = cc (m, u)
+usage_way work heard told old new status (serves_all taken text s moved none quiet r a is) u = cc (is, u)
+usage_way work heard told old new status (serves_part taken text s moved rose cut p) u = no_usage text ReadFault old new status (λ x. cc) p u
+usage_way work heard told old new status (serves_most taken text s moved full quiet r p) u = no_usage text Refused old new status (λ x. cc) p u
+usage_way work heard told old new status (serves_front taken rest text s moved left quiet full b is) u = cc (is, u)
+
+pub usage_of : (words : List (List ℕ)) (before after : FilesView) (heard told : InputView) (old new : OutputView) (status : Status) → Course words before after heard told old new status → IsToldUsage words status
+usage_of words before after heard told old new status (is_no_command n s h p) = record { only = λ e. n; always = λ none. printed p }
   where
-    told : Prints usage_line Usage old new status → (status ≡ Usage) ⊎ (status ≡ WriteFault) ⊎ (status ≡ Memory)
-    told (inl q) = inl q.1
-    told (inr q) = inr (inl q.1)
-usage_of words before after old new status (has_no_memory s o e) = record { only = λ u. cc (e, u); always = λ none. inr (inr e) }
-usage_of words before after old new status (ended command (ending.Refused refusal) c g p) =
+    printed : Prints usage_line Usage old new status → (status ≡ Usage) ⊎ (status ≡ WriteFault) ⊎ (status ≡ Memory)
+    printed (inl q) = inl q.1
+    printed (inr q) = inr (inl q.1)
+usage_of words before after heard told old new status (has_no_memory s h o e) = record { only = λ u. cc (e, u); always = λ none. inr (inr e) }
+usage_of words before after heard told old new status (ended command (ending.Refused refusal) c g h p) =
     record { only = λ u. absurd (no_usage (refusal_line refusal) Refused old new status (λ e. cc) p u); always = λ none. cc (c, none) }
-usage_of words before after old new status (ended command (ending.Unreadable name) c g p) =
+usage_of words before after heard told old new status (ended command (ending.Unreadable name) c g h p) =
     record { only = λ u. absurd (no_usage (unreadable_line name) ReadFault old new status (λ e. cc) p u); always = λ none. cc (c, none) }
-usage_of words before after old new status (ended command ending.Memory c g p) = record { only = λ u. cc (p.1, u); always = λ none. cc (c, none) }
-usage_of words before after old new status (answered command work c g (printed text own r o p)) =
-    record { only = λ u. absurd (no_usage text own old new status (λ e. subst IsOfEnd e o) p u); always = λ none. cc (c, none) }
-usage_of words before after old new status (answered command work c g (no_memory n e)) = record { only = λ u. cc (e, u); always = λ none. cc (c, none) }
+usage_of words before after heard told old new status (ended command ending.Memory c g h p) = record { only = λ u. cc (p.1, u); always = λ none. cc (c, none) }
+usage_of words before after heard told old new status (answered command work c g k a) =
+    record { only = λ u. absurd (usage_way work heard told old new status (way_of work heard told old new status a) u); always = λ none. cc (c, none) }

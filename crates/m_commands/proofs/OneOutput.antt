@@ -1,101 +1,112 @@
 -- The same words, files and input have one output.
-use Rattle.std.proofs.Common.{◌≡◌, ℕ, ℤ, List, Some, None, Ok, Err, refl, sym, ap, ◌∙◌, subst}
-use Rattle.std.specs.Prelude.{Option, map}
-use Rattle.m_symbols.specs.Declarations.{Declared, codes_of}
-use Rattle.micro_m.specs.declared.base.Base.{Base}
-use Rattle.driver_core.specs.declared.program.Core.{Core}
-use Rattle.flat_code.specs.Answers.{Told}
-use Rattle.household.specs.Household.{household_of}
-use Rattle.household.specs.declared.fault.HouseholdFault.{HouseholdFault}
-use Rattle.fault_lines.specs.Lines.{cycle_line, recursion_line}
-use Rattle.m_requests.specs.Cells.{cell_name}
+use Rattle.std.proofs.Common.{◌≡◌, ◌<◌, ℕ, ℤ, List, ◌++◌, length, Some, None, Ok, refl, sym, ap, ◌∙◌, subst, arith, length-append}
+use Rattle.std.proofs.Common.{take}
+use Rattle.std.proofs.lemmas.List.{take-append-le, take_all}
 use Rattle.rule_text.specs.declared.Source.{Source}
-use Rattle.rule_text.specs.declared.Text.{Text}
-use Rattle.tax_print.specs.Lines.{told_lines}
-use Rattle.m_compile.specs.Sources.{IsValid}
-use Rattle.m_compile.specs.Lines.{source_line}
-use Rattle.m_compile.specs.Answers.{Answers, answer_to_pairs}
-use Rattle.m_compile.specs.declared.fault.SourceFault.{SourceFault}
+use Rattle.fault_lines.specs.Lines.{input_too_long_line}
+use Rattle.household.specs.Household.{household_of}
+use Rattle.household.specs.Table.{table_of}
+use Rattle.household.specs.declared.table.Row.{Row}
+use Rattle.m_large.specs.Large.{household_text}
+use Rattle.m_places.specs.declared.limits.TheConstants.{INPUT_BYTES}
 use Rattle.m_plan.specs.Plan.{end_of, gathered, refused}
 use Rattle.m_plan.specs.Views.{Disk}
 use Rattle.m_plan.specs.declared.status.Status.{Status}
-use Rattle.m_plan.specs.declared.status.Status.TheVariants.{Refused}
-use Rattle.m_commands.specs.Answer.{household_fault_line, told_status, RunReplies, Replies, source_is_refused, household_is_refused, is_told}
+use Rattle.m_plan.specs.declared.status.Status.TheVariants.{Done, Refused}
+use Rattle.tax_print.specs.Lines.{told_lines}
+use Rattle.m_work.specs.Batches as batch
+use Rattle.m_work.specs.Households.{told_status}
+use Rattle.m_work.specs.LargeAnswers as large
+use Rattle.m_work.specs.Larges.{large_line, large_source}
+use Rattle.m_work.specs.Runs as run
+use Rattle.m_work.specs.Schemes.{Scheme, told_to}
+use Rattle.m_work.specs.Serves.{IsSession}
+use Rattle.m_work.specs.Serves as serve
+use Rattle.m_work.specs.Sessions.{ended_replies, session_replies}
+use Rattle.m_work.specs.Sources.{IsScheme}
+use Rattle.m_work.specs.Tables.{rows_lines}
+use Rattle.m_commands.specs.Answer.{Replies}
 use Rattle.m_commands.specs.Command.{plan_of}
-use Rattle.m_commands.specs.Output.{Output, usage, refuses, answers, AreOneOutput, the_same, both_cycles, both_recursions}
+use Rattle.m_commands.specs.Output.{Output, usage, refuses, answers, AreOneOutput, the_same}
 use Rattle.m_commands.specs.declared.command.Command.{Command}
 use Rattle.m_commands.specs.declared.work.Work.{Work}
-use Rattle.m_commands.specs.declared.work.Work.TheVariants.{Run}
-use Rattle.m_compile.specs.Faults.{AreOneFault}
-use Rattle.m_compile.specs.Faults as laws
-use Rattle.m_compile.proofs.OneLaws.{no_valid_and_fault, one_validity, one_fault}
+use Rattle.m_commands.specs.declared.work.Work.TheVariants.{Run, Serve, Batch, Large}
+use Rattle.m_commands.proofs.Schemes.{not_refused, one_refusal, one_scheme, said_other}
 
--- ---- two refusals of a source
+-- the pairs of a household are the same by one scheme and by the other
+one_pairs : (source : Source) (rows : List ℕ) (one other : Scheme) (pairs given : List (ℕ × ℤ)) → IsScheme source one → IsScheme source other
+    → household_of one.codes rows ≡ Ok pairs → household_of other.codes rows ≡ Ok given → pairs ≡ given
+one_pairs source rows one other pairs given a b p q = let c = said_other source (λ inputs. household_of inputs rows) (Ok pairs) one other a b p in cc (c, q)
 
-one_line : (texts : List Text) (fault other : SourceFault) (t u : List ℕ) → AreOneFault fault other → source_line texts fault ≡ Some t → source_line texts other ≡ Some u → AreOneOutput t Refused u Refused
-one_line texts fault other t u (laws.the_same e) a b =
-    let c : source_line texts other ≡ Some t = subst (λ (f : SourceFault). source_line texts f ≡ Some t) e a in
-    the_same (cc (c, b)) refl
-one_line texts fault other t u (laws.both_cycles {names = ns} {others = os}) a b =
-    let c : cycle_line ns ≡ t = cc a in
-    let d : cycle_line os ≡ u = cc b in
-    subst (λ (x : List ℕ). AreOneOutput x Refused u Refused) c (subst (λ (x : List ℕ). AreOneOutput (cycle_line ns) Refused x Refused) d (both_cycles ns os))
-one_line texts fault other t u (laws.both_rings {names = ns} {others = os}) a b =
-    let c : recursion_line ns ≡ t = cc a in
-    let d : recursion_line os ≡ u = cc b in
-    subst (λ (x : List ℕ). AreOneOutput x Refused u Refused) c (subst (λ (x : List ℕ). AreOneOutput (recursion_line ns) Refused x Refused) d (both_recursions ns os))
+one_rows : (source : Source) (table : List ℕ) (one other : Scheme) (rows given : List Row) → IsScheme source one → IsScheme source other
+    → table_of one.codes table ≡ Ok rows → table_of other.codes table ≡ Ok given → rows ≡ given
+one_rows source table one other rows given a b p q = let c = said_other source (λ inputs. table_of inputs table) (Ok rows) one other a b p in cc (c, q)
 
--- ---- two answers of a valid source
+-- ---- runs and `large N`
 
--- two refusals of a household over declarations that are one
-one_refusal : (declared others : Declared) (rows t u : List ℕ) (fault other : HouseholdFault) → declared ≡ others → household_of (codes_of declared.variables) rows ≡ Err fault
-    → household_of (codes_of others.variables) rows ≡ Err other → household_fault_line fault ≡ Some t → household_fault_line other ≡ Some u → t ≡ u
-one_refusal declared others rows t u fault other e a b k l =
-    let c : household_of (codes_of others.variables) rows ≡ Err fault = subst (λ (d : Declared). household_of (codes_of d.variables) rows ≡ Err fault) e a in
-    let f : fault ≡ other = cc (c, b) in
-    let m : household_fault_line other ≡ Some t = subst (λ (x : HouseholdFault). household_fault_line x ≡ Some t) f k in
-    cc (m, l)
+one_run : (source : Source) (rows t u : List ℕ) (s r : Status) → run.RunReplies source rows t s → run.RunReplies source rows u r → AreOneOutput t s u r
+one_run source rows t u s r (run.is_refused a) (run.is_refused b) = one_refusal source (λ inputs. household_of inputs rows) t u a b
+one_run source rows t u s r (run.is_refused a) (run.is_told scheme pairs v g) = absurd (not_refused source (λ inputs. household_of inputs rows) t scheme pairs v g a)
+one_run source rows t u s r (run.is_told scheme pairs v g) (run.is_refused b) = absurd (not_refused source (λ inputs. household_of inputs rows) u scheme pairs v g b)
+one_run source rows t u s r (run.is_told one pairs v g) (run.is_told other given w h) =
+    let e = one_scheme source one other v w in
+    let p = one_pairs source rows one other pairs given v w g h in
+    the_same (λ i. told_lines (e i).names (told_to (e i) (p i))) (λ i. told_status (told_to (e i) (p i)))
 
--- a household is refused or told
-not_both : (declared others : Declared) (rows : List ℕ) (pairs : List (ℕ × ℤ)) (fault : HouseholdFault) → declared ≡ others → household_of (codes_of declared.variables) rows ≡ Err fault
-    → household_of (codes_of others.variables) rows ≡ Ok pairs → ⊥
-not_both declared others rows pairs fault e a b =
-    let c : household_of (codes_of others.variables) rows ≡ Err fault = subst (λ (d : Declared). household_of (codes_of d.variables) rows ≡ Err fault) e a in
-    cc (c, b)
+one_large : (n : ℕ) (t u : List ℕ) (s r : Status) → large.LargeReplies n t s → large.LargeReplies n u r → AreOneOutput t s u r
+one_large n t u s r (large.is_refused a) (large.is_refused b) = one_refusal (large_source n) (λ inputs. household_of inputs (household_text n)) t u a b
+one_large n t u s r (large.is_refused a) (large.is_told scheme pairs v g) = absurd (not_refused (large_source n) (λ inputs. household_of inputs (household_text n)) t scheme pairs v g a)
+one_large n t u s r (large.is_told scheme pairs v g) (large.is_refused b) = absurd (not_refused (large_source n) (λ inputs. household_of inputs (household_text n)) u scheme pairs v g b)
+one_large n t u s r (large.is_told one pairs v g) (large.is_told other given w h) =
+    let e = one_scheme (large_source n) one other v w in
+    let p = one_pairs (large_source n) (household_text n) one other pairs given v w g h in
+    the_same (λ i. large_line n ++ told_lines (e i).names (told_to (e i) (p i))) (λ i. told_status (told_to (e i) (p i)))
 
--- what a source is told to be over what is one
-one_told : (declared others : Declared) (base other : Base) (written core : Option Core) (requests asked : List ℕ) (pairs given : List (ℕ × ℤ)) → declared ≡ others → base ≡ other → written ≡ core
-    → requests ≡ asked → pairs ≡ given → answer_to_pairs declared base written requests pairs ≡ answer_to_pairs others other core asked given
-one_told declared others base other written core requests asked pairs given d b w r p i = answer_to_pairs (d i) (b i) (w i) (r i) (p i)
+-- ---- batches
 
--- the answers of a source to a household are one
-one_answer : (source : Source) (rows : List ℕ) (names : List (List ℕ)) (told : Told) (others : List (List ℕ)) (said : Told) → Answers source rows names told → Answers source rows others said
-    → AreOneOutput (told_lines names told) (told_status told) (told_lines others said) (told_status said)
-one_answer source rows names told others said a b =
-    let one = one_validity source a.declared b.declared a.base b.base a.written b.written a.requests b.requests a.valid b.valid in
-    let c : household_of (codes_of b.declared.variables) rows ≡ Ok a.pairs = subst (λ (d : Declared). household_of (codes_of d.variables) rows ≡ Ok a.pairs) one.0 a.given in
-    let p : a.pairs ≡ b.pairs = cc (c, b.given) in
-    let n : names ≡ others = a.named ∙ (λ i. map (cell_name (one.0 i)) (one.3 i)) ∙ sym b.named in
-    let t : told ≡ said = a.told_is ∙ one_told a.declared b.declared a.base b.base a.written b.written a.requests b.requests a.pairs b.pairs one.0 one.1 one.2 one.3 p ∙ sym b.told_is in
-    the_same (λ i. told_lines (n i) (t i)) (ap told_status t)
+one_batch : (source : Source) (table t u : List ℕ) (s r : Status) → batch.BatchReplies source table t s → batch.BatchReplies source table u r → AreOneOutput t s u r
+one_batch source table t u s r (batch.is_refused a) (batch.is_refused b) = one_refusal source (λ inputs. table_of inputs table) t u a b
+one_batch source table t u s r (batch.is_refused a) (batch.is_told scheme rows v g) = absurd (not_refused source (λ inputs. table_of inputs table) t scheme rows v g a)
+one_batch source table t u s r (batch.is_told scheme rows v g) (batch.is_refused b) = absurd (not_refused source (λ inputs. table_of inputs table) u scheme rows v g b)
+one_batch source table t u s r (batch.is_told one rows v g) (batch.is_told other given w h) =
+    let e = one_scheme source one other v w in
+    let p = one_rows source table one other rows given v w g h in
+    the_same (λ i. rows_lines (e i) (p i)) refl
+
+-- ---- sessions
+
+-- an input isn't both shorter than is taken and as long
+not_both_lengths : (typed taken rest : List ℕ) → length typed < INPUT_BYTES → typed ≡ taken ++ rest → length taken ≡ INPUT_BYTES → ⊥
+not_both_lengths typed taken rest few e full = omega (arith, few, ap length e, length-append taken rest, full)
+
+-- two fronts of one length
+one_front : (one other rest left : List ℕ) → one ++ rest ≡ other ++ left → length one ≡ length other → one ≡ other
+one_front one other rest left e same = sym (take-append-le (length one) one rest (omega arith) ∙ take_all (length one) one (omega arith)) ∙ ap (take (length one)) e ∙ ap (λ n. take n (other ++ left)) same ∙ take-append-le (length other) other left (omega arith) ∙ take_all (length other) other (omega arith)
+
+one_serve : (source : Source) (rows typed t u : List ℕ) (s r : Status) → serve.ServeReplies source rows typed t s → serve.ServeReplies source rows typed u r → AreOneOutput t s u r
+one_serve source rows typed t u s r (serve.is_refused a) (serve.is_refused b) = one_refusal source (λ inputs. household_of inputs rows) t u a b
+one_serve source rows typed t u s r (serve.is_refused a) (serve.is_served scheme pairs v few) = absurd (not_refused source (λ inputs. household_of inputs rows) t scheme pairs v.valid v.given a)
+one_serve source rows typed t u s r (serve.is_refused a) (serve.is_too_long scheme pairs taken rest v e full) = absurd (not_refused source (λ inputs. household_of inputs rows) t scheme pairs v.valid v.given a)
+one_serve source rows typed t u s r (serve.is_served scheme pairs v few) (serve.is_refused b) = absurd (not_refused source (λ inputs. household_of inputs rows) u scheme pairs v.valid v.given b)
+one_serve source rows typed t u s r (serve.is_served one pairs v few) (serve.is_served other given w also) =
+    let e = one_scheme source one other v.valid w.valid in
+    let p = one_pairs source rows one other pairs given v.valid w.valid v.given w.given in
+    the_same (λ i. session_replies (e i) (p i) typed) refl
+one_serve source rows typed t u s r (serve.is_served one pairs v few) (serve.is_too_long other given taken rest w e full) = absurd (not_both_lengths typed taken rest few e full)
+one_serve source rows typed t u s r (serve.is_too_long scheme pairs taken rest v e full) (serve.is_refused b) = absurd (not_refused source (λ inputs. household_of inputs rows) u scheme pairs v.valid v.given b)
+one_serve source rows typed t u s r (serve.is_too_long one pairs taken rest v e full) (serve.is_served other given w few) = absurd (not_both_lengths typed taken rest few e full)
+one_serve source rows typed t u s r (serve.is_too_long one pairs taken rest v e full) (serve.is_too_long other given also left w f most) =
+    let a = one_scheme source one other v.valid w.valid in
+    let p = one_pairs source rows one other pairs given v.valid w.valid v.given w.given in
+    let q = one_front taken also rest left (sym e ∙ f) (full ∙ sym most) in
+    the_same (λ i. ended_replies (a i) (p i) (q i) ++ input_too_long_line) refl
 
 -- a command answers what it gathered in one way
 one_reply : (work : Work) (typed t u : List ℕ) (s r : Status) → Replies work typed t s → Replies work typed u r → AreOneOutput t s u r
-one_reply (Run source rows) typed t u s r (source_is_refused fault f k) (source_is_refused other g l) = one_line source.texts fault other t u (one_fault source fault other f g) k l
-one_reply (Run source rows) typed t u s r (source_is_refused fault f k) (household_is_refused {declared = d} {base = b} {written = w} {requests = q} other v g l) = absurd (no_valid_and_fault source d b w q fault v f)
-one_reply (Run source rows) typed t u s r (source_is_refused fault f k) (is_told a) = absurd (no_valid_and_fault source a.declared a.base a.written a.requests fault a.valid f)
-one_reply (Run source rows) typed t u s r (household_is_refused {declared = d} {base = b} {written = w} {requests = q} fault v g k) (source_is_refused other f l) = absurd (no_valid_and_fault source d b w q other v f)
-one_reply (Run source rows) typed t u s r (household_is_refused {declared = d} {base = b} {written = w} {requests = q} fault v g k) (household_is_refused {declared = e} {base = c} {written = x} {requests = z} other y h l) =
-    let one = one_validity source d e b c w x q z v y in
-    the_same (one_refusal d e rows t u fault other one.0 g h k l) refl
-one_reply (Run source rows) typed t u s r (household_is_refused {declared = d} {base = b} {written = w} {requests = q} fault v g k) (is_told a) =
-    let one = one_validity source d a.declared b a.base w a.written q a.requests v a.valid in
-    absurd (not_both d a.declared rows a.pairs fault one.0 g a.given)
-one_reply (Run source rows) typed t u s r (is_told a) (source_is_refused other f l) = absurd (no_valid_and_fault source a.declared a.base a.written a.requests other a.valid f)
-one_reply (Run source rows) typed t u s r (is_told a) (household_is_refused {declared = d} {base = b} {written = w} {requests = q} other v g l) =
-    let one = one_validity source d a.declared b a.base w a.written q a.requests v a.valid in
-    absurd (not_both d a.declared rows a.pairs other one.0 g a.given)
-one_reply (Run source rows) typed t u s r (is_told {names = ns} {told = a} x) (is_told {names = os} {told = b} y) = one_answer source rows ns a os b x y
+one_reply (Run source rows) typed t u s r a b = one_run source rows t u s r a b
+one_reply (Serve source rows) typed t u s r a b = one_serve source rows typed t u s r a b
+one_reply (Batch source table) typed t u s r a b = one_batch source table t u s r a b
+one_reply (Large n) typed t u s r a b = one_large n t u s r a b
 
 -- The same words, files and input have one output.
 pub one_output : (words : List (List ℕ)) (disk : Disk) (typed t u : List ℕ) (s r : Status) → Output words disk typed t s → Output words disk typed u r → AreOneOutput t s u r

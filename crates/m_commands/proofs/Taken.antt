@@ -5,7 +5,7 @@ use Rattle.m_ports.specs.declared.files.Attempt.{Attempt}
 use Rattle.m_places.specs.declared.limits.TheConstants.{FILE_BYTES}
 use Rattle.m_plan.specs.Attempts.{allowance, TakesWithin}
 use Rattle.m_plan.specs.Plan.{KeepsWithin}
-use Rattle.m_plan.specs.Views.{FilesView, OutputView}
+use Rattle.m_plan.specs.Views.{FilesView, InputView, OutputView}
 use Rattle.m_plan.specs.declared.ending.Ending.TheVariants as ending
 use Rattle.m_plan.specs.declared.status.Status.{Status}
 use Rattle.m_plan.specs.declared.status.Status.TheVariants.{Done, Refused, Usage, ReadFault, WriteFault, Memory, Stopped}
@@ -15,13 +15,18 @@ use Rattle.m_source.specs.Source.{source_plan}
 use Rattle.m_source.proofs.Within.{source_within}
 use Rattle.m_commands.specs.Command.{command_of, plan_of, file_limit, limit_of}
 use Rattle.m_commands.specs.declared.command.Command.{Command}
-use Rattle.m_commands.specs.declared.command.Command.TheVariants.{Run}
+use Rattle.m_commands.specs.declared.command.Command.TheVariants.{Run, Serve, Batch, Large}
 use Rattle.m_commands.specs.inner.Courses.{Course, is_no_command, has_no_memory, ended, answered}
 
 -- the files of a command keep its limit
 keeps_limit : (command : Command) → KeepsWithin (file_limit command) (plan_of command)
 keeps_limit (Run names household) =
     within_then FILE_BYTES (source_plan names) _ (source_within names) (λ source. (omega arith, λ bytes. tt))
+keeps_limit (Serve names household) =
+    within_then FILE_BYTES (source_plan names) _ (source_within names) (λ source. (omega arith, λ bytes. tt))
+keeps_limit (Batch names table) =
+    within_then FILE_BYTES (source_plan names) _ (source_within names) (λ source. (omega arith, λ bytes. tt))
+keeps_limit (Large n) = tt
 
 -- what is taken without a slack for want of memory
 no_slack : (most : ℕ) (before after : FilesView) (status : Status) → after.taken + allowance most before.attempts ≤ before.taken + allowance most after.attempts → TakesWithin most before after status
@@ -62,19 +67,19 @@ without : (most : ℕ) (before after : FilesView) (made : List Attempt) (spent :
 without most before after made spent status e t s =
     no_slack most before after status (let h = within most before after made spent 0 e t (omega (arith, s)) in omega (arith, h))
 
-pub taken_of : (words : List (List ℕ)) (before after : FilesView) (old new : OutputView) (status : Status) → Course words before after old new status → TakesWithin (limit_of words) before after status
-taken_of words before after old new status (is_no_command n s p) = still (limit_of words) before after status s
-taken_of words before after old new status (has_no_memory s o m) = still (limit_of words) before after status s
-taken_of words before after old new status (ended command (ending.Refused refusal) c g p) =
+pub taken_of : (words : List (List ℕ)) (before after : FilesView) (heard told : InputView) (old new : OutputView) (status : Status) → Course words before after heard told old new status → TakesWithin (limit_of words) before after status
+taken_of words before after heard told old new status (is_no_command n s h p) = still (limit_of words) before after status s
+taken_of words before after heard told old new status (has_no_memory s h o m) = still (limit_of words) before after status s
+taken_of words before after heard told old new status (ended command (ending.Refused refusal) c g h p) =
     of_command words command before after status c (without (file_limit command) before after g.made g.spent status g.attempts g.taken
     (walks_within before.told (file_limit command) (plan_of command) g.made g.spent (Err (ending.Refused refusal)) (keeps_limit command) g.walk))
-taken_of words before after old new status (ended command (ending.Unreadable name) c g p) =
+taken_of words before after heard told old new status (ended command (ending.Unreadable name) c g h p) =
     of_command words command before after status c (without (file_limit command) before after g.made g.spent status g.attempts g.taken
     (walks_within before.told (file_limit command) (plan_of command) g.made g.spent (Err (ending.Unreadable name)) (keeps_limit command) g.walk))
-taken_of words before after old new status (ended command ending.Memory c g p) =
+taken_of words before after heard told old new status (ended command ending.Memory c g h p) =
     of_command words command before after status c (subst (λ (s : Status). TakesWithin (file_limit command) before after s) (sym p.1)
     (within (file_limit command) before after g.made g.spent (file_limit command + 1) g.attempts g.taken
     (walks_within before.told (file_limit command) (plan_of command) g.made g.spent (Err ending.Memory) (keeps_limit command) g.walk)))
-taken_of words before after old new status (answered command work c g a) =
+taken_of words before after heard told old new status (answered command work c g k a) =
     of_command words command before after status c (without (file_limit command) before after g.made g.spent status g.attempts g.taken
     (walks_within before.told (file_limit command) (plan_of command) g.made g.spent (Ok work) (keeps_limit command) g.walk))

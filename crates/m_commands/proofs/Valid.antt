@@ -1,55 +1,63 @@
 -- What is valid is answered.
-use Rattle.std.proofs.Common.{◌≡◌, ◌<◌, ℕ, ℤ, true, List, [], ◌∷◌, ◌++◌, Some, Ok, Err, sym, ap, ◌∙◌, subst, arith, inl, inr}
-use Rattle.std.specs.Prelude.{Option}
+use Rattle.std.proofs.Common.{◌≡◌, ◌<◌, ℕ, true, List, [], ◌∷◌, ◌++◌, length, Some, Ok, Err, sym, ap, ◌∙◌, subst, arith, inl, inr}
+use Rattle.m_places.specs.declared.limits.TheConstants.{INPUT_BYTES}
 use Rattle.m_ports.specs.Counts.{Rose}
 use Rattle.m_ports.specs.Files.{failed_count}
 use Rattle.m_ports.specs.declared.files.Attempt.{Attempt}
 use Rattle.m_ports.proofs.FileLemmas.{failed_count-append}
-use Rattle.m_symbols.specs.Declarations.{Declared, codes_of}
-use Rattle.micro_m.specs.declared.base.Base.{Base}
-use Rattle.driver_core.specs.declared.program.Core.{Core}
 use Rattle.flat_code.specs.Answers.{Told, values, stopped}
 use Rattle.household.specs.Household.{household_of}
-use Rattle.household.specs.declared.fault.HouseholdFault.{HouseholdFault}
-use Rattle.rule_text.specs.declared.Source.{Source}
-use Rattle.m_compile.specs.Sources.{IsValid as IsValidSource}
+use Rattle.household.specs.Table.{table_of}
+use Rattle.m_large.specs.Large.{household_text}
 use Rattle.m_plan.specs.Attempts.{LastFailed}
 use Rattle.m_plan.specs.Plan.{end_of, gathered, refused}
-use Rattle.m_plan.specs.Printing.{Prints, printed, no_memory}
+use Rattle.m_plan.specs.Printing.{Prints}
 use Rattle.m_plan.specs.Refusals.{refusal_line}
 use Rattle.m_plan.specs.Status.{IsComplete}
 use Rattle.m_plan.specs.Views.{Disk, FilesView, InputView, OutputView}
 use Rattle.m_plan.specs.declared.ending.Ending.TheVariants as ending
 use Rattle.m_plan.specs.declared.status.Status.{Status}
 use Rattle.m_plan.proofs.Walks.{walks_to_end, walks_fit}
-use Rattle.m_commands.specs.Answer.{told_status, Replies, HasAnswer, RunHasAnswer, source_is_refused, household_is_refused, is_told}
+use Rattle.m_work.specs.Batches as batch
+use Rattle.m_work.specs.Households.{told_status}
+use Rattle.m_work.specs.LargeAnswers as large
+use Rattle.m_work.specs.Larges.{large_source}
+use Rattle.m_work.specs.Runs as run
+use Rattle.m_work.specs.Schemes.{told_to}
+use Rattle.m_work.specs.Serves as serve
+use Rattle.m_commands.specs.Answer.{Replies, HasAnswer}
 use Rattle.m_commands.specs.Command.{command_of, plan_of}
-use Rattle.m_commands.specs.Clauses.{AnswersValid}
+use Rattle.m_commands.specs.Clauses.{AnswersValid, TakesFew}
 use Rattle.m_commands.specs.Output.{IsValid}
 use Rattle.m_commands.specs.declared.command.Command.{Command}
 use Rattle.m_commands.specs.declared.work.Work.{Work}
-use Rattle.m_commands.specs.declared.work.Work.TheVariants.{Run}
-use Rattle.m_compile.proofs.OneLaws.{no_valid_and_fault, one_validity}
-use Rattle.m_commands.specs.inner.Courses.{Course, is_no_command, has_no_memory, ended, answered}
+use Rattle.m_commands.specs.declared.work.Work.TheVariants.{Run, Serve, Batch, Large}
+use Rattle.m_commands.specs.inner.Courses.{Course, IsWorkOf, is_no_command, has_no_memory, ended, answered}
+use Rattle.m_commands.proofs.Clauses.{gathers}
+use Rattle.m_commands.proofs.Schemes.{not_refused as refusal_none}
+use Rattle.m_commands.proofs.Ways.{Way, way_of, tells, lacks_memory, breaks_off, serves_all, serves_part, serves_most, serves_front, serve_reads}
 
 -- what is told is the end of a command that did all of its work
 told_complete : (told : Told) → IsComplete (told_status told)
 told_complete (values vs) = tt
 told_complete (stopped cause) = tt
 
--- a household that a valid source takes isn't refused by it
-not_both : (source : Source) (declared : Declared) (base : Base) (written : Option Core) (requests : List ℕ) (rows : List ℕ) (fault : HouseholdFault) → RunHasAnswer source rows
-    → IsValidSource source declared base written requests → household_of (codes_of declared.variables) rows ≡ Err fault → ⊥
-not_both source declared base written requests rows fault h valid given =
-    let one = one_validity source declared h.declared base h.base written h.written requests h.requests valid h.valid in
-    let other : household_of (codes_of h.declared.variables) rows ≡ Err fault = subst (λ (d : Declared). household_of (codes_of d.variables) rows ≡ Err fault) one.0 given in
-    cc (other, h.given)
+-- nothing that is typed is as much as is taken
+nothing_full : (taken rest : List ℕ) → [] ≡ taken ++ rest → length taken ≡ INPUT_BYTES → ⊥
+nothing_full [] rest e full = cc full
+nothing_full (byte ∷ taken) rest e full = absurd (cc e)
 
--- what has an answer is answered, and not refused
-replies_complete : (work : Work) (typed text : List ℕ) (status : Status) → HasAnswer work → Replies work typed text status → IsComplete status
-replies_complete (Run source rows) typed text status h (source_is_refused fault is line) = absurd (no_valid_and_fault source h.declared h.base h.written h.requests fault h.valid is)
-replies_complete (Run source rows) typed text status h (household_is_refused {declared = d} {base = b} {written = w} {requests = r} fault valid given line) = absurd (not_both source d b w r rows fault h valid given)
-replies_complete (Run source rows) typed text status h (is_told {told = told} answers) = told_complete told
+-- what has an answer is answered, and not refused, where nothing is typed
+replies_complete : (work : Work) (text : List ℕ) (status : Status) → HasAnswer work → Replies work [] text status → IsComplete status
+replies_complete (Run source rows) text status h (run.is_refused {line = line} r) = absurd (refusal_none source (λ inputs. household_of inputs rows) line h.scheme h.pairs h.valid h.given r)
+replies_complete (Run source rows) text status h (run.is_told scheme pairs v g) = told_complete (told_to scheme pairs)
+replies_complete (Serve source rows) text status h (serve.is_refused {line = line} r) = absurd (refusal_none source (λ inputs. household_of inputs rows) line h.scheme h.pairs h.valid h.given r)
+replies_complete (Serve source rows) text status h (serve.is_served scheme pairs s few) = tt
+replies_complete (Serve source rows) text status h (serve.is_too_long scheme pairs taken rest s e full) = absurd (nothing_full taken rest e full)
+replies_complete (Batch source table) text status h (batch.is_refused {line = line} r) = absurd (refusal_none source (λ inputs. table_of inputs table) line h.scheme h.rows h.valid h.given r)
+replies_complete (Batch source table) text status h (batch.is_told scheme rows v g) = tt
+replies_complete (Large n) text status h (large.is_refused {line = line} r) = absurd (refusal_none (large_source n) (λ inputs. household_of inputs (household_text n)) line h.scheme h.pairs h.valid h.given r)
+replies_complete (Large n) text status h (large.is_told scheme pairs v g) = told_complete (told_to scheme pairs)
 
 -- valid words and files aren't refused
 not_refused : (words : List (List ℕ)) (disk : Disk) (command : Command) (line : List ℕ) → IsValid words disk → command_of words ≡ Some command → end_of disk (plan_of command) ≡ refused line → ⊥
@@ -76,15 +84,27 @@ complete : (text : List ℕ) (own : Status) (old new : OutputView) (status : Sta
 complete text own old new status (inl p) d q = subst IsComplete (sym p.1) d
 complete text own old new status (inr p) d q = absurd (q p.0.1)
 
-pub complete_of : (words : List (List ℕ)) (before after : FilesView) (heard told : InputView) (old new : OutputView) (status : Status) → Course words before after old new status → AnswersValid words before after heard told old new status
-complete_of words before after heard told old new status (is_no_command n s p) disk t valid quiet = let h = valid.is_command in cc (n, h)
-complete_of words before after heard told old new status (has_no_memory s o m) disk t valid quiet = subst IsComplete (sym m) tt
-complete_of words before after heard told old new status (ended command (ending.Refused refusal) c g p) disk t valid quiet =
+-- a text that was cut short for a failed read of the input
+complete_way : (words : List (List ℕ)) (command : Command) (work : Work) (heard told : InputView) (old new : OutputView) (status : Status) → command_of words ≡ Some command → IsWorkOf command work
+    → HasAnswer work → (Rose heard.faults told.faults → ⊥) → (Rose old.faults new.faults → ⊥) → TakesFew words heard told → Way work heard told old new status → IsComplete status
+complete_way words command work heard told old new status c k h input out few (tells text own r o same p) = complete text own old new status p (replies_complete work text own h (r [])) out
+complete_way words command work heard told old new status c k h input out few (lacks_memory same n m) = subst IsComplete (sym m) tt
+complete_way words command work heard told old new status c k h input out few (breaks_off text own r b same a n m) = subst IsComplete (sym m) tt
+complete_way words command work heard told old new status c k h input out few (serves_all taken text s moved none calm r a is) = subst IsComplete (sym is) tt
+complete_way words command work heard told old new status c k h input out few (serves_part taken text s moved rose cut p) = absurd (input rose)
+complete_way words command work heard told old new status c k h input out few (serves_most taken text s moved full calm r p) =
+    absurd (omega (arith, full, few (serve_reads words command work c k s) taken moved))
+complete_way words command work heard told old new status c k h input out few (serves_front taken rest text s moved left calm full b is) = absurd (out b.1)
+
+pub complete_of : (words : List (List ℕ)) (before after : FilesView) (heard told : InputView) (old new : OutputView) (status : Status) → Course words before after heard told old new status
+    → AnswersValid words before after heard told old new status
+complete_of words before after heard told old new status (is_no_command n s h p) disk t valid quiet few = let i = valid.is_command in cc (n, i)
+complete_of words before after heard told old new status (has_no_memory s h o m) disk t valid quiet few = subst IsComplete (sym m) tt
+complete_of words before after heard told old new status (ended command (ending.Refused refusal) c g h p) disk t valid quiet few =
     absurd (not_refused words disk command (refusal_line refusal) valid c (walks_to_end before.told disk (plan_of command) g.made g.spent (Err (ending.Refused refusal)) g.walk t))
-complete_of words before after heard told old new status (ended command (ending.Unreadable name) c g p) disk t valid quiet =
+complete_of words before after heard told old new status (ended command (ending.Unreadable name) c g h p) disk t valid quiet few =
     absurd (quiet.0 (inl (rose before after g.made name g.attempts (walks_fit before.told (plan_of command) g.made g.spent (Err (ending.Unreadable name)) g.walk))))
-complete_of words before after heard told old new status (ended command ending.Memory c g p) disk t valid quiet = subst IsComplete (sym p.1) tt
-complete_of words before after heard told old new status (answered command work c g (printed text own r o p)) disk t valid quiet =
-    complete text own old new status p
-    (replies_complete work [] text own (has_answer words disk command work valid c (walks_to_end before.told disk (plan_of command) g.made g.spent (Ok work) g.walk t)) (r [])) quiet.2
-complete_of words before after heard told old new status (answered command work c g (no_memory n m)) disk t valid quiet = subst IsComplete (sym m) tt
+complete_of words before after heard told old new status (ended command ending.Memory c g h p) disk t valid quiet few = subst IsComplete (sym p.1) tt
+complete_of words before after heard told old new status (answered command work c g k a) disk t valid quiet few =
+    complete_way words command work heard told old new status c k (has_answer words disk command work valid c (gathers disk before after command work t g)) quiet.1 quiet.2 few
+    (way_of work heard told old new status a)

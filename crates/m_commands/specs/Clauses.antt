@@ -1,18 +1,23 @@
 -- What a call of the program has read and written, clause by clause, from the views before and after it.
-use Rattle.std.specs.Prelude.{◌≡◌, ◌⊎◌, ℕ, true, List, ◌++◌, Some, None}
-use Rattle.std.specs.Io.KnownBytes.{append_known}
+use Rattle.std.specs.Prelude.{◌≡◌, ◌⊎◌, ℕ, ◌<◌, true, List, ◌++◌, length, Some, None}
+use Rattle.std.specs.Io.KnownBytes.{append_known, prepend_known}
+use Rattle.m_places.specs.declared.limits.TheConstants.{INPUT_BYTES}
 use Rattle.m_ports.specs.Counts.{Rose}
 use Rattle.m_ports.specs.Files.{failed_count}
 use Rattle.m_ports.specs.Sink.{AppendsPrefix}
 use Rattle.m_ports.specs.declared.files.Attempt.{Attempt}
 use Rattle.m_plan.specs.Attempts.{BeginsWith, names_tried, NoneFailed, LastFailed}
 use Rattle.fault_lines.specs.Lines.{unreadable_line}
+use Rattle.m_plan.specs.Plan.{end_of, gathered}
 use Rattle.m_plan.specs.Status.{IsFaultless, IsComplete}
 use Rattle.m_plan.specs.Views.{Disk, FilesView, InputView, OutputView}
 use Rattle.m_plan.specs.declared.status.Status.{Status}
 use Rattle.m_plan.specs.declared.status.Status.TheVariants.{Usage, ReadFault, WriteFault, Memory}
-use Rattle.m_commands.specs.Command.{command_of, reads_input}
+use Rattle.m_commands.specs.Answer.{CutOff, InFull}
+use Rattle.m_commands.specs.Command.{command_of, plan_of, reads_input}
 use Rattle.m_commands.specs.Output.{fetches_of, Output, IsValid}
+use Rattle.m_commands.specs.declared.command.Command.{Command}
+use Rattle.m_commands.specs.declared.work.Work.{Work}
 
 -- what is known of the input, where the command reads it
 abbrev pub IsTyped : List (List ℕ) → InputView → List ℕ → Type 0
@@ -25,6 +30,16 @@ PrintsOutput words files input old new status =
     (disk : Disk) (typed : List ℕ) → files.told ≡ Some disk → IsTyped words input typed → IsFaultless status
     → (text : List ℕ) × (new.written ≡ append_known old.written text) × Output words disk typed text status
 
+-- the text of a command whose read of the input fails behind these bytes
+pub data IsCutOff (words : List (List ℕ)) (disk : Disk) (taken text : List ℕ) : Type 0 where
+  cuts_off : (command : Command) (work : Work) → command_of words ≡ Some command → end_of disk (plan_of command) ≡ gathered work → CutOff work taken text → IsCutOff words disk taken text
+
+-- Where the files and the input are told, what is appended is the text of a read that failed behind what was taken.
+abbrev pub TellsOfInput : List (List ℕ) → FilesView → InputView → InputView → OutputView → OutputView → Type 0
+TellsOfInput words before heard told old new =
+    (disk : Disk) (typed : List ℕ) → before.told ≡ Some disk → heard.left ≡ Some typed
+    → (taken text : List ℕ) × (heard.left ≡ prepend_known taken told.left) × (new.written ≡ append_known old.written text) × IsCutOff words disk taken text
+
 -- The attempts that a call made. Where the files are told, their names are fetched in the order of
 -- `fetches_of`. At most the last of them failed, and then the status says so, or that writing did.
 -- `ReadFault` comes only there or where a fault of the input rose, and the line that tells of an
@@ -36,28 +51,43 @@ pub record Reading (words : List (List ℕ)) (before after : FilesView) (heard t
   pub at_most_last : NoneFailed made ⊎ ((name : List ℕ) × LastFailed made name)
   pub failed : (name : List ℕ) → LastFailed made name → (status ≡ ReadFault) ⊎ (status ≡ WriteFault)
   pub cause : status ≡ ReadFault → ((name : List ℕ) × LastFailed made name × (new.written ≡ append_known old.written (unreadable_line name)))
-      ⊎ ((reads_input words ≡ true) × Rose heard.faults told.faults)
+      ⊎ ((reads_input words ≡ true) × Rose heard.faults told.faults × TellsOfInput words before heard told old new)
 
--- a text that a call writes if no write fails: an output, or the line of the file that can't be read
-pub data IsWhole (words : List (List ℕ)) (disk : Disk) (typed : List ℕ) (before after : FilesView) (text : List ℕ) : Type 0 where
-  output : {status : Status} → Output words disk typed text status → IsWhole words disk typed before after text
-  unreadable : {made : List Attempt} {name : List ℕ} → after.attempts ≡ before.attempts ++ made → LastFailed made name → text ≡ unreadable_line name → IsWhole words disk typed before after text
+-- A text that a call writes if no write fails: an output, the line of the file that can't be read, or the text of a read of the input that
+-- failed; or, of more than a session takes, the replies to all of it.
+pub data IsWhole (words : List (List ℕ)) (disk : Disk) (typed : List ℕ) (before after : FilesView) (heard told : InputView) (text : List ℕ) : Type 0 where
+  output : {status : Status} → Output words disk typed text status → IsWhole words disk typed before after heard told text
+  unreadable : {made : List Attempt} {name : List ℕ} → after.attempts ≡ before.attempts ++ made → LastFailed made name → text ≡ unreadable_line name
+      → IsWhole words disk typed before after heard told text
+  cut_off : (taken : List ℕ) → heard.left ≡ prepend_known taken told.left → IsCutOff words disk taken text → IsWhole words disk typed before after heard told text
+  in_full : (command : Command) (work : Work) → command_of words ≡ Some command → end_of disk (plan_of command) ≡ gathered work → InFull work typed text
+      → IsWhole words disk typed before after heard told text
 
 -- Where the files and the input are told and a write failed, what is appended is the front of a whole text.
-abbrev pub WritesFront : List (List ℕ) → FilesView → FilesView → InputView → OutputView → OutputView → Status → Type 0
-WritesFront words before after input old new status =
-    (disk : Disk) (typed : List ℕ) → before.told ≡ Some disk → IsTyped words input typed → status ≡ WriteFault
-    → (text : List ℕ) × IsWhole words disk typed before after text × AppendsPrefix old.written new.written text
+abbrev pub WritesFront : List (List ℕ) → FilesView → FilesView → InputView → InputView → OutputView → OutputView → Status → Type 0
+WritesFront words before after heard told old new status =
+    (disk : Disk) (typed : List ℕ) → before.told ≡ Some disk → IsTyped words heard typed → status ≡ WriteFault
+    → (text : List ℕ) × IsWhole words disk typed before after heard told text × AppendsPrefix old.written new.written text
+
+-- Where the files are told and there was no memory, nothing is appended or the front of an output.
+abbrev pub StopsInFront : List (List ℕ) → FilesView → OutputView → OutputView → Status → Type 0
+StopsInFront words before old new status =
+    (disk : Disk) (typed : List ℕ) → before.told ≡ Some disk → status ≡ Memory
+    → (new.written ≡ old.written) ⊎ ((text : List ℕ) × (own : Status) × Output words disk typed text own × AppendsPrefix old.written new.written text)
 
 -- no read and no write failed
 abbrev pub NothingFailed : FilesView → FilesView → InputView → InputView → OutputView → OutputView → Type 0
 NothingFailed before after heard told old new =
     (Rose (failed_count before.attempts) (failed_count after.attempts) → ⊥) × (Rose heard.faults told.faults → ⊥) × (Rose old.faults new.faults → ⊥)
 
+-- less is taken of the input than may be, where the command reads it
+abbrev pub TakesFew : List (List ℕ) → InputView → InputView → Type 0
+TakesFew words heard told = reads_input words ≡ true → (taken : List ℕ) → heard.left ≡ prepend_known taken told.left → length taken < INPUT_BYTES
+
 -- What is valid is answered, unless a read, a write or memory failed.
 abbrev pub AnswersValid : List (List ℕ) → FilesView → FilesView → InputView → InputView → OutputView → OutputView → Status → Type 0
 AnswersValid words before after heard told old new status =
-    (disk : Disk) → before.told ≡ Some disk → IsValid words disk → NothingFailed before after heard told old new → IsComplete status
+    (disk : Disk) → before.told ≡ Some disk → IsValid words disk → NothingFailed before after heard told old new → TakesFew words heard told → IsComplete status
 
 -- The usage line is printed only for words that are no command, and for these always but where a write
 -- or memory failed.

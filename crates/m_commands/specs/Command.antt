@@ -1,36 +1,98 @@
 -- What the words of the command line ask for, and the plan of each command.
-use Rattle.std.specs.Prelude.{ℕ, Bool, false, ◌&&◌, List, [], ◌∷◌, Option, Some, None, if◌then◌else◌, codes}
+use Rattle.std.specs.Prelude.{ℕ, ◌+◌, ◌-◌, ◌*◌, ◌≤◌, nat_le, Bool, true, false, ◌&&◌, List, [], ◌∷◌, length, Option, Some, None, if◌then◌else◌, codes}
 use Rattle.std.specs.List.{list_all}
-use Rattle.std.specs.Option.{option_map_or}
+use Rattle.std.specs.Option.{option_map, option_map_or, option_or}
 use Rattle.std.specs.Str.{bytes_eq, is_utf8}
-use Rattle.m_places.specs.declared.limits.TheConstants.{FILE_BYTES}
+use Rattle.m_places.specs.declared.limits.TheConstants.{FILE_BYTES, LARGE}
 use Rattle.m_plan.specs.Plan.{Plan, done, file_plan, and_then}
 use Rattle.m_source.specs.Source.{source_plan}
 use Rattle.m_source.specs.declared.source.SourceNames.{SourceNames}
+use Rattle.rule_text.specs.declared.Source.{Source}
 use Rattle.m_commands.specs.declared.command.Command.{Command}
-use Rattle.m_commands.specs.declared.command.Command.TheVariants.{Run}
+use Rattle.m_commands.specs.declared.command.Command.TheVariants.{Run, Serve, Batch, Large}
+use Rattle.m_commands.specs.declared.command.Form.{Form}
+use Rattle.m_commands.specs.declared.command.Form.TheVariants as form
 use Rattle.m_commands.specs.declared.work.Work.{Work}
 use Rattle.m_commands.specs.declared.work.Work.TheVariants as work
 
--- The command that the words are, if they are the form of one: the command's word, and what stands
--- at each place behind it, all in UTF-8.
+-- ---- words
+
+abbrev pub is_digit : ℕ → Bool
+is_digit b = nat_le 48 b && nat_le b 57
+
+-- The number of digits behind those of a number so far. One that is past the greatest of `large N` already has no further digits.
+abbrev pub digits_behind : ℕ → List ℕ → Option ℕ
+digits_behind so_far [] = Some so_far
+digits_behind so_far (b ∷ bs) = if is_digit b && nat_le so_far LARGE then digits_behind (10 * so_far + (b - 48)) bs else None
+
+-- a number from 1 to the greatest of `large N`
+abbrev pub reached : Option ℕ → Option ℕ
+reached None = None
+reached (Some n) = if nat_le 1 n && nat_le n LARGE then Some n else None
+
+-- The number of a word of one to six digits that is one of `large N`: of `007` it is 7, and `0` and `100001` have none.
+abbrev pub large_number : List ℕ → Option ℕ
+large_number word = if nat_le 1 (length word) && nat_le (length word) 6 then reached (digits_behind 0 word) else None
+
+-- the command `large N` that the words are, if they are one
+abbrev pub large_command : List (List ℕ) → Option Command
+large_command (word ∷ number ∷ []) = if bytes_eq word (codes "large") then option_map Large (large_number number) else None
+large_command _ = None
+
+-- the command of a word over a source
+abbrev pub form_of : List ℕ → Option Form
+form_of word =
+    if bytes_eq word (codes "run") then Some form.Run else if bytes_eq word (codes "serve") then Some form.Serve
+    else if bytes_eq word (codes "batch") then Some form.Batch else None
+
+abbrev pub of_form : Form → SourceNames → List ℕ → Command
+of_form form.Run names behind = Run names behind
+of_form form.Serve names behind = Serve names behind
+of_form form.Batch names behind = Batch names behind
+
+-- the command over a source that the words are, if they are one: its word, and what stands at each place behind it, all in UTF-8
+abbrev pub source_command : List (List ℕ) → Option Command
+source_command (word ∷ list ∷ driver ∷ requests ∷ behind ∷ []) =
+    if list_all is_utf8 (list ∷ driver ∷ requests ∷ behind ∷ [])
+    then option_map (λ f. of_form f (record { list = list; driver = driver; requests = requests }) behind) (form_of word) else None
+source_command _ = None
+
+-- The command that the words are, if they are the form of one: `large N`, or `run`, `serve` or `batch` over a source and one more file.
 abbrev pub command_of : List (List ℕ) → Option Command
-command_of (word ∷ list ∷ driver ∷ requests ∷ household ∷ []) =
-    if bytes_eq word (codes "run") && list_all is_utf8 (list ∷ driver ∷ requests ∷ household ∷ [])
-    then Some (Run (record { list = list; driver = driver; requests = requests }) household) else None
-command_of _ = None
+command_of words = option_or (large_command words) (source_command words)
 
--- a run gathers its source, and behind it the household
-abbrev pub run_plan : SourceNames → List ℕ → Plan Work
-run_plan names household = and_then (source_plan names) (λ source. and_then (file_plan household FILE_BYTES) (λ rows. done (work.Run source rows)))
+-- the number of `large N` is one of those that there are
+abbrev pub IsInReach : Command → Type 0
+IsInReach (Large n) = (1 ≤ n) × (n ≤ LARGE)
+IsInReach (Run names household) = Unit {0}
+IsInReach (Serve names household) = Unit {0}
+IsInReach (Batch names table) = Unit {0}
 
--- The plan of a command: which files it fetches in which order, where it refuses, and what it has gathered at its end.
+-- ---- plans
+
+-- what a command over a source has gathered
+abbrev pub work_of : Form → Source → List ℕ → Work
+work_of form.Run = work.Run
+work_of form.Serve = work.Serve
+work_of form.Batch = work.Batch
+
+-- a source is gathered, and behind it one more file
+abbrev pub work_plan : SourceNames → List ℕ → (Source → List ℕ → Work) → Plan Work
+work_plan names behind gathered = and_then (source_plan names) (λ source. and_then (file_plan behind FILE_BYTES) (λ bytes. done (gathered source bytes)))
+
+-- The plan of a command: which files it fetches in which order, where it refuses, and what it has gathered at its end. `large N` fetches none.
 abbrev pub plan_of : Command → Plan Work
-plan_of (Run names household) = run_plan names household
+plan_of (Run names household) = work_plan names household work.Run
+plan_of (Serve names household) = work_plan names household work.Serve
+plan_of (Batch names table) = work_plan names table work.Batch
+plan_of (Large n) = done (work.Large n)
 
 -- the most bytes of a file that a command fetches
 abbrev pub file_limit : Command → ℕ
 file_limit (Run names household) = FILE_BYTES
+file_limit (Serve names household) = FILE_BYTES
+file_limit (Batch names table) = FILE_BYTES
+file_limit (Large n) = FILE_BYTES
 
 -- the most bytes of a file that the words' command fetches; none where they are no command
 abbrev pub limit_of : List (List ℕ) → ℕ
@@ -39,14 +101,20 @@ limit_of words = option_map_or file_limit (command_of words) 0
 -- whether a command takes from the input
 abbrev pub takes_input : Command → Bool
 takes_input (Run names household) = false
+takes_input (Serve names household) = true
+takes_input (Batch names table) = false
+takes_input (Large n) = false
 
 -- whether the words are a command that takes from the input
 abbrev pub reads_input : List (List ℕ) → Bool
 reads_input words = option_map_or takes_input (command_of words) false
 
--- whether a command writes before all its work is done
+-- whether a command writes before all its work is done, so that memory may end it behind a part of its text
 abbrev pub writes_in_parts : Command → Bool
 writes_in_parts (Run names household) = false
+writes_in_parts (Serve names household) = false
+writes_in_parts (Batch names table) = true
+writes_in_parts (Large n) = false
 
 -- whether the words are a command that writes before all its work is done
 abbrev pub writes_early : List (List ℕ) → Bool

@@ -1,7 +1,8 @@
 //! The words of the command line.
-ghost use Rattle.std.specs.Prelude.{◌≡◌, IfOk};
-ghost use Rattle.m_commands.specs.Command.{command_of};
+ghost use Rattle.std.specs.Prelude.{◌≡◌, IfOk, IfSome};
+ghost use Rattle.m_commands.specs.Command.{IsInReach, command_of, digits_behind, form_of, is_digit, large_command, large_number, of_form, source_command};
 
+use m_places::limits::LARGE;
 use m_places::{Name, Word};
 use m_source::SourceNames;
 use m_text::is_text;
@@ -12,29 +13,131 @@ use std::alloc::{AllocError, Global};
 pub enum Command {
     /// Compiles the source, and prints the answer to the household of this name.
     Run(SourceNames, Name),
+    /// Compiles the source, and does the lines of the input in a session that begins with the household of this name.
+    Serve(SourceNames, Name),
+    /// Compiles the source, and prints the answers to the rows of the table of this name.
+    Batch(SourceNames, Name),
+    /// Compiles the generated source of this many inputs, and prints its answer to the generated household.
+    Large(u32),
 }
 
-const RUN: &[u8] = b"run";
+/// The commands over a source.
+#[derive(Clone, Copy)]
+pub enum Form {
+    Run,
+    Serve,
+    Batch,
+}
 
 /// The command that the words are, if they are one. Its only error is want of memory.
 pub fn command_of(alloc: Global, words: &[Word]) -> Result<Option<Command>, AllocError>
-    ensures { IfOk result (λ command. command ≡ command_of words.now) }
+    ensures command { IfOk result (λ command. command ≡ command_of words.now) }
+    ensures in_reach { IfOk result (λ command. IfSome command IsInReach) }
 {
-    let [word, list, driver, requests, household] = words else {
+    if let Some(command) = large_command(words) {
+        return Ok(Some(command));
+    }
+    source_command(alloc, words)
+}
+
+// The command `large N` that the words are, if they are one.
+fn large_command(words: &[Word]) -> Option<Command>
+    ensures command { result ≡ large_command words.now }
+    ensures in_reach { IfSome result IsInReach }
+{
+    let [word, number] = words else {
+        return None;
+    };
+    if word.bytes() != b"large".as_slice() {
+        return None;
+    }
+    let n = large_number(number.bytes())?;
+    Some(Command::Large(n))
+}
+
+// The number of a word of one to six digits that is one of `large N`.
+fn large_number(word: &[u8]) -> Option<u32>
+    ensures number { result ≡ large_number word.now }
+    ensures in_reach { IfSome result (λ n. IsInReach (Command.Large n)) }
+{
+    if word.is_empty() || word.len() > 6 {
+        return None;
+    }
+    let n = digits_of(word)?;
+    if 1 <= n && n <= LARGE { Some(n) } else { None }
+}
+
+// The number of digits.
+fn digits_of(word: &[u8]) -> Option<u32>
+    ensures { result ≡ digits_behind 0 word.now }
+{
+    let mut number = 0;
+    let mut left = word;
+    while let [first, rest @ ..] = left {
+        if !is_digit(*first) || number > LARGE {
+            return None;
+        }
+        number = 10 * number + (*first - b'0') as u32;
+        left = rest;
+    }
+    Some(number)
+}
+
+fn is_digit(byte: u8) -> bool
+    ensures { result ≡ is_digit byte }
+{
+    b'0' <= byte && byte <= b'9'
+}
+
+// The command over a source that the words are, if they are one. Its only error is want of memory.
+fn source_command(alloc: Global, words: &[Word]) -> Result<Option<Command>, AllocError>
+    ensures command { IfOk result (λ command. command ≡ source_command words.now) }
+    ensures in_reach { IfOk result (λ command. IfSome command IsInReach) }
+{
+    let [word, list, driver, requests, behind] = words else {
         return Ok(None);
     };
-    let is_run = word.bytes() == RUN
-        && is_text(list.bytes())
+    let are_names = is_text(list.bytes())
         && is_text(driver.bytes())
         && is_text(requests.bytes())
-        && is_text(household.bytes());
-    if !is_run {
+        && is_text(behind.bytes());
+    if !are_names {
         return Ok(None);
     }
+    let Some(form) = form_of(word.bytes()) else {
+        return Ok(None);
+    };
     let names = SourceNames {
         list: list.copy(alloc)?,
         driver: driver.copy(alloc)?,
         requests: requests.copy(alloc)?,
     };
-    Ok(Some(Command::Run(names, household.copy(alloc)?)))
+    Ok(Some(of_form(form, names, behind.copy(alloc)?)))
+}
+
+// The command of a word over a source.
+fn form_of(word: &[u8]) -> Option<Form>
+    ensures { result ≡ form_of word.now }
+{
+    if word == b"run".as_slice() {
+        Some(Form::Run)
+    } else if word == b"serve".as_slice() {
+        Some(Form::Serve)
+    } else if word == b"batch".as_slice() {
+        Some(Form::Batch)
+    } else {
+        None
+    }
+}
+
+// The command of a form over a source and one more file.
+fn of_form(form: Form, names: SourceNames, behind: Name) -> Command
+    ensures command { result ≡ of_form form names behind }
+    ensures in_reach { IsInReach result }
+{
+    match form {
+        Form::Run => Command::Run(names, behind),
+        Form::Serve => Command::Serve(names, behind),
+        Form::Batch => Command::Batch(names, behind),
+    }
 }

@@ -1,42 +1,68 @@
 //! The files of a command, gathered along its plan.
-ghost use Rattle.std.specs.Prelude.{◌≡◌, IfOk};
+ghost use Rattle.std.specs.Prelude.{◌≡◌, IfOk, Some};
+ghost use Rattle.rule_text.specs.Limits.{KeepsLimits as SourceKeepsLimits};
 ghost use Rattle.m_plan.specs.Trips.{GoesAlong};
 ghost use Rattle.m_plan.specs.Views.{files_view};
 ghost use Rattle.m_commands.specs.Answer.{KeepsLimits};
-ghost use Rattle.m_commands.specs.Command.{plan_of};
+ghost use Rattle.m_commands.specs.Command.{IsInReach, plan_of, work_of, work_plan};
+ghost use Rattle.m_commands.specs.inner.Courses.{IsWorkOf, work_form};
 
-use crate::command::Command;
+use crate::command::{Command, Form};
 use crate::work::Work;
-use m_places::Name;
 use m_places::limits::FILE_BYTES;
+use m_places::{Name, Seq};
 use m_plan::{Ending, fetch};
 use m_ports::Files;
 use m_source::{SourceNames, gather_source};
+use rule_text::Source;
 use std::alloc::Global;
 
 /// Gathers the files of a command. What ends it before it has them is the error.
 pub fn gather<F: Files>(alloc: Global, files: &mut F, command: &Command) -> Result<Work, Ending>
+    requires { IsInReach command.now }
     ensures along { GoesAlong (plan_of command.now) (files_view F.told F.attempts F.taken files.old)
         (files_view F.told F.attempts F.taken files.new) result }
     ensures within { IfOk result KeepsLimits }
+    ensures kind { IfOk result (IsWorkOf command.now) }
 {
     match command {
-        Command::Run(names, household) => gather_run(alloc, files, names, household),
+        Command::Run(names, household) => gather_work(alloc, files, Form::Run, names, household),
+        Command::Serve(names, household) => {
+            gather_work(alloc, files, Form::Serve, names, household)
+        }
+        Command::Batch(names, table) => gather_work(alloc, files, Form::Batch, names, table),
+        Command::Large(n) => Ok(Work::Large(*n)),
     }
 }
 
-/// Gathers the files of a run.
-fn gather_run<F: Files>(
+/// Gathers a source, and the one file behind it.
+fn gather_work<F: Files>(
     alloc: Global,
     files: &mut F,
+    form: Form,
     names: &SourceNames,
-    household: &Name,
+    behind: &Name,
 ) -> Result<Work, Ending>
-    ensures along { GoesAlong (plan_of (Command.Run names.now household.now)) (files_view F.told F.attempts F.taken files.old)
+    ensures along { GoesAlong (work_plan names.now behind.now (work_of form)) (files_view F.told F.attempts F.taken files.old)
         (files_view F.told F.attempts F.taken files.new) result }
     ensures within { IfOk result KeepsLimits }
+    ensures kind { IfOk result (λ work. work_form work ≡ Some form) }
 {
     let source = gather_source(alloc, files, names)?;
-    let rows = fetch(alloc, files, household, FILE_BYTES)?;
-    Ok(Work::Run(source, rows))
+    let bytes = fetch(alloc, files, behind, FILE_BYTES)?;
+    Ok(work_of(form, source, bytes))
+}
+
+/// What a command of a form has gathered.
+fn work_of(form: Form, source: Source, bytes: Seq<u8>) -> Work
+    requires { SourceKeepsLimits source }
+    ensures work { result ≡ work_of form source bytes }
+    ensures within { KeepsLimits result }
+    ensures kind { work_form result ≡ Some form }
+{
+    match form {
+        Form::Run => Work::Run(source, bytes),
+        Form::Serve => Work::Serve(source, bytes),
+        Form::Batch => Work::Batch(source, bytes),
+    }
 }

@@ -5,7 +5,7 @@ ghost use Rattle.m_plan.specs.Attempts.{TakesWithin};
 ghost use Rattle.m_plan.specs.Views.{Disk, files_view, input_view, output_view};
 ghost use Rattle.m_plan.specs.declared.status.Status.{Status};
 ghost use Rattle.m_commands.specs.Command.{limit_of, reads_input, writes_early};
-ghost use Rattle.m_commands.specs.Clauses.{PrintsOutput, Reading, WritesFront, AnswersValid, IsToldUsage};
+ghost use Rattle.m_commands.specs.Clauses.{PrintsOutput, Reading, WritesFront, StopsInFront, AnswersValid, IsToldUsage};
 ghost use Rattle.m_commands.specs.Output.{Output, AreOneOutput};
 ghost use Rattle.m_commands.specs.inner.Courses.{Course};
 
@@ -20,8 +20,16 @@ use std::alloc::Global;
 use std::thread::Threads;
 
 /// Does the command that the words are.
-fn perform<F: Files, K: Sink>(alloc: Global, words: &[Word], files: &mut F, out: &mut K) -> Status
+fn perform<R: Threads + Sync, F: Files, S: Source, K: Sink>(
+    rt: &R,
+    alloc: Global,
+    words: &[Word],
+    files: &mut F,
+    input: &mut S,
+    out: &mut K,
+) -> Status
     ensures { Course words.now (files_view F.told F.attempts F.taken files.old) (files_view F.told F.attempts F.taken files.new)
+        (input_view S.left S.faults input.old) (input_view S.left S.faults input.new)
         (output_view K.written K.faults out.old) (output_view K.written K.faults out.new) result }
 {
     let Ok(command) = command_of(alloc, words) else {
@@ -31,7 +39,7 @@ fn perform<F: Files, K: Sink>(alloc: Global, words: &[Word], files: &mut F, out:
         return print_fault(out, Fault::Usage, Status::Usage);
     };
     match gather(alloc, files, &command) {
-        Ok(work) => answer(alloc, &work, out),
+        Ok(work) => answer(rt, alloc, &work, input, out),
         Err(ending) => tell(out, &ending),
     }
 }
@@ -53,7 +61,7 @@ pub fn m_tax<R: Threads + Sync, F: Files, S: Source, K: Sink>(
         (output_view K.written K.faults out.old) (output_view K.written K.faults out.new) result }
 
     // The attempts on files are those of `fetches_of`, at most the last of them failed, and a read fault
-    // is told only there. All files together give at most one byte past the limit for each that was tried.
+    // is told only there or where a read of the input failed. All files together give at most one byte past the limit for each that was tried.
     ensures reading { Reading words.now (files_view F.told F.attempts F.taken files.old) (files_view F.told F.attempts F.taken files.new)
         (input_view S.left S.faults input.old) (input_view S.left S.faults input.new)
         (output_view K.written K.faults out.old) (output_view K.written K.faults out.new) result }
@@ -63,16 +71,20 @@ pub fn m_tax<R: Threads + Sync, F: Files, S: Source, K: Sink>(
     ensures input_faults { reads_input words.now ≡ false → S.faults input.new ≡ S.faults input.old }
 
     // A write fault is told only where one happened and always where one did, and what was written is
-    // the front of a text.
+    // the front of a text, or of the replies to all of an input.
     ensures write_fault { result ≡ Status.WriteFault → Rose (K.faults out.old) (K.faults out.new) }
     ensures write_told { K.faults out.old < K.faults out.new → result ≡ Status.WriteFault }
     ensures writing { WritesFront words.now (files_view F.told F.attempts F.taken files.old) (files_view F.told F.attempts F.taken files.new)
-        (input_view S.left S.faults input.old) (output_view K.written K.faults out.old) (output_view K.written K.faults out.new) result }
+        (input_view S.left S.faults input.old) (input_view S.left S.faults input.new) (output_view K.written K.faults out.old) (output_view K.written K.faults out.new) result }
 
-    // Without memory nothing was written, but by a command that writes before all its work is done.
+    // Without memory nothing was written, but by a command that writes in parts, which has written the front of an output. Nothing was
+    // taken from the input then.
     ensures memory { result ≡ Status.Memory → writes_early words.now ≡ false → K.written out.new ≡ K.written out.old }
+    ensures memory_front { StopsInFront words.now (files_view F.told F.attempts F.taken files.old)
+        (output_view K.written K.faults out.old) (output_view K.written K.faults out.new) result }
+    ensures memory_input { result ≡ Status.Memory → S.left input.new ≡ S.left input.old }
 
-    // What is valid is answered, unless a read, a write or memory failed.
+    // What is valid is answered, unless a read, a write or memory failed, or as much was taken of the input as may be.
     ensures completeness { AnswersValid words.now (files_view F.told F.attempts F.taken files.old) (files_view F.told F.attempts F.taken files.new)
         (input_view S.left S.faults input.old) (input_view S.left S.faults input.new)
         (output_view K.written K.faults out.old) (output_view K.written K.faults out.new) result }
@@ -80,7 +92,7 @@ pub fn m_tax<R: Threads + Sync, F: Files, S: Source, K: Sink>(
     // The usage line is printed exactly for words that are no command.
     ensures usage { IsToldUsage words.now result }
 {
-    perform(alloc, words, files, out)
+    perform(rt, alloc, words, files, input, out)
 }
 
 /// The same words, files and input have one output: one text and one status, but for which of several cycles or recursions a

@@ -6,4 +6,10 @@ use rule_text::Source;
 pub enum Work {
     /// A run of this source on this household.
     Run(Source, Seq<u8>),
+    /// A session of this source that begins with this household.
+    Serve(Source, Seq<u8>),
+    /// A batch of this source over this table.
+    Batch(Source, Seq<u8>),
+    /// The generated source of this many inputs.
+    Large(u32),
 }

@@ -1,5 +1,5 @@
 -- The turns of a session's loop.
-use Rattle.std.proofs.Common.{◌≡◌, ℕ, ◌+◌, min, length, length-take, length-append, take, List, [], ◌++◌, Option, None, Some, refl, sym, ◌∙◌, ap, subst, append_assoc, append-nil, inl, inr, arith}
+use Rattle.std.proofs.Common.{◌≡◌, ℕ, ◌+◌, ◌<◌, min, length, length-take, length-append, take, List, [], ◌++◌, Option, None, Some, refl, sym, ◌∙◌, ap, subst, append_assoc, append-nil, inl, inr, arith}
 use Rattle.std.specs.Io.KnownBytes.{prepend_known, IsAtEnd}
 use Rattle.std.proofs.lemmas.Bool.{cases_lt}
 use Rattle.std.proofs.lemmas.List.{take_all}
@@ -114,12 +114,13 @@ standing_turn left source_faults written faults source_old source_now source_new
 pub standing_stopped : {S K : Type 0} (left : S → Option (List ℕ)) (source_faults : S → ℕ) (written : K → Option (List ℕ)) (faults : K → ℕ)
     (source_old source_now source_new : S) (old now new : K) (start sitting : Sitting) (held : List ℕ) (count : ℕ) (end : ServeEnd)
     → Standing left source_faults written faults source_old source_now old now start sitting held count
-    → Stopped left source_faults written faults source_now source_new now new sitting held end
+    → Stopped left source_faults written faults source_now source_new now new sitting held end → count < INPUT_BYTES
     → Ends (left source_old) (left source_new) (written old) (written new) start end × Counts (source_faults source_old) (source_faults source_new) (faults old) (faults new) end
-standing_stopped left source_faults written faults source_old source_now source_new old now new start sitting held count Done standing (same, none, calm, done) = (
+standing_stopped left source_faults written faults source_old source_now source_new old now new start sitting held count Done standing (same, none, calm, done) few = (
   (
     (
       standing.bytes,
+      omega (arith, standing.counted, few),
       record {
         moved = standing.moved ∙ ap (prepend_known standing.bytes) (sym same);
         appended = goes_whole written faults old now new start sitting standing.bytes held standing.goes done.0;
@@ -129,7 +130,7 @@ standing_stopped left source_faults written faults source_old source_now source_
   ),
   (calm ∙ standing.calm, done.1 ∙ standing.goes.faultless),
 )
-standing_stopped left source_faults written faults source_old source_now source_new old now new start sitting held count ReadFault standing (same, rose, text, none) = (
+standing_stopped left source_faults written faults source_old source_now source_new old now new start sitting held count ReadFault standing (same, rose, text, none) few = (
   (
     standing.bytes,
     record {
@@ -139,12 +140,12 @@ standing_stopped left source_faults written faults source_old source_now source_
   ),
   (rose_from source_faults source_old source_now source_new standing.calm rose, none ∙ standing.goes.faultless),
 )
-standing_stopped left source_faults written faults source_old source_now source_new old now new start sitting held count WriteFault standing (calm, (piece, rest, moved, is, broken)) =
+standing_stopped left source_faults written faults source_old source_now source_new old now new start sitting held count WriteFault standing (calm, (piece, rest, moved, is, broken)) few =
     let whole = breaks_then written faults old now new start sitting standing.bytes held piece rest standing.goes broken in (
       (standing.bytes ++ piece, rest, standing.moved ∙ ap (prepend_known standing.bytes) moved ∙ prepend_more (left source_new) standing.bytes piece, is, whole.1),
       (calm ∙ standing.calm, whole.0),
     )
-standing_stopped left source_faults written faults source_old source_now source_new old now new start sitting held count TooLong standing never = absurd never
+standing_stopped left source_faults written faults source_old source_now source_new old now new start sitting held count TooLong standing never few = absurd never
 
 -- the loop has taken as much as it takes
 pub standing_full : {S K : Type 0} (left : S → Option (List ℕ)) (source_faults : S → ℕ) (written : K → Option (List ℕ)) (faults : K → ℕ)

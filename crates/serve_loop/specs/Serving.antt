@@ -1,5 +1,5 @@
 -- What a session's loop has done, by how it ended.
-use Rattle.std.specs.Prelude.{◌≡◌, ℕ, List, ◌++◌, length, Option, None, Some}
+use Rattle.std.specs.Prelude.{◌≡◌, ℕ, ◌<◌, List, ◌++◌, length, Option, None, Some}
 use Rattle.std.specs.Io.KnownBytes.{prepend_known, append_known, IsAtEnd}
 use Rattle.m_places.specs.declared.limits.TheConstants.{INPUT_BYTES}
 use Rattle.m_ports.specs.Counts.{Rose}
@@ -20,11 +20,11 @@ IsLeft None rest = Unit {0}
 IsLeft (Some bytes) rest = bytes ≡ rest
 
 -- What was taken of an input and what was written, by the session as the loop began and by how it ended: all lines of a whole
--- input, or the lines that had their line feed when a read failed or too much was taken, or a front of the replies to the whole
+-- input, which has fewer bytes than are taken of one, or the lines that had their line feed when a read failed or too much was taken, or a front of the replies to the whole
 -- input.
 abbrev pub Ends : (left_old left_new written_old written_new : Option (List ℕ)) → Sitting → ServeEnd → Type 0
 Ends left_old left_new written_old written_new sitting Done =
-    ((taken : List ℕ) × Takes left_old left_new written_old written_new taken (replies_of sitting taken)) × IsAtEnd left_new
+    ((taken : List ℕ) × (length taken < INPUT_BYTES) × Takes left_old left_new written_old written_new taken (replies_of sitting taken)) × IsAtEnd left_new
 Ends left_old left_new written_old written_new sitting ReadFault =
     (taken : List ℕ) × Takes left_old left_new written_old written_new taken (replies_to sitting (ended_lines taken))
 Ends left_old left_new written_old written_new sitting WriteFault =

@@ -3,38 +3,53 @@ use Rattle.std.specs.Prelude.{◌≡◌, ℕ, List, Option, Some, None, Ok, Err}
 use Rattle.fault_lines.specs.Lines.{usage_line}
 use Rattle.m_plan.specs.Printing.{Prints, Tells, IsAnswered}
 use Rattle.m_plan.specs.Trips.{GoesAlong}
-use Rattle.m_plan.specs.Views.{FilesView, OutputView}
+use Rattle.m_plan.specs.Views.{FilesView, InputView, OutputView}
 use Rattle.m_plan.specs.declared.ending.Ending.{Ending}
 use Rattle.m_plan.specs.declared.status.Status.{Status}
-use Rattle.m_plan.specs.declared.status.Status.TheVariants.{Refused, Usage, Memory}
-use Rattle.m_commands.specs.Answer.{Replies, RunReplies}
+use Rattle.m_plan.specs.declared.status.Status.TheVariants.{Usage, Memory}
+use Rattle.m_work.specs.Batches.{BatchReplies, IsWrittenInParts}
+use Rattle.m_work.specs.LargeAnswers.{LargeReplies}
+use Rattle.m_work.specs.Runs.{RunReplies}
+use Rattle.m_work.specs.Serves.{IsServed}
 use Rattle.m_commands.specs.Command.{command_of, plan_of}
 use Rattle.m_commands.specs.declared.command.Command.{Command}
-use Rattle.rule_text.specs.declared.Source.{Source}
+use Rattle.m_commands.specs.declared.command.Command.TheVariants as command
+use Rattle.m_commands.specs.declared.command.Form.{Form}
+use Rattle.m_commands.specs.declared.command.Form.TheVariants as form
 use Rattle.m_commands.specs.declared.work.Work.{Work}
+use Rattle.m_commands.specs.declared.work.Work.TheVariants.{Run, Serve, Batch, Large}
 
--- a refusal was told by its line, if it has one: want of memory has none, and then nothing was written
-abbrev pub TellsRefusal : Option (List ℕ) → OutputView → OutputView → Status → Type 0
-TellsRefusal None old new status = (new ≡ old) × (status ≡ Memory)
-TellsRefusal (Some line) old new status = Prints line Refused old new status
+-- the form of a command over a source
+abbrev pub command_form : Command → Option Form
+command_form (command.Run names household) = Some form.Run
+command_form (command.Serve names household) = Some form.Serve
+command_form (command.Batch names table) = Some form.Batch
+command_form (command.Large n) = None
 
--- what answers with what was gathered, whatever is typed
-abbrev pub AlwaysReplies : Work → List ℕ → Status → Type 0
-AlwaysReplies work text status = (typed : List ℕ) → Replies work typed text status
+-- the form of the command that gathered this
+abbrev pub work_form : Work → Option Form
+work_form (Run source rows) = Some form.Run
+work_form (Serve source rows) = Some form.Serve
+work_form (Batch source table) = Some form.Batch
+work_form (Large n) = None
 
--- a run was answered
-pub record RunIsAnswered (source : Source) (rows : List ℕ) (old new : OutputView) (status : Status) : Type 0 where
-  pub answered : IsAnswered (RunReplies source rows) old new status
+-- this is what such a command gathers
+abbrev pub IsWorkOf : Command → Work → Type 0
+IsWorkOf asked work = work_form work ≡ command_form asked
 
 -- what was gathered was answered
-pub record WorkIsAnswered (work : Work) (old new : OutputView) (status : Status) : Type 0 where
-  pub answered : IsAnswered (AlwaysReplies work) old new status
+abbrev pub WorkIsAnswered : Work → (heard told : InputView) (old new : OutputView) → Status → Type 0
+WorkIsAnswered (Run source rows) heard told old new status = (told ≡ heard) × IsAnswered (RunReplies source rows) old new status
+WorkIsAnswered (Serve source rows) heard told old new status = IsServed source rows heard told old new status
+WorkIsAnswered (Batch source table) heard told old new status = (told ≡ heard) × IsWrittenInParts (BatchReplies source table) old new status
+WorkIsAnswered (Large n) heard told old new status = (told ≡ heard) × IsAnswered (LargeReplies n) old new status
 
 -- The words were no command, or there was no memory to copy them, or their command's plan ended before its files were
 -- there, or it was gathered and answered.
-pub data Course (words : List (List ℕ)) (before after : FilesView) (old new : OutputView) (status : Status) : Type 0 where
-  is_no_command : command_of words ≡ None → after ≡ before → Prints usage_line Usage old new status → Course words before after old new status
-  has_no_memory : after ≡ before → new ≡ old → status ≡ Memory → Course words before after old new status
-  ended : (command : Command) (ending : Ending) → command_of words ≡ Some command → GoesAlong (plan_of command) before after (Err ending) → Tells ending old new status → Course words before after old new status
-  answered : (command : Command) (work : Work) → command_of words ≡ Some command → GoesAlong (plan_of command) before after (Ok work) → IsAnswered (AlwaysReplies work) old new status
-      → Course words before after old new status
+pub data Course (words : List (List ℕ)) (before after : FilesView) (heard told : InputView) (old new : OutputView) (status : Status) : Type 0 where
+  is_no_command : command_of words ≡ None → after ≡ before → told ≡ heard → Prints usage_line Usage old new status → Course words before after heard told old new status
+  has_no_memory : after ≡ before → told ≡ heard → new ≡ old → status ≡ Memory → Course words before after heard told old new status
+  ended : (asked : Command) (ending : Ending) → command_of words ≡ Some asked → GoesAlong (plan_of asked) before after (Err ending) → told ≡ heard → Tells ending old new status
+      → Course words before after heard told old new status
+  answered : (asked : Command) (work : Work) → command_of words ≡ Some asked → GoesAlong (plan_of asked) before after (Ok work) → IsWorkOf asked work
+      → WorkIsAnswered work heard told old new status → Course words before after heard told old new status

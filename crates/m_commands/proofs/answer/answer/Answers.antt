@@ -1,6 +1,14 @@
-use Rattle.std.proofs.Common.{arith, rules}
-use Rattle.m_commands.proofs.Answers.{carried, run_answers}
+use Rattle.std.proofs.Common.{refl}
 use Rattle.m_commands.proofs.answer.answer.Goals as goal
 
-pub returns : goal.returns
-returns g c = carried _ c.args.work.now _ _ _ (run_answers _ _ _ _ _ c.answer_run.ensures) (first_of (search rules, grind arith))
+pub returns-in-Run : goal.returns-in-Run
+returns-in-Run g c = rw c.in-Run.is (refl, rw c.as_slice.ensures at c.answer_run.ensures)
+
+pub returns-in-Serve : goal.returns-in-Serve
+returns-in-Serve g c = rw c.in-Serve.is (rw c.as_slice-in-Serve.ensures at c.answer_serve.ensures)
+
+pub returns-in-Batch : goal.returns-in-Batch
+returns-in-Batch g c = rw c.in-Batch.is (refl, rw c.as_slice-in-Batch.ensures at c.answer_batch.ensures)
+
+pub returns-in-Large : goal.returns-in-Large
+returns-in-Large g c = rw c.in-Large.is (refl, c.answer_large.ensures)

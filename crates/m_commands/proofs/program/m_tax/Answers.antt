@@ -1,34 +1,47 @@
-use Rattle.m_plan.specs.Views.{input_view}
-use Rattle.m_commands.proofs.Clauses.{text_of, writing_of}
-use Rattle.m_commands.proofs.Faults.{printed_of, write_fault_of, write_told_of, memory_of, usage_of}
+use Rattle.std.proofs.Common.{ap}
+use Rattle.m_plan.specs.Views.{InputView}
+use Rattle.m_commands.proofs.Clauses.{text_of, writing_of, stopping_of}
+use Rattle.m_commands.proofs.Faults.{counted_of, memory_of, quiet_of, left_of, usage_of}
 use Rattle.m_commands.proofs.Reading.{reading_of}
 use Rattle.m_commands.proofs.Taken.{taken_of}
 use Rattle.m_commands.proofs.Valid.{complete_of}
 use Rattle.m_commands.proofs.program.m_tax.Goals as goal
 
 pub returns-clause-text : goal.returns-clause-text
-returns-clause-text g c = text_of _ _ _ (input_view g.S.Source.left g.S.Source.faults c.args.input.now) _ _ _ c.perform.ensures
+returns-clause-text g c = text_of _ _ _ _ _ _ _ _ c.perform.ensures
 
 pub returns-clause-reading : goal.returns-clause-reading
-returns-clause-reading g c = reading_of _ _ _ (input_view g.S.Source.left g.S.Source.faults c.args.input.now) (input_view g.S.Source.left g.S.Source.faults c.args.input.now) _ _ _ c.perform.ensures
+returns-clause-reading g c = reading_of _ _ _ _ _ _ _ _ c.perform.ensures
 
 pub returns-clause-taken : goal.returns-clause-taken
-returns-clause-taken g c = taken_of _ _ _ _ _ _ c.perform.ensures
+returns-clause-taken g c = taken_of _ _ _ _ _ _ _ _ c.perform.ensures
+
+pub returns-clause-input_left : goal.returns-clause-input_left
+returns-clause-input_left g c = λ unread. ap (λ (v : InputView). v.left) (left_of _ _ _ _ _ _ _ _ c.perform.ensures unread)
+
+pub returns-clause-input_faults : goal.returns-clause-input_faults
+returns-clause-input_faults g c = λ unread. ap (λ (v : InputView). v.faults) (left_of _ _ _ _ _ _ _ _ c.perform.ensures unread)
 
 pub returns-clause-write_fault : goal.returns-clause-write_fault
-returns-clause-write_fault g c = write_fault_of _ _ _ (printed_of _ _ _ _ _ _ c.perform.ensures)
+returns-clause-write_fault g c = (counted_of _ _ _ _ _ _ _ _ c.perform.ensures).only
 
 pub returns-clause-write_told : goal.returns-clause-write_told
-returns-clause-write_told g c = write_told_of _ _ _ (printed_of _ _ _ _ _ _ c.perform.ensures)
+returns-clause-write_told g c = (counted_of _ _ _ _ _ _ _ _ c.perform.ensures).always
 
 pub returns-clause-writing : goal.returns-clause-writing
-returns-clause-writing g c = writing_of _ _ _ (input_view g.S.Source.left g.S.Source.faults c.args.input.now) _ _ _ c.perform.ensures
+returns-clause-writing g c = writing_of _ _ _ _ _ _ _ _ c.perform.ensures
 
 pub returns-clause-memory : goal.returns-clause-memory
-returns-clause-memory g c = λ e early. memory_of _ _ _ (printed_of _ _ _ _ _ _ c.perform.ensures) e
+returns-clause-memory g c = memory_of _ _ _ _ _ _ _ _ c.perform.ensures
+
+pub returns-clause-memory_front : goal.returns-clause-memory_front
+returns-clause-memory_front g c = stopping_of _ _ _ _ _ _ _ _ c.perform.ensures
+
+pub returns-clause-memory_input : goal.returns-clause-memory_input
+returns-clause-memory_input g c = λ m. ap (λ (v : InputView). v.left) (quiet_of _ _ _ _ _ _ _ _ c.perform.ensures m)
 
 pub returns-clause-completeness : goal.returns-clause-completeness
-returns-clause-completeness g c = complete_of _ _ _ (input_view g.S.Source.left g.S.Source.faults c.args.input.now) (input_view g.S.Source.left g.S.Source.faults c.args.input.now) _ _ _ c.perform.ensures
+returns-clause-completeness g c = complete_of _ _ _ _ _ _ _ _ c.perform.ensures
 
 pub returns-clause-usage : goal.returns-clause-usage
-returns-clause-usage g c = usage_of _ _ _ _ _ _ c.perform.ensures
+returns-clause-usage g c = usage_of _ _ _ _ _ _ _ _ c.perform.ensures

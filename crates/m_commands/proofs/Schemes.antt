@@ -1,0 +1,64 @@
+-- A source has one scheme, and isn't refused where it has one.
+use Rattle.std.proofs.Common.{◌≡◌, ℕ, List, Some, Result, Ok, Err, refl, sym, ◌∙◌, subst}
+use Rattle.rule_text.specs.declared.Source.{Source}
+use Rattle.rule_text.specs.declared.Text.{Text}
+use Rattle.fault_lines.specs.Lines.{cycle_line, recursion_line}
+use Rattle.household.specs.declared.fault.HouseholdFault.{HouseholdFault}
+use Rattle.m_compile.specs.Lines.{source_line}
+use Rattle.m_compile.specs.declared.fault.SourceFault.{SourceFault}
+use Rattle.m_plan.specs.declared.status.Status.TheVariants.{Refused}
+use Rattle.m_work.specs.Households.{household_fault_line}
+use Rattle.m_work.specs.Schemes.{Scheme}
+use Rattle.m_work.specs.Sources.{IsScheme, Refuses, scheme_said, source_is_refused, households_are_refused}
+use Rattle.m_commands.specs.Output.{AreOneOutput, the_same, both_cycles, both_recursions}
+use Rattle.m_compile.specs.Faults.{AreOneFault}
+use Rattle.m_compile.specs.Faults as laws
+use Rattle.m_compile.proofs.OneLaws.{no_valid_and_fault, one_validity, one_fault}
+
+-- a source has one scheme
+pub one_scheme : (source : Source) (one other : Scheme) → IsScheme source one → IsScheme source other → one ≡ other
+one_scheme source one other a b =
+    let same = one_validity source a.declared b.declared a.base b.base a.written b.written a.requests b.requests a.valid b.valid in
+    a.said ∙ (λ i. scheme_said (same.0 i) (same.1 i) (same.2 i) (same.3 i)) ∙ sym b.said
+
+-- what a file says is the same by one scheme and by the other
+pub said_other : (source : Source) {Given : Type 0} (said : List (List ℕ) → Result Given HouseholdFault) (result : Result Given HouseholdFault) (one other : Scheme) → IsScheme source one → IsScheme source other
+    → said one.codes ≡ result → said other.codes ≡ result
+said_other source said result one other a b e = subst (λ (s : Scheme). said s.codes ≡ result) (one_scheme source one other a b) e
+
+-- a valid source and a file without a fault aren't refused
+pub not_refused : (source : Source) {Given : Type 0} (said : List (List ℕ) → Result Given HouseholdFault) (line : List ℕ) (scheme : Scheme) (given : Given) → IsScheme source scheme → said scheme.codes ≡ Ok given
+    → Refuses source said line → ⊥
+not_refused source said line scheme given valid e (source_is_refused fault is told) = no_valid_and_fault source valid.declared valid.base valid.written valid.requests fault valid.valid is
+not_refused source said line scheme given valid e (households_are_refused other fault is faulty told) =
+    let c = said_other source said (Err fault) other scheme is valid faulty in
+    cc (c, e)
+
+-- ---- two refusals of a source
+
+one_line : (texts : List Text) (fault other : SourceFault) (t u : List ℕ) → AreOneFault fault other → source_line texts fault ≡ Some t → source_line texts other ≡ Some u → AreOneOutput t Refused u Refused
+one_line texts fault other t u (laws.the_same e) a b =
+    let c : source_line texts other ≡ Some t = subst (λ (f : SourceFault). source_line texts f ≡ Some t) e a in
+    the_same (cc (c, b)) refl
+one_line texts fault other t u (laws.both_cycles {names = ns} {others = os}) a b =
+    let c : cycle_line ns ≡ t = cc a in
+    let d : cycle_line os ≡ u = cc b in
+    subst (λ (x : List ℕ). AreOneOutput x Refused u Refused) c (subst (λ (x : List ℕ). AreOneOutput (cycle_line ns) Refused x Refused) d (both_cycles ns os))
+one_line texts fault other t u (laws.both_rings {names = ns} {others = os}) a b =
+    let c : recursion_line ns ≡ t = cc a in
+    let d : recursion_line os ≡ u = cc b in
+    subst (λ (x : List ℕ). AreOneOutput x Refused u Refused) c (subst (λ (x : List ℕ). AreOneOutput (recursion_line ns) Refused x Refused) d (both_recursions ns os))
+
+same_line : (fault other : HouseholdFault) (t u : List ℕ) → fault ≡ other → household_fault_line fault ≡ Some t → household_fault_line other ≡ Some u → t ≡ u
+same_line fault other t u e a b =
+    let c : household_fault_line other ≡ Some t = subst (λ (f : HouseholdFault). household_fault_line f ≡ Some t) e a in
+    cc (c, b)
+
+pub one_refusal : (source : Source) {Given : Type 0} (said : List (List ℕ) → Result Given HouseholdFault) (t u : List ℕ) → Refuses source said t → Refuses source said u → AreOneOutput t Refused u Refused
+one_refusal source said t u (source_is_refused fault f k) (source_is_refused other g l) = one_line source.texts fault other t u (one_fault source fault other f g) k l
+one_refusal source said t u (source_is_refused fault f k) (households_are_refused scheme other v g l) = absurd (no_valid_and_fault source v.declared v.base v.written v.requests fault v.valid f)
+one_refusal source said t u (households_are_refused scheme fault v g k) (source_is_refused other f l) = absurd (no_valid_and_fault source v.declared v.base v.written v.requests other v.valid f)
+one_refusal source said t u (households_are_refused scheme fault v g k) (households_are_refused also other w h l) =
+    let c = said_other source said (Err fault) scheme also v w g in
+    let f : fault ≡ other = cc (c, h) in
+    the_same (same_line fault other t u f k l) refl

@@ -1,0 +1,100 @@
+-- How what was gathered was answered, in one form for all commands.
+use Rattle.std.proofs.Common.{◌≡◌, ◌<◌, ℕ, true, false, List, ◌++◌, length, Option, None, Some, refl, sym, ap, ◌∙◌}
+use Rattle.std.proofs.lemmas.List.{append-nil}
+use Rattle.std.specs.Option.{option_map_or}
+use Rattle.std.specs.Io.KnownBytes.{IsAtEnd, prepend_known}
+use Rattle.m_places.specs.declared.limits.TheConstants.{INPUT_BYTES}
+use Rattle.m_ports.specs.Counts.{Rose}
+use Rattle.m_ports.specs.Sink.{AppendsPrefix}
+use Rattle.fault_lines.specs.Lines.{input_too_long_line, unreadable_input_line}
+use Rattle.serve_loop.specs.Serving.{IsLeft}
+use Rattle.m_plan.specs.Printing.{Appends, Breaks, Prints, printed, no_memory}
+use Rattle.m_plan.specs.Status.{IsOfEnd}
+use Rattle.m_plan.specs.Views.{InputView, OutputView}
+use Rattle.m_plan.specs.declared.status.Status.{Status}
+use Rattle.m_plan.specs.declared.status.Status.TheVariants.{Done, Memory, ReadFault, Refused, WriteFault}
+use Rattle.m_work.specs.Batches as batch
+use Rattle.m_work.specs.Serves as serve
+use Rattle.m_work.specs.Serving.{to_its_end, unread, too_long, unwritten}
+use Rattle.m_work.specs.Sessions.{ended_replies, session_replies}
+use Rattle.m_commands.specs.Answer.{CutOff, InFull, Replies}
+use Rattle.m_commands.specs.Command.{command_of, reads_input, takes_input, writes_early, writes_in_parts}
+use Rattle.m_commands.specs.declared.command.Command.{Command}
+use Rattle.m_commands.specs.declared.command.Command.TheVariants as command
+use Rattle.m_commands.specs.declared.command.Form.TheVariants as form
+use Rattle.m_commands.specs.declared.work.Work.{Work}
+use Rattle.m_commands.specs.declared.work.Work.TheVariants.{Run, Serve, Batch, Large}
+use Rattle.m_commands.specs.inner.Courses.{IsWorkOf, WorkIsAnswered, command_form, work_form}
+
+-- A text was printed, whatever is typed; or there was no memory, before anything was written or, in a batch, on the way; or a session had its input.
+pub data Way (work : Work) (heard told : InputView) (old new : OutputView) (status : Status) : Type 0 where
+  tells : (text : List ℕ) (own : Status) → ((typed : List ℕ) → Replies work typed text own) → IsOfEnd own → told ≡ heard → Prints text own old new status → Way work heard told old new status
+  lacks_memory : told ≡ heard → new ≡ old → status ≡ Memory → Way work heard told old new status
+  breaks_off : (text : List ℕ) (own : Status) → ((typed : List ℕ) → Replies work typed text own) → work_form work ≡ Some form.Batch → told ≡ heard
+      → AppendsPrefix old.written new.written text → new.faults ≡ old.faults → status ≡ Memory → Way work heard told old new status
+  serves_all : (taken text : List ℕ) → work_form work ≡ Some form.Serve → heard.left ≡ prepend_known taken told.left → IsAtEnd told.left → told.faults ≡ heard.faults
+      → Replies work taken text Done → Appends text old new → status ≡ Done → Way work heard told old new status
+  serves_part : (taken text : List ℕ) → work_form work ≡ Some form.Serve → heard.left ≡ prepend_known taken told.left → Rose heard.faults told.faults
+      → CutOff work taken text → Prints text ReadFault old new status → Way work heard told old new status
+  serves_most : (taken text : List ℕ) → work_form work ≡ Some form.Serve → heard.left ≡ prepend_known taken told.left → length taken ≡ INPUT_BYTES → told.faults ≡ heard.faults
+      → ((rest : List ℕ) → Replies work (taken ++ rest) text Refused) → Prints text Refused old new status → Way work heard told old new status
+  serves_front : (taken rest text : List ℕ) → work_form work ≡ Some form.Serve → heard.left ≡ prepend_known taken told.left → IsLeft told.left rest → told.faults ≡ heard.faults
+      → InFull work (taken ++ rest) text → Breaks text old new → status ≡ WriteFault → Way work heard told old new status
+
+pub way_of : (work : Work) (heard told : InputView) (old new : OutputView) (status : Status) → WorkIsAnswered work heard told old new status → Way work heard told old new status
+way_of (Run source rows) heard told old new status (same, printed text own r o p) = tells text own (λ typed. r) o same p
+way_of (Run source rows) heard told old new status (same, no_memory n m) = lacks_memory same n m
+way_of (Serve source rows) heard told old new status (serve.refused line r same p) = tells line Refused (λ typed. serve.is_refused r) tt same p
+way_of (Serve source rows) heard told old new status (serve.no_memory same n m) = lacks_memory same n m
+way_of (Serve source rows) heard told old new status (serve.served scheme pairs s (to_its_end taken moved few none calm appends is)) =
+    serves_all taken (session_replies scheme pairs taken) refl moved none calm (serve.is_served scheme pairs s few) appends is
+way_of (Serve source rows) heard told old new status (serve.served scheme pairs s (unread taken moved rose p)) =
+    serves_part taken (ended_replies scheme pairs taken ++ unreadable_input_line) refl moved rose (serve.is_cut_off scheme pairs s) p
+way_of (Serve source rows) heard told old new status (serve.served scheme pairs s (too_long taken moved full calm p)) =
+    serves_most taken (ended_replies scheme pairs taken ++ input_too_long_line) refl moved full calm (λ rest. serve.is_too_long scheme pairs taken rest s refl full) p
+way_of (Serve source rows) heard told old new status (serve.served scheme pairs s (unwritten taken rest moved left calm breaks is)) =
+    serves_front taken rest (session_replies scheme pairs (taken ++ rest)) refl moved left calm (serve.is_in_full scheme pairs s) breaks is
+way_of (Batch source table) heard told old new status (same, batch.printed text own r o p) = tells text own (λ typed. r) o same p
+way_of (Batch source table) heard told old new status (same, batch.no_memory n m) = lacks_memory same n m
+way_of (Batch source table) heard told old new status (same, batch.broke_off text own r a f m) = breaks_off text own (λ typed. r) refl same a f m
+way_of (Large n) heard told old new status (same, printed text own r o p) = tells text own (λ typed. r) o same p
+way_of (Large n) heard told old new status (same, no_memory e m) = lacks_memory same e m
+
+-- ---- the command of a work
+
+takes : (asked : Command) → command_form asked ≡ Some form.Serve → takes_input asked ≡ true
+takes (command.Run names household) e = absurd (cc e)
+takes (command.Serve names household) e = refl
+takes (command.Batch names table) e = absurd (cc e)
+takes (command.Large n) e = absurd (cc e)
+
+in_parts : (asked : Command) → command_form asked ≡ Some form.Batch → writes_in_parts asked ≡ true
+in_parts (command.Run names household) e = absurd (cc e)
+in_parts (command.Serve names household) e = absurd (cc e)
+in_parts (command.Batch names table) e = refl
+in_parts (command.Large n) e = absurd (cc e)
+
+-- a session was asked for
+pub serve_reads : (words : List (List ℕ)) (asked : Command) (work : Work) → command_of words ≡ Some asked → IsWorkOf asked work → work_form work ≡ Some form.Serve → reads_input words ≡ true
+serve_reads words asked work c k e = ap (λ o. option_map_or takes_input o false) c ∙ takes asked (sym k ∙ e)
+
+-- a batch was asked for
+pub batch_writes : (words : List (List ℕ)) (asked : Command) (work : Work) → command_of words ≡ Some asked → IsWorkOf asked work → work_form work ≡ Some form.Batch → writes_early words ≡ true
+batch_writes words asked work c k e = ap (λ o. option_map_or writes_in_parts o false) c ∙ in_parts asked (sym k ∙ e)
+
+-- ---- what was typed and what was taken of it
+
+-- all of it
+pub typed_all : (left : Option (List ℕ)) (typed taken : List ℕ) → Some typed ≡ prepend_known taken left → IsAtEnd left → typed ≡ taken
+typed_all None typed taken e none = absurd (cc e)
+typed_all (Some bytes) typed taken e none = let s : typed ≡ taken ++ bytes = cc e in s ∙ ap (λ rest. taken ++ rest) none ∙ append-nil taken
+
+-- a front of it, before some rest
+pub typed_rest : (left : Option (List ℕ)) (typed taken : List ℕ) → Some typed ≡ prepend_known taken left → (rest : List ℕ) × (typed ≡ taken ++ rest)
+typed_rest None typed taken e = absurd (cc e)
+typed_rest (Some bytes) typed taken e = (bytes, cc e)
+
+-- a front of it, before this rest
+pub typed_left : (left : Option (List ℕ)) (typed taken rest : List ℕ) → Some typed ≡ prepend_known taken left → IsLeft left rest → typed ≡ taken ++ rest
+typed_left None typed taken rest e is = absurd (cc e)
+typed_left (Some bytes) typed taken rest e is = let s : typed ≡ taken ++ bytes = cc e in s ∙ ap (λ r. taken ++ r) is

@@ -1,0 +1,5 @@
+use Rattle.m_plan.proofs.Trips.{along_done}
+use Rattle.m_commands.proofs.gather.gather.Goals as goal
+
+pub returns-in-Large-clause-along : goal.returns-in-Large-clause-along
+returns-in-Large-clause-along g c = rw c.in-Large.is (along_done _ _)

@@ -1,0 +1,156 @@
+-- Rows of a table, one after another and group after group.
+use Rattle.std.proofs.Common.{◌≡◌, ℕ, zero, suc, ◌+◌, ◌-◌, ◌<◌, ◌≤◌, length, get_or, take, drop, List, [], ◌∷◌, ◌++◌, Option, None, Some, Result, Ok, Err, refl, sym, ◌∙◌, ap, subst, append_assoc, append-nil, arith}
+use Rattle.std.specs.Prelude.{map, codes}
+use Rattle.std.specs.List.{AllByRecursion}
+use Rattle.std.specs.Option.{option_map_or}
+use Rattle.std.specs.Io.KnownBytes.{append_known}
+use Rattle.std.proofs.lemmas.List.{drop_more, drop_all, take-append-drop, drop-drop, length-map}
+use Rattle.m_fixed.specs.declared.amount.Value.{Value}
+use Rattle.m_ports.specs.Counts.{Rose}
+use Rattle.m_ports.specs.Sink.{AppendsPrefix}
+use Rattle.m_ports.proofs.SinkLemmas.{append_known-append, AppendsPrefix-after, AppendsPrefix-before}
+use Rattle.text_pieces.specs.Pieces.{joined}
+use Rattle.text_pieces.specs.Giving.{Gives}
+use Rattle.text_pieces.proofs.GivingLemmas.{Given}
+use Rattle.flat_code.specs.Answers.{label_number}
+use Rattle.flat_code.specs.Runs.{first_stop, flat_run, node_values, value_at}
+use Rattle.flat_code.specs.declared.answer.Answer.{Answer}
+use Rattle.flat_code.specs.declared.answer.Answer.TheVariants.{Stopped, Values}
+use Rattle.flat_code.specs.declared.answer.Stop.{Stop}
+use Rattle.flat_code.specs.declared.face.Face.{Face}
+use Rattle.flat_code.specs.declared.program.Flat.{Flat}
+use Rattle.household.specs.Household.{values_of}
+use Rattle.household.specs.declared.table.Row.{Row}
+use Rattle.household_session.proofs.OutputLemmas.{stop_label}
+use Rattle.household_session.specs.Sessions.{IsFaceOf}
+use Rattle.m_batch.specs.Batch.{answer_of, answers_of}
+use Rattle.tax_print.specs.Lines.{IsWithin, household_lines, line_feed, told_lines}
+use Rattle.m_work.specs.Schemes.{Scheme, Shows}
+use Rattle.m_work.specs.Tables.{rows_lines}
+use Rattle.m_work.specs.inner.Groups.{Counted, Writes, answered_lines, program_lines}
+use Rattle.m_work.specs.declared.groups.GroupFault.{GroupFault}
+use Rattle.m_work.specs.declared.groups.GroupFault.TheVariants.{Memory, Failed}
+use Rattle.m_work.proofs.SessionLemmas.{lines_told}
+
+-- ---- what holds of all holds of a part
+
+pub all_dropped : {X : Type 0} (P : X → Type 0) (n : ℕ) (xs : List X) → AllByRecursion P xs → AllByRecursion P (drop n xs)
+all_dropped P zero xs all = all
+all_dropped P (suc n) [] all = tt
+all_dropped P (suc n) (x ∷ xs) all = all_dropped P n xs all.1
+
+pub all_taken : {X : Type 0} (P : X → Type 0) (n : ℕ) (xs : List X) → AllByRecursion P xs → AllByRecursion P (take n xs)
+all_taken P zero xs all = tt
+all_taken P (suc n) [] all = tt
+all_taken P (suc n) (x ∷ xs) all = (all.0, all_taken P n xs all.1)
+
+-- ---- the lines of rows
+
+-- rows with the answers that a program gives them
+pub answered_all : (flat : Flat) (face : Face) (rows : List Row) → answered_lines face rows (answers_of flat rows) ≡ program_lines flat face rows
+answered_all flat face [] = refl
+answered_all flat face (row ∷ rows) = ap (λ rest. household_lines row.label face (answer_of flat row) ++ rest) (answered_all flat face rows)
+
+-- rows by a program are rows by its scheme
+pub rows_told : (scheme : Scheme) (flat : Flat) (face : Face) (rows : List Row) → Shows scheme flat face → program_lines flat face rows ≡ rows_lines scheme rows
+rows_told scheme flat face [] shown = refl
+rows_told scheme flat face (row ∷ rows) shown =
+    ap (λ text. (joined (codes "household " ∷ row.label ∷ line_feed ∷ []) ++ text) ++ program_lines flat face rows)
+    (lines_told scheme flat face (values_of row.household.pairs flat.inputs) shown
+    ∙ ap (λ inputs. told_lines scheme.names (scheme.tells (values_of row.household.pairs inputs))) shown.inputs)
+    ∙ ap (λ rest. (joined (codes "household " ∷ row.label ∷ line_feed ∷ []) ++ told_lines scheme.names (scheme.tells (values_of row.household.pairs (length scheme.codes)))) ++ rest)
+    (rows_told scheme flat face rows shown)
+
+-- some rows and then others
+program_append : (flat : Flat) (face : Face) (one other : List Row) → program_lines flat face (one ++ other) ≡ program_lines flat face one ++ program_lines flat face other
+program_append flat face [] other = refl
+program_append flat face (row ∷ rows) other =
+    ap (λ rest. household_lines row.label face (answer_of flat row) ++ rest) (program_append flat face rows other)
+    ∙ sym (append_assoc (household_lines row.label face (answer_of flat row)) (program_lines flat face rows) (program_lines flat face other))
+
+-- the rows that are left begin with a group
+pub group_at : (flat : Flat) (face : Face) (rows : List Row) (from end : ℕ) → from < end
+    → program_lines flat face (drop from rows) ≡ program_lines flat face (take (end - from) (drop from rows)) ++ program_lines flat face (drop end rows)
+group_at flat face rows from end h =
+    let there : from + (end - from) ≡ end = omega arith in
+    ap (program_lines flat face) (sym (take-append-drop (end - from) (drop from rows)))
+    ∙ program_append flat face (take (end - from) (drop from rows)) (drop (end - from) (drop from rows))
+    ∙ ap (λ left. program_lines flat face (take (end - from) (drop from rows)) ++ program_lines flat face left) (drop-drop (end - from) from rows ∙ ap (λ n. drop n rows) there)
+
+-- behind the last row there is nothing
+pub groups_end : (flat : Flat) (face : Face) (rows : List Row) (from : ℕ) → length rows ≤ from → program_lines flat face (drop from rows) ≡ []
+groups_end flat face rows from h = ap (program_lines flat face) (drop_all from rows h)
+
+-- the rows that are left begin with the one that stands there
+pub answered_at : (face : Face) (rows : List Row) (answers : List Answer) (k : ℕ) (row d : Row) (answer e : Answer) → k < length rows → k < length answers
+    → row ≡ get_or rows k d → answer ≡ get_or answers k e
+    → answered_lines face (drop k rows) (drop k answers) ≡ household_lines row.label face answer ++ answered_lines face (drop (k + 1) rows) (drop (k + 1) answers)
+answered_at face rows answers k row d answer e rows_in answers_in is_row is_answer =
+    ap (λ left. answered_lines face left (drop k answers)) (drop_more rows k d rows_in)
+    ∙ ap (λ left. answered_lines face (get_or rows k d ∷ drop (k + 1) rows) left) (drop_more answers k e answers_in)
+    ∙ ap (λ (r : Row). household_lines r.label face (get_or answers k e) ++ answered_lines face (drop (k + 1) rows) (drop (k + 1) answers)) (sym is_row)
+    ∙ ap (λ a. household_lines row.label face a ++ answered_lines face (drop (k + 1) rows) (drop (k + 1) answers)) (sym is_answer)
+
+pub answered_end : (face : Face) (rows : List Row) (answers : List Answer) (k : ℕ) → length rows ≤ k → answered_lines face (drop k rows) (drop k answers) ≡ []
+answered_end face rows answers k h = ap (λ left. answered_lines face left (drop k answers)) (drop_all k rows h)
+
+-- ---- answers are within the face
+
+within_found : (face : Face) (found : Option Stop) (vs : List Value) → ((stop : Stop) → found ≡ Some stop → label_number stop < length face.labels)
+    → length vs ≤ length face.outputs → IsWithin face (option_map_or Stopped found (Values vs))
+within_found face None vs stops few = few
+within_found face (Some stop) vs stops few = stops stop refl
+
+pub run_within : (flat : Flat) (face : Face) (inputs : List Value) → IsFaceOf face flat → IsWithin face (flat_run flat inputs)
+run_within flat face inputs is =
+    within_found face (first_stop (node_values inputs flat.nodes) flat.checks) (map (value_at (node_values inputs flat.nodes)) flat.outputs)
+    (λ stop stops. stop_label (node_values inputs flat.nodes) (length face.labels) flat.checks stop is.labels stops)
+    (let many = length-map flat.outputs (value_at (node_values inputs flat.nodes)) in omega (arith, many, is.outputs))
+
+pub answers_within : (flat : Flat) (face : Face) (rows : List Row) → IsFaceOf face flat → AllByRecursion (IsWithin face) (answers_of flat rows)
+answers_within flat face [] is = tt
+answers_within flat face (row ∷ rows) is = (run_within flat face (values_of row.household.pairs flat.inputs) is, answers_within flat face rows is)
+
+-- ---- a text in several writes, where memory may end it
+
+-- the next part was not written to its end
+pub part_stopped : {S U : Type 0} (written : S → Option (List ℕ)) (faults : S → ℕ) (old now new : S) (text piece rest left : List ℕ)
+    (whole : Result U GroupFault) (other fault : GroupFault) → whole ≡ Err other → other ≡ fault → left ≡ piece ++ rest → Given written faults old now text left
+    → AppendsPrefix (written now) (written new) piece → Counted {T = Unit {0}} (Err fault) (faults now) (faults new) → Writes written faults old new whole text
+part_stopped written faults old now new text piece rest left whole other Memory f s is given prefix counted = rw (f ∙ ap Err s) (record {
+  all = tt;
+  prefix = rw (given.whole ∙ ap (λ bytes. given.front ++ bytes) is)
+      (AppendsPrefix-after (written old) (written now) (written new) given.front (piece ++ rest) given.appended
+      (AppendsPrefix-before (written now) (written new) piece rest prefix));
+  counted = counted ∙ given.faultless;
+})
+part_stopped written faults old now new text piece rest left whole other Failed f s is given prefix counted = rw (f ∙ ap Err s) (record {
+  all = tt;
+  prefix = rw (given.whole ∙ ap (λ bytes. given.front ++ bytes) is)
+      (AppendsPrefix-after (written old) (written now) (written new) given.front (piece ++ rest) given.appended
+      (AppendsPrefix-before (written now) (written new) piece rest prefix));
+  counted = subst (λ count. Rose count (faults new)) given.faultless counted;
+})
+
+-- a call failed that was to write all
+pub gave_failed : {S U : Type 0} (written : S → Option (List ℕ)) (faults : S → ℕ) (old new : S) (text whole : List ℕ) (result : Result U GroupFault) (fault : GroupFault)
+    → result ≡ Err fault → fault ≡ Failed → text ≡ whole → Rose (faults old) (faults new) → AppendsPrefix (written old) (written new) text
+    → Writes written faults old new result whole
+gave_failed written faults old new text whole result fault f s is rose prefix = rw (f ∙ ap Err s) (record {
+  all = tt;
+  prefix = subst (AppendsPrefix (written old) (written new)) is prefix;
+  counted = rose;
+})
+
+-- and wrote it
+pub gave_all : {S U : Type 0} (written : S → Option (List ℕ)) (faults : S → ℕ) (old new : S) (text whole : List ℕ) (value : U)
+    → text ≡ whole → written new ≡ append_known (written old) text → faults new ≡ faults old → Writes written faults old new (Ok value) whole
+gave_all written faults old new text whole value is all none = record {
+  all = all ∙ ap (append_known (written old)) is;
+  prefix = tt;
+  counted = none;
+}
+
+-- answers that are a program's are its lines
+pub program_answered : (flat : Flat) (face : Face) (rows : List Row) (answers : List Answer) → answers ≡ answers_of flat rows → answered_lines face rows answers ≡ program_lines flat face rows
+program_answered flat face rows answers is = ap (answered_lines face rows) is ∙ answered_all flat face rows

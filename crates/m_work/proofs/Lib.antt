@@ -1,0 +1,7 @@
+pub mod SessionLemmas
+pub mod GroupLemmas
+pub mod Printings
+pub mod LargeLimits
+pub mod Compileds
+pub mod Refusals
+pub mod Ways

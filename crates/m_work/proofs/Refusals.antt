@@ -1,0 +1,47 @@
+-- Refusals that were told.
+use Rattle.std.proofs.Common.{◌≡◌, ℕ, List, Option, None, Some, Result, Err, refl, ap, subst, inl, inr}
+use Rattle.std.specs.Prelude.{◌≢◌}
+use Rattle.rule_text.specs.declared.Source.{Source}
+use Rattle.household.specs.declared.fault.HouseholdFault.{HouseholdFault}
+use Rattle.household.specs.declared.fault.HouseholdFault.TheVariants as household
+use Rattle.m_compile.specs.Faults.{IsSourceFault}
+use Rattle.m_compile.specs.Lines.{source_line}
+use Rattle.m_compile.specs.declared.fault.SourceFault.{SourceFault}
+use Rattle.m_compile.specs.declared.fault.SourceFault.TheVariants as source
+use Rattle.m_compile.specs.Compiled.{IsCompiled}
+use Rattle.m_compile.specs.declared.compiling.Compiled.{Compiled}
+use Rattle.m_plan.specs.Views.{OutputView}
+use Rattle.m_plan.specs.declared.status.Status.{Status}
+use Rattle.m_work.specs.Households.{household_fault_line}
+use Rattle.m_work.specs.Schemes.{Scheme}
+use Rattle.m_work.specs.Sources.{IsScheme, Refuses, source_is_refused, households_are_refused}
+use Rattle.m_work.specs.inner.Refusals.{TellsLine, TellsRefusal}
+use Rattle.m_work.proofs.Compileds.{is_scheme, scheme_of}
+
+told_by_line : (s : Source) {Given : Type 0} (said : List (List ℕ) → Result Given HouseholdFault) (fault : SourceFault) (found : Option (List ℕ)) (old new : OutputView) (status : Status)
+    → (fault ≢ source.Memory → IsSourceFault s fault) → source_line s.texts fault ≡ found → TellsLine found old new status → TellsRefusal (Refuses s said) old new status
+told_by_line s said fault None old new status h is told = inr told
+told_by_line s said fault (Some line) old new status h is told =
+    inl (line, source_is_refused fault (h (λ m. let none : source_line s.texts fault ≡ None = ap (source_line s.texts) m in cc (none, is))) is, told)
+
+-- a source was refused
+pub source_told : (s : Source) {Given : Type 0} (said : List (List ℕ) → Result Given HouseholdFault) (fault : SourceFault) (old new : OutputView) (status : Status)
+    → (fault ≢ source.Memory → IsSourceFault s fault) → TellsLine (source_line s.texts fault) old new status → TellsRefusal (Refuses s said) old new status
+source_told s said fault old new status h told = told_by_line s said fault (source_line s.texts fault) old new status h refl told
+
+-- a household or a table was refused
+household_told : (s : Source) (scheme : Scheme) {Given : Type 0} (said : List (List ℕ) → Result Given HouseholdFault) (fault : HouseholdFault) (old new : OutputView) (status : Status)
+    → IsScheme s scheme → (fault ≢ household.Memory → said scheme.codes ≡ Err fault) → TellsLine (household_fault_line fault) old new status → TellsRefusal (Refuses s said) old new status
+household_told s scheme said household.BadHeader old new status valid h told = inl (_, households_are_refused scheme household.BadHeader valid (h (λ m. cc m)) refl, told)
+household_told s scheme said household.TooManyRows old new status valid h told = inl (_, households_are_refused scheme household.TooManyRows valid (h (λ m. cc m)) refl, told)
+household_told s scheme said (household.BadRow line) old new status valid h told = inl (_, households_are_refused scheme (household.BadRow line) valid (h (λ m. cc m)) refl, told)
+household_told s scheme said (household.UnknownCode line) old new status valid h told = inl (_, households_are_refused scheme (household.UnknownCode line) valid (h (λ m. cc m)) refl, told)
+household_told s scheme said (household.BadAmount line) old new status valid h told = inl (_, households_are_refused scheme (household.BadAmount line) valid (h (λ m. cc m)) refl, told)
+household_told s scheme said (household.CodeTwice line) old new status valid h told = inl (_, households_are_refused scheme (household.CodeTwice line) valid (h (λ m. cc m)) refl, told)
+household_told s scheme said household.Memory old new status valid h told = inr told
+
+-- a household or a table was refused by a compiled source
+pub compiled_told : (s : Source) (compiled : Compiled) (is : IsCompiled s compiled) {Given : Type 0} (said : List (List ℕ) → Result Given HouseholdFault) (fault : HouseholdFault) (old new : OutputView) (status : Status)
+    → (fault ≢ household.Memory → said compiled.codes ≡ Err fault) → TellsLine (household_fault_line fault) old new status → TellsRefusal (Refuses s said) old new status
+compiled_told s compiled is said fault old new status h told =
+    household_told s (scheme_of s compiled is) said fault old new status (is_scheme s compiled is) (λ m. subst (λ inputs. said inputs ≡ Err fault) is.codes (h m)) told

@@ -1,0 +1,22 @@
+use Rattle.std.proofs.Common.{sym, ◌∙◌, subst}
+use Rattle.std.specs.List.{AllByRecursion}
+use Rattle.std.proofs.lemmas.Result.{err_from_is_err_and}
+use Rattle.tax_print.specs.Lines.{IsWithin}
+use Rattle.m_work.proofs.GroupLemmas.{answers_within, gave_all, gave_failed, program_answered}
+use Rattle.m_work.proofs.groups.print_group.Goals as goal
+
+pub print_answers-requires-clause-within : goal.print_answers-requires-clause-within
+print_answers-requires-clause-within g c =
+    subst (AllByRecursion (IsWithin c.args.face.now)) (sym (c.as_slice.ensures ∙ c.in_ok-answers.ensures))
+    (answers_within c.args.flat.now c.args.face.now c.args.rows.now c.requires.face)
+
+pub returns-in_err-print_answers : goal.returns-in_err-print_answers
+returns-in_err-print_answers g c =
+    let p = err_from_is_err_and c.from_residual-in_err-print_answers.result c.from_residual-in_err-print_answers.ensures.1 in
+    gave_failed _ _ _ _ _ _ _ _ p.1 p.2 (program_answered c.args.flat.now c.args.face.now c.args.rows.now c.as_slice.result.now (c.as_slice.ensures ∙ c.in_ok-answers.ensures))
+    c.in_err-print_answers.ensures.failed c.in_err-print_answers.ensures.prefix
+
+pub returns : goal.returns
+returns g c =
+    gave_all _ _ _ _ _ _ tt (program_answered c.args.flat.now c.args.face.now c.args.rows.now c.as_slice.result.now (c.as_slice.ensures ∙ c.in_ok-answers.ensures))
+    c.in_ok-print_answers.ensures.all c.in_ok-print_answers.ensures.faultless

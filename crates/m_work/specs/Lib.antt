@@ -1,0 +1,12 @@
+pub mod Schemes
+pub mod Sources
+pub mod Households
+pub mod Runs
+pub mod Tables
+pub mod Batches
+pub mod Sessions
+pub mod Serving
+pub mod Serves
+pub mod Larges
+pub mod LargeAnswers
+pub mod inner

@@ -1,0 +1,43 @@
+-- Rows of a table by a program, and what is known of a call that writes them.
+use Rattle.std.specs.Prelude.{◌≡◌, ℕ, List, [], ◌∷◌, ◌++◌, Option, Result, Ok, Err, OnOk, OnErr}
+use Rattle.std.specs.Io.KnownBytes.{append_known}
+use Rattle.m_ports.specs.Counts.{Rose}
+use Rattle.m_ports.specs.Sink.{AppendsPrefix}
+use Rattle.flat_code.specs.declared.answer.Answer.{Answer}
+use Rattle.flat_code.specs.declared.face.Face.{Face}
+use Rattle.flat_code.specs.declared.program.Flat.{Flat}
+use Rattle.household.specs.declared.table.Row.{Row}
+use Rattle.m_batch.specs.Batch.{answer_of}
+use Rattle.tax_print.specs.Lines.{household_lines}
+use Rattle.m_plan.specs.declared.status.Status.{Status}
+use Rattle.m_plan.specs.declared.status.Status.TheVariants.{Done, WriteFault, Memory as NoMemory}
+use Rattle.m_work.specs.declared.groups.GroupFault.{GroupFault}
+use Rattle.m_work.specs.declared.groups.GroupFault.TheVariants.{Memory, Failed}
+
+-- the lines of rows by a program: each label, and the answer to the row's amounts
+abbrev pub program_lines : Flat → Face → List Row → List ℕ
+program_lines flat face [] = []
+program_lines flat face (row ∷ rows) = household_lines row.label face (answer_of flat row) ++ program_lines flat face rows
+
+-- the lines of rows with these answers
+abbrev pub answered_lines : Face → List Row → List Answer → List ℕ
+answered_lines face (row ∷ rows) (answer ∷ answers) = household_lines row.label face answer ++ answered_lines face rows answers
+answered_lines face _ _ = []
+
+-- the count of faults of an output rose where a write failed, and else it is the same
+abbrev pub Counted : {T : Type 0} → Result T GroupFault → ℕ → ℕ → Type 0
+Counted (Ok value) old new = new ≡ old
+Counted (Err Memory) old new = new ≡ old
+Counted (Err Failed) old new = Rose old new
+
+-- A text was written; or there was no memory on the way, or a write failed, and a front of it was.
+pub record Writes {S T : Type 0} (written : S → Option (List ℕ)) (faults : S → ℕ) (old new : S) (result : Result T GroupFault) (text : List ℕ) : Type 0 where
+  pub all : OnOk result (written new ≡ append_known (written old) text)
+  pub prefix : OnErr result (AppendsPrefix (written old) (written new) text)
+  pub counted : Counted result (faults old) (faults new)
+
+-- the status behind rows that were written or not
+abbrev pub group_status : {T : Type 0} → Result T GroupFault → Status
+group_status (Ok value) = Done
+group_status (Err Memory) = NoMemory
+group_status (Err Failed) = WriteFault

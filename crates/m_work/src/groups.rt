@@ -1,0 +1,118 @@
+//! The rows of a table, computed and written in groups.
+ghost use Rattle.std.specs.Prelude.{◌≡◌, ◌<◌, ◌≤◌, length};
+ghost use Rattle.std.specs.List.{AllByRecursion};
+ghost use Rattle.text_pieces.specs.Giving.{Gives};
+ghost use Rattle.flat_code.specs.Runs.{IsFlat};
+ghost use Rattle.household_session.specs.Sessions.{IsFaceOf};
+ghost use Rattle.m_batch.specs.Batch.{HasInputsBelow};
+ghost use Rattle.tax_print.specs.Lines.{IsWithin};
+ghost use Rattle.m_work.specs.inner.Groups.{Writes, answered_lines, program_lines};
+ghost use Rattle.m_work.specs.declared.groups.GroupFault.TheVariants.{Memory as NoMemory, Failed as NotWritten};
+
+use flat_code::{Answer, Face, Flat};
+use household::Row;
+use m_batch::run_batch;
+use m_ports::{Failed, Sink};
+use std::alloc::{AllocError, Global};
+use std::thread::Threads;
+use tax_print::print_household;
+
+/// How many rows are computed before they are written.
+const GROUP: usize = 256;
+
+/// Why rows are not written to their end.
+#[derive(Clone, Copy, Debug, PartialEq, Eq)]
+pub(crate) enum GroupFault {
+    /// There was no memory.
+    Memory,
+    /// A write failed.
+    Failed,
+}
+
+impl From<AllocError> for GroupFault {
+    ghost from_gives = { λ _ f. f ≡ NoMemory };
+
+    fn from(_error: AllocError) -> GroupFault {
+        GroupFault::Memory
+    }
+}
+
+impl From<Failed> for GroupFault {
+    ghost from_gives = { λ _ f. f ≡ NotWritten };
+
+    fn from(_failed: Failed) -> GroupFault {
+        GroupFault::Failed
+    }
+}
+
+/// Computes and writes rows, a group after the other.
+pub(crate) fn print_rows<R: Threads + Sync, K: Sink>(
+    rt: &R,
+    alloc: Global,
+    flat: &Flat,
+    face: &Face,
+    rows: &[Row],
+    out: &mut K,
+) -> Result<(), GroupFault>
+    requires valid { IsFlat flat.now }
+    requires face { IsFaceOf face.now flat.now }
+    requires inputs { AllByRecursion (HasInputsBelow flat.now.inputs) rows.now }
+    ensures { Writes K.written K.faults out.old out.new result (program_lines flat.now face.now rows.now) }
+{
+    let mut from = 0;
+    while from < rows.len() {
+        let end = group_end(from, rows.len());
+        print_group(rt, alloc, flat, face, &rows[from..end], out)?;
+        from = end;
+    }
+    Ok(())
+}
+
+// Where the group ends that begins at a place.
+fn group_end(from: usize, count: usize) -> usize
+    requires { from < count }
+    ensures some { from < result }
+    ensures within { result ≤ count }
+{
+    if count - from <= GROUP {
+        count
+    } else {
+        from + GROUP
+    }
+}
+
+// Computes rows, and then writes them.
+fn print_group<R: Threads + Sync, K: Sink>(
+    rt: &R,
+    alloc: Global,
+    flat: &Flat,
+    face: &Face,
+    rows: &[Row],
+    out: &mut K,
+) -> Result<(), GroupFault>
+    requires valid { IsFlat flat.now }
+    requires face { IsFaceOf face.now flat.now }
+    requires inputs { AllByRecursion (HasInputsBelow flat.now.inputs) rows.now }
+    ensures { Writes K.written K.faults out.old out.new result (program_lines flat.now face.now rows.now) }
+{
+    let answers = run_batch(rt, alloc, flat, rows)?;
+    print_answers(face, rows, answers.as_slice(), out)?;
+    Ok(())
+}
+
+// Writes the rows with their answers.
+fn print_answers<K: Sink>(
+    face: &Face,
+    rows: &[Row],
+    answers: &[Answer],
+    out: &mut K,
+) -> Result<(), Failed>
+    requires many { length answers.now ≡ length rows.now }
+    requires within { AllByRecursion (IsWithin face.now) answers.now }
+    ensures { Gives K.written K.faults out.old out.new result (answered_lines face.now rows.now answers.now) }
+{
+    for (k, row) in rows.iter().enumerate() {
+        print_household(&row.label, face, &answers[k], out)?;
+    }
+    Ok(())
+}

@@ -1,0 +1,120 @@
+//! `large N`: the generated source is compiled, and its answer to the generated household is printed.
+ghost use Rattle.std.specs.Prelude.{◌≡◌, ◌≤◌, ◌++◌, IfOk};
+ghost use Rattle.m_places.specs.declared.limits.TheConstants.{LARGE};
+ghost use Rattle.text_pieces.specs.Giving.{Gives};
+ghost use Rattle.rule_text.specs.declared.Source.{Source};
+ghost use Rattle.m_large.specs.Large.{household_text};
+ghost use Rattle.tax_print.specs.Lines.{IsWithin, answer_lines};
+ghost use Rattle.m_compile.specs.Compiled.{IsCompiled, IsRunnable};
+ghost use Rattle.m_plan.specs.Printing.{IsAnswered};
+ghost use Rattle.m_plan.specs.Views.{output_view};
+ghost use Rattle.m_work.specs.Larges.{large_line, large_requests, large_source};
+ghost use Rattle.m_work.specs.LargeAnswers.{LargeReplies};
+
+use crate::run::answer_of;
+use crate::told::{status_of, tell_refusal, told_household};
+use flat_code::{Answer, Face};
+use itoa::Buffer;
+use m_compile::{Compiled, compile, told_fault};
+use m_large::{large_base, large_household};
+use m_places::{Name, Seq};
+use m_plan::{Status, printed};
+use m_ports::{Failed, Sink};
+use rule_text::Source;
+use std::alloc::{AllocError, Global};
+use tax_print::print_answer;
+use text_pieces::{append_pieces, give_pieces};
+
+/// Compiles the generated source of this many inputs, and prints the line `large N` and its answer to the generated household.
+pub fn answer_large<K: Sink>(alloc: Global, n: u32, out: &mut K) -> Status
+    requires some { 1 ≤ n }
+    requires few { n ≤ LARGE }
+    ensures { IsAnswered (LargeReplies n) (output_view K.written K.faults out.old) (output_view K.written K.faults out.new) result }
+{
+    let Ok(source) = large_source(alloc, n) else {
+        return Status::Memory;
+    };
+    match compile(alloc, &source) {
+        Ok(compiled) => answer_compiled(alloc, n, &compiled, out),
+        Err(fault) => tell_refusal(out, told_fault(source.texts.as_slice(), &fault)),
+    }
+}
+
+// The generated source.
+fn large_source(alloc: Global, n: u32) -> Result<Source, AllocError>
+    requires some { 1 ≤ n }
+    requires few { n ≤ LARGE }
+    ensures { IfOk result (λ source. source ≡ large_source n) }
+{
+    let mut texts = Vec::new(alloc);
+    texts.push(large_base(alloc, n)?)?;
+    let application = Name::new(alloc, b"iliad")?;
+    let requests = large_requests(alloc, n)?;
+    Ok(Source {
+        application,
+        texts: Seq::from_vec(texts),
+        driver: None,
+        requests: Some(Seq::from_vec(requests)),
+    })
+}
+
+// What is asked for of the generated source.
+fn large_requests(alloc: Global, n: u32) -> Result<Vec<u8>, AllocError>
+    requires { 1 ≤ n }
+    ensures { IfOk result (λ text. text.items ≡ large_requests n) }
+{
+    let mut text = Vec::new(alloc);
+    let mut buffer = Buffer::new();
+    append_pieces(
+        &mut text,
+        &[b"T", buffer.format(n - 1).as_bytes(), b"\n"],
+    )?;
+    Ok(text)
+}
+
+// Prints what the compiled source answers to the generated household.
+fn answer_compiled<K: Sink>(alloc: Global, n: u32, compiled: &Compiled, out: &mut K) -> Status
+    requires some { 1 ≤ n }
+    requires few { n ≤ LARGE }
+    requires runnable { IsRunnable compiled.now }
+    ensures { IsCompiled (large_source n) compiled.now
+        → IsAnswered (LargeReplies n) (output_view K.written K.faults out.old) (output_view K.written K.faults out.new) result }
+{
+    match large_household(alloc, n) {
+        Ok(household) => print_compiled(alloc, n, compiled, &household, out),
+        Err(_) => Status::Memory,
+    }
+}
+
+// The same with the household.
+fn print_compiled<K: Sink>(
+    alloc: Global,
+    n: u32,
+    compiled: &Compiled,
+    household: &[u8],
+    out: &mut K,
+) -> Status
+    requires runnable { IsRunnable compiled.now }
+    requires generated { household.now ≡ household_text n }
+    ensures { IsCompiled (large_source n) compiled.now
+        → IsAnswered (LargeReplies n) (output_view K.written K.faults out.old) (output_view K.written K.faults out.new) result }
+{
+    match answer_of(alloc, compiled, household) {
+        Ok(answer) => printed(
+            print_large(n, &compiled.face, &answer, out),
+            status_of(&answer),
+        ),
+        Err(fault) => tell_refusal(out, told_household(fault)),
+    }
+}
+
+// Prints the line and then an answer.
+fn print_large<K: Sink>(n: u32, face: &Face, answer: &Answer, out: &mut K) -> Result<(), Failed>
+    requires { IsWithin face.now answer.now }
+    ensures { Gives K.written K.faults out.old out.new result (large_line n ++ answer_lines face.now answer.now) }
+{
+    let mut buffer = Buffer::new();
+    let digits = buffer.format(n).as_bytes();
+    give_pieces(out, &[b"large ", digits, b"\n"])?;
+    print_answer(face, answer, out)
+}

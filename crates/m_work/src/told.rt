@@ -1,0 +1,50 @@
+//! The lines by which a command refuses what it has gathered. Nothing here takes memory.
+ghost use Rattle.std.specs.Prelude.{◌≡◌};
+ghost use Rattle.std.specs.Option.{option_map};
+ghost use Rattle.fault_lines.specs.Lines.{fault_line};
+ghost use Rattle.m_plan.specs.Views.{output_view};
+ghost use Rattle.m_work.specs.Households.{answer_status, household_fault_line};
+ghost use Rattle.m_work.specs.inner.Refusals.{TellsLine};
+
+use fault_lines::{Fault, RowFault};
+use flat_code::Answer;
+use household::HouseholdFault;
+use m_plan::{Status, print_fault};
+use m_ports::Sink;
+
+/// Tells what refuses the input, or of want of memory nothing, and answers the status.
+pub(crate) fn tell_refusal<K: Sink>(out: &mut K, told: Option<Fault<'_>>) -> Status
+    ensures { TellsLine (option_map fault_line told.entry) (output_view K.written K.faults out.old) (output_view K.written K.faults out.new) result }
+{
+    match told {
+        Some(fault) => print_fault(out, fault, Status::Refused),
+        None => Status::Memory,
+    }
+}
+
+/// What the fault of a household or a table is told as. Nothing is told of want of memory.
+pub(crate) fn told_household<'a>(fault: HouseholdFault) -> Option<Fault<'a>>
+    ensures { option_map fault_line result ≡ household_fault_line fault }
+{
+    match fault {
+        HouseholdFault::BadHeader => Some(Fault::HouseholdHeader),
+        HouseholdFault::TooManyRows => Some(Fault::TooManyRows),
+        HouseholdFault::BadRow(line) => Some(Fault::HouseholdLine(line, RowFault::BadRow)),
+        HouseholdFault::UnknownCode(line) => {
+            Some(Fault::HouseholdLine(line, RowFault::UnknownCode))
+        }
+        HouseholdFault::BadAmount(line) => Some(Fault::HouseholdLine(line, RowFault::BadAmount)),
+        HouseholdFault::CodeTwice(line) => Some(Fault::HouseholdLine(line, RowFault::CodeTwice)),
+        HouseholdFault::Memory => None,
+    }
+}
+
+/// The status of an answer: values, or what stopped the run.
+pub(crate) fn status_of(answer: &Answer) -> Status
+    ensures { result ≡ answer_status answer.now }
+{
+    match answer {
+        Answer::Values(_) => Status::Done,
+        Answer::Stopped(_) => Status::Stopped,
+    }
+}
