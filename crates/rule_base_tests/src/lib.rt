@@ -1,11 +1,9 @@
-//! Tests of rules over cells, of source text through the base of rule files: names that become cells, orders and cycles, what
-//! the rules are worth, and the cells that are asked for.
+//! Tests of rules over cells, of source text through the base of rule files: names that become cells, orders and cycles, and
+//! what the rules are worth.
 #![tactic(auto)]
 
 #[cfg(test)]
 mod orders;
-#[cfg(test)]
-mod requests;
 #[cfg(test)]
 mod resolution;
 #[cfg(test)]

@@ -1,6 +1,5 @@
 //! The base that a test's formulas come to.
 ghost use Rattle.std.specs.Prelude.{◌≡◌, ◌≤◌, IfOk, length};
-ghost use Rattle.m_requests.specs.Placed.{IsPlaced};
 ghost use Rattle.micro_m.specs.Bases.{IsValidBase};
 ghost use Rattle.rule_order.specs.Orders.{IsOrder};
 
@@ -17,7 +16,6 @@ pub const CELLS: &[u8] =
 pub fn base_of(alloc: Global, formulas: &[u8], declared: &[u8]) -> Result<RuleBase, RuleFault>
     ensures valid { IfOk result (λ made. IsValidBase made.ordered.base) }
     ensures order { IfOk result (λ made. IsOrder made.ordered.base made.ordered.sequence) }
-    ensures placed { IfOk result (λ made. IsPlaced made.symbols) }
 {
     let bytes = source(alloc, formulas, declared)?;
     if bytes.len() > 4_096 {
@@ -37,7 +35,6 @@ fn base_over(alloc: Global, bytes: Vec<u8>) -> Result<RuleBase, RuleFault>
     requires { length bytes.items ≤ 4096 }
     ensures valid { IfOk result (λ made. IsValidBase made.ordered.base) }
     ensures order { IfOk result (λ made. IsOrder made.ordered.base made.ordered.sequence) }
-    ensures placed { IfOk result (λ made. IsPlaced made.symbols) }
 {
     let text = Text {
         name: Name::new(alloc, b"rules.m")?,
