@@ -37,14 +37,14 @@ row() {
     cases=$((${cases-0} + 1))
     : >"$dir/cases/$cases"
     for word in "$@"; do printf '%s\n' "$word"; done >"$dir/cases/$cases.args"
-    printf '%s\n' "$line" >"$dir/cases/$cases.stdout"
+    if [ -n "$line" ]; then printf '%s\n' "$line"; fi >"$dir/cases/$cases.stdout"
     printf '%s %s\n' "$cases" "$status" >>"$dir/statuses"
 }
 
 # try_cases: compiles the sources once, and tries each case. The files of the examples go along under their names.
 try_cases() {
     set --
-    for file in examples/first/* examples/chain/*; do
+    for file in examples/first/* examples/chain/* examples/loops/* examples/impots/*; do
         [ ! -f "$file" ] || set -- "$@" --data "$file=$root/$file"
     done
     (cd crates/m_tax && rt try --cases "$dir/cases" "$@") >"$dir/tried" 2>&1 </dev/null
@@ -79,6 +79,17 @@ listing() {
 # The examples, and what the first hour makes of them.
 row 0 "IRN = 1500.5" run $list - - $household
 row 0 "$(cat examples/chain/answer.txt)" run examples/chain/rules.list - - examples/chain/household.csv
+row 0 "$(cat examples/loops/answer.txt)" run examples/loops/rules.list - - examples/loops/household.csv
+row 1 "refused cycle AIDE SOLDE" run examples/loops/cycle.list - - examples/loops/household.csv
+row 6 "failed 1 E01 anomalie
+E:01:00:a rent below 0" run examples/loops/rules.list - - examples/loops/below_0.csv
+impots=examples/impots
+row 0 "IRNET = 2135
+MARG = 0.1
+AVANT = 2635
+GAIN = 500" run $impots/rules.list $impots/driver.mpp - $impots/household.csv
+row 6 "failed 2003 A01 anomalie
+A:01:00:parts:N" run $impots/rules.list $impots/driver.mpp - $impots/great_gifts.csv
 printf 'code,amount\n' >"$dir/none.csv"
 row 0 "IRN = -1000" run $list - - "$dir/none.csv"
 sed 's/REV - SEUIL/REV * 2/' examples/first/base.m >"$dir/base.m"
@@ -86,6 +97,14 @@ listing product.list "$dir/base.m"
 row 0 "IRN undefined" run "$dir/product.list" - - "$dir/none.csv"
 printf 'code,amount\n1AJ,10000000000000\n' >"$dir/rich.csv"
 row 0 "IRN over" run "$dir/product.list" - - "$dir/rich.csv"
+
+# A table of households, and a generated base.
+row 0 "household dupont
+IRN = 1500.5
+household martin
+IRN = -1000" batch $list - - examples/first/table.csv
+row 0 "large 3
+T2 = 994" large 3
 
 # Wrong words.
 row 2 "$usage"
@@ -134,13 +153,14 @@ printf '\000\377\201;=+-*/()"#\n\r\t\033iliad' >"$dir/bytes"
 : >"$dir/empty"
 row 1 "refused list line 1" run "$dir/bytes" - - $household
 row 1 "refused household: bad header" run $list - - "$dir/bytes"
-listing bytes.list "$dir/bytes"
-row 1 "refused $dir/bytes line 1 byte 0: bad byte" run "$dir/bytes.list" - - $household
 row 1 "refused driver line 1: bad token" run $list "$dir/bytes" - $household
 row 1 "refused requests line 1" run $list - "$dir/bytes" $household
+listing bytes.list "$dir/bytes"
+row 1 "refused $dir/bytes line 1 byte 0: bad byte" run "$dir/bytes.list" - - $household
 row 1 "refused list line 1" run "$dir/empty" - - $household
 row 1 "refused household: bad header" run $list - - "$dir/empty"
 row 1 "refused driver: no main" run $list "$dir/empty" - $household
+row 0 "" run $list - "$dir/empty" $household
 listing empty.list "$dir/empty"
 row 1 "refused household line 2: unknown code" run "$dir/empty.list" - - $household
 row 1 "refused file too long /dev/zero" run /dev/zero - - $household

@@ -1,7 +1,8 @@
 #!/bin/sh
 # Times the reading of households and tables beside a plain hand-written reader in Rust (plain.rs) with the
 # same checks, on the same bytes in the same run. It prints the tables of RESULTS.md. It needs the
-# toolchain's `rt`, and `rustc`, `awk` and GNU `time`.
+# toolchain's `rt`, and `rustc`, `awk`, GNU `time` and `valgrind`, which counts instructions: what else runs on the machine
+# doesn't change these.
 #
 #     sh bench/household/run.sh
 set -eu
@@ -82,17 +83,17 @@ fn count_rows(alloc: Global, kind: &str, bytes: &[u8], codes: &Codes) -> usize {
 }
 
 fn main(rt: HostRuntime) -> Result<()> {
-    let words = env::args(&rt)?;
-    if words.len() != 3 {
+    let mut words = env::args(&rt)?.skip(1);
+    let (Some(kind), Some(path)) = (words.next(), words.next()) else {
         return Ok(());
-    }
-    let bytes = fs::read(&rt, words[2].as_str())?;
+    };
+    let bytes = fs::read(&rt, path.as_str())?;
     let Some(codes) = many_codes(rt.alloc())? else {
         return Ok(());
     };
     for _ in 0..5 {
         let start = Instant::now(&rt)?;
-        let count = count_rows(rt.alloc(), words[1].as_str(), &bytes, &codes);
+        let count = count_rows(rt.alloc(), kind.as_str(), &bytes, &codes);
         let took = start.elapsed(&rt)?.as_micros();
         println!(rt; "{count} {took}")?;
     }
@@ -101,8 +102,15 @@ fn main(rt: HostRuntime) -> Result<()> {
 DRIVER
 (cd "$driver" && rt run >"$work/rt.log" 2>&1) || { cat "$work/rt.log" >&2; exit 1; }
 
-# The least time of a program's five runs in milliseconds, its megabytes a second, its peak memory, and
-# that memory for each byte read, less what the program has with an empty file of the kind.
+# How many instructions a program carries out.
+instructions() {
+    valgrind --tool=callgrind --callgrind-out-file=/dev/null "$@" 2>&1 >/dev/null |
+        sed -n 's/^.*Collected : *//p'
+}
+
+# The least time of a program's five runs in milliseconds, its megabytes a second, the millions of instructions of one of them,
+# the program's peak memory, and that memory for each byte read, the byte itself with it. Instructions and the last are less
+# what the program has with an empty file of the kind.
 row() {
     name=$1
     kind=$2
@@ -114,10 +122,13 @@ row() {
     esac
     /usr/bin/time -f '%M' -o "$work/least" "$@" "$kind" "$work/empty" >/dev/null
     /usr/bin/time -f '%M' -o "$work/peak" "$@" "$kind" "$file" >"$work/times"
-    awk -v name="$name" -v size="$(wc -c <"$file")" -v peak="$(cat "$work/peak")" -v least="$(cat "$work/least")" '
+    none=$(instructions "$@" "$kind" "$work/empty")
+    all=$(instructions "$@" "$kind" "$file")
+    awk -v name="$name" -v size="$(wc -c <"$file")" -v peak="$(cat "$work/peak")" -v least="$(cat "$work/least")" \
+        -v none="$none" -v all="$all" '
         NR == 1 || $2 < best { best = $2; count = $1 }
         END {
-            printf "| %s | %d | %.1f | %.0f | %.0f | %.1f |\n", name, count, best / 1e3, size / best, peak / 1024, (peak - least) * 1024 / size
+            printf "| %s | %d | %.1f | %.0f | %.1f | %.0f | %.1f |\n", name, count, best / 1e3, size / best, (all - none) / 5e6, peak / 1024, (peak - least) * 1024 / size
         }' "$work/times"
 }
 
@@ -126,8 +137,8 @@ for kind in household table; do
         file=$work/$kind.$rows.csv
         echo "### A $kind of $rows rows, $(wc -c <"$file") bytes"
         echo
-        echo '| Program | Rows | Milliseconds | MB/s | Peak MiB | Bytes of memory for a byte |'
-        echo '|---|---|---|---|---|---|'
+        echo '| Program | Rows | Milliseconds | MB/s | Million instructions | Peak MiB | Bytes of memory for a byte |'
+        echo '|---|---|---|---|---|---|---|'
         row 'the proved reader' "$kind" "$file" "$driver/out/bench_household"
         row 'plain reader' "$kind" "$file" "$work/plain"
         echo

@@ -1,16 +1,25 @@
 -- What a step's fault says of the source, and what the program of its rules is.
-use Rattle.std.proofs.Common.{◌≡◌, ◌≢◌, ◌≤◌, ◌<◌, ℕ, Bool, true, false, List, length, Option, None, Some, min, Result, Ok, Err, nat_lt, refl, sym, ap, ◌∙◌, subst, arith}
+use Rattle.std.proofs.Common.{◌≡◌, ◌≢◌, ◌≤◌, ◌<◌, ◌^◌, ℕ, Bool, true, false, List, [], All, map, length, Option, None, Some, min, Result, Ok, Err, nat_lt, cond, refl, sym, ap, ◌∙◌, subst, arith}
+use Rattle.std.proofs.lemmas.Bool.{ltb-false}
+use Rattle.std.proofs.lemmas.List.{length-map}
+use Rattle.std.specs.Prelude.{IfOk}
 use Rattle.m_places.specs.Refusals.{Outcome}
 use Rattle.m_places.specs.declared.limits.TheConstants.{DRIVER_WEIGHT, REQUESTS}
 use Rattle.rule_text.specs.declared.Source.{Source}
-use Rattle.m_symbols.specs.Declarations.{Declared}
+use Rattle.rule_text.specs.declared.Text.{Text}
+use Rattle.m_symbols.specs.Declarations.{Declared, codes_of, inputs_from}
+use Rattle.m_symbols.proofs.Numbered.{as_many_codes}
+use Rattle.m_requests.specs.Cells.{cell_name, returned_cells}
+use Rattle.flat_code.specs.declared.face.FaceLabel.{FaceLabel}
 use Rattle.micro_m.specs.declared.base.Base.{Base}
 use Rattle.micro_m.specs.Reads.{HasNoCycle}
 use Rattle.driver_core.specs.declared.program.Core.{Core}
 use Rattle.driver_core.specs.Weights.{weight_of}
-use Rattle.m_requests.specs.Requests.{requests_said, few}
+use Rattle.m_requests.specs.Requests.{requests_said, lines_said, few}
+use Rattle.m_text.specs.Lines.{lines_of}
 use Rattle.m_requests.specs.declared.fault.RequestFault.{RequestFault}
 use Rattle.m_requests.specs.declared.fault.RequestFault.TheVariants as requests
+use Rattle.m_requests.specs.declared.fault.RequestFault.TheVariants.{TooManyRequests}
 use Rattle.mpp_lexer.specs.declared.fault.DriverFault.{DriverFault}
 use Rattle.mpp_lexer.specs.declared.fault.DriverFault.TheVariants as lines
 use Rattle.mpp_parser.specs.declared.command.Driver.{Driver}
@@ -20,7 +29,7 @@ use Rattle.mpp_core.specs.declared.fault.CoreFault.TheVariants as core
 use Rattle.mpp_core.specs.Cores.{IsCoreFault}
 use Rattle.mpp_inline.specs.declared.fault.InlineFault.{InlineFault}
 use Rattle.mpp_inline.specs.declared.fault.InlineFault.TheVariants as inline
-use Rattle.mpp_inline.specs.Inlined.{IsTooLarge}
+use Rattle.mpp_inline.specs.Inlined.{HasWeight, IsInlined, IsTooLarge}
 use Rattle.rule_base.specs.Base.{IsBaseOf}
 use Rattle.rule_base.specs.Faults.{IsRuleFault}
 use Rattle.rule_base.specs.declared.fault.RuleFault.{RuleFault}
@@ -30,8 +39,8 @@ use Rattle.m_compile.specs.declared.fault.SourceFault.{SourceFault}
 use Rattle.m_compile.specs.declared.fault.SourceFault.TheVariants.{Memory}
 use Rattle.m_compile.specs.Sources.{HasRules, IsWritten, IsValid, running}
 use Rattle.m_compile.specs.Faults.{IsSourceFault, of_rules, of_driver, of_core, of_requests, of_weight, told_weight}
-use Rattle.m_compile.specs.Compiled.{IsCompiled}
-use Rattle.m_compile.specs.inner.Parts.{IsProgram, IsHeavy, heavy, IsDriverFault, of_lines, of_names, IsFaultOf, of_bytes}
+use Rattle.m_compile.specs.Compiled.{IsCompiled, IsRunnable}
+use Rattle.m_compile.specs.inner.Parts.{IsProgram, IsHeavy, heavy, of_lines, of_names, IsFaultOf, of_bytes}
 use Rattle.m_compile.specs.inner.Steps.{rule_step, driver_step, core_step, request_step, inline_step}
 
 -- the fault of the rule files
@@ -44,22 +53,28 @@ rules_told source (rules.Expand f) h k = of_rules (h (λ e. cc))
 rules_told source (rules.Resolve f) h k = of_rules (h (λ e. cc))
 rules_told source (rules.Cycle names) h k = of_rules (h (λ e. cc))
 
+-- the rules, where the texts and the application are lent
+pub rules_made : (source : Source) (texts : List Text) (application : List ℕ) (declared : Declared) (base : Base) → texts ≡ source.texts → application ≡ source.application
+    → IsBaseOf texts application declared base → HasNoCycle base → HasRules source declared base
+rules_made source texts application declared base t a b n =
+    record { made = subst (λ (x : List Text). IsBaseOf x source.application declared base) t (subst (λ (x : List ℕ). IsBaseOf texts x declared base) a b); no_cycle = n }
+
 -- the fault of the driver's lines
-pub lines_told : (declared : Declared) (bytes : List ℕ) (fault : DriverFault) → (fault ≢ lines.Memory → IsFault bytes fault) → driver_step fault ≢ Memory → IsDriverFault declared bytes (driver_step fault)
+pub lines_told : (declared : Declared) (bytes : List ℕ) (fault : DriverFault) → (fault ≢ lines.Memory → IsFault bytes fault) → driver_step fault ≢ Memory → IsFaultOf declared (Some bytes) (driver_step fault)
 lines_told declared bytes lines.Memory h k = absurd (k refl)
-lines_told declared bytes (lines.DriverToken n) h k = of_lines (h (λ e. cc))
-lines_told declared bytes (lines.DriverTooDeep n) h k = of_lines (h (λ e. cc))
-lines_told declared bytes (lines.DriverSyntax n) h k = of_lines (h (λ e. cc))
+lines_told declared bytes (lines.DriverToken n) h k = of_bytes (of_lines (h (λ e. cc)))
+lines_told declared bytes (lines.DriverTooDeep n) h k = of_bytes (of_lines (h (λ e. cc)))
+lines_told declared bytes (lines.DriverSyntax n) h k = of_bytes (of_lines (h (λ e. cc)))
 
 -- the fault of the driver's names
 pub names_told : (declared : Declared) (bytes : List ℕ) (driver : Driver) (fault : CoreFault) → IsDriver bytes driver → (fault ≢ core.Memory → IsCoreFault driver declared fault) → core_step fault ≢ Memory
-    → IsDriverFault declared bytes (core_step fault)
+    → IsFaultOf declared (Some bytes) (core_step fault)
 names_told declared bytes driver core.Memory d h k = absurd (k refl)
-names_told declared bytes driver (core.FunctionTwice name line) d h k = of_names driver d (h (λ e. cc))
-names_told declared bytes driver core.NoMain d h k = of_names driver d (h (λ e. cc))
-names_told declared bytes driver (core.UnknownInDriver name line) d h k = of_names driver d (h (λ e. cc))
-names_told declared bytes driver (core.BadTargetInDriver name line) d h k = of_names driver d (h (λ e. cc))
-names_told declared bytes driver (core.DriverRecursion names) d h k = of_names driver d (h (λ e. cc))
+names_told declared bytes driver (core.FunctionTwice name line) d h k = of_bytes (of_names driver d (h (λ e. cc)))
+names_told declared bytes driver core.NoMain d h k = of_bytes (of_names driver d (h (λ e. cc)))
+names_told declared bytes driver (core.UnknownInDriver name line) d h k = of_bytes (of_names driver d (h (λ e. cc)))
+names_told declared bytes driver (core.BadTargetInDriver name line) d h k = of_bytes (of_names driver d (h (λ e. cc)))
+names_told declared bytes driver (core.DriverRecursion names) d h k = of_bytes (of_names driver d (h (λ e. cc)))
 
 -- the fault of a driver is one of the source
 pub driver_told : (source : Source) (declared : Declared) (base : Base) (given : Option (List ℕ)) (fault : SourceFault) → HasRules source declared base → source.driver ≡ given → IsFaultOf declared given fault → IsSourceFault source fault
@@ -74,16 +89,17 @@ requests_told source declared base written (requests.BadRequest line) r d h k = 
 requests_told source declared base written requests.TooManyRequests r d h k = of_requests r d (h (λ e. cc))
 
 -- no more is asked for than there may be
+few_when : (all cells : List ℕ) (many : Bool) → nat_lt REQUESTS (length all) ≡ many → cond many (Err TooManyRequests) (Ok all) ≡ Ok cells → length cells ≤ REQUESTS
+few_when all cells true m e = cc
+few_when all cells false m e = let s : all ≡ cells = cc in subst (λ (l : List ℕ). length l ≤ REQUESTS) s (ltb-false REQUESTS (length all) m)
+
 few_said : (said : Result (List ℕ) RequestFault) (cells : List ℕ) → few said ≡ Ok cells → length cells ≤ REQUESTS
-few_said (Ok all) cells e = checked (nat_lt REQUESTS (length all)) refl e
-  where
-    checked : (many : Bool) → nat_lt REQUESTS (length all) ≡ many → few (Ok all) ≡ Ok cells → length cells ≤ REQUESTS
-    checked many m e = ?
+few_said (Ok all) cells e = few_when all cells (nat_lt REQUESTS (length all)) refl e
 few_said (Err fault) cells e = cc
 
 pub few_asked : (given : Option (List ℕ)) (declared : Declared) (cells : List ℕ) → requests_said given declared ≡ Ok cells → length cells ≤ REQUESTS
-few_asked None declared cells e = few_said _ cells e
-few_asked (Some bytes) declared cells e = few_said _ cells e
+few_asked None declared cells e = few_said (Ok (returned_cells declared)) cells e
+few_asked (Some bytes) declared cells e = few_said (lines_said declared 1 [] (lines_of bytes)) cells e
 
 -- the weight
 pub weight_told : (core : Core) (base : Base) (fault : InlineFault) → (fault ≢ inline.Memory → IsTooLarge core base fault) → inline_step fault ≢ Memory → IsHeavy core base (inline_step fault)
@@ -106,3 +122,35 @@ finished source declared base written asked core (Ok compiled) r d q e p = recor
   runnable = p.runnable; codes = p.codes; outputs = p.outputs; answers = λ inputs. rw (sym e) (p.answers inputs);
 }
 finished source declared base written asked core (Err fault) r d q e p = λ m. heavy_told source declared base written asked fault r d q (subst (λ c. IsHeavy c base fault) e (p m))
+
+-- ---- the program of a driver
+
+-- each input has a code
+as_many_inputs : (declared : Declared) (codes : List (List ℕ)) (inputs : ℕ) → codes ≡ codes_of declared.variables → inputs ≡ length (inputs_from 0 declared.variables) → inputs ≡ length codes
+as_many_inputs declared codes inputs c i = i ∙ sym (as_many_codes 0 declared.variables) ∙ ap length (sym c)
+
+-- there is a name for each of the cells that are asked for
+as_many_names : (declared : Declared) (names : List (List ℕ)) (asked : List ℕ) → names ≡ map (cell_name declared) asked → length names ≡ length asked
+as_many_names declared names asked e = ap length e ∙ length-map asked (cell_name declared)
+
+few_names : (names : List (List ℕ)) (asked : List ℕ) → length names ≡ length asked → length asked ≤ REQUESTS → length names < 2 ^ 32
+few_names names asked e h = omega (arith, e, h)
+
+-- the program with its face
+pub program_made : (declared : Declared) (base : Base) (core : Core) (asked : List ℕ) (compiled : Compiled) (labels : List FaceLabel) → HasWeight core base → IsInlined core base declared asked compiled.flat labels
+    → compiled.face.labels ≡ labels → compiled.face.inputs ≡ codes_of declared.variables → compiled.face.outputs ≡ map (cell_name declared) asked → compiled.codes ≡ codes_of declared.variables
+    → length asked ≤ REQUESTS → IsProgram declared base core asked compiled
+program_made declared base core asked compiled labels w i l f o d h = record {
+  light = w;
+  runnable = record {
+    flat = i.flat_program; inputs = as_many_inputs declared compiled.codes compiled.flat.inputs d i.inputs; codes = f ∙ sym d;
+    outputs = i.outputs ∙ sym (as_many_names declared compiled.face.outputs asked o); few = few_names compiled.face.outputs asked (as_many_names declared compiled.face.outputs asked o) h;
+    labels = subst (λ (ls : List FaceLabel). All (λ check. check.label < length ls) compiled.flat.checks) (sym l) i.labelled;
+  };
+  codes = d; outputs = o; answers = λ inputs. rw l (i.answer inputs);
+}
+
+-- it can be run
+pub program_runs : (declared : Declared) (base : Base) (core : Core) (asked : List ℕ) (result : Result Compiled SourceFault) → Outcome Memory result (IsProgram declared base core asked) (IsHeavy core base) → IfOk result IsRunnable
+program_runs declared base core asked (Ok compiled) h = h.runnable
+program_runs declared base core asked (Err fault) h = tt

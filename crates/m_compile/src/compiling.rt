@@ -11,7 +11,7 @@ ghost use Rattle.rule_order.specs.Orders.{IsOrder};
 ghost use Rattle.m_compile.specs.Sources.{IsWritten, running};
 ghost use Rattle.m_compile.specs.Faults.{IsSourceFault};
 ghost use Rattle.m_compile.specs.Compiled.{IsCompiled, IsRunnable};
-ghost use Rattle.m_compile.specs.inner.Parts.{IsProgram, IsHeavy, IsDriverFault, IsFaultOf};
+ghost use Rattle.m_compile.specs.inner.Parts.{IsProgram, IsHeavy, IsFaultOf};
 ghost use Rattle.m_compile.specs.declared.fault.SourceFault.TheVariants.{Memory};
 
 use crate::SourceFault;
@@ -66,18 +66,17 @@ fn written(
     requires placed { IsPlaced symbols.now }
     ensures { Outcome Memory result (IsWritten symbols.now driver.now) (IsFaultOf symbols.now driver.now) }
 {
-    let Some(bytes) = driver else {
-        return Ok(None);
-    };
-    let core = core_of(alloc, bytes.as_slice(), symbols)?;
-    Ok(Some(core))
+    match driver {
+        Some(bytes) => Ok(Some(core_of(alloc, bytes.as_slice(), symbols)?)),
+        None => Ok(None),
+    }
 }
 
 // The driver of these bytes over the cells of what is declared.
 fn core_of(alloc: Global, bytes: &[u8], symbols: &Symbols) -> Result<Core, SourceFault>
     requires within { length bytes.now ≤ FILE_BYTES }
     requires placed { IsPlaced symbols.now }
-    ensures { Outcome Memory result (λ core. IsWritten symbols.now (Some bytes.now) (Some core)) (IsDriverFault symbols.now bytes.now) }
+    ensures { Outcome Memory result (λ core. IsWritten symbols.now (Some bytes.now) (Some core)) (IsFaultOf symbols.now (Some bytes.now)) }
 {
     let driver = parse_driver(alloc, bytes)?;
     let core = resolve_driver(alloc, &driver, symbols)?;

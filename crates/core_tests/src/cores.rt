@@ -1,0 +1,402 @@
+//! Drivers over cells, and each fault with its name and line.
+ghost use Rattle.std.specs.Prelude.{◌<◌, All, IfSome, length};
+ghost use Rattle.m_symbols.specs.Declarations.{owners_from};
+ghost use Rattle.m_requests.specs.Placed.{IsPlaced};
+
+use crate::declared::{
+    add, add_number, no_pairs, no_words, one_pair, other_at, refused, symbols_of, variable,
+};
+use driver_core::{CCommand, CCommandNode, CNode, CTerm, Core};
+use m_ast::{Item, Role};
+use m_fixed::{Amount, Value, write_amount};
+use m_places::limits::FILE_BYTES;
+use m_places::{Name, Seq};
+use m_symbols::Symbols;
+use mpp_core::{CoreFault, plain_driver, resolve_driver};
+use mpp_parser::{Driver, parse_driver};
+use std::alloc::{AllocError, Global};
+use std::test::Fail;
+
+// Drivers over the computed A (cell 0), the table T of 3 cells (1 to 3), the constant C (4), and the inputs P, Q and R (5 to 7)
+// with `avfisc` 1, 2 and 3. A driver is shown by its functions, each with its commands; a star stands before the one that runs.
+const CORES: [(&[u8], &[u8]); 9] = [
+    (b"main():\n  A = T[2]\n", b"*main{2: 0 = 3}"),
+    (
+        b"f():\n  A = 1\n\nmain():\n  A, T[0] <- f()\n  P <- call_m()\n  del T[1]\n",
+        b"f{2: 0 = 1}*main{5: 0 1 from 0}{6: 5 from rules}{7: del 2}",
+    ),
+    (
+        b"main():\n  A <- f()\nf():\n  A <- g()\ng():\n  A = C\n",
+        b"*main{2: 0 from 1}f{4: 0 from 2}g{6: 0 = 4}",
+    ),
+    (
+        b"main():\n  A = exists(taxbenefit)\n",
+        b"*main{2: 0 = one of 5 6}",
+    ),
+    (
+        b"main():\n  A = exists(avfisc = 3, 1)\n",
+        b"*main{2: 0 = one of 5 7}",
+    ),
+    (
+        b"main():\n  A = exists(avfisc = 4)\n",
+        b"*main{2: 0 = one of}",
+    ),
+    (
+        b"main():\n  partition with avfisc = 2:\n    A = 1\n    T[0] = A\n",
+        b"*main{2: without 6 {3: 0 = 1}{4: 1 = 0}}",
+    ),
+    (
+        b"main():\n  if P:\n    A = 1\n  else:\n    del A\n    A = 2\n",
+        b"*main{2: if 5 {3: 0 = 1} else {5: del 0}{6: 0 = 2}}",
+    ),
+    (
+        b"main():\n  if P:\n    A = 1\n",
+        b"*main{2: if 5 {3: 0 = 1} else }",
+    ),
+];
+
+// Drivers over the same, and why each is refused.
+const FAULTS: [(&[u8], &[u8]); 26] = [
+    (b"", b"no main"),
+    (b"f():\n  A = 1\n", b"no main"),
+    (b"Main():\n  A = 1\n", b"no main"),
+    (
+        b"main():\n  A = 1\nmain():\n  A = 2\n",
+        b"line 3 twice main",
+    ),
+    (
+        b"f():\n  A = 1\n\nf():\n  A = 2\nf():\n  A = 3\n",
+        b"line 4 twice f",
+    ),
+    (b"call_m():\n  A = 1\n", b"line 1 twice call_m"),
+    (
+        b"main():\n  A = B\nf():\n  A = 1\nf():\n  A = 2\n",
+        b"line 5 twice f",
+    ),
+    (b"f():\n  A = B\n", b"no main"),
+    (b"main():\n  A = B\n", b"line 2 unknown B"),
+    (b"main():\n  B = C\n", b"line 2 unknown B"),
+    (b"main():\n  A = 1AJ\n", b"line 2 unknown 1AJ"),
+    (b"main():\n  A = T\n", b"line 2 unknown T"),
+    (b"main():\n  A = T[3]\n", b"line 2 unknown T"),
+    (b"main():\n  A = C[0]\n", b"line 2 unknown C"),
+    (b"main():\n  C[0] = 1\n", b"line 2 unknown C"),
+    (b"main():\n  A = f\nf():\n  A = 1\n", b"line 2 unknown f"),
+    (b"main():\n  A <- B()\n", b"line 2 unknown B"),
+    (b"main():\n  A, C <- g()\n", b"line 2 target C"),
+    (b"main():\n  A, B, C <- g()\n", b"line 2 unknown B"),
+    (b"main():\n  C = B\n", b"line 2 target C"),
+    (b"main():\n  del C\n", b"line 2 target C"),
+    (b"main():\n  C <- call_m()\n", b"line 2 target C"),
+    (
+        b"main():\n  if A:\n    A = 1\n  else:\n    A = D\n  C = 1\n",
+        b"line 5 unknown D",
+    ),
+    (b"main():\n  A <- main()\n", b"ring main"),
+    (
+        b"main():\n  A <- f()\nf():\n  A <- g()\ng():\n  A <- f()\n",
+        b"ring f g",
+    ),
+    (
+        b"g():\n  A <- main()\nmain():\n  A <- h()\nh():\n  A <- g()\nk():\n  A <- k()\n",
+        b"ring g main h",
+    ),
+];
+
+// The tables, out of reach of the proofs of what goes over them.
+
+fn all_cores() -> &'static [(&'static [u8], &'static [u8])] {
+    &CORES
+}
+
+fn all_faults() -> &'static [(&'static [u8], &'static [u8])] {
+    &FAULTS
+}
+
+fn computed(alloc: Global, name: &[u8], size: Option<u32>) -> Result<Item, AllocError> {
+    variable(
+        alloc,
+        name,
+        Role::Computed(size),
+        no_words(alloc),
+        no_pairs(alloc),
+    )
+}
+
+fn constant(alloc: Global, name: &[u8]) -> Result<Item, AllocError> {
+    variable(
+        alloc,
+        name,
+        Role::Constant(Amount::zero()),
+        no_words(alloc),
+        no_pairs(alloc),
+    )
+}
+
+fn input(alloc: Global, name: &[u8], code: &[u8], avfisc: u32) -> Result<Item, AllocError> {
+    let role = Role::Input(Name::new(alloc, code)?);
+    variable(
+        alloc,
+        name,
+        role,
+        no_words(alloc),
+        one_pair(alloc, b"avfisc", avfisc)?,
+    )
+}
+
+fn items(alloc: Global) -> Result<Vec<Item>, AllocError> {
+    let mut items = Vec::new(alloc);
+    items.push(computed(alloc, b"A", None)?)?;
+    items.push(computed(alloc, b"T", Some(3))?)?;
+    items.push(constant(alloc, b"C")?)?;
+    items.push(input(alloc, b"P", b"1AJ", 1)?)?;
+    items.push(input(alloc, b"Q", b"1BJ", 2)?)?;
+    items.push(input(alloc, b"R", b"1CJ", 3)?)?;
+    Ok(items)
+}
+
+fn symbols(alloc: Global) -> Option<Symbols>
+    ensures { IfSome result IsPlaced }
+{
+    match items(alloc) {
+        Ok(items) => symbols_of(alloc, &items),
+        Err(_) => None,
+    }
+}
+
+fn driver_of(alloc: Global, text: &[u8]) -> Option<Driver> {
+    if text.len() as u64 > FILE_BYTES {
+        return None;
+    }
+    parse_driver(alloc, text).ok()
+}
+
+fn add_cells(alloc: Global, out: &mut Vec<u8>, cells: &[u32]) {
+    for cell in cells {
+        add(out, b" ");
+        add_number(alloc, out, *cell);
+    }
+}
+
+fn add_amount(out: &mut Vec<u8>, amount: Amount) {
+    let mut room = [0; 32];
+    let length = write_amount(amount, &mut room);
+    if length <= 32 {
+        add(out, &room[..length]);
+    }
+}
+
+fn add_value(out: &mut Vec<u8>, value: Value) {
+    match value {
+        Value::Undef => add(out, b"undefined"),
+        Value::Num(amount) => add_amount(out, amount),
+        Value::Over => add(out, b"over"),
+    }
+}
+
+fn add_term(alloc: Global, out: &mut Vec<u8>, term: &CTerm) {
+    match &term.node {
+        CNode::Lit(value) => add_value(out, *value),
+        CNode::Cell(cell) => add_number(alloc, out, *cell),
+        CNode::Exists(cells) => {
+            add(out, b"one of");
+            add_cells(alloc, out, cells.as_slice());
+        }
+        _ => add(out, b"term"),
+    }
+}
+
+// A command with its line, where a block in it is shown by a point.
+fn add_simple(alloc: Global, out: &mut Vec<u8>, command: &CCommand) {
+    match &command.node {
+        CCommandNode::Set(line, cell, term) => {
+            add_number(alloc, out, *line);
+            add(out, b": ");
+            add_number(alloc, out, *cell);
+            add(out, b" = ");
+            add_term(alloc, out, term);
+        }
+        CCommandNode::Del(line, cell) => {
+            add_number(alloc, out, *line);
+            add(out, b": del ");
+            add_number(alloc, out, *cell);
+        }
+        CCommandNode::Call(line, cells, function) => {
+            add_number(alloc, out, *line);
+            add(out, b":");
+            add_cells(alloc, out, cells.as_slice());
+            add(out, b" from ");
+            add_number(alloc, out, *function);
+        }
+        CCommandNode::Rules(line, cells) => {
+            add_number(alloc, out, *line);
+            add(out, b":");
+            add_cells(alloc, out, cells.as_slice());
+            add(out, b" from rules");
+        }
+        CCommandNode::If(_, _, _, _) => add(out, b"."),
+        CCommandNode::Partition(_, _, _) => add(out, b"."),
+    }
+}
+
+fn add_simples(alloc: Global, out: &mut Vec<u8>, commands: &[CCommand]) {
+    for command in commands {
+        add(out, b"{");
+        add_simple(alloc, out, command);
+        add(out, b"}");
+    }
+}
+
+fn add_command(alloc: Global, out: &mut Vec<u8>, command: &CCommand) {
+    match &command.node {
+        CCommandNode::If(line, condition, then, other) => {
+            add_number(alloc, out, *line);
+            add(out, b": if ");
+            add_term(alloc, out, condition);
+            add(out, b" ");
+            add_simples(alloc, out, then);
+            add(out, b" else ");
+            add_simples(alloc, out, other);
+        }
+        CCommandNode::Partition(line, cells, block) => {
+            add_number(alloc, out, *line);
+            add(out, b": without");
+            add_cells(alloc, out, cells.as_slice());
+            add(out, b" ");
+            add_simples(alloc, out, block);
+        }
+        _ => add_simple(alloc, out, command),
+    }
+}
+
+fn add_function(alloc: Global, out: &mut Vec<u8>, name: &Name, body: &Seq<CCommand>) {
+    add(out, name.bytes());
+    for command in body.as_slice() {
+        add(out, b"{");
+        add_command(alloc, out, command);
+        add(out, b"}");
+    }
+}
+
+fn add_core(alloc: Global, out: &mut Vec<u8>, core: &Core) {
+    let mut number = 0u32;
+    for (name, body) in core.names.as_slice().iter().zip(core.bodies.as_slice()) {
+        if number == core.main {
+            add(out, b"*");
+        }
+        add_function(alloc, out, name, body);
+        number = number.saturating_add(1);
+    }
+}
+
+fn add_names(out: &mut Vec<u8>, names: &[Name]) {
+    for name in names {
+        add(out, b" ");
+        add(out, name.bytes());
+    }
+}
+
+// A word and a name, behind their line.
+fn add_at(alloc: Global, out: &mut Vec<u8>, line: u32, word: &[u8], name: &Name) {
+    add(out, b"line ");
+    add_number(alloc, out, line);
+    add(out, word);
+    add(out, name.bytes());
+}
+
+fn add_fault(alloc: Global, out: &mut Vec<u8>, fault: &CoreFault) {
+    match fault {
+        CoreFault::FunctionTwice(name, line) => add_at(alloc, out, *line, b" twice ", name),
+        CoreFault::NoMain => add(out, b"no main"),
+        CoreFault::UnknownInDriver(name, line) => add_at(alloc, out, *line, b" unknown ", name),
+        CoreFault::BadTargetInDriver(name, line) => add_at(alloc, out, *line, b" target ", name),
+        CoreFault::DriverRecursion(names) => {
+            add(out, b"ring");
+            add_names(out, names.as_slice());
+        }
+        CoreFault::Memory => add(out, b"memory"),
+    }
+}
+
+// What a driver is over the cells, or why it is refused.
+fn shown(alloc: Global, driver: &Driver, symbols: &Symbols) -> Vec<u8>
+    requires { IsPlaced symbols.now }
+{
+    let mut out = Vec::new(alloc);
+    match resolve_driver(alloc, driver, symbols) {
+        Ok(core) => add_core(alloc, &mut out, &core),
+        Err(fault) => add_fault(alloc, &mut out, &fault),
+    }
+    out
+}
+
+// Whether the text is a driver that is shown so.
+fn is_shown(alloc: Global, text: &[u8], symbols: &Symbols, wanted: &[u8]) -> bool
+    requires { IsPlaced symbols.now }
+{
+    match driver_of(alloc, text) {
+        Some(driver) => shown(alloc, &driver, symbols).as_slice() == wanted,
+        None => false,
+    }
+}
+
+// Fails at the first of these texts that isn't shown so.
+fn check_all(
+    alloc: Global,
+    rows: &[(&'static [u8], &'static [u8])],
+    symbols: &Symbols,
+) -> Result<(), Fail>
+    requires { IsPlaced symbols.now }
+{
+    for (text, wanted) in rows {
+        if !is_shown(alloc, text, symbols, wanted) {
+            return Err(other_at(alloc, text));
+        }
+    }
+    Ok(())
+}
+
+#[test]
+fn drivers_over_cells(rt: HostRuntime) -> Result<(), Fail> {
+    match symbols(rt.alloc()) {
+        Some(symbols) => check_all(rt.alloc(), all_cores(), &symbols),
+        None => Err(refused()),
+    }
+}
+
+#[test]
+fn refused_drivers(rt: HostRuntime) -> Result<(), Fail> {
+    match symbols(rt.alloc()) {
+        Some(symbols) => check_all(rt.alloc(), all_faults(), &symbols),
+        None => Err(refused()),
+    }
+}
+
+// Whether rules without a driver that are asked for these cells are shown so.
+fn is_alone_shown(alloc: Global, requests: &[u32], symbols: &Symbols, wanted: &[u8]) -> bool
+    requires { All (λ c. c < length (owners_from 0 symbols.now.variables)) requests.now }
+{
+    match plain_driver(alloc, requests, symbols) {
+        Ok(core) => {
+            let mut out = Vec::new(alloc);
+            add_core(alloc, &mut out, &core);
+            out.as_slice() == wanted
+        }
+        Err(_) => false,
+    }
+}
+
+// Rules without a driver are called once, and give back what is asked for but constants.
+#[test]
+fn rules_alone(rt: HostRuntime) -> Result<(), Fail> {
+    let Some(symbols) = symbols(rt.alloc()) else {
+        return Err(refused());
+    };
+    let cells = [7, 4, 0, 7];
+    let wanted: &[u8] = b"*main{1: 7 0 7 from rules}";
+    let known = symbols.cells() >= 8;
+    if known && is_alone_shown(rt.alloc(), &cells, &symbols, wanted) {
+        return Ok(());
+    }
+    Err(Fail::from("other requests come back"))
+}
