@@ -27,11 +27,11 @@ use Rattle.m_compile.specs.Compiled.{IsCompiled, IsRunnable}
 use Rattle.m_compile.specs.Lines.{source_line}
 use Rattle.m_compile.specs.declared.fault.SourceFault.{SourceFault}
 use Rattle.m_compile.specs.declared.fault.SourceFault.TheVariants.{Memory as SourceMemory}
-use Rattle.m_plan.specs.Printing.{Prints, IsAnswered, printed, no_memory}
+use Rattle.m_plan.specs.Printing.{IsAnswered, printed, no_memory}
 use Rattle.m_plan.specs.Status.{IsOfEnd}
 use Rattle.m_plan.specs.Views.{OutputView}
 use Rattle.m_plan.specs.declared.status.Status.{Status}
-use Rattle.m_plan.specs.declared.status.Status.TheVariants.{Done, Refused, Stopped}
+use Rattle.m_plan.specs.declared.status.Status.TheVariants.{Refused, Stopped}
 use Rattle.m_commands.specs.Answer.{household_fault_line, told_status, answer_status, RunReplies, household_is_refused, is_told}
 use Rattle.m_commands.specs.inner.Courses.{TellsRefusal, AlwaysReplies, WorkIsAnswered, RunIsAnswered}
 use Rattle.m_commands.specs.declared.work.Work.{Work}

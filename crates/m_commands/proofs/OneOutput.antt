@@ -1,5 +1,5 @@
 -- The same words, files and input have one output.
-use Rattle.std.proofs.Common.{◌≡◌, ℕ, ℤ, List, Some, None, Ok, Err, refl, sym, ap, ◌∙◌, subst}
+use Rattle.std.proofs.Common.{◌≡◌, ℕ, ℤ, List, Some, Ok, Err, refl, sym, ap, ◌∙◌, subst}
 use Rattle.std.specs.Prelude.{Option, map}
 use Rattle.m_symbols.specs.Declarations.{Declared, codes_of}
 use Rattle.micro_m.specs.declared.base.Base.{Base}
@@ -12,7 +12,6 @@ use Rattle.m_requests.specs.Cells.{cell_name}
 use Rattle.rule_text.specs.declared.Source.{Source}
 use Rattle.rule_text.specs.declared.Text.{Text}
 use Rattle.tax_print.specs.Lines.{told_lines}
-use Rattle.m_compile.specs.Sources.{IsValid}
 use Rattle.m_compile.specs.Lines.{source_line}
 use Rattle.m_compile.specs.Answers.{Answers, answer_to_pairs}
 use Rattle.m_compile.specs.declared.fault.SourceFault.{SourceFault}
@@ -20,7 +19,7 @@ use Rattle.m_plan.specs.Plan.{end_of, gathered, refused}
 use Rattle.m_plan.specs.Views.{Disk}
 use Rattle.m_plan.specs.declared.status.Status.{Status}
 use Rattle.m_plan.specs.declared.status.Status.TheVariants.{Refused}
-use Rattle.m_commands.specs.Answer.{household_fault_line, told_status, RunReplies, Replies, source_is_refused, household_is_refused, is_told}
+use Rattle.m_commands.specs.Answer.{household_fault_line, told_status, Replies, source_is_refused, household_is_refused, is_told}
 use Rattle.m_commands.specs.Command.{plan_of}
 use Rattle.m_commands.specs.Output.{Output, usage, refuses, answers, AreOneOutput, the_same, both_cycles, both_recursions}
 use Rattle.m_commands.specs.declared.command.Command.{Command}

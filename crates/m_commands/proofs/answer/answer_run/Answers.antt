@@ -9,6 +9,6 @@ returns-in-Ok g c = rw c.as_slice.ensures at (c.answer_household.ensures c.args.
 pub returns-in-Err : goal.returns-in-Err
 returns-in-Err g c = record {
   answered = refusal_answers (RunReplies c.args.source.now c.args.household.now) (source_line c.args.source.now.texts c.in-Err.fault) _ _ c.refuse.result
-    (rw (rw c.as_slice-in-Err.ensures at c.told_fault.ensures) at c.refuse.ensures)
-    (λ line says. source_is_refused c.in-Err.fault (c.in-Err.ensures.outcome (source_line_known c.args.source.now.texts c.in-Err.fault line says)) says)
+      (rw (rw c.as_slice-in-Err.ensures at c.told_fault.ensures) at c.refuse.ensures)
+      (λ line says. source_is_refused c.in-Err.fault (c.in-Err.ensures.outcome (source_line_known c.args.source.now.texts c.in-Err.fault line says)) says);
 }
