@@ -1,5 +1,5 @@
 -- A compiled source shows a scheme of the source.
-use Rattle.std.proofs.Common.{◌≡◌, ℕ, zero, suc, ◌<◌, length, List, [], ◌∷◌, Option, None, Some, refl, sym, ◌∙◌, ap, arith}
+use Rattle.std.proofs.Common.{◌≡◌, ℕ, suc, ◌<◌, length, List, [], ◌∷◌, Option, None, Some, refl, sym, ◌∙◌, ap, arith}
 use Rattle.std.specs.Prelude.{All, option_map, slice_get}
 use Rattle.std.specs.List.{AllByRecursion}
 use Rattle.rule_text.specs.declared.Source.{Source}
@@ -14,7 +14,6 @@ use Rattle.household_session.specs.Sessions.{IsFaceOf}
 use Rattle.tax_print.specs.Lines.{answer_lines, told_lines}
 use Rattle.m_compile.specs.Compiled.{IsCompiled, IsRunnable}
 use Rattle.m_compile.specs.declared.compiling.Compiled.{Compiled}
-use Rattle.m_plan.specs.declared.status.Status.{Status}
 use Rattle.m_plan.specs.declared.status.Status.TheVariants as status
 use Rattle.m_work.specs.Households.{answer_status, told_status}
 use Rattle.m_work.specs.Schemes.{Scheme, Shows, told_to}

@@ -1,5 +1,5 @@
 -- Rows of a table, one after another and group after group.
-use Rattle.std.proofs.Common.{◌≡◌, ℕ, zero, suc, ◌+◌, ◌-◌, ◌<◌, ◌≤◌, length, get_or, take, drop, List, [], ◌∷◌, ◌++◌, Option, None, Some, Result, Ok, Err, refl, sym, ◌∙◌, ap, subst, append_assoc, append-nil, arith}
+use Rattle.std.proofs.Common.{◌≡◌, ℕ, zero, suc, ◌+◌, ◌-◌, ◌<◌, ◌≤◌, length, get_or, take, drop, List, [], ◌∷◌, ◌++◌, Option, None, Some, Result, Ok, Err, refl, sym, ◌∙◌, ap, subst, append_assoc, arith}
 use Rattle.std.specs.Prelude.{map, codes}
 use Rattle.std.specs.List.{AllByRecursion}
 use Rattle.std.specs.Option.{option_map_or}
@@ -8,9 +8,8 @@ use Rattle.std.proofs.lemmas.List.{drop_more, drop_all, take-append-drop, drop-d
 use Rattle.m_fixed.specs.declared.amount.Value.{Value}
 use Rattle.m_ports.specs.Counts.{Rose}
 use Rattle.m_ports.specs.Sink.{AppendsPrefix}
-use Rattle.m_ports.proofs.SinkLemmas.{append_known-append, AppendsPrefix-after, AppendsPrefix-before}
+use Rattle.m_ports.proofs.SinkLemmas.{AppendsPrefix-after, AppendsPrefix-before}
 use Rattle.text_pieces.specs.Pieces.{joined}
-use Rattle.text_pieces.specs.Giving.{Gives}
 use Rattle.text_pieces.proofs.GivingLemmas.{Given}
 use Rattle.flat_code.specs.Answers.{label_number}
 use Rattle.flat_code.specs.Runs.{first_stop, flat_run, node_values, value_at}

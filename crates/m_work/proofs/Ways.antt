@@ -1,5 +1,5 @@
 -- From what was told and written to how a command ended.
-use Rattle.std.proofs.Common.{◌≡◌, ℕ, ℤ, length, List, ◌++◌, Result, Ok, Err, refl, ◌∙◌, ap, subst, inl, inr}
+use Rattle.std.proofs.Common.{◌≡◌, ℕ, length, List, ◌++◌, Result, Ok, Err, refl, ◌∙◌, ap, subst, inl, inr}
 use Rattle.std.specs.Prelude.{Option}
 use Rattle.rule_text.specs.declared.Source.{Source}
 use Rattle.fault_lines.specs.Lines.{input_too_long_line, unreadable_input_line}

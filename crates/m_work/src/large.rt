@@ -65,10 +65,7 @@ fn large_requests(alloc: Global, n: u32) -> Result<Vec<u8>, AllocError>
 {
     let mut text = Vec::new(alloc);
     let mut buffer = Buffer::new();
-    append_pieces(
-        &mut text,
-        &[b"T", buffer.format(n - 1).as_bytes(), b"\n"],
-    )?;
+    append_pieces(&mut text, &[b"T", buffer.format(n - 1).as_bytes(), b"\n"])?;
     Ok(text)
 }
 

@@ -33,18 +33,16 @@ pub fn answer_run<K: Sink>(alloc: Global, source: &Source, household: &[u8], out
 }
 
 // Prints what a compiled source answers to a household.
-fn print_run<K: Sink>(
-    alloc: Global,
-    compiled: &Compiled,
-    household: &[u8],
-    out: &mut K,
-) -> Status
+fn print_run<K: Sink>(alloc: Global, compiled: &Compiled, household: &[u8], out: &mut K) -> Status
     requires { IsRunnable compiled.now }
     ensures { (source : Source) → IsCompiled source compiled.now
         → IsAnswered (RunReplies source household.now) (output_view K.written K.faults out.old) (output_view K.written K.faults out.new) result }
 {
     match answer_of(alloc, compiled, household) {
-        Ok(answer) => printed(print_answer(&compiled.face, &answer, out), status_of(&answer)),
+        Ok(answer) => printed(
+            print_answer(&compiled.face, &answer, out),
+            status_of(&answer),
+        ),
         Err(fault) => tell_refusal(out, told_household(fault)),
     }
 }

@@ -1,7 +1,5 @@
 use Rattle.std.proofs.Common.{◌≡◌, length, Ok, subst}
-use Rattle.std.specs.List.{AllByRecursion}
 use Rattle.household.specs.Table.{table_of}
-use Rattle.m_batch.specs.Batch.{HasInputsBelow}
 use Rattle.m_batch.proofs.RowLemmas.{rows_below}
 use Rattle.m_work.specs.Batches.{BatchReplies, is_told}
 use Rattle.m_work.proofs.Compileds.{face_is, is_scheme, scheme_of, shows_scheme}
