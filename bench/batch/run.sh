@@ -15,5 +15,5 @@ cd "$work/impots"
 "$work/plain" table.csv >"$work/plain.txt"
 "$root/out/m_tax" batch list.txt - - table.csv >"$work/proved.txt"
 cmp "$work/plain.txt" "$work/proved.txt"
-echo "C, the same table and the same output:"
-time -p "$work/plain" table.csv >/dev/null
+echo "C, the same table and the same output; user and system time in the second line:"
+("$work/plain" table.csv >/dev/null; times)
