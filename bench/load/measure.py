@@ -1,0 +1,142 @@
+#!/usr/bin/env python3
+"""Runs the program on inputs that a hostile writer would choose, each at a tenth and at its full size.
+
+    measure.py PROGRAM FOLDER [WORD..]
+
+Each shape of shapes.py is written into FOLDER, with what must be printed for it, which was worked out by hand. The program
+runs, and what it prints is compared byte by byte. A row is told on standard output: user and system time at a tenth and at the full size, how
+many times as much that is, the peak of memory, the answer (its first bytes) and the status. Only shapes with one of the WORDs in their
+names run, if any are given. A shape fails where it prints anything else, ends by a signal, takes more than a minute, or takes more than 12 times
+as long for 10 times the size. The status is 1 where one failed.
+"""
+import filecmp
+import json
+import os
+import resource
+import shutil
+import sys
+import time
+
+import shapes
+
+MINUTE = 60
+GROWTH = 12
+MEMORY = 8 << 30  # bytes that a run may take: past it the program says by its status that there was no memory
+
+
+def in_child(work):
+    """Does some work in a process of its own, so that its memory isn't counted as that of the program."""
+    child = os.fork()
+    if child == 0:
+        try:
+            work()
+            os._exit(0)
+        except BaseException as fault:  # the parent stops by the status
+            print(f"not written: {fault!r}", file=sys.stderr, flush=True)
+            os._exit(1)
+    if os.waitpid(child, 0)[1] != 0:
+        sys.exit("a shape could not be written")
+
+
+def write(path, pieces):
+    with open(path, "wb", buffering=1 << 20) as out:
+        for piece in [pieces] if isinstance(pieces, (str, bytes)) else pieces:
+            out.write(piece.encode() if isinstance(piece, str) else piece)
+
+
+def make(shape, size, folder):
+    case = shape.make(size)
+    for name, pieces in case["files"].items():
+        write(os.path.join(folder, name), pieces)
+    write(os.path.join(folder, "typed"), case.get("typed", ""))
+    write(os.path.join(folder, "expected"), case["prints"])
+    write(os.path.join(folder, "case"), json.dumps({"words": case["words"], "status": case["status"]}))
+
+
+def run(program, words, folder, stack):
+    """The status (below zero for a signal, None past a minute), seconds of user and system, and the peak of memory in bytes."""
+    child = os.fork()
+    if child == 0:
+        os.chdir(folder)
+        for name, end, flags in (("typed", 0, os.O_RDONLY), ("printed", 1, os.O_WRONLY | os.O_CREAT | os.O_TRUNC), ("told", 2, os.O_WRONLY | os.O_CREAT | os.O_TRUNC)):
+            os.dup2(os.open(name, flags, 0o644), end)
+        resource.setrlimit(resource.RLIMIT_STACK, (stack << 10, stack << 10))
+        resource.setrlimit(resource.RLIMIT_AS, (MEMORY, MEMORY))
+        resource.setrlimit(resource.RLIMIT_CPU, (MINUTE, MINUTE + 1))
+        os.execv(program, [program, *words])
+    end = time.monotonic() + 5 * MINUTE
+    while True:
+        done, status, usage = os.wait4(child, os.WNOHANG)
+        if done:
+            break
+        if time.monotonic() > end:
+            os.kill(child, 9)
+        time.sleep(0.005)
+    return os.waitstatus_to_exitcode(status), usage.ru_utime + usage.ru_stime, usage.ru_maxrss * 1024
+
+
+def measure(program, shape, size, room, stack):
+    folder = os.path.join(room, "shape")
+    shutil.rmtree(folder, ignore_errors=True)
+    os.makedirs(folder)
+    in_child(lambda: make(shape, size, folder))
+    with open(os.path.join(folder, "case")) as text:
+        case = json.load(text)
+    status, seconds, peak = run(program, case["words"], folder, stack)
+    again = 0 if seconds > 0.3 else 1
+    for _ in range(again):
+        seconds = min(seconds, run(program, case["words"], folder, stack)[1])
+    faults = []
+    if status in (-24, -9):
+        faults.append("more than a minute")
+    elif status < 0:
+        faults.append(f"ended by the signal {-status}")
+    elif status != case["status"]:
+        faults.append(f"status {status} in place of {case['status']}")
+    printed = os.path.join(folder, "printed")
+    if not faults and not filecmp.cmp(printed, os.path.join(folder, "expected"), shallow=False):
+        faults.append("another answer")
+    with open(printed, "rb") as text:
+        front = text.read(44).decode("utf-8", "replace").split("\n")
+    length = os.path.getsize(printed)
+    answer = front[0] + (" .." if length > len(front[0]) + 1 else "")
+    if os.path.getsize(os.path.join(folder, "told")):
+        with open(os.path.join(folder, "told"), "rb") as text:
+            faults.append("on standard error: " + text.read(80).decode("utf-8", "replace").split("\n")[0])
+    shutil.rmtree(folder, ignore_errors=True)
+    return {"seconds": seconds, "peak": peak, "status": status, "answer": answer, "bytes": length, "faults": faults}
+
+
+def told(program, shape, room, stack):
+    small = measure(program, shape, shape.full // 10, room, stack) if shape.grows else None
+    big = measure(program, shape, shape.full, room, stack)
+    faults = [*(f"at a tenth: {f}" for f in (small["faults"] if small else [])), *big["faults"]]
+    times = big["seconds"] / small["seconds"] if small else 0
+    # Under some hundredths of a second the growth says more of the machine than of the program.
+    if small and times > GROWTH and big["seconds"] > 0.05:
+        small = min(small, measure(program, shape, shape.full // 10, room, stack), key=lambda one: one["seconds"])
+        big = min(big, measure(program, shape, shape.full, room, stack), key=lambda one: one["seconds"])
+        times = big["seconds"] / small["seconds"]
+        if times > GROWTH:
+            faults.append(f"{times:.1f} times for 10 times the size")
+    tenth = f"{small['seconds']:.3f}" if small else ""
+    growth = f"{times:.1f}" if small else ""
+    answer = big["answer"].replace("|", "\\|")
+    print(f"| {shape.name} | {shape.full:,} | {stack} | {tenth} | {big['seconds']:.3f} | {growth} | {big['peak'] / 1e6:.0f} | `{answer}` ({big['bytes']:,}) | {big['status']} | {'; '.join(faults) or 'as it must be'} |", flush=True)
+    return not faults
+
+
+def main():
+    program, room, words = os.path.abspath(sys.argv[1]), os.path.abspath(sys.argv[2]), sys.argv[3:]
+    print("| Shape | size | stack, KB | seconds at a tenth | seconds | times | peak, MB | answer (bytes) | status | verdict |\n|---|---:|---:|---:|---:|---:|---:|---|---:|---|")
+    good = True
+    for shape in shapes.SHAPES:
+        if words and not any(word in shape.name for word in words):
+            continue
+        for stack in shape.stacks:
+            good = told(program, shape, room, stack) and good
+    sys.exit(0 if good else 1)
+
+
+if __name__ == "__main__":
+    main()
