@@ -150,7 +150,9 @@ fn batches(rt: HostRuntime) -> Result<(), Fail> {
     let alloc = rt.alloc();
     let (_, lines) = table(alloc, 260)?;
     // some writes of the first group, all around its end, and one behind the last
-    for write in [1, 2, 100, 5_777, 5_778, 5_779, 5_780, 5_800, 5_870, 5_871, 6_000] {
+    for write in [
+        1, 2, 100, 5_777, 5_778, 5_779, 5_780, 5_800, 5_870, 5_871, 6_000,
+    ] {
         let (table, _) = table(alloc, 260)?;
         let (out, status) = seen(&rt, alloc, BATCH, table, 0, write)?;
         let given = lines.len().min(write as usize - 1);
