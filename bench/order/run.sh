@@ -32,7 +32,7 @@ instructions() {
 }
 
 # Three runs of so many definitions of a kind, and the memory that they hold.
-times() {
+timed() {
     python3 "$here/generate.py" "$1" "$2" "$work/$1$2"
     echo "### $1, $2 definitions"
     echo
@@ -52,10 +52,10 @@ counts() {
 
 for kind in chain sum dynamic ring; do
     for count in 10000 100000; do
-        times "$kind" "$count"
+        timed "$kind" "$count"
         counts "$kind" "$count"
     done
 done
-times dynamic 300000
-times ring 200000
-times chain 1000000
+timed dynamic 300000
+timed ring 200000
+timed chain 1000000

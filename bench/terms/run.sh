@@ -1,12 +1,13 @@
 #!/bin/sh
-# Times tokens to terms over three generated rule files. It builds a program of its own in a copy of the repository, which
-# proves the crates below it, and prints for each file: tokens, terms, microseconds of `lex`, and of reading and copying.
+# Measures tokens to terms over generated rule files, each read three times in one run: 4 MB in all, and 40 MB. It builds a program of
+# its own in a copy of the repository, which proves the crates below it, and prints a row for each kind of file. It needs the
+# toolchain's `rt`, and `python3`, `awk`, GNU `time` and `valgrind`, which counts instructions: what else runs on the machine doesn't
+# change these. The files of 40 MB take 3 GB of memory.
 #
-#     sh bench/terms/run.sh [BYTES]
+#     sh bench/terms/run.sh
 set -eu
 here=$(cd "$(dirname "$0")" && pwd)
 root=$(cd "$here/../.." && pwd)
-room=${1:-4000000}
 work=$(mktemp -d "${TMPDIR:-/tmp}/bench_terms.XXXXXX")
 trap 'rm -rf "$work"' EXIT
 mkdir -p "$work/repository/crates"
@@ -22,10 +23,35 @@ cp "$root/HANDLES" "$work/repository/"
 driver=$work/repository/crates/bench_terms
 mkdir -p "$driver/src"
 cp "$here/main.rt.txt" "$driver/src/main.rt"
+(cd "$driver" && rt run >"$work/rt.log" 2>&1) || { cat "$work/rt.log" >&2; exit 1; }
+program=$driver/out/bench_terms
+
+# Millions of instructions of the program with one file.
+instructions() {
+    valgrind --tool=callgrind --callgrind-out-file=/dev/null "$program" "$1" "$2" 2>&1 >/dev/null |
+        sed -n 's/^.*Collected : *//p' | awk '{ printf "%.0f", $1 / 1e6 }'
+}
+
+# Peak memory in KiB of the program with a file three times, whose lines go to a file.
+peak() {
+    /usr/bin/time -f '%M' -o "$work/peak" "$program" "$1" "$2" "$2" "$2" >"$work/$1.lines"
+    cat "$work/peak"
+}
+
+echo '| File, three times | MB in all | Tokens | Terms | `lex` | reading | `lex`, million instructions | reading, million instructions | held by the trees for a byte |'
+echo '|---|---|---|---|---|---|---|---|---|'
 for kind in dense base nests; do
-    python3 "$here/generate.py" "$kind" "$room" "$work/$kind.m"
-done
-(cd "$driver" && rt run -- "$work/dense.m" >"$work/rt.log" 2>&1) || { cat "$work/rt.log" >&2; exit 1; }
-for kind in dense base nests; do
-    echo "$kind.m, $(wc -c <"$work/$kind.m") bytes: $("$driver/out/bench_terms" "$work/$kind.m" | tail -n 1)"
+    for room in 1333333 13333333; do
+        file=$work/$kind.m
+        python3 "$here/generate.py" "$kind" "$room" "$file"
+        lexed=$(instructions lex "$file")
+        read=$(instructions read "$file")
+        least=$(peak lex "$file")
+        most=$(peak read "$file")
+        awk -v kind="$kind" -v size="$(wc -c <"$file")" -v lexed="$lexed" -v read="$read" -v least="$least" -v most="$most" '
+            { tokens += $1; terms = $2; lex += $3; reading += $4 }
+            END {
+                printf "| %s | %.1f | %d | %d | %.2f s | %.2f s | %d | %d | %.1f |\n", kind, 3 * size / 1e6, tokens, terms, lex / 1e6, reading / 1e6, lexed, read - lexed, (most - least) * 1024 / (3 * size)
+            }' "$work/read.lines"
+    done
 done

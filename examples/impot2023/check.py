@@ -1,10 +1,10 @@
 #!/usr/bin/env python3
 """Compares the rules with the second calculation on random households: python3 examples/impot2023/check.py
 
-At the top of the repository, after ./build. With the command `batch` it takes 20,000 households at once; without it, it
-takes --runs of them, one by one by `run`. The households come from the seed alone. The status is 0 where none differs.
+At the top of the repository, after ./build. It computes --count households at once by the command `batch`. The households come from the
+seed alone. The status is 0 where none differs.
 
-With --picture FILE it also draws the marginal rate over the income of a single person, from the same commands.
+With --picture FILE it also draws the marginal rate over the income of a single person, from a table of its own.
 """
 import argparse
 import os
@@ -57,40 +57,17 @@ def read_lines(lines):
     return {line.split(" = ")[0]: int(line.split(" = ")[1]) for line in lines if " = " in line}
 
 
-def by_batch(households, room):
-    """The answers by one batch, or None where there is no such command."""
+def answers(households, room):
+    """The answers to all households, by one batch."""
     table = os.path.join(room, "table.csv")
     with open(table, "w") as file:
         file.write("name," + ",".join(CODES) + "\n")
         for number, household in enumerate(households):
             file.write(f"h{number}," + ",".join(fields(household)) + "\n")
     text, status = started("batch", f"{HERE}/rules.list", "-", f"{HERE}/tax.txt", table)
-    if status == 2:
-        return None
     if status != 0:
         sys.exit(f"batch: {text.strip()} (status {status})")
     return [read_lines(block.split("\n")[1:]) for block in text.split("household ")[1:]]
-
-
-def by_run(household, room):
-    file_name = os.path.join(room, "household.csv")
-    with open(file_name, "w") as file:
-        file.write("code,amount\n")
-        for code, amount in zip(CODES, fields(household)):
-            if amount:
-                file.write(f"{code},{amount}\n")
-    text, status = started("run", f"{HERE}/rules.list", "-", f"{HERE}/tax.txt", file_name)
-    if status != 0:
-        sys.exit(f"run: {text.strip()} (status {status})")
-    return read_lines(text.split("\n"))
-
-
-def answers(households, runs, room):
-    """The answers of all households by batch, or of the first of them by runs."""
-    results = by_batch(households, room)
-    if results is not None:
-        return results, "batch"
-    return [by_run(household, room) for household in households[:runs]], "run"
 
 
 def draw(file_name, points):
@@ -117,7 +94,7 @@ def draw(file_name, points):
 def picture(file_name, room):
     """Wages a thousand apart, so that one step of the taxable income is 900 or 1,000."""
     households = [Household(wages=(wage, 0)) for wage in range(0, 221000, 1000)]
-    results, _ = answers(households, len(households), room)
+    results = answers(households, room)
     points = []
     for before, after in zip(results, results[1:]):
         step = after["RNI"] - before["RNI"]
@@ -130,13 +107,12 @@ def main():
     parser = argparse.ArgumentParser(description=__doc__)
     parser.add_argument("--seed", type=int, default=2023)
     parser.add_argument("--count", type=int, default=20000)
-    parser.add_argument("--runs", type=int, default=200)
     parser.add_argument("--picture")
     told = parser.parse_args()
     chance = random.Random(told.seed)
     households = [random_household(chance) for _ in range(told.count)]
     with tempfile.TemporaryDirectory() as room:
-        results, way = answers(households, told.runs, room)
+        results = answers(households, room)
         if told.picture:
             picture(told.picture, room)
     differ = 0
@@ -146,8 +122,8 @@ def main():
             differ += 1
             if differ <= 5:
                 print(f"{household}: the rules say {result}, the calculation {wanted}")
-    print(f"{len(results)} households by {way}, seed {told.seed}: {differ} differ")
-    sys.exit(0 if differ == 0 and len(results) > 0 else 1)
+    print(f"{len(results)} households, seed {told.seed}: {differ} differ")
+    sys.exit(0 if differ == 0 and len(results) == told.count > 0 else 1)
 
 
 if __name__ == "__main__":

@@ -6,9 +6,9 @@ ghost use Rattle.m_requests.specs.Placed.{IsPlaced};
 use crate::declared::{
     add, add_number, no_pairs, no_words, one_pair, other_at, refused, symbols_of, variable,
 };
-use driver_core::{CCommand, CCommandNode, CNode, CTerm, Core};
+use driver_core::{CCommand, CCommandNode, CNode, CStep, CTerm, Core};
 use m_ast::{Item, Role};
-use m_fixed::{Amount, Value, write_amount};
+use m_fixed::{Amount, Op, Value, write_amount};
 use m_places::limits::FILE_BYTES;
 use m_places::{Name, Seq};
 use m_symbols::Symbols;
@@ -19,7 +19,7 @@ use std::test::Fail;
 
 // Drivers over the computed A (cell 0), the table T of 3 cells (1 to 3), the constant C (4), and the inputs P, Q and R (5 to 7)
 // with `avfisc` 1, 2 and 3. A driver is shown by its functions, each with its commands; a star stands before the one that runs.
-const CORES: [(&[u8], &[u8]); 9] = [
+const CORES: [(&[u8], &[u8]); 14] = [
     (b"main():\n  A = T[2]\n", b"*main{2: 0 = 3}"),
     (
         b"f():\n  A = 1\n\nmain():\n  A, T[0] <- f()\n  P <- call_m()\n  del T[1]\n",
@@ -29,6 +29,14 @@ const CORES: [(&[u8], &[u8]); 9] = [
         b"main():\n  A <- f()\nf():\n  A <- g()\ng():\n  A = C\n",
         b"*main{2: 0 from 1}f{4: 0 from 2}g{6: 0 = 4}",
     ),
+    (b"main():\n  A = -T[0]\n", b"*main{2: 0 = (Neg 1)}"),
+    (b"main():\n  A = not present(P)\n", b"*main{2: 0 = (Not .)}"),
+    (
+        b"main():\n  A = P - 1.5 + T[1]\n",
+        b"*main{2: 0 = [5 Sub 1.5 Add 2]}",
+    ),
+    (b"main():\n  A = cast(Q)\n", b"*main{2: 0 = [6 Add 0]}"),
+    (b"main():\n  A = P >= R\n", b"*main{2: 0 = (Ge 5 7)}"),
     (
         b"main():\n  A = exists(taxbenefit)\n",
         b"*main{2: 0 = one of 5 6}",
@@ -194,7 +202,8 @@ fn add_value(out: &mut Vec<u8>, value: Value) {
     }
 }
 
-fn add_term(alloc: Global, out: &mut Vec<u8>, term: &CTerm) {
+// A number, a cell, or those of a kind; any other term is shown by a point.
+fn add_leaf(alloc: Global, out: &mut Vec<u8>, term: &CTerm) {
     match &term.node {
         CNode::Lit(value) => add_value(out, *value),
         CNode::Cell(cell) => add_number(alloc, out, *cell),
@@ -202,7 +211,49 @@ fn add_term(alloc: Global, out: &mut Vec<u8>, term: &CTerm) {
             add(out, b"one of");
             add_cells(alloc, out, cells.as_slice());
         }
-        _ => add(out, b"term"),
+        CNode::Apply(_, _) => add(out, b"."),
+        CNode::Chain(_, _) => add(out, b"."),
+    }
+}
+
+fn add_op(alloc: Global, out: &mut Vec<u8>, op: Op) {
+    if let Ok(name) = format!(in alloc; "{op:?}") {
+        add(out, name.as_bytes());
+    }
+}
+
+fn add_leaves(alloc: Global, out: &mut Vec<u8>, terms: &[CTerm]) {
+    for term in terms {
+        add(out, b" ");
+        add_leaf(alloc, out, term);
+    }
+}
+
+fn add_steps(alloc: Global, out: &mut Vec<u8>, steps: &[CStep]) {
+    for step in steps {
+        add(out, b" ");
+        add_op(alloc, out, step.op);
+        add(out, b" ");
+        add_leaf(alloc, out, &step.term);
+    }
+}
+
+// An operator before its arguments in round brackets, a chain in square ones.
+fn add_term(alloc: Global, out: &mut Vec<u8>, term: &CTerm) {
+    match &term.node {
+        CNode::Apply(op, arguments) => {
+            add(out, b"(");
+            add_op(alloc, out, *op);
+            add_leaves(alloc, out, arguments);
+            add(out, b")");
+        }
+        CNode::Chain(first, steps) => {
+            add(out, b"[");
+            add_leaf(alloc, out, first);
+            add_steps(alloc, out, steps);
+            add(out, b"]");
+        }
+        _ => add_leaf(alloc, out, term),
     }
 }
 

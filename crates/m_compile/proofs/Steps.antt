@@ -117,9 +117,15 @@ pub finished : (source : Source) (declared : Declared) (base : Base) (written : 
     → IsWritten declared source.driver written → requests_said source.requests declared ≡ Ok asked → core ≡ running written asked declared
     → Outcome Memory result (IsProgram declared base core asked) (IsHeavy core base) → Outcome Memory result (IsCompiled source) (IsSourceFault source)
 finished source declared base written asked core (Ok compiled) r d q e p = record {
-  declared = declared; base = base; written = written; requests = asked;
+  declared = declared;
+  base = base;
+  written = written;
+  requests = asked;
   valid = record { rules = r; driven = d; requested = q; light = subst (λ c. weight_of c base ≤ DRIVER_WEIGHT) e p.light };
-  runnable = p.runnable; codes = p.codes; outputs = p.outputs; answers = λ inputs. rw (sym e) (p.answers inputs);
+  runnable = p.runnable;
+  codes = p.codes;
+  outputs = p.outputs;
+  answers = λ inputs. rw (sym e) (p.answers inputs);
 }
 finished source declared base written asked core (Err fault) r d q e p = λ m. heavy_told source declared base written asked fault r d q (subst (λ c. IsHeavy c base fault) e (p m))
 
@@ -143,11 +149,16 @@ pub program_made : (declared : Declared) (base : Base) (core : Core) (asked : Li
 program_made declared base core asked compiled labels w i l f o d h = record {
   light = w;
   runnable = record {
-    flat = i.flat_program; inputs = as_many_inputs declared compiled.codes compiled.flat.inputs d i.inputs; codes = f ∙ sym d;
-    outputs = i.outputs ∙ sym (as_many_names declared compiled.face.outputs asked o); few = few_names compiled.face.outputs asked (as_many_names declared compiled.face.outputs asked o) h;
+    flat = i.flat_program;
+    inputs = as_many_inputs declared compiled.codes compiled.flat.inputs d i.inputs;
+    codes = f ∙ sym d;
+    outputs = i.outputs ∙ sym (as_many_names declared compiled.face.outputs asked o);
+    few = few_names compiled.face.outputs asked (as_many_names declared compiled.face.outputs asked o) h;
     labels = subst (λ (ls : List FaceLabel). All (λ check. check.label < length ls) compiled.flat.checks) (sym l) i.labelled;
   };
-  codes = d; outputs = o; answers = λ inputs. rw l (i.answer inputs);
+  codes = d;
+  outputs = o;
+  answers = λ inputs. rw l (i.answer inputs);
 }
 
 -- it can be run
