@@ -11,7 +11,7 @@ use std::alloc::{AllocError, Global};
 use std::test::Fail;
 
 // More turns than any base of these tests has definitions.
-const TURNS: u32 = 9;
+const ENOUGH: u32 = 9;
 
 // The number of E's cell.
 const GIVEN: usize = 7;
@@ -80,6 +80,9 @@ const RUNS: [(&[u8], Option<i128>, &[u8]); 17] = [
     ),
 ];
 
+// Turns, and the value of B with so many, where E is 3. Without turns a cell is undefined, E too, and what is undefined less 1 is -1.
+const BY_TURNS: [(u32, &[u8]); 5] = [(0, b"?"), (1, b"0"), (2, b"0"), (3, b"2"), (ENOUGH, b"2")];
+
 fn amount(millionths: i128) -> Value {
     match Amount::new(millionths) {
         Some(amount) => Value::Num(amount),
@@ -121,7 +124,7 @@ fn add_failure(alloc: Global, text: &mut Vec<u8>, failure: Failure) -> Result<()
 // Whether the values of all cells are those of the definition.
 fn are_defined(base: &Base, given: &[Value], values: &[Value]) -> bool {
     for cell in 0..base.cells {
-        let wanted = slow_value(base, given, cell, TURNS);
+        let wanted = slow_value(base, given, cell, ENOUGH);
         if values.get(cell as usize).copied() != Some(wanted) {
             return false;
         }
@@ -176,6 +179,31 @@ fn values_and_verifications(rt: HostRuntime) -> Result<(), Fail> {
         assert!(rt;
             gives(rt.alloc(), formulas, given, wanted)?,
             "in {formulas:?} at {given:?}"
+        );
+    }
+    Ok(())
+}
+
+fn worth(alloc: Global, base: &Base, turns: u32) -> Result<Vec<u8>, AllocError> {
+    let given = environment(alloc, base.cells, Some(3_000_000))?;
+    let mut text = Vec::new(alloc);
+    add_value(alloc, &mut text, slow_value(base, &given, 1, turns))?;
+    Ok(text)
+}
+
+fn has_with_turns(alloc: Global, turns: u32, wanted: &[u8]) -> Result<bool, AllocError> {
+    match base_of(alloc, b"B = max(0, A - 1) ; A = E ;", CELLS) {
+        Ok(made) => Ok(worth(alloc, &made.ordered.base, turns)?.as_slice() == wanted),
+        Err(_) => Ok(false),
+    }
+}
+
+#[test]
+fn values_by_turns(rt: HostRuntime) -> Result<(), Fail> {
+    for (turns, wanted) in BY_TURNS {
+        assert!(rt;
+            has_with_turns(rt.alloc(), turns, wanted)?,
+            "with {turns} turns"
         );
     }
     Ok(())

@@ -1,0 +1,10 @@
+REV : saisie revenu classe = 0 alias 1AJ : "s" ;
+PEN : saisie revenu classe = 0 alias 1AS : "p" ;
+SEUIL : const = 1000 ;
+IRN : calculee restituee : "n" ;
+DBL : calculee restituee : "d" ;
+regle 10 : application : iliad ;
+IRN = max(0, REV + PEN - SEUIL) ;
+DBL = REV * 2 ;
+E01 : anomalie : "E" : "01" : "00" : "pension below 0" : "N" ;
+verif 1 : application : iliad ; si PEN < 0 alors erreur E01 ;
