@@ -1,6 +1,6 @@
 -- The clauses on the text, where nothing failed, where a write did, and where there was no memory.
 use Rattle.std.proofs.Common.{◌≡◌, ℕ, List, Some, Ok, Err, refl, sym, ap, ◌∙◌, subst, inl, inr}
-use Rattle.std.specs.Prelude.{◌⊎◌, ◌++◌}
+use Rattle.std.specs.Prelude.{◌⊎◌}
 use Rattle.std.specs.Io.KnownBytes.{append_known}
 use Rattle.m_ports.specs.Sink.{AppendsPrefix}
 use Rattle.fault_lines.specs.Lines.{usage_line, unreadable_line}

@@ -1,5 +1,5 @@
 -- What the output, the input and the status say of each other.
-use Rattle.std.proofs.Common.{◌≡◌, ◌<◌, ℕ, Bool, true, false, List, Some, None, refl, sym, ap, ◌∙◌, subst, arith, inl, inr}
+use Rattle.std.proofs.Common.{◌≡◌, ◌<◌, ℕ, Bool, true, false, List, Some, sym, ap, ◌∙◌, subst, arith, inl, inr}
 use Rattle.std.specs.Prelude.{◌⊎◌}
 use Rattle.m_ports.specs.Counts.{Rose}
 use Rattle.fault_lines.specs.Lines.{usage_line, unreadable_line}
@@ -9,7 +9,7 @@ use Rattle.m_plan.specs.Status.{IsOfEnd}
 use Rattle.m_plan.specs.Views.{FilesView, InputView, OutputView}
 use Rattle.m_plan.specs.declared.ending.Ending.TheVariants as ending
 use Rattle.m_plan.specs.declared.status.Status.{Status}
-use Rattle.m_plan.specs.declared.status.Status.TheVariants.{Done, Refused, Usage, ReadFault, WriteFault, Memory}
+use Rattle.m_plan.specs.declared.status.Status.TheVariants.{Refused, Usage, ReadFault, WriteFault, Memory}
 use Rattle.m_commands.specs.Clauses.{IsToldUsage}
 use Rattle.m_commands.specs.Command.{command_of, reads_input, writes_early}
 use Rattle.m_commands.specs.declared.command.Command.{Command}

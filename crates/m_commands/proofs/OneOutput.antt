@@ -1,5 +1,5 @@
 -- The same words, files and input have one output.
-use Rattle.std.proofs.Common.{◌≡◌, ◌<◌, ℕ, ℤ, List, ◌++◌, length, Some, None, Ok, refl, sym, ap, ◌∙◌, subst, arith, length-append}
+use Rattle.std.proofs.Common.{◌≡◌, ◌<◌, ℕ, ℤ, List, ◌++◌, length, Ok, refl, sym, ap, ◌∙◌, subst, arith, length-append}
 use Rattle.std.proofs.Common.{take}
 use Rattle.std.proofs.lemmas.List.{take-append-le, take_all}
 use Rattle.rule_text.specs.declared.Source.{Source}
@@ -12,7 +12,6 @@ use Rattle.m_places.specs.declared.limits.TheConstants.{INPUT_BYTES}
 use Rattle.m_plan.specs.Plan.{end_of, gathered, refused}
 use Rattle.m_plan.specs.Views.{Disk}
 use Rattle.m_plan.specs.declared.status.Status.{Status}
-use Rattle.m_plan.specs.declared.status.Status.TheVariants.{Done, Refused}
 use Rattle.tax_print.specs.Lines.{told_lines}
 use Rattle.m_work.specs.Batches as batch
 use Rattle.m_work.specs.Households.{told_status}

@@ -87,12 +87,12 @@ plan_of (Serve names household) = work_plan names household work.Serve
 plan_of (Batch names table) = work_plan names table work.Batch
 plan_of (Large n) = done (work.Large n)
 
--- the most bytes of a file that a command fetches
+-- the most bytes of a file that a command fetches; `large N` fetches none
 abbrev pub file_limit : Command → ℕ
 file_limit (Run names household) = FILE_BYTES
 file_limit (Serve names household) = FILE_BYTES
 file_limit (Batch names table) = FILE_BYTES
-file_limit (Large n) = FILE_BYTES
+file_limit (Large n) = 0
 
 -- the most bytes of a file that the words' command fetches; none where they are no command
 abbrev pub limit_of : List (List ℕ) → ℕ

@@ -1,4 +1,3 @@
-use Rattle.std.proofs.Common.{sym, subst}
 use Rattle.m_places.specs.declared.limits.TheConstants.{FILE_BYTES}
 use Rattle.m_plan.specs.Plan.{file_plan}
 use Rattle.m_plan.proofs.Trips.{along_then, along_done, exits_ended}
