@@ -1,0 +1,39 @@
+#!/bin/sh
+# Runs the tests of tools/: each tests/tools/NAME.sh, in an empty folder of its own with ROOT for the repository, prints what NAME.out
+# has. Those with a line "# needs the program" are left out where ./build has not built it and M_TAX doesn't name it. Prints
+# the differences of each test that fails, and a count. The status is 0 where none fails.
+cd "$(dirname "$0")/.." || exit 1
+if ! command -v python3 >/dev/null 2>&1; then
+    echo "tools: not run: there is no python3"
+    exit 0
+fi
+ROOT=$PWD
+if [ -z "${M_TAX-}" ] && [ -x out/m_tax ]; then M_TAX=$ROOT/out/m_tax; fi
+export ROOT
+[ -z "${M_TAX-}" ] || export M_TAX
+PYTHONDONTWRITEBYTECODE=1
+export PYTHONDONTWRITEBYTECODE
+room=$(mktemp -d) || exit 1
+trap 'rm -rf "$room"' EXIT
+passed=0
+failed=0
+left=0
+for test in tests/tools/*.sh; do
+    name=$(basename "$test" .sh)
+    if [ -z "${M_TAX-}" ] && grep -q '^# needs the program' "$test"; then
+        left=$((left + 1))
+        continue
+    fi
+    mkdir "$room/$name" || exit 1
+    (cd "$room/$name" && sh "$ROOT/$test") >"$room/out" 2>&1 </dev/null
+    if cmp -s "$room/out" "tests/tools/$name.out"; then
+        passed=$((passed + 1))
+    else
+        failed=$((failed + 1))
+        echo "tools: $name: not what is stored (<) but (>):"
+        diff "tests/tools/$name.out" "$room/out" | head -n 20
+    fi
+done
+[ "$left" -eq 0 ] || echo "tools: $left left out, which need the program that ./build makes"
+echo "tools: $passed passed, $failed failed"
+[ "$failed" -eq 0 ]

@@ -1,0 +1,15 @@
+# needs the program
+# A run with its words: the refusal is shown, and the status is the program's.
+cd "$ROOT" || exit 1
+room=$OLDPWD
+sed 's/SEUIL ;/SEUI ;/' examples/first/base.m >"$room/base.m"
+printf 'iliad\n%s\n' "$room/base.m" >"$room/rules.list"
+tools/explain run "$room/rules.list" - - examples/first/household.csv | sed "s|$room|.|"
+printf 'IRN\nIRM\n' >"$room/requests.txt"
+tools/explain run examples/first/rules.list - "$room/requests.txt" examples/first/household.csv
+echo "status $?"
+tools/explain run examples/first/rules.list - - examples/first/household.csv
+echo "status $?"
+tools/explain run examples/impot2023/rules.list examples/impot2023/driver.mpp - examples/impot2023/households/couple_and_box_t.csv >"$room/stop"
+echo "status $?"
+LC_ALL=C grep -av '^A:101' "$room/stop"

@@ -1,0 +1,161 @@
+"""What the tools know of lists and of rule files: names, applications and places. The grammar stands in docs/LANGUAGE.md.
+
+The tools read files that the program accepts, and look at the heads of items alone: what a formula says is passed over.
+"""
+import dataclasses
+import os
+import re
+import sys
+
+GAP_OR_TOKEN = re.compile(
+    rb"(?P<gap>[ \t\r\n]+|#[^\n]*)|(?P<text>\"[^\"]*\")|(?P<number>[0-9]+\.[0-9]+|[0-9]+(?![A-Za-z0-9_]))|(?P<word>[A-Za-z0-9_]+)"
+    rb"|(?P<sign>\.\.|!=|<=|>=|[-+*/=<>()\[\],;:])"
+)
+
+
+class Refused(Exception):
+    """A file that can't be read, or that the program would refuse; the text says where and why."""
+
+
+@dataclasses.dataclass
+class Token:
+    kind: str
+    text: str
+    byte: int
+
+
+@dataclasses.dataclass
+class Variable:
+    """A declaration. `size` is the number of cells of a table, and None of another variable; `words` are the attributes without a number, `numbered`
+    those with one, each with the byte of its word."""
+
+    name: str
+    kind: str
+    size: int | None
+    words: list
+    numbered: list
+    code: str | None
+    place: str
+
+
+@dataclasses.dataclass
+class Rule:
+    """A rule or a verification, by the word it begins with, with its applications: pairs of a word and its place."""
+
+    kind: str
+    applications: list
+    is_chained: bool
+    place: str
+
+
+def fetch(name):
+    try:
+        with open(name, "rb") as file:
+            return file.read()
+    except OSError as fault:
+        raise Refused(f"unreadable {name}") from fault
+
+
+def read_list(name):
+    """The application of a list, and the names of its rule files."""
+    lines = [line.removesuffix(b"\r") for line in fetch(name).split(b"\n")]
+    application = lines[0].decode("latin-1")
+    if not re.fullmatch("[A-Za-z0-9_]+", application) or application.isdigit():
+        raise Refused(f"{name} line 1: no application")
+    return application, [os.fsdecode(line) for line in lines[1:] if line]
+
+
+class RuleFile:
+    """The items of one rule file."""
+
+    def __init__(self, name):
+        self.name = name
+        self.bytes = fetch(name)
+        self.tokens = self.read_tokens()
+        self.variables, self.rules = [], []
+        self.read_items()
+
+    def place(self, byte):
+        return f"{self.name} line {self.bytes.count(10, 0, byte) + 1} byte {byte}"
+
+    def read_tokens(self):
+        tokens, byte = [], 0
+        while byte < len(self.bytes):
+            piece = GAP_OR_TOKEN.match(self.bytes, byte)
+            if piece is None:
+                what = "open string" if self.bytes[byte : byte + 1] == b'"' else "bad byte"
+                raise Refused(f"{self.place(byte)}: {what}")
+            if piece.lastgroup != "gap":
+                tokens.append(Token(piece.lastgroup, piece[0].decode("latin-1"), byte))
+            byte = piece.end()
+        return tokens
+
+    def read_items(self):
+        at = 0
+        while at < len(self.tokens):
+            token = self.tokens[at]
+            if token.text in ("regle", "verif"):
+                at = self.read_rule(at)
+            elif self.text(at + 1) == ":":
+                at = self.read_declaration(at)
+            else:
+                at = self.behind(at)
+
+    def text(self, at):
+        """The text of a token, and nothing behind the last one."""
+        return self.tokens[at].text if at < len(self.tokens) else ""
+
+    def behind(self, at):
+        """The token behind the next `;`."""
+        while at < len(self.tokens) and self.tokens[at].text != ";":
+            at += 1
+        return at + 1
+
+    def read_rule(self, at):
+        begin = self.tokens[at]
+        end = self.behind(at)
+        applications, named = [], False
+        for token in self.tokens[at:end]:
+            if token.text == "application":
+                named = True
+            elif named and token.kind == "word":
+                applications.append((token.text, self.place(token.byte)))
+        self.rules.append(Rule(begin.text, applications, self.text(end) == "enchaineur" and self.text(end + 1) == ":", self.place(begin.byte)))
+        return end
+
+    def read_declaration(self, at):
+        name, end = self.tokens[at], self.behind(at)
+        at, size = at + 2, None
+        if self.text(at) == "tableau":
+            size, at = int(self.text(at + 2)) if self.text(at + 2).isdigit() else 0, at + 4
+        kind = self.text(at)
+        if kind not in ("saisie", "calculee", "const"):
+            return end
+        words, numbered, code, at = [], [], None, at + 1
+        while kind != "const" and at < end and self.text(at) != ":":
+            if self.text(at) == "alias":
+                code, at = self.text(at + 1), at + 2
+            elif self.text(at + 1) == "=":
+                numbered.append((self.text(at), self.place(self.tokens[at].byte)))
+                at += 4 if self.text(at + 2) == "-" else 3
+            else:
+                words.append(self.text(at))
+                at += 1
+        self.variables.append(Variable(name.text, kind, size, words, numbered, code, self.place(name.byte)))
+        return end
+
+
+class RuleBase:
+    """A list with all its rule files."""
+
+    def __init__(self, list_name):
+        self.application, names = read_list(list_name)
+        self.files = [RuleFile(name) for name in names]
+        self.variables = [variable for file in self.files for variable in file.variables]
+        self.rules = [rule for file in self.files for rule in file.rules]
+
+
+def begin():
+    """Names and lines are written as the bytes that they are, whatever the machine's language is."""
+    for stream in (sys.stdin, sys.stdout, sys.stderr):
+        stream.reconfigure(encoding="utf-8", errors="surrogateescape")
