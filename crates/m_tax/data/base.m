@@ -2,4 +2,4 @@ REV : saisie revenu classe = 0 alias 1AJ : "s" ;
 SEUIL : const = 1000 ;
 IRN : calculee restituee : "n" ;
 regle 10 : application : iliad ;
-IRN = REV - SEUIL ;
+IRN = max(0, REV - SEUIL) ;
