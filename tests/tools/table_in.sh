@@ -1,0 +1,34 @@
+# Tables as French spreadsheets write them: each oddity, and what is refused with its place.
+in=$ROOT/tools/table-in
+# Excel, UTF-8: a mark, carriage returns, decimal commas, blanks of three kinds, a euro sign, empty columns and lines, a label with ; and a line end.
+printf '\357\273\277Foyer;1AJ;1BJ;;\r\n"Dupont;\nfils";1 234,50;;;\r\nMartin;1\302\240234\302\240567,8;-12\342\200\257345,6 \342\202\254;;\r\n;;;;\r\n"Le ""Bihan""";0;"1,5";;\r\n' >excel.csv
+"$in" excel.csv
+# Latin-1, with hard blanks.
+printf 'Foyer;1AJ\r\nDupr\351;1\240000,25\r\n' | "$in" -
+# LibreOffice: commas between fields, decimal commas in quotes; points; tabs and UTF-16; a line that names the sign.
+printf 'name,1AJ,1BJ\nd,"1,5",2\n' | "$in" -
+printf 'name,1AJ\nd,1.5\n' | "$in" -
+printf '\377\376N\0\t\0001\0A\0J\0\r\0\n\0\351\0\t\0001\0,\0005\0\r\0\n\0' | "$in" -
+printf 'sep=;\r\nn;1AJ\r\nd;2\r\n' | "$in" -
+# Households.
+printf '\357\273\277Code;Montant\r\n1AJ;1 000,5\r\n1BJ;\r\n\r\n1CJ;-3\r\n' | "$in" -
+printf 'Code;1AJ\r\n75;3\r\n' | "$in" --table -
+printf 'case;montant;\r\n1AJ;3;\r\n' | "$in" --household -
+# Only the codes of a list.
+printf 'Foyer;1AJ;Commune\r\nd;5;Lyon\r\n' >more.csv
+(cd "$ROOT" && tools/table-in --list examples/first/rules.list "$OLDPWD/more.csv")
+# Refused, with nothing printed.
+for cell in '12 34' '1,5E+05' '1.234,5' '#VALEUR!' '1 2345' '12 %' ',5'; do
+    printf 'n;1AJ\nd;1\ne;%s\n' "$cell" | "$in" -
+done
+printf 'n;1AJ;1BJ\nd;1,5;\ne;;2.5\n' | "$in" -
+printf 'n;1AJ;1AJ\nd;1;2\n' | "$in" -
+printf 'n;1AJ;\nd;1;2\n' | "$in" -
+printf 'n;1AJ\n;1\n' | "$in" -
+printf 'code;montant\n1AJ;1;5\n' | "$in" -
+: | "$in" -
+echo "status $?"
+"$in" nowhere.csv
+echo "status $?"
+"$in"
+echo "status $?"
