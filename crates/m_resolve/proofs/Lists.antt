@@ -40,12 +40,6 @@ chain_fault d first before all i a f fault o h e s k =
     ap (if_said (λ g. if_said (λ steps. Ok (chain g (steps_of steps))) (links_said d [] (links_of all)))) o
     ∙ ap (if_said (λ steps. Ok (chain f (steps_of steps)))) (links_fault d before all i a (links_said d [] (links_of all)) fault h e s k)
 
-pub members_fault : (d : Declared) (x : Tree) (before : List Step) (all : List Member) (i : ℕ) (a : Member) (whole : Result (List Step) ResolveFault) (fault : ResolveFault) → i < length all → a ≡ get_or all i a
-    → members_said d x before (members_of (drop i all)) ≡ whole → member_said d x a.low a.high ≡ Err fault → whole ≡ Err fault
-members_fault d x before all i a whole fault h e s f =
-    sym s ∙ ap (λ l. members_said d x before (members_of l)) (drop_next all i a h e)
-    ∙ ap (if_said (λ t. members_said d x (before ++ record { op = Or; term = t } ∷ []) (members_of (drop (i + 1) all)))) f
-
 -- a fault in the term of a condition, and in its error
 pub condition_fault : (d : Declared) (before : Checks) (all : List Condition) (i : ℕ) (a : Condition) (fault : ResolveFault) → i < length all → a ≡ get_or all i a
     → conditions_said d before (drop i all) ≡ conditions_said d ([], []) all → term_said d a.term ≡ Err fault → conditions_said d ([], []) all ≡ Err fault

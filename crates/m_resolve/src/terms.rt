@@ -1,6 +1,6 @@
 //! Terms over names to terms over cells.
 
-ghost use Rattle.std.specs.Prelude.{◌≡◌, Ok, Err, [], false, IfOk};
+ghost use Rattle.std.specs.Prelude.{◌≡◌, ◌∷◌, Ok, Err, [], false, IfOk};
 ghost use Rattle.m_places.specs.Refusals.{Outcome};
 ghost use Rattle.micro_m.specs.Trees.{cell as cell_tree, pick, apply, chain, none, more};
 ghost use Rattle.micro_m.specs.Views.{tree_of, trees_of, steps_of};
@@ -146,49 +146,58 @@ fn among(
         (λ tree. if_said (λ t. if_said (λ all. Ok (membership negated all)) (members_said symbols.now t [] (members_of members.now))) (term_said symbols.now x.now) ≡ Ok tree.value)
         (λ fault. if_said (λ t. if_said (λ all. Ok (membership negated all)) (members_said symbols.now t [] (members_of members.now))) (term_said symbols.now x.now) ≡ Err fault) }
 {
-    let tested = term(alloc, x, symbols)?;
-    let all = member_steps(alloc, x, &tested, members, symbols)?;
+    let Some((first, others)) = members.split_first() else {
+        let _tested = term(alloc, x, symbols)?;
+        return Ok(joined(alloc, negated, Vec::new(alloc))?);
+    };
+    let all = member_steps(alloc, x, first, others, symbols)?;
     Ok(joined(alloc, negated, all)?)
 }
 
-// The members of a membership of x, which is this tree, each with an `ou`.
+// The members of a membership of x, each with an `ou`.
 #[cycle(term)]
 fn member_steps(
     alloc: Global,
     x: &Term,
-    tested: &MTerm,
-    members: &[Member],
+    first: &Member,
+    others: &[Member],
     symbols: &Symbols,
 ) -> Result<Vec<Step>, ResolveFault>
-    requires { term_said symbols.now x.now ≡ Ok tested.now }
-    ensures { Outcome Memory result (λ steps. members_said symbols.now tested.now [] (members_of members.now) ≡ Ok steps.items) (λ fault. members_said symbols.now tested.now [] (members_of members.now) ≡ Err fault) }
+    ensures { Outcome Memory result
+        (λ steps. if_said (λ t. members_said symbols.now t [] (members_of (first.now ∷ others.now))) (term_said symbols.now x.now) ≡ Ok steps.items)
+        (λ fault. if_said (λ t. members_said symbols.now t [] (members_of (first.now ∷ others.now))) (term_said symbols.now x.now) ≡ Err fault) }
 {
-    let mut steps = Vec::with_capacity(alloc, members.len())?;
-    for one in members {
-        let member = member(alloc, x, tested, one, symbols)?;
+    let mut steps = Vec::new(alloc);
+    let earliest = member(alloc, x, first, symbols)?;
+    steps.push(Step {
+        op: Op::Or,
+        term: earliest,
+    })?;
+    for one in others {
+        let further = member(alloc, x, one, symbols)?;
         steps.push(Step {
             op: Op::Or,
-            term: member,
+            term: further,
         })?;
     }
     Ok(steps)
 }
 
-// A member of a membership of x, which is this tree.
+// A member of a membership of x. For each time that x stands in it, x is gone through once.
 #[cycle(term)]
 fn member(
     alloc: Global,
     x: &Term,
-    tested: &MTerm,
     member: &Member,
     symbols: &Symbols,
 ) -> Result<MTerm, ResolveFault>
-    requires { term_said symbols.now x.now ≡ Ok tested.now }
-    ensures { Outcome Memory result (λ tree. member_said symbols.now tested.now member.now.low member.now.high ≡ Ok tree) (λ fault. member_said symbols.now tested.now member.now.low member.now.high ≡ Err fault) }
+    ensures { Outcome Memory result
+        (λ tree. if_said (λ t. member_said symbols.now t member.now.low member.now.high) (term_said symbols.now x.now) ≡ Ok tree)
+        (λ fault. if_said (λ t. member_said symbols.now t member.now.low member.now.high) (term_said symbols.now x.now) ≡ Err fault) }
 {
+    let first = term(alloc, x, symbols)?;
     let low = term(alloc, &member.low, symbols)?;
     let high = term(alloc, &member.high, symbols)?;
-    let first = term(alloc, x, symbols)?;
     if is_single(&member.low, &member.high) {
         return Ok(two(alloc, Op::Eq, first, low)?);
     }

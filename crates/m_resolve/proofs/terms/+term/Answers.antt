@@ -3,7 +3,7 @@ use Rattle.m_ast.specs.Syntax.{nodes}
 use Rattle.m_ast.specs.View.{syntax_of}
 use Rattle.m_resolve.proofs.Sizes.{term_size, link_size, member_size}
 use Rattle.m_requests.proofs.Outcomes.{told}
-use Rattle.m_resolve.proofs.Lists.{terms_fault, chain_fault, members_fault}
+use Rattle.m_resolve.proofs.Lists.{terms_fault, chain_fault}
 use Rattle.m_resolve.proofs.terms.+term.Goals as goal
 
 pub terms-returns-in_err-tree : goal.terms-returns-in_err-tree
@@ -15,11 +15,6 @@ pub chained-returns-in_err-tree : goal.chained-returns-in_err-tree
 chained-returns-in_err-tree t c =
     told _ _ _ _ _ c.from_residual-in_err-tree.ensures.1
     (λ n. chain_fault c.args.symbols.now c.args.first.now _ c.args.links.now c.loop-link.link-index _ _ _ c.in_ok-first.ensures c.loop-link-test.true c.link-item.is c.loop-link.invariant (c.in_err-tree.ensures n))
-
-pub member_steps-returns-in_err-member : goal.member_steps-returns-in_err-member
-member_steps-returns-in_err-member t c =
-    told _ _ _ _ _ c.from_residual-in_err-member.ensures.1
-    (λ n. members_fault c.args.symbols.now _ _ c.args.members.now c.loop-one.one-index _ _ _ c.loop-one-test.true c.one-item.is c.loop-one.invariant (c.in_err-member.ensures n))
 
 pub term-table_read-requires : goal.term-table_read-requires
 term-table_read-requires t c = (omega (arith, ap nodes c.deref.ensures, ap nodes c.term.view_is, ap (λ n. nodes (syntax_of n)) c.in-Cell.is), tt)
@@ -33,5 +28,5 @@ terms-term-requires t c = (omega (arith, term_size c.args.all.now c.loop-one.one
 pub chained-term-requires-in-loop-link : goal.chained-term-requires-in-loop-link
 chained-term-requires-in-loop-link t c = (omega (arith, link_size c.args.links.now c.loop-link.link-index _ c.loop-link-test.true c.link-item.is), tt)
 
-pub member_steps-member-requires : goal.member_steps-member-requires
-member_steps-member-requires t c = (omega (arith, member_size c.args.members.now c.loop-one.one-index _ c.loop-one-test.true c.one-item.is), c.requires)
+pub member_steps-member-requires-in-loop-one : goal.member_steps-member-requires-in-loop-one
+member_steps-member-requires-in-loop-one t c = (omega (arith, member_size c.args.others.now c.loop-one.one-index _ c.loop-one-test.true c.one-item.is), tt)

@@ -1,7 +1,7 @@
-use Rattle.std.proofs.Common.{◌≡◌, ◌+◌, ◌*◌, [], drop}
+use Rattle.std.proofs.Common.{◌≡◌, ◌+◌, ◌*◌, [], ◌∷◌, drop}
 use Rattle.m_ast.specs.Syntax.{nodes, nodes_of_terms, nodes_of_links, nodes_of_members}
 use Rattle.m_ast.specs.View.{terms_of, links_of, members_of}
-use Rattle.m_resolve.specs.Terms.{terms_said, links_said, members_said}
+use Rattle.m_resolve.specs.Terms.{if_said, term_said, terms_said, links_said, members_said}
 use Rattle.m_resolve.proofs.terms.+term.Given as goal
 
 abbrev pub decreases-term : goal.decreases-term
@@ -23,7 +23,7 @@ abbrev pub decreases-among : goal.decreases-among
 decreases-among l = 3 * (nodes l.x.now + nodes_of_members (members_of l.members.now)) + 2
 
 abbrev pub decreases-member_steps : goal.decreases-member_steps
-decreases-member_steps l = 3 * (nodes l.x.now + nodes_of_members (members_of l.members.now)) + 1
+decreases-member_steps l = 3 * (nodes l.x.now + nodes_of_members (members_of (l.first.now ∷ l.others.now))) + 1
 
 abbrev pub decreases-member : goal.decreases-member
 decreases-member l = 3 * (nodes l.x.now + nodes l.member.now.low + nodes l.member.now.high) + 1
@@ -36,4 +36,5 @@ invariant-chained-loop-link l = links_said l.symbols l.steps.items (links_of (dr
 
 abbrev pub invariant-member_steps-loop-one : goal.invariant-member_steps-loop-one
 invariant-member_steps-loop-one l =
-    members_said l.symbols l.tested l.steps.items (members_of (drop l.one-index l.members)) ≡ members_said l.symbols l.tested [] (members_of l.members)
+    if_said (λ t. members_said l.symbols t l.steps.items (members_of (drop l.one-index l.others))) (term_said l.symbols l.x)
+    ≡ if_said (λ t. members_said l.symbols t [] (members_of (l.first ∷ l.others))) (term_said l.symbols l.x)
