@@ -6,7 +6,7 @@
 Each shape of shapes.py is written into FOLDER, with what must be printed for it, which was worked out by hand. The program
 runs, and what it prints is compared byte by byte. A row is told on standard output: user and system time at a tenth and at the full size, how
 many times as much that is, the peak of memory, the answer (its first bytes) and the status. Only shapes with one of the WORDs in their
-names run, if any are given. A shape fails where it prints anything else, ends by a signal, takes more than a minute, or takes more than 12 times
+names run, if any are given. A shape fails where it prints anything else, ends by a signal, takes more than a minute of processor or five by the clock, or takes more than 12 times
 as long for 10 times the size. The status is 1 where one failed.
 """
 import filecmp
@@ -83,12 +83,14 @@ def measure(program, shape, size, room, stack):
     with open(os.path.join(folder, "case")) as text:
         case = json.load(text)
     status, seconds, peak = run(program, case["words"], folder, stack)
-    again = 0 if seconds > 0.3 else 1
+    again = 0 if seconds > 0.1 else 1
     for _ in range(again):
         seconds = min(seconds, run(program, case["words"], folder, stack)[1])
     faults = []
-    if status in (-24, -9):
-        faults.append("more than a minute")
+    if status == -24:
+        faults.append("more than a minute of processor")
+    elif status == -9:
+        faults.append("ended by the clock after five minutes")
     elif status < 0:
         faults.append(f"ended by the signal {-status}")
     elif status != case["status"]:

@@ -357,7 +357,7 @@ def _(n):
     )
 
 
-@shape("a name of many bytes in 10,000 instances", 1_000_000)
+@shape("a name of many bytes in 10,000 instances", 200_000)
 def _(n):
     return case([ONE, RULE, "A = somme(i=1..10000: ", *many("B", n), "i) ;"], [f"refused a.m line 3 byte {len(ONE) + len(RULE) + 22}: unknown name ", *many("B", n), "1\n"], 1)
 
@@ -413,6 +413,31 @@ def checks(n):
     for k in range(n // 1000):
         yield f"verif {k + 1} : application : iliad ;" + "si 0 alors erreur E;" * 1000 + "\n"
     yield "application iliad ;"
+
+
+@shape("checks of one error with a text of many bytes", 3000)
+def _(n):
+    # Each has its label, and the text is 100 times as long as there are checks.
+    return case([f'{ONE}E : anomalie : "', *many("x", 100 * n), '" : "" : "" : "" ;\nverif 1 : application : iliad ;\n', *many("si 0 alors erreur E;", n)], "A undefined\n")
+
+
+@shape("a table of 1,024 cells with a name of many bytes, returned", 30_000)
+def _(n):
+    name = "T" * n
+    return case([*many("T", n), ':tableau[1024]calculee restituee:"";'], (f"{name}[{k}] undefined\n" for k in range(1024)))
+
+
+@shape("rules: 64 MB of the shortest formulas in four files", FILE)
+def _(n):
+    one = [ONE, RULE, *many("A=1;", (n - len(ONE) - len(RULE)) // 4)]
+    other = [RULE, *many("A=1;", (n - len(RULE)) // 4)]
+    return case(None, refused("too many parts", line=2, byte=len(ONE)) if n > PARTS * 2 else refused("too many parts", "a2.m"), 1, files={"a.m": one, **{f"a{k}.m": other for k in (1, 2, 3)}})
+
+
+@shape("rules: 64 MB of one sum in each of four files", FILE)
+def _(n):
+    one = lambda k: [ONE.replace("A", f"A{k}"), RULE, f"A{k}=1", *many("+1", (n - 200) // 2), ";"]
+    return case(None, refused("too many parts", "a0.m" if n > PARTS else "a1.m", line=2, byte=len(ONE) + 1), 1, files={f"a{k}.m": one(k) for k in range(4)})
 
 
 # Many names.
@@ -767,10 +792,17 @@ def _(n):
     return case(BASE, "A = 1\n", driver=["main():\n A", *many(",A", (n - 40) // 2), "<-call_m()\n"])
 
 
-@shape("driver: 1,000,000 names that are received, in 2^14 calls", 1_000_000)
+@shape("driver: 100,000 names that are received, in 2^14 calls", 100_000)
 def _(n):
     lines = ["main():\n A<-f1()\n A<-f1()\n", *(f"f{k}():\n" + f" A<-f{k + 1}()\n" * 2 for k in range(1, 14)), "f14():\n A", *many(",A", n), "<-g()\n", "g():\n A=1\n"]
     return case(ONE, "A = 1\n", driver=lines)
+
+
+@shape("driver: 1,000 calls of rules that weigh nothing, in 2^18 calls", 1000)
+def _(n):
+    # Without formulas a call of the rules weighs 0, and a call of a function 1, for the one cell: 2^19 - 2 in all.
+    lines = ["main():\n A<-f1()\n A<-f1()\n", *(f"f{k}():\n" + f" A<-f{k + 1}()\n" * 2 for k in range(1, 18)), "f18():\n", *many(" A<-call_m()\n", n)]
+    return case(ONE, "A undefined\n", driver=lines)
 
 
 @shape("driver: values of one kind", FILE)
@@ -790,7 +822,7 @@ def _(n):
     return case(rules, "A = 0\n", driver=["main():\n", *many(" A=exists(a=1)\n", n)])
 
 
-@shape("driver: 30,000 kinds without inputs, over 30,000 inputs", 30_000)
+@shape("driver: 10,000 kinds without inputs, over 10,000 inputs", 10_000)
 def _(n):
     rules = [ONE, *(f'I{k}:saisie a=2 alias C{k}:"";' for k in range(n))]
     return case(rules, "A = 0\n", driver=["main():\n", *many(" A=exists(b=1)\n", n)])
