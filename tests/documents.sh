@@ -1,7 +1,7 @@
 #!/bin/sh
 # Compares what the documents say with what the repository has, where a text can be compared: the crates with
-# ARCHITECTURE's table, the limits with FORMATS, the usage line's copies, and the reserved words with LANGUAGE. Prints a line
-# for each difference, and a count. The status is 0 where there is none.
+# ARCHITECTURE's table, the limits with FORMATS, the usage line's copies, and the reserved words with LANGUAGE, DRIVER and the
+# files for editors. Prints a line for each difference, and a count. The status is 0 where there is none.
 cd "$(dirname "$0")/.." || exit 1
 room=$(mktemp -d) || exit 1
 trap 'rm -rf "$room"' EXIT
@@ -40,6 +40,26 @@ sed -n 's/.*codes "\([A-Za-z_][A-Za-z_]*\)".*/\1/p' crates/m_lexer/specs/Spellin
 awk '/^These words are reserved:/{seen = 1} seen && /^```/{block++} seen && block == 1 && !/^```/{for (i = 1; i <= NF; i++) print $i}' docs/LANGUAGE.md |
     sort -u >"$room/words"
 same "the reserved words of m_lexer and those of LANGUAGE" "$room/keys" "$room/words"
+
+# The same for drivers.
+sed -n 's/.*codes "\([a-z]*\)".*/\1/p' crates/mpp_parser/specs/Keywords.antt | sort -u >"$room/driver_keys"
+sed -n 's/^These words are reserved: `\(.*\)`\.$/\1/p' docs/DRIVER.md | tr ' ' '\n' | sort -u >"$room/driver_words"
+same "the reserved words of mpp_parser and those of DRIVER" "$room/driver_keys" "$room/driver_words"
+
+# The words that editors show: their lists, and the words in the files for each editor.
+editors=tools/editors
+sort -u $editors/m.words >"$room/listed"
+sort -u $editors/mpp.words >"$room/driver_listed"
+same "the reserved words of m_lexer and m.words" "$room/keys" "$room/listed"
+same "the reserved words of mpp_parser and mpp.words" "$room/driver_keys" "$room/driver_listed"
+for pair in mtax.vim:listed mpptax.vim:driver_listed; do
+    sed -n 's/^syn keyword [A-Za-z]* //p' "$editors/vim/syntax/${pair%:*}" | tr ' ' '\n' | sort >"$room/coloured"
+    same "the words of ${pair%:*} and their list" "$room/coloured" "$room/${pair#*:}"
+done
+for pair in m.tmLanguage.json:listed mpp.tmLanguage.json:driver_listed; do
+    sed -n 's/.*"\\\\b(\([A-Za-z_|]*\))\\\\b".*/\1/p' "$editors/vscode/${pair%:*}" | tr '|' '\n' | sort >"$room/coloured"
+    same "the words of ${pair%:*} and their list" "$room/coloured" "$room/${pair#*:}"
+done
 
 echo "documents: $((compared - failed)) passed, $failed failed"
 [ "$failed" -eq 0 ]
