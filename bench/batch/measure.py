@@ -10,30 +10,21 @@ and each session by its last show, against the same household by `run`.
 import os
 import subprocess
 import sys
-import tempfile
+
+sys.path.insert(0, os.path.dirname(os.path.dirname(os.path.abspath(__file__))))
+from measured import least
 
 HERE = os.path.dirname(os.path.abspath(__file__))
 ROOT = os.path.dirname(os.path.dirname(HERE))
 ROWS = 100_000
-RUNS = 3
 
 
-def used(command, folder, typed=b""):
-    with tempfile.TemporaryFile() as out, tempfile.TemporaryFile() as given:
-        given.write(typed)
-        given.seek(0)
-        child = subprocess.Popen(command, cwd=folder, stdout=out, stdin=given)
-        _, status, usage = os.wait4(child.pid, 0)
-        child.returncode = os.waitstatus_to_exitcode(status)
-        out.seek(0)
-        return usage.ru_utime + usage.ru_stime, usage.ru_maxrss * 1024, child.returncode, out.read()
-
-
-def least(command, folder, typed=b""):
-    runs = [used(command, folder, typed) for _ in range(RUNS)]
-    if runs[0][2] != 0:
-        sys.exit(f"{command}: status {runs[0][2]}, {runs[0][3][:200]}")
-    return min(run[0] for run in runs), max(run[1] for run in runs), runs[0][3]
+def done(command, folder, typed=b""):
+    """Seconds, peak and text of a command that must end with the status 0."""
+    seconds, peak, status, text = least(command, folder, typed)
+    if status != 0:
+        sys.exit(f"{command}: status {status}, {text[:200]}")
+    return seconds, peak, text
 
 
 def amount(row, column):
@@ -51,8 +42,8 @@ def batch(program, folder, source, codes, name):
     write(os.path.join(folder, "none.csv"), ["name," + ",".join(codes) + "\n"])
     write(os.path.join(folder, "first.csv"), ["code,amount\n", *(f"{code},{amount(0, c)}\n" for c, code in enumerate(codes))])
     alone = subprocess.run([program, "run", *source, "first.csv"], cwd=folder, stdout=subprocess.PIPE, check=False).stdout
-    nothing = least([program, "batch", *source, "none.csv"], folder)[0]
-    seconds, peak, text = least([program, "batch", *source, "table.csv"], folder)
+    nothing = done([program, "batch", *source, "none.csv"], folder)[0]
+    seconds, peak, text = done([program, "batch", *source, "table.csv"], folder)
     if not text.startswith(b"household h0\n" + alone) or text.count(b"household ") != ROWS:
         sys.exit(f"{name}: the first household isn't that of a run")
     print(f"| `batch`, {ROWS:,} rows of {len(codes)} columns | {name} | {seconds:.2f} | {(seconds - nothing) / ROWS * 1e6:.1f} | {peak / 1e6:.0f} |", flush=True)
@@ -63,8 +54,8 @@ def session(program, folder, source, code, shows, name):
     typed = "".join(f"set {code} {amount(k, 0)}\nshow\n" for k in range(shows)).encode()
     write(os.path.join(folder, "last.csv"), [f"code,amount\n{code},{amount(shows - 1, 0)}\n"])
     alone = subprocess.run([program, "run", *source, "last.csv"], cwd=folder, stdout=subprocess.PIPE, check=False).stdout
-    nothing = least([program, "serve", *source, "empty.csv"], folder)[0]
-    seconds, peak, text = least([program, "serve", *source, "empty.csv"], folder, typed)
+    nothing = done([program, "serve", *source, "empty.csv"], folder)[0]
+    seconds, peak, text = done([program, "serve", *source, "empty.csv"], folder, typed)
     if not text.endswith(b"ok\n" + alone + b".\n") or text.count(b"\n.\n") != shows:
         sys.exit(f"{name}: the last show isn't that of a run")
     print(f"| `serve`, {shows:,} edits and shows | {name} | {seconds:.2f} | {(seconds - nothing) / shows * 1e6:.1f} | {peak / 1e6:.0f} |", flush=True)

@@ -9,19 +9,12 @@ processor (user and system) of three runs and the peak of resident memory.
 import os
 import subprocess
 import sys
-import tempfile
+
+sys.path.insert(0, os.path.dirname(os.path.dirname(os.path.abspath(__file__))))
+from measured import least
 
 HERE = os.path.dirname(os.path.abspath(__file__))
 SHAPES = [(10_000, 0), (100_000, 0), (1_000, 20), (10_000, 20)]
-
-
-def used(command, folder):
-    with tempfile.TemporaryFile() as out:
-        child = subprocess.Popen(command, cwd=folder, stdout=out, stdin=subprocess.DEVNULL)
-        _, status, usage = os.wait4(child.pid, 0)
-        child.returncode = os.waitstatus_to_exitcode(status)
-        out.seek(0)
-        return usage.ru_utime + usage.ru_stime, usage.ru_maxrss * 1024, child.returncode, out.read()
 
 
 def wanted(n, calls):
@@ -38,10 +31,10 @@ def main():
         folder = os.path.join(room, f"{n}_{calls}")
         subprocess.run([sys.executable, f"{HERE}/generate.py", str(n), str(calls), folder], check=True)
         command = [program, "run", "list.txt", "driver.mpp" if calls else "-", "requests.txt", "household.csv"]
-        runs = [used(command, folder) for _ in range(3)]
-        if runs[0][2:] != (0, wanted(n, calls)):
-            sys.exit(f"{n}, {calls}: status {runs[0][2]}, {runs[0][3][:200]}")
-        print(f"| {n:,} | {max(calls, 1)} | {min(run[0] for run in runs):.3f} | {max(run[1] for run in runs) / 1e6:.0f} |", flush=True)
+        seconds, peak, status, text = least(command, folder)
+        if (status, text) != (0, wanted(n, calls)):
+            sys.exit(f"{n}, {calls}: status {status}, {text[:200]}")
+        print(f"| {n:,} | {max(calls, 1)} | {seconds:.3f} | {peak / 1e6:.0f} |", flush=True)
 
 
 main()

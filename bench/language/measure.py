@@ -9,25 +9,11 @@ bytes read, the least time of the processor (user and system) of three runs, and
 import os
 import subprocess
 import sys
-import tempfile
+
+sys.path.insert(0, os.path.dirname(os.path.dirname(os.path.abspath(__file__))))
+from measured import least, used
 
 HERE = os.path.dirname(os.path.abspath(__file__))
-RUNS = 3
-
-
-def used(command, folder):
-    """Seconds of the processor, peak bytes and what was printed, of one run."""
-    with tempfile.TemporaryFile() as out:
-        child = subprocess.Popen(command, cwd=folder, stdout=out, stdin=subprocess.DEVNULL)
-        _, status, usage = os.wait4(child.pid, 0)
-        child.returncode = os.waitstatus_to_exitcode(status)
-        out.seek(0)
-        return usage.ru_utime + usage.ru_stime, usage.ru_maxrss * 1024, child.returncode, out.read()
-
-
-def least(command, folder):
-    runs = [used(command, folder) for _ in range(RUNS)]
-    return min(run[0] for run in runs), max(run[1] for run in runs), runs[0][2], runs[0][3]
 
 
 def main():
