@@ -1,0 +1,27 @@
+"""A second reading of what the program does, in Python, written apart from it, on the documents alone.
+
+`commands.output(words, files, typed)` is what the program prints for the words of its command line, the files and what is typed
+into its input, and the number that it ends with. The modules, in the order in which a source goes through them:
+
+    texts           lines and words                               docs/FORMATS.md
+    amounts         amounts, values, operators                    docs/AMOUNTS.md
+    faults          what ends a command early
+    tokens          rule files to tokens                          docs/LANGUAGE.md
+    trees           what terms and items are made of
+    terms           tokens to headers and expressions
+    items           tokens to items
+    declarations    variables, cells, inputs, errors
+    expansion       loops to their instances
+    names           names to cells: the base of the rules
+    values          cycles, an order, values, verifications
+    driver_lines    drivers to lines and their tokens             docs/DRIVER.md
+    driver_grammar  lines to functions and commands
+    driver_names    names of drivers to cells and functions
+    driver_runs     the weight of a driver, and what it does
+    files           lists, requests, households, tables           docs/FORMATS.md
+    sources         a whole source, and what it tells
+    generated       the source of `large N`                       docs/SESSIONS.md
+    commands        words, steps, what is printed                 docs/FORMATS.md, docs/SESSIONS.md
+
+Texts, names and lines are bytes throughout.
+"""

@@ -1,0 +1,133 @@
+"""The commands: words, the steps in their order, and what is printed."""
+
+import re
+
+from .amounts import OVER, UNDEFINED, read_amount
+from .faults import Refused, Unreadable
+from .files import read_household, read_list, read_table
+from .generated import large_household, large_source
+from .sources import Compiled, Source
+from .texts import decimal, is_utf8
+
+USAGE = (
+    b"usage: m_tax run|serve LIST DRIVER REQUESTS HOUSEHOLD, batch LIST DRIVER REQUESTS TABLE, "
+    b"compile LIST DRIVER REQUESTS, exec CODEFILE HOUSEHOLD, large N\n"
+)
+DONE, REFUSED, NO_COMMAND, NOT_READ, STOPPED = 0, 1, 2, 3, 6
+FILE_BYTES = 16_777_216
+RULE_BYTES = 67_108_864
+SESSION_LINE_BYTES = 4_096
+MOST_GENERATED = 100_000
+
+
+def output(words, files, typed=b""):
+    """What is printed, and the number that the program ends with. `files` has the bytes of each file by its name."""
+    try:
+        return answer(words, files, typed)
+    except Refused as refusal:
+        return refusal.line + b"\n", REFUSED
+    except Unreadable as missing:
+        return b"unreadable " + missing.name + b"\n", NOT_READ
+
+
+def answer(words, files, typed):
+    """The same, where refusals are raised."""
+    if len(words) == 2 and words[0] == b"large" and generated_number(words[1]):
+        return answer_large(generated_number(words[1]))
+    if len(words) == 5 and words[0] in ANSWERS and all(is_utf8(word) for word in words):
+        source, last = gathered(words[1:], files)
+        return ANSWERS[words[0]](Compiled(source), last, typed)
+    return USAGE, NO_COMMAND
+
+
+def generated_number(word):
+    """The number of `large N`, which has one to six digits; 0 where the word is none."""
+    number = int(word) if re.fullmatch(rb"[0-9]{1,6}", word) else 0
+    return number if number <= MOST_GENERATED else 0
+
+
+# ---- fetching
+
+
+def fetched(name, files, limit):
+    """The bytes of a file, which may have so many."""
+    if name not in files:
+        raise Unreadable(name)
+    if len(files[name]) > limit:
+        raise Refused(b"refused file too long " + name)
+    return files[name]
+
+
+def gathered(names, files):
+    """The source of a list, a driver and requests, and the bytes of the file behind them, all fetched in order."""
+    application, rule_names = read_list(fetched(names[0], files, FILE_BYTES))
+    rule_files = []
+    left = RULE_BYTES
+    for name in rule_names:
+        text = fetched(name, files, min(FILE_BYTES, left))
+        left -= len(text)
+        rule_files.append((name, text))
+    driver, requests = [None if name == b"-" else fetched(name, files, FILE_BYTES) for name in names[1:3]]
+    return Source(application, rule_files, driver, requests), fetched(names[3], files, FILE_BYTES)
+
+
+# ---- answers
+
+
+def answer_run(compiled, household, _typed):
+    """The lines that a household is told."""
+    lines, stopped = compiled.told(read_household(household, compiled.declared.inputs))
+    return lines, STOPPED if stopped else DONE
+
+
+def answer_batch(compiled, table, _typed):
+    """For each household of a table its label and its lines. A stop is an answer like another."""
+    text = b""
+    for row in read_table(table, compiled.declared.inputs):
+        text += b"household " + row.label + b"\n" + compiled.told(row.amounts)[0]
+    return text, DONE
+
+
+def answer_large(number):
+    """The answer of the generated source to the generated household."""
+    compiled = Compiled(large_source(number))
+    lines, stopped = compiled.told(read_household(large_household(number), compiled.declared.inputs))
+    return b"large " + decimal(number) + b"\n" + lines, STOPPED if stopped else DONE
+
+
+def answer_serve(compiled, household, typed):
+    """The replies to all lines that are typed, each by the household as the lines before it left it."""
+    amounts = dict(read_household(household, compiled.declared.inputs))
+    lines = typed.split(b"\n")
+    if lines[-1] == b"":
+        lines.pop()
+    return b"".join(reply(line, amounts, compiled) for line in lines), DONE
+
+
+ANSWERS = {b"run": answer_run, b"batch": answer_batch, b"serve": answer_serve}
+
+
+def reply(line, amounts, compiled):
+    """The reply to a line of a session, which may change the amounts of the household."""
+    if len(line) > SESSION_LINE_BYTES:
+        return b"refused line too long\n"
+    if line.endswith(b"\r"):
+        line = line[:-1]
+    words = [word for word in line.split(b" ") if word]
+    if not words:
+        return b""
+    if words == [b"show"]:
+        return compiled.told(amounts.items())[0] + b".\n"
+    if (words[0], len(words)) not in ((b"set", 3), (b"clear", 2)):
+        return b"refused bad command\n"
+    cell = compiled.declared.inputs.get(words[1])
+    if cell is None:
+        return b"refused unknown code\n"
+    if words[0] == b"clear":
+        amounts.pop(cell, None)
+        return b"ok\n"
+    amount = read_amount(words[2])
+    if amount is UNDEFINED or amount is OVER:
+        return b"refused bad amount\n"
+    amounts[cell] = amount
+    return b"ok\n"

@@ -1,0 +1,86 @@
+"""A whole source: rule files, a driver and requests; and what it tells a household."""
+
+from typing import List, NamedTuple, Optional, Tuple
+
+from .amounts import OVER, UNDEFINED, print_amount
+from .declarations import declared_by
+from .driver_grammar import Call, functions_of
+from .driver_lines import driver_lines
+from .driver_names import RULES, Driver, driver_over_cells
+from .driver_runs import Run, driver_weight
+from .expansion import expanded
+from .faults import Refused, Stopped
+from .files import read_requests
+from .items import items_of
+from .names import base_of
+from .texts import decimal
+from .tokens import tokens_of
+from .values import order_of
+
+MOST_WEIGHT = 4_000_000
+MOST_TOLD_WEIGHT = 2**64 - 1
+
+
+class Source(NamedTuple):
+    """The bytes of a source: an application, rule files with their names, and a driver and requests, where there are any."""
+
+    application: bytes
+    rule_files: List[Tuple[bytes, bytes]]
+    driver: Optional[bytes]
+    requests: Optional[bytes]
+
+
+class Compiled:
+    """A source without a fault."""
+
+    def __init__(self, source):
+        """Goes through the steps in order; the first that finds a fault refuses the source."""
+        items = []
+        for number, (name, text) in enumerate(source.rule_files):
+            items += items_of(tokens_of(number, name, text))
+        self.declared = declared_by(items)
+        definitions, conditions = expanded(items, source.application, self.declared)
+        self.base = base_of(definitions, conditions, self.declared)
+        order = order_of(self.base)
+        driver = None
+        if source.driver is not None:
+            driver = driver_over_cells(functions_of(driver_lines(source.driver)), self.declared)
+        self.requests = read_requests(source.requests, self.declared)
+        if driver is None:
+            driver = self.plain_driver()
+        weight = driver_weight(driver, self.base)
+        if weight > MOST_WEIGHT:
+            raise Refused(b"refused driver too large " + decimal(min(weight, MOST_TOLD_WEIGHT)))
+        self.run = Run(driver, self.base, order)
+        printed = self.declared.printed_names()
+        self.request_names = [printed[cell] for cell in self.requests]
+
+    def plain_driver(self):
+        """The driver that calls the rules once and receives what is requested, but for constants."""
+        constants = {self.declared.first_cells[v.name] for v in self.declared.variables if v.role == "constant"}
+        received = [cell for cell in self.requests if cell not in constants]
+        return Driver({b"main": [Call(1, received, RULES)]}, [b"main"])
+
+    def told(self, amounts):
+        """The lines that a household is told, which is cells of inputs with their amounts, and whether it was stopped."""
+        environment = [UNDEFINED] * self.declared.cells
+        for variable in self.declared.variables:
+            if variable.role == "constant":
+                environment[self.declared.first_cells[variable.name]] = variable.amount
+        for cell, amount in amounts:
+            environment[cell] = amount
+        try:
+            self.run.run_main(environment)
+        except Stopped as stop:
+            return stop.lines, True
+        named = zip(self.request_names, self.requests)
+        return b"".join(value_line(name, environment[cell]) for name, cell in named), False
+
+
+def value_line(name, value):
+    """The line of a name and its value."""
+    if value is UNDEFINED:
+        return name + b" undefined\n"
+    if value is OVER:
+        return name + b" over\n"
+    return name + b" = " + print_amount(value) + b"\n"
