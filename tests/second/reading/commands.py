@@ -1,9 +1,10 @@
 """The commands: words, the steps in their order, and what is printed."""
 
 import re
+from typing import NamedTuple, Optional
 
 from .amounts import OVER, UNDEFINED, read_amount
-from .faults import Refused, Unreadable
+from .faults import Refused, RingRefused, Unreadable
 from .files import read_household, read_list, read_table
 from .generated import large_household, large_source
 from .sources import Compiled, Source
@@ -20,14 +21,30 @@ SESSION_LINE_BYTES = 4_096
 MOST_GENERATED = 100_000
 
 
+class Output(NamedTuple):
+    """What is printed, and the number that the program ends with; `ring` where a cycle or a recursion is shown."""
+
+    text: bytes
+    status: int
+    ring: Optional[RingRefused] = None
+
+    def is_one_with(self, text, status):
+        """Whether a program that prints this text and ends with this number has the same output. It may show another ring."""
+        if self.ring is not None and status == self.status and text.endswith(b"\n"):
+            return self.ring.shows_one(text[:-1])
+        return (text, status) == (self.text, self.status)
+
+
 def output(words, files, typed=b""):
-    """What is printed, and the number that the program ends with. `files` has the bytes of each file by its name."""
+    """What is printed, and with which status. `files` has the bytes of each file by its name."""
     try:
-        return answer(words, files, typed)
+        return Output(*answer(words, files, typed))
+    except RingRefused as refusal:
+        return Output(refusal.line + b"\n", REFUSED, refusal)
     except Refused as refusal:
-        return refusal.line + b"\n", REFUSED
+        return Output(refusal.line + b"\n", REFUSED)
     except Unreadable as missing:
-        return b"unreadable " + missing.name + b"\n", NOT_READ
+        return Output(b"unreadable " + missing.name + b"\n", NOT_READ)
 
 
 def answer(words, files, typed):

@@ -1,0 +1,191 @@
+"""Compares the second reading with the worked rows, and with a program on changed rows.
+
+    python3 compare.py                           the rows of crates/rows/data by the reading alone
+    python3 compare.py PROGRAM [COUNT [SEED]]    these, and so many changed rows by the program and by the reading
+
+A program is the path of one that takes the words of `m_tax`, as `out/m_tax` does. Its text and its status must be those of the
+reading, byte by byte; of several cycles or recursions it may show another true one. Each row in which they differ is kept in a
+folder of its own, in the form of crates/rows/data, with what the reading says; the program's answer stands in `program_text` and
+`program_status`. The status is 0 where nothing differs.
+"""
+
+import collections
+import os
+import random
+import re
+import shutil
+import subprocess
+import sys
+import tempfile
+import threading
+
+sys.dont_write_bytecode = True
+sys.path.insert(0, os.path.dirname(os.path.abspath(__file__)))
+
+from changes import Row, changed  # noqa: E402
+from reading.commands import output  # noqa: E402
+
+ROOT = os.path.dirname(os.path.dirname(os.path.dirname(os.path.abspath(__file__))))
+DATA = os.path.join(ROOT, "crates", "rows", "data")
+KEPT = os.path.join(ROOT, "out", "second")
+WORDS = b"run l.txt - - h.csv"
+MOST_BYTES = 7_000
+SLOW = {"drivers_calls_that_double_18_times", "loops_2000000_parts", "loops_2000002_parts", "large_5000"}
+SECONDS = 60
+
+
+class Folder:
+    """The files below a folder, each read where it is asked for, as the program reads them."""
+
+    def __init__(self, path):
+        self.path = os.fsencode(path)
+
+    def __contains__(self, name):
+        try:
+            return self[name] is not None
+        except (OSError, ValueError):
+            return False
+
+    def __getitem__(self, name):
+        if not name:
+            raise FileNotFoundError
+        with open(os.path.join(self.path, name), "rb") as file:
+            return file.read()
+
+
+# ---- rows
+
+
+def read_folder(path):
+    """The files of a folder by their names."""
+    files = {}
+    for name in sorted(os.listdir(path)):
+        with open(os.path.join(path, name), "rb") as file:
+            files[os.fsencode(name)] = file.read()
+    return files
+
+
+def read_rows():
+    """Each worked row by its name, with the text and the status that it wants."""
+    shared = read_folder(os.path.join(DATA, "shared"))
+    rows = {}
+    for name in sorted(os.listdir(os.path.join(DATA, "rows"))):
+        own = read_folder(os.path.join(DATA, "rows", name))
+        text = own.pop(b"text", b"")
+        status = int(own.pop(b"status", b"0"))
+        words = own.pop(b"words", WORDS).split()
+        typed = own.pop(b"typed", b"")
+        size = sum(map(len, own.values()))
+        rows[name] = (Row(words, {**shared, **own}, typed), text, status, size)
+    return rows
+
+
+def compare_rows(rows):
+    """How many worked rows the reading answers otherwise; each is printed."""
+    different = 0
+    for name, (row, text, status, _) in rows.items():
+        said = output(row.words, row.files, row.typed)
+        if (said.text, said.status) != (text, status):
+            different += 1
+            print("second: row %s: the reading says %r with status %d" % (name, said.text[:200], said.status))
+    return different
+
+
+# ---- changed rows
+
+
+NAMED = re.compile(
+    r"(declared twice|alias twice|unknown name|not a table|is a table|bad target|defined twice|unknown error|function twice"
+    r"|file too long|too large|recursion|cycle|failed|over verification|over driver|unreadable|usage:) .*"
+)
+
+
+def answer_kind(said):
+    """The kind of an answer, without places, names and numbers."""
+    if said.status == 0:
+        return "answered"
+    line = said.text.split(b"\n")[0].decode("latin-1")
+    line = re.sub(r"^refused .* line \d+ byte \d+: ", "refused rules: ", line)
+    line = re.sub(r"^refused (driver|household|list|requests) line \d+", r"refused \1", line)
+    return NAMED.sub(r"\1", re.sub(r"^(refused driver: unknown) .*", r"\1", line))
+
+
+def program_answer(program, row, folder):
+    """What a program prints for a row whose files stand in a folder, and its status."""
+    words = [program] + [os.fsdecode(word) for word in row.words]
+    try:
+        done = subprocess.run(words, cwd=folder, input=row.typed, stdout=subprocess.PIPE, timeout=SECONDS, check=False)
+    except subprocess.TimeoutExpired:
+        return b"no answer within %d seconds\n" % SECONDS, -1
+    return done.stdout, done.returncode
+
+
+def write_files(files, folder):
+    """Writes files into an empty folder."""
+    shutil.rmtree(folder, ignore_errors=True)
+    os.makedirs(folder)
+    for name, text in files.items():
+        with open(os.path.join(os.fsencode(folder), name), "wb") as file:
+            file.write(text)
+
+
+def keep(name, row, said, text, status):
+    """Keeps a row in which program and reading differ, and says where."""
+    folder = os.path.join(KEPT, name)
+    own = {b"words": b" ".join(row.words) + b"\n", b"typed": row.typed, b"text": said.text, b"status": b"%d\n" % said.status}
+    told = {b"program_text": text, b"program_status": b"%d\n" % status}
+    write_files({**row.files, **own, **told}, folder)
+    print("second: different: %s: the program says %r, the reading %r" % (folder, text[:100], said.text[:100]))
+
+
+def compare_changed(program, rows, count, seed):
+    """How many of so many changed rows the program answers otherwise than the reading, and how many answers of each kind."""
+    pool = [(row, status) for name, (row, _, status, size) in rows.items() if size <= MOST_BYTES and name not in SLOW]
+    good = [row for row, status in pool if status in (0, 6)]
+    bad = [row for row, status in pool if status not in (0, 6)]
+    kinds = collections.Counter()
+    different = 0
+    with tempfile.TemporaryDirectory() as folder:
+        place = os.path.join(folder, "row")
+        for number in range(count):
+            row = changed(random.Random("%d:%d" % (seed, number)), good, bad)
+            write_files(row.files, place)
+            said = output(row.words, Folder(place), row.typed)
+            kinds[answer_kind(said)] += 1
+            text, status = program_answer(program, row, place) if program else (said.text, said.status)
+            if not said.is_one_with(text, status):
+                different += 1
+                keep("%d_%d" % (seed, number), row, said, text, status)
+    return different, kinds
+
+
+def main():
+    """Does what the words of the command line say."""
+    rows = read_rows()
+    different = compare_rows(rows)
+    print("second: rows: %d passed, %d failed" % (len(rows) - different, different))
+    if len(sys.argv) > 1:
+        program = os.path.abspath(sys.argv[1]) if sys.argv[1] != "-" else None
+        count = int(sys.argv[2]) if len(sys.argv) > 2 else 1000
+        seed = int(sys.argv[3]) if len(sys.argv) > 3 else 1
+        changed_different, kinds = compare_changed(program, rows, count, seed)
+        for kind, number in kinds.most_common():
+            print("second: %6d %s" % (number, kind))
+        print("second: changed rows: %d passed, %d failed" % (count - changed_different, changed_different))
+        different += changed_different
+    return different
+
+
+def run():
+    """Runs `main` on a thread whose stack is deep enough for the deepest terms and blocks."""
+    sys.setrecursionlimit(1_000_000)
+    threading.stack_size(512 * 1024 * 1024)
+    ended = []
+    thread = threading.Thread(target=lambda: ended.append(main()))
+    thread.start()
+    thread.join()
+    sys.exit(0 if ended == [0] else 1)
+
+
+if __name__ == "__main__":
+    run()
