@@ -3,10 +3,10 @@
     python3 compare.py                           the rows of crates/rows/data by the reading alone
     python3 compare.py PROGRAM [COUNT [SEED]]    these, and so many changed rows by the program and by the reading
 
-A program is the path of one that takes the words of `m_tax`, as `out/m_tax` does. Its text and its status must be those of the
-reading, byte by byte; of several cycles or recursions it may show another true one. Each row in which they differ is kept in a
-folder of its own, in the form of crates/rows/data, with what the reading says; the program's answer stands in `program_text` and
-`program_status`. The status is 0 where nothing differs.
+A program is the path of one that takes the words of `m_tax`, as `out/m_tax` does. Its text and its status must be those
+of the reading, byte by byte; of several cycles or recursions it may show another true one. Each row in which they
+differ is kept in a folder of its own, in the form of crates/rows/data, with what the reading says; the program's answer
+stands in `program_text` and `program_status`. The status is 0 where nothing differs.
 """
 
 import collections
@@ -22,7 +22,8 @@ import threading
 sys.dont_write_bytecode = True
 sys.path.insert(0, os.path.dirname(os.path.abspath(__file__)))
 
-from changes import Row, changed  # noqa: E402
+from changing.naming import Row  # noqa: E402
+from changing.rows import changed  # noqa: E402
 from reading.commands import output  # noqa: E402
 
 ROOT = os.path.dirname(os.path.dirname(os.path.dirname(os.path.abspath(__file__))))
@@ -95,8 +96,9 @@ def compare_rows(rows):
 
 
 NAMED = re.compile(
-    r"(declared twice|alias twice|unknown name|not a table|is a table|bad target|defined twice|unknown error|function twice"
-    r"|file too long|too large|recursion|cycle|failed|over verification|over driver|unreadable|usage:) .*"
+    r"(declared twice|alias twice|unknown name|not a table|is a table|bad target|defined twice|unknown error"
+    r"|function twice|file too long|too large|recursion|cycle|failed|over verification|over driver|unreadable"
+    r"|usage:) .*"
 )
 
 
@@ -132,14 +134,15 @@ def write_files(files, folder):
 def keep(name, row, said, text, status):
     """Keeps a row in which program and reading differ, and says where."""
     folder = os.path.join(KEPT, name)
-    own = {b"words": b" ".join(row.words) + b"\n", b"typed": row.typed, b"text": said.text, b"status": b"%d\n" % said.status}
+    own = {b"words": b" ".join(row.words) + b"\n", b"typed": row.typed}
+    wanted = {b"text": said.text, b"status": b"%d\n" % said.status}
     told = {b"program_text": text, b"program_status": b"%d\n" % status}
-    write_files({**row.files, **own, **told}, folder)
+    write_files({**row.files, **own, **wanted, **told}, folder)
     print("second: different: %s: the program says %r, the reading %r" % (folder, text[:100], said.text[:100]))
 
 
 def compare_changed(program, rows, count, seed):
-    """How many of so many changed rows the program answers otherwise than the reading, and how many answers of each kind."""
+    """How many of so many changed rows the program answers otherwise, and how many answers of each kind there are."""
     pool = [(row, status) for name, (row, _, status, size) in rows.items() if size <= MOST_BYTES and name not in SLOW]
     good = [row for row, status in pool if status in (0, 6)]
     bad = [row for row, status in pool if status not in (0, 6)]

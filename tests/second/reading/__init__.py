@@ -1,7 +1,7 @@
 """A second reading of what the program does, in Python, written apart from it, on the documents alone.
 
-`commands.output(words, files, typed)` is what the program prints for the words of its command line, the files and what is typed
-into its input, and the number that it ends with. The modules, in the order in which a source goes through them:
+`commands.output(words, files, typed)` is what the program prints for the words of its command line, the files and what
+is typed into its input, and the number that it ends with. The modules, in the order in which a source meets them:
 
     texts           lines and words                               docs/FORMATS.md
     amounts         amounts, values, operators                    docs/AMOUNTS.md

@@ -16,8 +16,8 @@ SPELLED = re.compile(rb"(-?)([0-9]+)(?:\.([0-9]+))?")
 
 
 def read_amount(text):
-    """The amount that a text spells, rounded at the sixth decimal, halves away from zero; `OVER` where it is too great, and
-    `UNDEFINED` where the text is no amount."""
+    """The amount that a text spells, rounded at the sixth decimal, halves away from zero; `OVER` where it is too great,
+    and `UNDEFINED` where the text is no amount."""
     match = SPELLED.fullmatch(text)
     if match is None:
         return UNDEFINED

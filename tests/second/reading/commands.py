@@ -29,7 +29,7 @@ class Output(NamedTuple):
     ring: Optional[RingRefused] = None
 
     def is_one_with(self, text, status):
-        """Whether a program that prints this text and ends with this number has the same output. It may show another ring."""
+        """Whether this text and this status are the same output. A ring that is shown may be another true one."""
         if self.ring is not None and status == self.status and text.endswith(b"\n"):
             return self.ring.shows_one(text[:-1])
         return (text, status) == (self.text, self.status)

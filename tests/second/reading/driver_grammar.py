@@ -81,7 +81,7 @@ class Function(NamedTuple):
 
 
 def functions_of(lines):
-    """The functions of a driver. A fault is told at the first line behind the longest front of the lines that is a driver."""
+    """The functions of a driver. A fault is told at the first line behind the longest front that is a driver."""
     functions = []
     at = 0
     while at < len(lines):

@@ -1,4 +1,4 @@
-"""Names of a driver to cells and functions, or the first fault of a name; and functions that call each other in a ring."""
+"""Names of a driver to cells and functions, or the first fault of a name; functions that call each other in a ring."""
 
 from .driver_grammar import Assignment, Call, CellName, Conditional, Deletion, KindExists, Partition
 from .faults import Refused, RingRefused, at_driver_line, order_or_ring

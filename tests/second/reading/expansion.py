@@ -14,7 +14,7 @@ MOST_DIGITS = 12
 
 
 class Definition(NamedTuple):
-    """A formula without loops: what it sets, a cell's number where it sets one of a table, `EVERY` where that isn't one."""
+    """A formula without loops: what it sets, the number of a table's cell, or `EVERY` where that is no table."""
 
     target: bytes
     slot: Any
@@ -38,7 +38,8 @@ def expanded(items, application, declared):
     look_for_parts(counting, declared)
     rules = [item for item in counting if isinstance(item, Rule)]
     verifications = [item for item in counting if isinstance(item, Verification)]
-    definitions = (definition for rule in rules for formula in rule.formulas for definition in instances_of(formula, declared))
+    formulas = [formula for rule in rules for formula in rule.formulas]
+    definitions = (definition for formula in formulas for definition in instances_of(formula, declared))
     conditions = (
         Condition(verification.number, check.error, instance(check.condition, {}, None), check.place)
         for verification in verifications

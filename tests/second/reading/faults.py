@@ -12,10 +12,10 @@ class Refused(Exception):
 
 
 class RingRefused(Refused):
-    """Cells or functions that need each other in a ring. Any true ring may be shown, from its least member on; this is one."""
+    """Cells or functions that need each other in a ring, from its least member on. Another true ring may be shown."""
 
     def __init__(self, front, names, follows, ring):
-        """`names` are those of all members by their numbers, `follows(k)` the members that the one with the number k needs."""
+        """`names` are those of all members by their numbers; `follows(k)` are the members that the member k needs."""
         least = ring.index(min(ring))
         super().__init__(front + b"".join(b" " + names[member] for member in ring[least:] + ring[:least]))
         self.front = front
@@ -23,7 +23,7 @@ class RingRefused(Refused):
         self.follows = follows
 
     def shows_one(self, line):
-        """Whether a line shows a true ring: all different, the least first, each needs the next, and the last the first."""
+        """Whether a line shows a true ring: all differ, the least is first, each needs the next, the last the first."""
         if not line.startswith(self.front + b" "):
             return False
         numbers = {name: number for number, name in enumerate(self.names)}

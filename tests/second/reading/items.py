@@ -82,7 +82,7 @@ def one_or_more(cursor, read):
 
 
 def head(cursor):
-    """What stands between `regle` or `verif` and its formulas or checks: the number as it is spelled, and the applications."""
+    """What stands between `regle` or `verif` and formulas or checks: the number as it is spelled, applications."""
     words(cursor)
     number = whole(cursor)
     cursor.sign(b":")

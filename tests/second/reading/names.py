@@ -16,7 +16,7 @@ class Label(NamedTuple):
 
 
 class Base:
-    """The rules over cells: what is declared, the term of each cell that has one, and checks with their labels, in order."""
+    """The rules over cells: what is declared, the term of each cell that has one, and checks with their labels."""
 
     def __init__(self, declared):
         self.declared = declared

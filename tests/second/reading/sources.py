@@ -22,7 +22,7 @@ MOST_TOLD_WEIGHT = 2**64 - 1
 
 
 class Source(NamedTuple):
-    """The bytes of a source: an application, rule files with their names, and a driver and requests, where there are any."""
+    """The bytes of a source: an application, rule files with their names, a driver and requests where there are any."""
 
     application: bytes
     rule_files: List[Tuple[bytes, bytes]]
@@ -62,7 +62,7 @@ class Compiled:
         return Driver({b"main": [Call(1, received, RULES)]}, [b"main"])
 
     def told(self, amounts):
-        """The lines that a household is told, which is cells of inputs with their amounts, and whether it was stopped."""
+        """The lines that a household is told, and whether it was stopped. It is cells of inputs with their amounts."""
         environment = [UNDEFINED] * self.declared.cells
         for variable in self.declared.variables:
             if variable.role == "constant":

@@ -54,7 +54,7 @@ class Cursor:
             raise NotSpelled
 
     def one_of(self, kind, table):
-        """Takes a sign or reserved word of a table, and gives what the table says of it; nothing where there is none."""
+        """Takes a sign or reserved word of a table, and gives what that says of it; nothing where there is none."""
         if self.ended() or self.tokens[self.at].kind != kind or self.tokens[self.at].text not in table:
             return None
         self.at += 1

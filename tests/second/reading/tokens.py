@@ -20,7 +20,7 @@ TOKEN = re.compile(
 
 
 class Place(NamedTuple):
-    """Where something stands: the file by its position in the list and its name, a line from 1, a byte of the file from 0."""
+    """Where something stands: the file by its position in the list and its name, a line from 1, a byte from 0."""
 
     file: int
     file_name: bytes
@@ -29,7 +29,7 @@ class Place(NamedTuple):
 
 
 class Token(NamedTuple):
-    """A token: its kind (`word`, `key` for a reserved word, `number`, `text`, `sign`), its bytes, of a number the amount."""
+    """A token: its kind (`word`, `key` for a reserved word, `number`, `text`, `sign`), its bytes, a number's amount."""
 
     kind: str
     text: bytes

@@ -3,8 +3,8 @@
 from typing import Any, List, NamedTuple, Optional, Tuple
 
 
-# Terms. A loop is replaced by its instances, a `Name`, `CellNumber` and `Read` by cells: then only `Number`, `Cell`, `Pick`,
-# `Operation`, `Chain` and, in drivers, `Exists` are left.
+# Terms. Loops are replaced by their instances, and `Name`, `CellNumber` and `Read` by cells: then only `Number`,
+# `Cell`, `Pick`, `Operation`, `Chain` and, in drivers, `Exists` are left.
 
 
 class Number(NamedTuple):
@@ -105,7 +105,7 @@ class Header(NamedTuple):
 
 
 class Variable(NamedTuple):
-    """A declaration: an input has a code, a constant an amount, a table a size; `words` and `pairs` are its attributes."""
+    """A declaration: an input has a code, a constant an amount, a table a size; attributes are `words` and `pairs`."""
 
     place: Any
     name: bytes

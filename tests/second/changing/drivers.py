@@ -1,0 +1,64 @@
+"""Changes of drivers."""
+
+from .drawing import NUMBERS, SPOILT_NUMBERS, chance, change_lines, change_pieces, exchange, indentation, some
+from .terms import driver_term, kind
+
+WORDS = b"""
+( ) [ ] , : = == != < <= > >= + - * / <- if else partition with and or not present cast exists del call_m() main f g
+taxbenefit avfisc # . ! X
+""".split()
+
+
+def change_driver(random, text, names, wild):
+    """A driver with one change."""
+    if not wild and chance(random, 40):
+        return exchange(random, text, names)
+    if not wild:
+        return put_command(random, text, names)
+    if chance(random, 45):
+        return change_pieces(random, text, WORDS + [b"\t"] + names.all + NUMBERS + SPOILT_NUMBERS)
+    return change_lines(random, text)
+
+
+def put_command(random, text, names):
+    """A driver with new commands in it, as deep as the line before which they are put, or with one more function."""
+    lines = text.split(b"\n")
+    deep = [at for at, line in enumerate(lines) if line.startswith(b" ") and line.strip()]
+    if not deep or chance(random, 10):
+        return text + b"\n%s():\n%s" % (random.choice([b"f", b"g", b"h"]), commands(random, names, b"  ", 2))
+    at = random.choice(deep)
+    lines.insert(at, commands(random, names, indentation(lines[at]), 2).rstrip(b"\n"))
+    return b"\n".join(lines)
+
+
+def commands(random, names, front, depth):
+    """One to three commands, each with these spaces in front."""
+    return b"".join(command(random, names, front, depth) for _ in range(random.randrange(1, 4)))
+
+
+def command(random, names, front, depth):
+    """A command with its block."""
+    settable = names.inputs + names.computed if chance(random, 95) else names.all
+    form = random.randrange(9) if depth > 0 else random.randrange(5)
+    if form < 2:
+        return b"%s%s = %s\n" % (front, target(random, names, settable), driver_term(random, names, 3))
+    if form == 2:
+        return b"%sdel %s\n" % (front, target(random, names, settable))
+    if form < 5:
+        received = b" , ".join(target(random, names, settable) for _ in range(random.randrange(1, 3)))
+        called = some(random, names.functions, b"f") if chance(random, 20) else b"call_m"
+        return b"%s%s <- %s()\n" % (front, received, called)
+    block = commands(random, names, front + b" " * random.randrange(1, 4), depth - 1)
+    if form < 7:
+        return b"%spartition with %s:\n%s" % (front, kind(random, names), block)
+    conditional = b"%sif %s:\n%s" % (front, driver_term(random, names, 2), block)
+    if form == 7:
+        return conditional
+    return conditional + b"%selse:\n%s" % (front, commands(random, names, front + b"    ", depth - 1))
+
+
+def target(random, names, settable):
+    """What is set, deleted or received: one of these variables, or sometimes a cell of a table."""
+    if names.tables and chance(random, 20):
+        return b"%s[%d]" % (random.choice(names.tables), random.randrange(3))
+    return some(random, settable, b"REV")

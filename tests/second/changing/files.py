@@ -1,0 +1,79 @@
+"""Changes of lists, requests, households and tables, and of what is typed."""
+
+from .drawing import AMOUNTS, SPOILT_AMOUNTS, chance, change_lines, some
+
+LABELS = b'dupont martin 1 "x,y" "q""r" "z'.split() + [b"a b"]
+ENDS = [b"\n", b"\n", b"\n", b"\r\n", b"\r"]
+SPOILT_FIELDS = b'code name a"b "a "a""b"'.split()
+SPOILT_REQUESTS = [b"", b" IRN"] + b"T T[00] T[1]x REV[0] ZZ [ T[9999] T[10000]".split()
+SPOILT_COMMANDS = [b"", b"set 1AJ", b"show all", b"\tshow", b"show\r", b"x" * 4096, b"x" * 4097, b"clear", b"SHOW"]
+
+
+def change_list(random, text, wild):
+    """A list with one change."""
+    if wild:
+        return change_lines(random, text)
+    return text.replace(b"\n", random.choice([b"\n\n", b"\r\n", b"\n"]))
+
+
+def change_household(random, text, names, wild):
+    """A household or a table with one change."""
+    if wild and chance(random, 50):
+        return change_lines(random, text)
+    if wild:
+        return change_field(random, text, SPOILT_AMOUNTS + SPOILT_FIELDS + names.codes)
+    if chance(random, 25):
+        return new_table(random, names) if text.startswith(b"name") else new_household(random, names)
+    return change_field(random, text, AMOUNTS)
+
+
+def change_field(random, text, stock):
+    """A text of which one field is replaced: mostly the last of a line behind the first."""
+    lines = text.split(b"\n")
+    at = random.randrange(len(lines))
+    if not lines[at] or at == 0 and not chance(random, 10):
+        return text
+    fields = lines[at].split(b",")
+    column = random.randrange(len(fields)) if chance(random, 20) else len(fields) - 1
+    fields[column] = random.choice(stock)
+    lines[at] = b",".join(fields)
+    return b"\n".join(lines)
+
+
+def new_household(random, names):
+    """A household of some of the codes."""
+    chosen = random.sample(names.codes, random.randrange(len(names.codes) + 1))
+    return b"code,amount\n" + b"".join(b"%s,%s\n" % (code, random.choice(AMOUNTS)) for code in chosen)
+
+
+def new_table(random, names):
+    """A table of some of the codes, with a few rows."""
+    chosen = random.sample(names.codes, random.randrange(len(names.codes) + 1))
+    rows = [[b"name"] + chosen]
+    for label in random.sample(LABELS, random.randrange(4)):
+        stock = AMOUNTS + [b""] * 5 if chance(random, 90) else SPOILT_AMOUNTS
+        rows.append([label] + [random.choice(stock) for _ in chosen])
+    return b"".join(b",".join(row) + random.choice(ENDS) for row in rows)
+
+
+def new_requests(random, names, wild):
+    """Requests of some names."""
+    lines = []
+    for _ in range(random.randrange(5)):
+        name = some(random, names.all, b"REV")
+        lines.append(name + b"[%d]" % random.randrange(5) if name in names.tables else name)
+    if wild:
+        lines.append(random.choice(SPOILT_REQUESTS))
+    return b"".join(line + random.choice([b"\n", b"\n", b"\r\n"]) for line in lines)
+
+
+def new_session(random, names):
+    """What may be typed in a session."""
+    lines = []
+    for _ in range(random.randrange(1, 8)):
+        code = some(random, names.codes, b"1AJ") if chance(random, 95) else b"9ZZ"
+        amount = random.choice(AMOUNTS if chance(random, 90) else SPOILT_AMOUNTS)
+        lines.append(random.choice([b"show", b" show ", b"set %s  %s" % (code, amount), b"clear %s" % code]))
+    if chance(random, 15):
+        lines.insert(random.randrange(len(lines)), random.choice(SPOILT_COMMANDS))
+    return b"\n".join(lines) + random.choice([b"", b"\n", b"\r\n"])

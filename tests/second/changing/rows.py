@@ -1,0 +1,59 @@
+"""Changed rows: which of their files are changed, and how often."""
+
+from .drawing import chance, flip_byte
+from .drivers import change_driver
+from .files import change_household, change_list, new_requests, new_session, new_table
+from .naming import Names, Row, listed
+from .rules import change_rules
+
+
+def changed(random, good, bad):
+    """One of the rows with one to four changes: mostly one that has an answer, and sometimes one that is refused."""
+    row = random.choice(good if chance(random, 85) else bad)
+    wild = chance(random, 22)
+    row = other_command(random, row, Names(row), wild)
+    for _ in range(random.choice([1, 1, 2] if wild else [1, 2, 3, 4])):
+        row = one_change(random, row, Names(row), wild)
+    return row
+
+
+def other_command(random, row, names, wild):
+    """The row, sometimes with other words: a session, a table, requests, or no command."""
+    words, files, typed = list(row.words), dict(row.files), row.typed
+    if len(words) != 5 or chance(random, 60):
+        return row
+    form = random.randrange(7)
+    if form < 2:
+        words[0], typed = b"serve", new_session(random, names)
+    elif form < 4:
+        words[0], words[4] = b"batch", b"t.csv"
+        files[b"t.csv"] = new_table(random, names)
+    elif form < 6:
+        words[3] = b"r.txt"
+        files[b"r.txt"] = new_requests(random, names, wild)
+    elif wild:
+        at = random.randrange(len(words))
+        words[at:at + 1] = random.choice([[], [words[at]] * 2, [b"-"], [b"large", b"7"], [b"x"], [b"run"]])
+    return Row(words, files, typed)
+
+
+def one_change(random, row, names, wild):
+    """The row with one change in one of its files."""
+    words, files = row.words, dict(row.files)
+    if len(words) != 5:
+        return row
+    rule_files = listed(row)
+    form = random.randrange(10)
+    if wild and chance(random, 12):
+        name = random.choice(sorted(name for name in files if name in words or name in rule_files) or [b"h.csv"])
+        files[name] = flip_byte(random, files.get(name, b""))
+    elif form < 6 and rule_files and (words[2] not in files or chance(random, 50)):
+        name = random.choice(rule_files)
+        files[name] = change_rules(random, files[name], names, wild)
+    elif form < 8 and words[2] in files:
+        files[words[2]] = change_driver(random, files[words[2]], names, wild)
+    elif (form < 9 or chance(random, 70)) and words[4] in files:
+        files[words[4]] = change_household(random, files[words[4]], names, wild)
+    elif words[1] in files:
+        files[words[1]] = change_list(random, files[words[1]], wild)
+    return Row(words, files, row.typed)
