@@ -257,7 +257,7 @@ def replaced(word, letters):
 
 def instance(term, letters, cell):
     """A term where letters stand for values, and `X` for the number of a cell if there is one."""
-    if isinstance(term, Number):
+    if isinstance(term, Number) or isinstance(term, Name) and is_name(term.word):
         return term
     if isinstance(term, Name):
         word = replaced(term.word, letters)

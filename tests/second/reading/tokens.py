@@ -62,5 +62,5 @@ def tokens_of(file, file_name, text):
             if amount is OVER:
                 raise at_place(place, b"number too great")
         tokens.append(Token(kind, spelling, place, amount))
-        line += text.count(b"\n", at, match.end())
+        line += spelling.count(b"\n")
         at = match.end()
