@@ -7,10 +7,13 @@ WORDS = b"""
 ( ) [ ] , : = == != < <= > >= + - * / <- if else partition with and or not present cast exists del call_m() main f g
 taxbenefit avfisc # . ! X
 """.split()
+ENDS = [b"", b"", b"", b"", b"  ", b"\r", b"\n", b"\n   # \xc3\xa9\t", b" # if A:", b"\n  "]
 
 
 def change_driver(random, text, names, wild):
     """A driver with one change."""
+    if not wild and chance(random, 10):
+        return change_ends(random, text)
     if not wild and chance(random, 40):
         return exchange(random, text, names)
     if not wild:
@@ -18,6 +21,11 @@ def change_driver(random, text, names, wild):
     if chance(random, 45):
         return change_pieces(random, text, WORDS + [b"\t"] + names.all + NUMBERS + SPOILT_NUMBERS)
     return change_lines(random, text)
+
+
+def change_ends(random, text):
+    """A driver of which some lines end otherwise: in blanks, carriage returns or comments, or before empty lines."""
+    return b"\n".join(line + random.choice(ENDS) for line in text.split(b"\n"))
 
 
 def put_command(random, text, names):

@@ -1,7 +1,8 @@
 """Changes of lists, requests, households and tables, and of what is typed."""
 
-from .drawing import AMOUNTS, SPOILT_AMOUNTS, chance, change_lines, some
+from .drawing import AMOUNTS, SPOILT_AMOUNTS, chance, change_lines, change_pieces, some
 
+APPLICATIONS = b"iliad batch autre 2023 si X a-b oceans .".split()
 LABELS = b'dupont martin 1 "x,y" "q""r" "z'.split() + [b"a b"]
 ENDS = [b"\n", b"\n", b"\n", b"\r\n", b"\r"]
 SPOILT_FIELDS = b'code name a"b "a "a""b"'.split()
@@ -11,6 +12,8 @@ SPOILT_COMMANDS = [b"", b"set 1AJ", b"show all", b"\tshow", b"show\r", b"x" * 40
 
 def change_list(random, text, wild):
     """A list with one change."""
+    if wild and chance(random, 30):
+        return change_pieces(random, text, APPLICATIONS)
     if wild:
         return change_lines(random, text)
     return text.replace(b"\n", random.choice([b"\n\n", b"\r\n", b"\n"]))

@@ -9,7 +9,7 @@ from .rules import change_rules
 
 def changed(random, good, bad):
     """One of the rows with one to four changes: mostly one that has an answer, and sometimes one that is refused."""
-    row = random.choice(good if chance(random, 85) else bad)
+    row = random.choice(good if chance(random, 92) else bad)
     wild = chance(random, 22)
     row = other_command(random, row, Names(row), wild)
     for _ in range(random.choice([1, 1, 2] if wild else [1, 2, 3, 4])):
@@ -54,6 +54,18 @@ def one_change(random, row, names, wild):
         files[words[2]] = change_driver(random, files[words[2]], names, wild)
     elif (form < 9 or chance(random, 70)) and words[4] in files:
         files[words[4]] = change_household(random, files[words[4]], names, wild)
+    elif rule_files and chance(random, 50):
+        split_rules(random, files, words[1], random.choice(rule_files))
     elif words[1] in files:
         files[words[1]] = change_list(random, files[words[1]], wild)
     return Row(words, files, row.typed)
+
+
+def split_rules(random, files, list_name, name):
+    """Moves the last lines of a rule file into another one, which the list names behind the others."""
+    lines = files[name].split(b"\n")
+    at = random.randrange(len(lines) + 1)
+    other = b"s%d.m" % random.randrange(10)
+    files[name] = b"\n".join(lines[:at])
+    files[other] = b"\n".join(lines[at:])
+    files[list_name] = files[list_name].rstrip(b"\r\n") + b"\n" + other

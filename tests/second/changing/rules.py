@@ -12,6 +12,7 @@ WORDS = b"""
 present abs arr inf regle verif application enchaineur saisie calculee const tableau alias type anomalie restituee "t"
 "a:b" # . ! " iliad batch
 """.split()
+GAPS = [b" ", b"  ", b"\t", b"\n", b"\n\n", b"\r\n", b"\r", b" # a; b\n", b"# \xc3\xa9 \"\n"]
 RULE = b"regle 900 : application : iliad ;\n"
 
 
@@ -21,12 +22,23 @@ def change_rules(random, text, names, wild):
         return change_pieces(random, text, WORDS + [b"\t", b"\r"] + names.all + NUMBERS + SPOILT_NUMBERS)
     if wild:
         return move_statements(random, text)
-    form = random.randrange(10)
+    form = random.randrange(11)
     if form < 4:
         return exchange(random, text, names)
     if form < 7:
         return replace_in_term(random, text, names)
+    if form == 7:
+        return change_gaps(random, text)
     return text + b"\n" + new_items(random, names)
+
+
+def change_gaps(random, text):
+    """A text of which some gaps are others: blanks, line ends and comments."""
+    pieces = PIECE.findall(text)
+    for at, piece in enumerate(pieces):
+        if not piece.strip() and chance(random, 30):
+            pieces[at] = random.choice(GAPS)
+    return b"".join(pieces)
 
 
 def replace_in_term(random, text, names):
