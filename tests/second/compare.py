@@ -182,7 +182,7 @@ def main():
 def run():
     """Runs `main` on a thread whose stack is deep enough for the deepest terms and blocks."""
     sys.setrecursionlimit(1_000_000)
-    threading.stack_size(512 * 1024 * 1024)
+    threading.stack_size(256 * 1024 * 1024)
     ended = []
     thread = threading.Thread(target=lambda: ended.append(main()))
     thread.start()
