@@ -14,6 +14,8 @@ def change_driver(random, text, names, wild):
     """A driver with one change."""
     if not wild and chance(random, 10):
         return change_ends(random, text)
+    if not wild and chance(random, 5):
+        return double_often(random, text, names)
     if not wild and chance(random, 40):
         return exchange(random, text, names)
     if not wild:
@@ -26,6 +28,23 @@ def change_driver(random, text, names, wild):
 def change_ends(random, text):
     """A driver of which some lines end otherwise: in blanks, carriage returns or comments, or before empty lines."""
     return b"\n".join(line + random.choice(ENDS) for line in text.split(b"\n"))
+
+
+def new_driver(random, names):
+    """A driver with some commands and a call of the rules."""
+    return b"main():\n%s  %s <- call_m()\n" % (commands(random, names, b"  ", 2), some(random, names.computed, b"REV"))
+
+
+def double_often(random, text, names):
+    """A driver that calls the old one so often that it weighs too much, so that its weight is told."""
+    levels = random.choice([22, 23, 30, 70])
+    received = some(random, names.inputs + names.computed, b"REV")
+    functions = [text.replace(b"main()", b"twice0()")]
+    for level in range(1, levels):
+        call = b"  %s <- twice%d()\n" % (received, level - 1)
+        functions.append(b"twice%d():\n%s%s" % (level, call, call))
+    functions.append(b"main():\n  %s <- twice%d()\n" % (received, levels - 1))
+    return b"\n".join(functions)
 
 
 def put_command(random, text, names):
@@ -49,7 +68,8 @@ def command(random, names, front, depth):
     settable = names.inputs + names.computed if chance(random, 95) else names.all
     form = random.randrange(9) if depth > 0 else random.randrange(5)
     if form < 2:
-        return b"%s%s = %s\n" % (front, target(random, names, settable), driver_term(random, names, 3))
+        depth_of_term = random.choice([1, 1, 2, 3])
+        return b"%s%s = %s\n" % (front, target(random, names, settable), driver_term(random, names, depth_of_term))
     if form == 2:
         return b"%sdel %s\n" % (front, target(random, names, settable))
     if form < 5:

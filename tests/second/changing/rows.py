@@ -1,7 +1,7 @@
 """Changed rows: which of their files are changed, and how often."""
 
 from .drawing import chance, flip_byte
-from .drivers import change_driver
+from .drivers import change_driver, new_driver
 from .files import change_household, change_list, new_requests, new_session, new_table
 from .naming import Names, Row, listed
 from .rules import change_rules
@@ -18,12 +18,15 @@ def changed(random, good, bad):
 
 
 def other_command(random, row, names, wild):
-    """The row, sometimes with other words: a session, a table, requests, or no command."""
+    """The row, sometimes with other words: a driver, a session, a table, requests, or no command."""
     words, files, typed = list(row.words), dict(row.files), row.typed
     if len(words) != 5 or chance(random, 60):
         return row
-    form = random.randrange(7)
-    if form < 2:
+    form = random.randrange(9)
+    if form > 6 and words[2] == b"-":
+        words[2] = b"d.txt"
+        files[b"d.txt"] = new_driver(random, names)
+    elif form < 2:
         words[0], typed = b"serve", new_session(random, names)
     elif form < 4:
         words[0], words[4] = b"batch", b"t.csv"
@@ -31,7 +34,7 @@ def other_command(random, row, names, wild):
     elif form < 6:
         words[3] = b"r.txt"
         files[b"r.txt"] = new_requests(random, names, wild)
-    elif wild:
+    elif form == 6 and wild:
         at = random.randrange(len(words))
         words[at:at + 1] = random.choice([[], [words[at]] * 2, [b"-"], [b"large", b"7"], [b"x"], [b"run"]])
     return Row(words, files, typed)

@@ -12,6 +12,7 @@ WORDS = b"""
 present abs arr inf regle verif application enchaineur saisie calculee const tableau alias type anomalie restituee "t"
 "a:b" # . ! " iliad batch
 """.split()
+KINDS = [b"", b"restituee"] + [b"avfisc = %s" % value for value in (b"1", b"2", b"0.5", b"1 avfisc = 0", b"0 avfisc = 2")]
 GAPS = [b" ", b"  ", b"\t", b"\n", b"\n\n", b"\r\n", b"\r", b" # a; b\n", b"# \xc3\xa9 \"\n"]
 RULE = b"regle 900 : application : iliad ;\n"
 
@@ -60,7 +61,7 @@ def replace_in_term(random, text, names):
         elif in_term and header_of is None and (piece in names.all or re.fullmatch(NUMBER, piece)):
             found.append(at)
     if found:
-        pieces[random.choice(found)] = rule_term(random, names, 3)
+        pieces[random.choice(found)] = any_term(random, names)
     return b"".join(pieces)
 
 
@@ -76,23 +77,52 @@ def move_statements(random, text):
 
 
 def new_items(random, names):
-    """New declarations with a rule of their own, a rule for what is declared, or a verification."""
+    """New declarations with rules of their own, a rule for what is declared, or a verification."""
     new = b"N%d" % random.randrange(1000, 9999)
-    form = random.randrange(7)
-    if form < 3:
-        return b'%s : calculee restituee : "" ;\n%s%s = %s ;\n' % (new, RULE, new, rule_term(random, names, 4))
-    if form == 3:
+    form = random.randrange(9)
+    if form < 4:
+        return new_variables(random, names, new)
+    if form == 4:
         size = random.choice([b"1", b"2", b"4"])
         declaration = b'%s : tableau[%s] calculee restituee : "" ;\n' % (new, size)
-        return b"%s%s%s[X] = %s ;\n" % (declaration, RULE, new, rule_term(random, names, 3, (b"X",)))
-    if form == 4:
-        declarations = b"".join(b'%s%s : calculee restituee : "" ;\n' % (new, k) for k in (b"1", b"2", b"3"))
-        formula = b"pour i = %s : %si = %s ;\n" % (
-            random.choice([b"1..3", b"1,3", b"2"]), new, rule_term(random, names, 3, (b"i",)),
-        )
-        return declarations + RULE + formula
-    if form == 5 and names.computed and chance(random, 30):
-        return b"%s%s = %s ;\n" % (RULE, random.choice(names.computed), rule_term(random, names, 3))
-    error = b'%s : %s : "N" : "%d" : "00" : "new" ;\n' % (new, random.choice(ERROR_KINDS), random.randrange(100))
+        return b"%s%s%s[X] = %s ;\n" % (declaration, RULE, new, any_term(random, names, (b"X",)))
+    if form == 5:
+        return new_loop(random, names, new)
+    if form == 6:
+        return new_inputs(random, new)
+    if form == 7 and names.computed and chance(random, 30):
+        return b"%s%s = %s ;\n" % (RULE, random.choice(names.computed), any_term(random, names))
+    texts = b" : ".join(b'"%s"' % random.choice([b"N", b"", b"a\tb", b"\n", b"7", b"#"]) for _ in range(4))
+    error = b"%s : %s : %s ;\n" % (new, random.choice(ERROR_KINDS), texts)
     verification = b"verif %s : application : iliad ;\n" % random.choice([b"900", b"0009"])
-    return b"%s%ssi %s alors erreur %s ;\n" % (error, verification, rule_term(random, names, 3), new)
+    return b"%s%ssi %s alors erreur %s ;\n" % (error, verification, any_term(random, names), new)
+
+
+def any_term(random, names, letters=()):
+    """A term of any depth, mostly a shallow one, of which each operator shows."""
+    return rule_term(random, names, random.choice([1, 1, 2, 3, 4]), letters)
+
+
+def new_variables(random, names, new):
+    """Some variables that are returned, each with a formula."""
+    numbered = [b"%s%s" % (new, k) for k in (b"A", b"B", b"C", b"D", b"E", b"F")][:random.randrange(1, 7)]
+    declarations = b"".join(b'%s : calculee restituee : "" ;\n' % name for name in numbered)
+    formulas = b"".join(b"%s = %s ;\n" % (name, any_term(random, names)) for name in numbered)
+    rule = RULE if chance(random, 92) else RULE + b"enchaineur : c1 ;\n"
+    return declarations + rule + formulas
+
+
+def new_loop(random, names, new):
+    """Three variables, which a formula in a loop sets."""
+    declarations = b"".join(b'%s%s : calculee restituee : "" ;\n' % (new, k) for k in (b"1", b"2", b"3"))
+    loop = random.choice([b"i = 1..3", b"i = 1,3", b"i = 2", b"un i dans (1..2)", b"i = 1..3 : pour j = 7"])
+    return b"%s%spour %s : %si = %s ;\n" % (declarations, RULE, loop, new, any_term(random, names, (b"i",)))
+
+
+def new_inputs(random, new):
+    """A few inputs, a computed variable and a constant, with attributes as drivers look for them."""
+    inputs = b""
+    for k in (b"A", b"B", b"C"):
+        inputs += b'%s%s : saisie revenu %s alias %s%s : "" ;\n' % (new, k, random.choice(KINDS), new, k)
+    computed = b'%sD : calculee %s restituee : "" type REEL ;\n' % (new, random.choice(KINDS))
+    return b"%s%s%sE : const = %s ;\n" % (inputs, computed, new, random.choice([b"- 2", b"0", b"0.0000005", b"12"]))
