@@ -12,7 +12,8 @@ WORDS = b"""
 present abs arr inf regle verif application enchaineur saisie calculee const tableau alias type anomalie restituee "t"
 "a:b" # . ! " iliad batch
 """.split()
-KINDS = [b"", b"restituee"] + [b"avfisc = %s" % value for value in (b"1", b"2", b"0.5", b"1 avfisc = 0", b"0 avfisc = 2")]
+KINDS = [b"", b"restituee", b"avfisc = 1", b"avfisc = 2", b"avfisc = 0.5"]
+KINDS += [b"avfisc = 1 avfisc = 0", b"avfisc = 0 avfisc = 2"]
 GAPS = [b" ", b"  ", b"\t", b"\n", b"\n\n", b"\r\n", b"\r", b" # a; b\n", b"# \xc3\xa9 \"\n"]
 RULE = b"regle 900 : application : iliad ;\n"
 
