@@ -5,7 +5,7 @@ import re
 from reading.texts import NUMBER
 
 from .drawing import ERROR_KINDS, NUMBERS, PIECE, SPOILT_NUMBERS, chance, change_pieces, exchange
-from .terms import rule_term
+from .terms import rule_term, single_operator
 
 WORDS = b"""
 ( ) [ ] , ; : .. = != < <= > >= + - * / X i j A T si alors sinon finsi erreur et ou non dans somme pour un max min
@@ -108,7 +108,8 @@ def new_variables(random, names, new):
     """Some variables that are returned, each with a formula."""
     numbered = [b"%s%s" % (new, k) for k in (b"A", b"B", b"C", b"D", b"E", b"F")][:random.randrange(1, 7)]
     declarations = b"".join(b'%s : calculee restituee : "" ;\n' % name for name in numbered)
-    formulas = b"".join(b"%s = %s ;\n" % (name, any_term(random, names)) for name in numbered)
+    terms = [single_operator(random) if chance(random, 60) else any_term(random, names) for _ in numbered]
+    formulas = b"".join(b"%s = %s ;\n" % formula for formula in zip(numbered, terms))
     rule = RULE if chance(random, 92) else RULE + b"enchaineur : c1 ;\n"
     return declarations + rule + formulas
 

@@ -5,6 +5,7 @@ from .drawing import NUMBERS, OF_ONE, OF_TWO, chance, some
 
 GOOD_PLACES = b"1..3 08..10 0,2 1..2,7 5 0..0 2..4".split()
 PLACES = GOOD_PLACES + b"V,C A..C W..Y 1,1 10..9 A..1".split()
+SPECIAL_VALUES = [b"(si 0 alors 1 finsi)", b"(si 0 alors 1 finsi)", b"(10000000000000 + 1)"]
 INDEXES = [b"0", b"1", b"2", b"1.9", b"(- 1)", b"3", b"9"]
 
 
@@ -43,6 +44,25 @@ def rule_term(random, names, depth, letters=()):
     if form == 12:
         return b"%s - %s * %s" % (inner(), inner(), inner())
     return b"(- %s)" % inner()
+
+
+def single_operator(random):
+    """One operator on arguments at which it has its edges."""
+
+    def edge():
+        return random.choice([b"%s", b"%s", b"(- %s)"]) % random.choice(NUMBERS + SPECIAL_VALUES)
+
+    form = random.randrange(8)
+    if form < 3:
+        return b"%s(%s)" % (random.choice(OF_ONE), edge())
+    if form == 3:
+        return b"%s(%s , %s)" % (random.choice(OF_TWO), edge(), edge())
+    if form == 4:
+        return b"si %s alors %s sinon %s finsi" % (edge(), edge(), edge())
+    if form == 5:
+        return b"non %s" % edge()
+    operator = random.choice(ARITHMETIC + ARITHMETIC + COMPARISONS + CONNECTIVES)
+    return b"%s %s %s" % (edge(), operator, edge())
 
 
 def leaf(random, names, letters):
