@@ -166,6 +166,22 @@ row 1 "refused household line 2: unknown code" run "$dir/empty.list" - - $househ
 row 1 "refused file too long /dev/zero" run /dev/zero - - $household
 row 1 "refused file too long /dev/zero" run $list - - /dev/zero
 
+# A session replies to a line before it takes the next: each reply is read here before another line is typed.
+if [ $way = built ]; then
+    mkfifo "$dir/typed" "$dir/replied"
+    "$program" serve $list - - $household <"$dir/typed" >"$dir/replied" 2>"$dir/err" &
+    exec 3>"$dir/typed" 4<"$dir/replied"
+    echo show >&3
+    timeout 10 head -n 2 <&4 >"$dir/out"
+    echo "clear 1AJ" >&3
+    timeout 10 head -n 1 <&4 >>"$dir/out"
+    exec 3>&- 4<&-
+    wait $!
+    judge "$?" 0 "IRN = 1500.5
+.
+ok" "serve, line by line"
+fi
+
 # A standard output that is closed or full: the status says so, whatever the line would have been.
 if [ $way = built ]; then
     : >"$dir/out"
