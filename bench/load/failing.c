@@ -1,0 +1,67 @@
+/* Lets one call of the C library fail: the call number FAIL_AT, from 1, of the kind FAIL_KIND (memory, open, read, write).
+   Where that call comes, the file FAIL_MARK is made. Loaded before the program by LD_PRELOAD; failing.py builds it. */
+#define _GNU_SOURCE
+#include <dlfcn.h>
+#include <errno.h>
+#include <fcntl.h>
+#include <stdarg.h>
+#include <stdlib.h>
+#include <string.h>
+#include <sys/syscall.h>
+#include <unistd.h>
+
+static long calls;
+static long at = -1;
+static const char *kind = "";
+
+static void begin(void) {
+    if (at >= 0) return;
+    const char *number = getenv("FAIL_AT");
+    at = number ? atol(number) : 0;
+    kind = getenv("FAIL_KIND") ? getenv("FAIL_KIND") : "";
+}
+
+static int fails(const char *of) {
+    begin();
+    if (strcmp(kind, of) != 0 || ++calls != at) return 0;
+    const char *mark = getenv("FAIL_MARK");
+    if (mark) {
+        long file = syscall(SYS_open, mark, O_CREAT | O_WRONLY, 0600);
+        if (file >= 0) syscall(SYS_close, file);
+    }
+    return 1;
+}
+
+extern void *__libc_malloc(size_t);
+extern void *__libc_calloc(size_t, size_t);
+extern void *__libc_realloc(void *, size_t);
+extern void *__libc_memalign(size_t, size_t);
+
+static void *no_memory(void) { errno = ENOMEM; return NULL; }
+void *malloc(size_t size) { return fails("memory") ? no_memory() : __libc_malloc(size); }
+void *calloc(size_t count, size_t size) { return fails("memory") ? no_memory() : __libc_calloc(count, size); }
+void *realloc(void *old, size_t size) { return fails("memory") ? no_memory() : __libc_realloc(old, size); }
+void *aligned_alloc(size_t align, size_t size) { return fails("memory") ? no_memory() : __libc_memalign(align, size); }
+int posix_memalign(void **out, size_t align, size_t size) {
+    if (fails("memory")) return ENOMEM;
+    *out = __libc_memalign(align, size);
+    return *out ? 0 : ENOMEM;
+}
+
+static long io_fault(void) { errno = EIO; return -1; }
+ssize_t read(int file, void *room, size_t size) { return fails("read") ? io_fault() : syscall(SYS_read, file, room, size); }
+ssize_t write(int file, const void *bytes, size_t size) { return fails("write") ? io_fault() : syscall(SYS_write, file, bytes, size); }
+int open(const char *name, int flags, ...) {
+    va_list rest;
+    va_start(rest, flags);
+    mode_t mode = (flags & O_CREAT) ? va_arg(rest, mode_t) : 0;
+    va_end(rest);
+    return fails("open") ? (int)io_fault() : (int)syscall(SYS_openat, AT_FDCWD, name, flags, mode);
+}
+int open64(const char *name, int flags, ...) {
+    va_list rest;
+    va_start(rest, flags);
+    mode_t mode = (flags & O_CREAT) ? va_arg(rest, mode_t) : 0;
+    va_end(rest);
+    return fails("open") ? (int)io_fault() : (int)syscall(SYS_openat, AT_FDCWD, name, flags, mode);
+}

@@ -1,0 +1,105 @@
+#!/usr/bin/env python3
+"""Runs the program with each of its calls for memory, and each open, read and write, failing in turn.
+
+    failing.py PROGRAM FOLDER
+
+Each command of COMMANDS is run as it is, and then once for each call of a kind, in which that one call fails (failing.c, by
+LD_PRELOAD). What must come of it stands in docs/FORMATS.md:
+
+- no memory: status 5 with nothing on the standard output, but that of a table, of which a front of the answer may stand; or the same as
+  without it, where the call only asked for room that isn't needed (a sort's, say);
+- an open or a read that fails: status 3 and the line `unreadable NAME`, of a file that the command names; in a session that has
+  begun, the replies to the lines so far and the line `unreadable input`;
+- a write that fails: status 4, and a front of the answer.
+
+Prints a line for each run that ends in another way, and a table of the counts. The status is 1 where there was one.
+"""
+import os
+import re
+import subprocess
+import sys
+from collections import Counter
+
+HERE = os.path.dirname(os.path.abspath(__file__))
+TOP = os.path.dirname(os.path.dirname(HERE))
+RUN = ["rules.list", "driver.mpp", "-"]
+COMMANDS = {
+    "run": (["run", *RUN, "household.csv"], b""),
+    "serve": (["serve", *RUN, "household.csv"], b"show\nset 7UD 50000\nshow\nclear 7UD\nshow\n"),
+    "batch": (["batch", *RUN, "table.csv"], b""),
+    "large": (["large", "3"], b""),
+    "a refused source": (["run", "refused.list", "-", "-", "household.csv"], b""),
+    "a refused household": (["run", *RUN, "refused.csv"], b""),
+}
+UNREADABLE = re.compile(rb"unreadable (rules\.list|refused\.list|impots\.m|refused\.m|driver\.mpp|household\.csv|refused\.csv|table\.csv)\n")
+
+
+def files(folder):
+    """The files of the commands: those of examples/impots, a table of 600 households (groups have 256), and refused ones."""
+    for name in ("impots.m", "driver.mpp", "household.csv"):
+        with open(os.path.join(TOP, "examples", "impots", name), "rb") as it, open(os.path.join(folder, name), "wb") as out:
+            out.write(it.read())
+    texts = {
+        "rules.list": "iliad\nimpots.m\n",
+        "refused.list": "iliad\nrefused.m\n",
+        "refused.m": "A : calculee : \"\" ;\nregle 1 : application : iliad ; A = B ;\n",
+        "refused.csv": "code,amount\n7UD,x\n",
+        "table.csv": "name,7UD\n" + "".join(f"h{n},{100 * n}\n" for n in range(600)),
+    }
+    for name, text in texts.items():
+        with open(os.path.join(folder, name), "w", encoding="utf-8") as out:
+            out.write(text)
+
+
+def done(program, folder, shim, words, typed, kind="", number=0):
+    """Whether the call came, the status and what was printed."""
+    mark = os.path.join(folder, "mark")
+    if os.path.exists(mark):
+        os.remove(mark)
+    env = {"LD_PRELOAD": shim, "FAIL_KIND": kind, "FAIL_AT": str(number), "FAIL_MARK": mark}
+    run = subprocess.run([program, *words], cwd=folder, env=env, input=typed, stdout=subprocess.PIPE, stderr=subprocess.PIPE, timeout=60, check=False)
+    return os.path.exists(mark), run.returncode, run.stdout
+
+
+def is_right(command, kind, whole, status, printed):
+    """Whether a run in which one call of this kind failed ended as it must, where an unfailed one has this status and text."""
+    text = whole[1]
+    if kind == "memory":
+        return (status, printed) == whole or status == 5 and (printed == b"" or command == "batch" and text.startswith(printed))
+    if kind == "write":
+        return status == 4 and text.startswith(printed)
+    if status == 3 and UNREADABLE.fullmatch(printed):
+        return True
+    line = b"unreadable input\n"
+    return command == "serve" and kind == "read" and status == 3 and printed.endswith(line) and text.startswith(printed[: -len(line)])
+
+
+def main():
+    program, folder = map(os.path.abspath, sys.argv[1:3])
+    shim = os.path.join(folder, "failing.so")
+    subprocess.run(["cc", "-O1", "-shared", "-fPIC", "-o", shim, os.path.join(HERE, "failing.c")], check=True)
+    files(folder)
+    counts, wrong = Counter(), 0
+    for command, (words, typed) in COMMANDS.items():
+        _, *unfailed = done(program, folder, shim, words, typed)
+        counts[command, "as it is"] = unfailed[0]
+        for kind in ("memory", "open", "read", "write"):
+            number = 1
+            while True:
+                came, ended, printed = done(program, folder, shim, words, typed, kind, number)
+                if not came:
+                    break
+                if not is_right(command, kind, tuple(unfailed), ended, printed):
+                    wrong += 1
+                    print(f"{command}: {kind} {number} failing: status {ended}, {printed[-80:]!r}")
+                counts[command, kind] = number
+                number += 1
+    print("| Command | status | calls for memory | opens | reads | writes |\n|---|---:|---:|---:|---:|---:|")
+    for command in COMMANDS:
+        print(f"| {command} |", " | ".join(str(counts[command, it]) for it in ("as it is", "memory", "open", "read", "write")), "|")
+    print(f"{sum(n for (_, it), n in counts.items() if it != 'as it is')} runs with a failing call, {wrong} ended wrongly")
+    sys.exit(wrong > 0)
+
+
+if __name__ == "__main__":
+    main()
