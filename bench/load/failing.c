@@ -58,10 +58,4 @@ int open(const char *name, int flags, ...) {
     va_end(rest);
     return fails("open") ? (int)io_fault() : (int)syscall(SYS_openat, AT_FDCWD, name, flags, mode);
 }
-int open64(const char *name, int flags, ...) {
-    va_list rest;
-    va_start(rest, flags);
-    mode_t mode = (flags & O_CREAT) ? va_arg(rest, mode_t) : 0;
-    va_end(rest);
-    return fails("open") ? (int)io_fault() : (int)syscall(SYS_openat, AT_FDCWD, name, flags, mode);
-}
+int open64(const char *name, int flags, ...) __attribute__((alias("open")));
