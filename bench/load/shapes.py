@@ -421,6 +421,12 @@ def _(n):
     return case([f'{ONE}E : anomalie : "', *many("x", 100 * n), '" : "" : "" : "" ;\nverif 1 : application : iliad ;\n', *many("si 0 alors erreur E;", n)], "A undefined\n")
 
 
+@shape("checks of one verification with a number of many bytes", 3000)
+def _(n):
+    # Each has its label, and the number is 100 times as long as there are checks.
+    return case([f'{ONE}E : anomalie : "" : "" : "" : "" ;\nverif ', *many("0", 100 * n), "1 : application : iliad ;\n", *many("si 0 alors erreur E;", n)], "A undefined\n")
+
+
 @shape("a table of 1,024 cells with a name of many bytes, returned", 30_000)
 def _(n):
     name = "T" * n

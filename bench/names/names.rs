@@ -1,5 +1,6 @@
 // Writes two rule files of N constants: NAMES of random names, and of names that collide under the
-// hasher that indexmap has by default. Both have the same number of bytes.
+// hasher that indexmap has by default. Both have the same number of bytes. Beside each are its names,
+// as they stand there (names.txt) and in order (asked.txt), in which they are asked for.
 //
 //     names N FOLDER
 //
@@ -7,7 +8,6 @@
 // bits and joins the halves. The table's first place is the low bits of the hash. A name collides
 // where these bits are 0, so one in 2^14 does: names are tried from a counter.
 use std::fs;
-use std::io::Write;
 use std::path::Path;
 
 const MULTIPLIER: u64 = 0x9e37_79b9_7f4a_7c15;
@@ -51,7 +51,11 @@ fn write(folder: &Path, names: &[[u8; LENGTH]]) {
         rules.extend_from_slice(text);
         rules.extend_from_slice(b" : const = 1 ;\n");
     }
-    fs::File::create(folder.join("rules.m")).unwrap().write_all(&rules).unwrap();
+    fs::write(folder.join("rules.m"), rules).unwrap();
+    fs::write(folder.join("names.txt"), names.join(&b'\n')).unwrap();
+    let mut asked = names.to_vec();
+    asked.sort();
+    fs::write(folder.join("asked.txt"), asked.join(&b'\n')).unwrap();
 }
 
 fn distinct(mut names: Vec<[u8; LENGTH]>, count: usize) -> Vec<[u8; LENGTH]> {

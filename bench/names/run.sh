@@ -1,17 +1,50 @@
 #!/bin/sh
-# Times m_tax on files of N constants with random names and with names that collide under indexmap's
-# default hasher, by turns with an older program.
+# Times names that collide under indexmap's default hasher against random ones, N of each.
 #
-#   run.sh PROGRAM [OLDER_PROGRAM [N]]
+#   run.sh [N [PROGRAM [OLDER_PROGRAM]]]
 #
-# Prints the time of the processor, user and system, the least of five runs. Needs rustc and python3.
+# A program of its own over m_names (main.rt.txt), proved and built in a copy of the repository, keeps and finds them.
+# With PROGRAM, the built m_tax, it times whole runs too, on files of N constants of these names, by turns with an older
+# program: the time of the processor, user and system, the least of five runs. Needs rt, rustc and python3.
 set -eu
 here=$(cd "$(dirname "$0")" && pwd)
-program=$(readlink -f "$1")
-older=$(readlink -f "${2:-$1}")
-count=${3:-100000}
-folder=$(mktemp -d)
-trap 'rm -rf "$folder"' EXIT
-rustc -O -o "$folder/names" "$here/names.rs"
-"$folder/names" "$count" "$folder"
-python3 "$here/measure.py" "$program" "$older" "$folder"
+root=$(cd "$here/../.." && pwd)
+count=${1:-100000}
+work=$(mktemp -d "${TMPDIR:-/tmp}/bench_names.XXXXXX")
+trap 'rm -rf "$work"' EXIT
+rustc -O -o "$work/names" "$here/names.rs"
+"$work/names" "$count" "$work"
+
+mkdir -p "$work/repository/crates"
+for crate in m_places m_names; do
+    mkdir "$work/repository/crates/$crate"
+    for part in src specs proofs; do
+        if [ -d "$root/crates/$crate/$part" ]; then cp -r "$root/crates/$crate/$part" "$work/repository/crates/$crate/"; fi
+    done
+    grep "^$crate:" "$root/crates.txt" >>"$work/repository/crates.txt"
+done
+echo "bench_names: m_places m_names indexmap anyhow" >>"$work/repository/crates.txt"
+cp "$root/HANDLES" "$work/repository/"
+bench=$work/repository/crates/bench_names
+mkdir -p "$bench/src"
+cp "$here/main.rt.txt" "$bench/src/main.rt"
+(cd "$bench" && rt run >"$work/rt.log" 2>&1) || { cat "$work/rt.log" >&2; exit 1; }
+
+# The least of twenty: microseconds of keeping the names and of finding each.
+row() {
+    for _ in 1 2 3 4; do "$bench/out/bench_names" "$1" "$work/$2/names.txt" "$work/$2/asked.txt"; done |
+        awk -v name="$2 names, $1" '
+            NR == 1 || $2 < keeping { keeping = $2 }
+            NR == 1 || $3 < finding { finding = $3 }
+            END { printf "| %s | %.1f | %.1f |\n", name, keeping / 1000, finding / 1000 }'
+}
+echo "| Names, hash | keeping, ms | finding each, ms |"
+echo "|---|---:|---:|"
+row keyed random
+row keyed colliding
+row default random
+
+[ $# -ge 2 ] || exit 0
+program=$(readlink -f "$2")
+older=$(readlink -f "${3:-$2}")
+python3 "$here/measure.py" "$program" "$older" "$work"

@@ -1,11 +1,11 @@
 // The plain i128 operation beside each operator, with its overflow test: what a program would compute
 // that knew nothing of undefined values. Prints `NAME NANOSECONDS`, the least time of a
-// million operations in five tries.
+// hundred thousand operations in fifty tries.
 use std::hint::black_box;
 use std::time::Instant;
 
 const COUNT: usize = 1_000;
-const TURNS: usize = 1_000;
+const TURNS: usize = 100;
 
 fn next(state: u64) -> u64 {
     state.wrapping_mul(6_364_136_223_846_793_005).wrapping_add(1_442_695_040_888_963_407)
@@ -30,7 +30,7 @@ fn folded(total: u64, result: Option<i128>) -> u64 {
 
 fn timed(name: &str, xs: &[i128], ys: &[i128], operation: impl Fn(i128, i128) -> Option<i128>) {
     let mut best = u128::MAX;
-    for _ in 0..5 {
+    for _ in 0..50 {
         let start = Instant::now();
         let mut total = 0;
         for _ in 0..TURNS {
@@ -52,7 +52,7 @@ fn truth(test: bool) -> Option<i128> {
 fn timed_texts(xs: &[i128]) {
     let texts: Vec<String> = xs.iter().map(|x| x.to_string()).collect();
     let (mut write, mut read) = (u128::MAX, u128::MAX);
-    for _ in 0..5 {
+    for _ in 0..50 {
         let start = Instant::now();
         let mut total = 0u64;
         for _ in 0..TURNS {

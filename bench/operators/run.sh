@@ -17,14 +17,14 @@ work=${WORK:-$(mktemp -d)}
 timer() {
     mkdir -p "$work/$1/crates/timer/src" "$work/$1/crates/m_fixed"
     printf 'm_fixed:\ntimer: m_fixed\n' >"$work/$1/crates.txt"
-    rm -rf "$work/$1/crates/m_fixed/src"
+    (cd "$work/$1/crates/m_fixed" && rm -rf src specs proofs)
     cp -r "$2/crates/m_fixed/src" "$2/crates/m_fixed/specs" "$2/crates/m_fixed/proofs" "$work/$1/crates/m_fixed/"
     cp "$work/main.rt" "$work/$1/crates/timer/src/main.rt"
     (cd "$work/$1/crates/timer" && rt run) >"$work/$1.first" 2>"$work/rt.log" || { tail -20 "$work/rt.log"; exit 1; }
 }
 
 cat >"$work/main.rt" <<'PROGRAM'
-//! Times a million of each operator, five times. Prints `NAME NANOSECONDS`, the least time.
+//! Times a hundred thousand of each operator, fifty times. Prints `NAME NANOSECONDS`, the least time.
 #![tactic(auto)]
 
 ghost use Rattle.std.specs.Prelude.{ℕ};
@@ -79,7 +79,7 @@ OWN_RUNS
 
 fn run_any(op: Op, xs: &[Value], ys: &[Value]) -> u64 {
     let mut total = 0;
-    for _ in 0..1_000 {
+    for _ in 0..100 {
         for (x, y) in xs.iter().zip(ys) {
             total = folded(total, apply(op, *x, *y, Value::Undef));
         }
@@ -87,11 +87,11 @@ fn run_any(op: Op, xs: &[Value], ys: &[Value]) -> u64 {
     total
 }
 
-/// The least time of five, in nanoseconds. The operator is known in the function that is timed, or is data.
+/// The least time of fifty, in nanoseconds. The operator is known in the function that is timed, or is data.
 fn timed(rt: &HostRuntime, op: Op, known: bool, xs: &[Value], ys: &[Value]) -> io::Result<()> {
     let mut best = u128::MAX;
     let mut total = 0;
-    for _ in 0..5 {
+    for _ in 0..50 {
         let start = Instant::now(rt)?;
         total ^= if known { run_known(op, xs, ys) } else { run_any(op, xs, ys) };
         best = best.min(start.elapsed(rt)?.as_nanos());
@@ -115,7 +115,7 @@ fn all(rt: &HostRuntime, known: bool, xs: &[Value], ys: &[Value]) -> io::Result<
 
 fn run_written(xs: &[Value], room: &mut [u8; 32]) -> u64 {
     let mut total = 0u64;
-    for _ in 0..1_000 {
+    for _ in 0..100 {
         for x in xs {
             if let Value::Num(amount) = x {
                 total = total.wrapping_add(write_amount(*amount, room) as u64);
@@ -129,7 +129,7 @@ fn time_written(rt: &HostRuntime, xs: &[Value]) -> io::Result<()> {
     let mut best = u128::MAX;
     let mut total = 0;
     let mut room = [b'0'; 32];
-    for _ in 0..5 {
+    for _ in 0..50 {
         let start = Instant::now(rt)?;
         total ^= run_written(xs, &mut room);
         best = best.min(start.elapsed(rt)?.as_nanos());
@@ -159,7 +159,7 @@ fn texts(alloc: Global, xs: &[Value]) -> Result<Vec<Vec<u8>>, AllocError> {
 
 fn run_read(texts: &[Vec<u8>]) -> u64 {
     let mut total = 0u64;
-    for _ in 0..1_000 {
+    for _ in 0..100 {
         for text in texts {
             if let Ok(amount) = read_amount(text.as_slice()) {
                 total = folded(total, Value::Num(amount));
@@ -173,7 +173,7 @@ fn time_read(rt: &HostRuntime, xs: &[Value]) -> io::Result<()> {
     let texts = texts(rt.alloc(), xs)?;
     let mut best = u128::MAX;
     let mut total = 0;
-    for _ in 0..5 {
+    for _ in 0..50 {
         let start = Instant::now(rt)?;
         total ^= run_read(texts.as_slice());
         best = best.min(start.elapsed(rt)?.as_nanos());
@@ -203,7 +203,7 @@ for op in $operators; do
     cat <<RUN
 fn run_$(echo "$op" | tr A-Z a-z)(xs: &[Value], ys: &[Value]) -> u64 {
     let mut total = 0;
-    for _ in 0..1_000 {
+    for _ in 0..100 {
         for (x, y) in xs.iter().zip(ys) {
             total = folded(total, apply(Op::$op, *x, *y, Value::Undef));
         }

@@ -10,7 +10,7 @@ def least(folder, who):
     runs = []
     for path in sorted(Path(folder).glob(who + ".[0-9]")):
         runs.append([line.split()[:2] for line in path.read_text().splitlines()])
-    return [(lines[0][0], min(int(time) for _, time in lines) / 1e6) for lines in zip(*runs)]
+    return [(lines[0][0], min(int(time) for _, time in lines) / 1e5) for lines in zip(*runs)]
 
 
 def main():

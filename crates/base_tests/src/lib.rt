@@ -10,8 +10,14 @@ mod lists;
 #[cfg(test)]
 mod names;
 #[cfg(test)]
+mod operators;
+#[cfg(test)]
 mod ports;
+#[cfg(test)]
+mod shared;
 #[cfg(test)]
 mod texts;
 #[cfg(test)]
 mod threads;
+#[cfg(test)]
+mod widths;

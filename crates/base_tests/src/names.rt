@@ -1,5 +1,8 @@
-//! Names that are added twice and found.
-use m_names::Names;
+//! Names of the lengths around which they take memory of their own, names that are added twice and
+//! found, and lists of names.
+use m_names::{Names, NamesFault, has_name};
+use m_places::Name;
+use std::alloc::Global;
 use std::test::Fail;
 
 #[test]
@@ -17,6 +20,74 @@ fn finds_names_by_their_bytes(rt: HostRuntime) -> Result<(), Fail> {
         ("RE", None),
     ] {
         assert_eq!(rt; names.find(name.as_bytes()), number, "{name}");
+    }
+    Ok(())
+}
+
+/// The words of a line as names.
+fn names_of(alloc: Global, line: &[u8]) -> Result<Vec<Name>, Fail> {
+    let mut names = Vec::new(alloc);
+    for word in line.split(|byte| *byte == b' ') {
+        names.push(Name::new(alloc, word)?)?;
+    }
+    Ok(names)
+}
+
+/// How many names a line has, or what is wrong with them.
+fn told(alloc: Global, line: &[u8]) -> Result<(u32, Option<NamesFault>), Fail> {
+    let names = names_of(alloc, line)?;
+    match Names::of(alloc, &names) {
+        Ok(known) => Ok((known.len(), None)),
+        Err(fault) => Ok((0, Some(fault))),
+    }
+}
+
+#[test]
+fn tells_the_first_name_that_stands_again(rt: HostRuntime) -> Result<(), Fail> {
+    for (line, count, fault) in [
+        ("A", 1, None),
+        ("REV SEUIL R REVE", 4, None),
+        ("A B A B", 0, Some(NamesFault::Repeated(0, 2))),
+        ("A B C B A", 0, Some(NamesFault::Repeated(1, 3))),
+        ("A A", 0, Some(NamesFault::Repeated(0, 1))),
+    ] {
+        assert_eq!(rt;
+            told(rt.alloc(), line.as_bytes())?,
+            (count, fault),
+            "{line}"
+        );
+    }
+    Ok(())
+}
+
+#[test]
+fn a_name_is_among_names_by_its_bytes(rt: HostRuntime) -> Result<(), Fail> {
+    let names = names_of(rt.alloc(), b"REV SEUIL")?;
+    assert!(rt; has_name(&names, b"SEUIL"));
+    assert!(rt; !has_name(&names, b"SEUI"));
+    Ok(())
+}
+
+/// Names of 15, 16, 17 and 40 bytes, each the front of the next: a name of up to 16 bytes takes no
+/// memory of its own.
+static LENGTHS: [(&[u8], u32); 4] = [
+    (b"ABCDEFGHIJKLMNO", 0),
+    (b"ABCDEFGHIJKLMNOP", 1),
+    (b"ABCDEFGHIJKLMNOPQ", 2),
+    (b"ABCDEFGHIJKLMNOPQRSTUVWXYZ01234567890123", 3),
+];
+
+#[test]
+fn names_of_each_length_keep_their_bytes(rt: HostRuntime) -> Result<(), Fail> {
+    let alloc = rt.alloc();
+    let mut names = Names::new(alloc);
+    for (bytes, _) in LENGTHS {
+        let copy = Name::new(alloc, bytes)?.copy(alloc)?;
+        assert!(rt; copy.bytes() == bytes);
+        assert!(rt; names.add(alloc, copy.bytes())?);
+    }
+    for (bytes, number) in LENGTHS {
+        assert_eq!(rt; names.find(bytes), Some(number));
     }
     Ok(())
 }

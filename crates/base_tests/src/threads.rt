@@ -1,7 +1,7 @@
 //! Types that may be sent to other threads and shared with them. That this compiles is the test.
 use m_fixed::{Amount, AmountFault, Op, Value};
 use m_list::{ListFault, Listing};
-use m_places::{ErrorKind, Label, Name, Place, Seq};
+use m_places::{ErrorKind, Label, Name, Place, Seq, SharedName};
 
 fn crosses_threads<T: Send + Sync>() {}
 
@@ -14,6 +14,7 @@ fn types_cross_threads() {
     crosses_threads::<Name>();
     crosses_threads::<Place>();
     crosses_threads::<Seq<Name>>();
+    crosses_threads::<SharedName>();
     crosses_threads::<ErrorKind>();
     crosses_threads::<Label>();
     crosses_threads::<Listing>();

@@ -18,8 +18,9 @@ use std::alloc::{AllocError, Global};
 use std::test::Fail;
 
 // Drivers over the computed A (cell 0), the table T of 3 cells (1 to 3), the constant C (4), and the inputs P, Q and R (5 to 7)
-// with `avfisc` 1, 2 and 3. A driver is shown by its functions, each with its commands; a star stands before the one that runs.
-const CORES: [(&[u8], &[u8]); 14] = [
+// with `avfisc` 1, 2 and 3. A driver is shown by its functions, each with its commands; a star stands before the one that runs. Where
+// more names stand left of `<-` than cells, they are counted.
+const CORES: [(&[u8], &[u8]); 16] = [
     (b"main():\n  A = T[2]\n", b"*main{2: 0 = 3}"),
     (
         b"f():\n  A = 1\n\nmain():\n  A, T[0] <- f()\n  P <- call_m()\n  del T[1]\n",
@@ -28,6 +29,14 @@ const CORES: [(&[u8], &[u8]); 14] = [
     (
         b"main():\n  A <- f()\nf():\n  A <- g()\ng():\n  A = C\n",
         b"*main{2: 0 from 1}f{4: 0 from 2}g{6: 0 = 4}",
+    ),
+    (
+        b"main():\n  T[1], A, T[1], A <- call_m()\n",
+        b"*main{2 of 4 names: 0 2 from rules}",
+    ),
+    (
+        b"f():\n  A = 1\nmain():\n  P, A, P <- f()\n",
+        b"f{2: 0 = 1}*main{4 of 3 names: 0 5 from 0}",
     ),
     (b"main():\n  A = -T[0]\n", b"*main{2: 0 = (Neg 1)}"),
     (b"main():\n  A = not present(P)\n", b"*main{2: 0 = (Not .)}"),
@@ -257,6 +266,16 @@ fn add_term(alloc: Global, out: &mut Vec<u8>, term: &CTerm) {
     }
 }
 
+// How many names stand left of `<-`, where that is more than the cells.
+fn add_repeats(alloc: Global, out: &mut Vec<u8>, names: u64, cells: &[u32]) {
+    if names == cells.len() as u64 {
+        return;
+    }
+    if let Ok(words) = format!(in alloc; " of {names} names") {
+        add(out, words.as_bytes());
+    }
+}
+
 // A command with its line, where a block in it is shown by a point.
 fn add_simple(alloc: Global, out: &mut Vec<u8>, command: &CCommand) {
     match &command.node {
@@ -272,15 +291,17 @@ fn add_simple(alloc: Global, out: &mut Vec<u8>, command: &CCommand) {
             add(out, b": del ");
             add_number(alloc, out, *cell);
         }
-        CCommandNode::Call(line, cells, function) => {
+        CCommandNode::Call(line, names, cells, function) => {
             add_number(alloc, out, *line);
+            add_repeats(alloc, out, *names, cells.as_slice());
             add(out, b":");
             add_cells(alloc, out, cells.as_slice());
             add(out, b" from ");
             add_number(alloc, out, *function);
         }
-        CCommandNode::Rules(line, cells) => {
+        CCommandNode::Rules(line, names, cells) => {
             add_number(alloc, out, *line);
+            add_repeats(alloc, out, *names, cells.as_slice());
             add(out, b":");
             add_cells(alloc, out, cells.as_slice());
             add(out, b" from rules");

@@ -8,9 +8,10 @@ use Rattle.std.specs.Str.Parse.{digits_value}
 use Rattle.std.proofs.lemmas.Int.Digits.{digits_value_more}
 use Rattle.std.proofs.lemmas.Str.Parse.{digits_value-take-le}
 use borrow.Author.Tests.{leb-true}
+use Rattle.m_text.specs.Bytes.{is_digit}
 use Rattle.m_fixed.specs.Text.{only_digits}
 use Rattle.m_fixed.proofs.Decimals.{both, digit_is, digits_below}
-use Rattle.m_terms.specs.Tokens.{is_whole, is_digit}
+use Rattle.m_terms.specs.Tokens.{is_whole}
 
 pub record IsShort (n : List ℕ) : Type 0 where
   pub digits : IsTrue (only_digits n)

@@ -2,7 +2,8 @@
 ghost use Rattle.std.specs.Prelude.{◌≡◌, ◌<◌, ◌≤◌, ◌∷◌, [], length, drop, Some, None, MatchBool, MatchOption, OnSome, IfSome, IsTrue};
 ghost use Rattle.std.specs.Bool.{OnTrue};
 ghost use Rattle.std.specs.List.{list_all};
-ghost use Rattle.m_terms.specs.Tokens.{is_sign, is_key, kind_is_sign, kind_is_key, is_name, is_whole, is_digit};
+ghost use Rattle.m_text.specs.Bytes.{is_digit};
+ghost use Rattle.m_terms.specs.Tokens.{is_sign, is_key, kind_is_sign, kind_is_key, is_name, is_whole};
 ghost use Rattle.m_terms.specs.inner.Reading.{open_at, begins_by};
 ghost use Rattle.declaration_items.specs.Tokens.{word, placed_word, name, whole, amount, text, error_kind, key_place, word_of, name_of, whole_of, amount_of, text_of, error_kind_of};
 

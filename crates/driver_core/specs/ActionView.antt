@@ -13,5 +13,5 @@ action_of (Set line c term) = assign line c term
 action_of (Del line c) = clear line c
 action_of (If line condition first second) = branch line condition (block_of first.items) (block_of second.items)
 action_of (Partition line cells block) = partition line cells (block_of block.items)
-action_of (Call line received function) = call line received function
-action_of (Rules line received) = solve line received
+action_of (Call line names received function) = call line names received function
+action_of (Rules line names received) = solve line names received

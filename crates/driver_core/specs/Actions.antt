@@ -6,14 +6,15 @@ use Rattle.driver_core.specs.Formulas.{Formula}
 --   branch 2 (cell 0) (an_action (assign 3 1 (lit (Num (pos 1000000)))) no_actions) no_actions
 mutual
   -- A cell gets the value of a term; a cell becomes undefined; a condition with two blocks; a block with some cells undefined;
-  -- a call of a function, and a call of the rules, of which some cells come back.
+  -- a call of a function, and a call of the rules, of which some cells come back: first how many names stand left of `<-`, each as
+  -- often as it stands there, and then the cells.
   pub data Action : Type 0 where
     assign : ℕ → ℕ → Formula → Action
     clear : ℕ → ℕ → Action
     branch : ℕ → Formula → Block → Block → Action
     partition : ℕ → List ℕ → Block → Action
-    call : ℕ → List ℕ → ℕ → Action
-    solve : ℕ → List ℕ → Action
+    call : ℕ → ℕ → List ℕ → ℕ → Action
+    solve : ℕ → ℕ → List ℕ → Action
 
   -- commands one after the other
   pub data Block : Type 0 where
@@ -27,8 +28,8 @@ abbrev mutual
   action_nodes (clear line c) = 1
   action_nodes (branch line condition first second) = nodes_of_block first + nodes_of_block second + 1
   action_nodes (partition line cells block) = nodes_of_block block + 1
-  action_nodes (call line received function) = 1
-  action_nodes (solve line received) = 1
+  action_nodes (call line names received function) = 1
+  action_nodes (solve line names received) = 1
 
   pub nodes_of_block : Block → ℕ
   nodes_of_block no_actions = 0

@@ -11,7 +11,7 @@ use Rattle.micro_m.specs.declared.base.Base.{Base}
 use Rattle.micro_m.specs.Values.{environment}
 use Rattle.flat_code.specs.Answers.{Told, values, stopped}
 use Rattle.driver_core.specs.declared.program.Core.{Core}
-use Rattle.driver_core.specs.Meaning.{Env, Outcome, goes, stops, run_of}
+use Rattle.driver_core.specs.Meaning.{Env, RunState, goes, stops, run_of}
 
 -- what a variable begins with, where the next input has this number: an input its value, a constant its amount, and each other
 -- one is undefined
@@ -35,7 +35,7 @@ abbrev pub start_of : Declared → List Value → Env
 start_of declared inputs = start_from inputs 0 declared.variables
 
 -- what is told of the requested cells
-abbrev pub told_by : List ℕ → Outcome → Told
+abbrev pub told_by : List ℕ → RunState → Told
 told_by requests (goes env) = values (map (environment env) requests)
 told_by requests (stops cause) = stopped cause
 

@@ -58,12 +58,12 @@ abbrev pub Env : Type 0
 Env = List Value
 
 -- how a run goes on, or what ends it
-pub data Outcome : Type 0 where
-  goes : Env → Outcome
-  stops : Cause → Outcome
+pub data RunState : Type 0 where
+  goes : Env → RunState
+  stops : Cause → RunState
 
 -- what comes next, where nothing has stopped
-abbrev pub then_do : Outcome → (Env → Outcome) → Outcome
+abbrev pub then_do : RunState → (Env → RunState) → RunState
 then_do (goes env) next = next env
 then_do (stops cause) next = stops cause
 
@@ -78,7 +78,7 @@ without cells env = with_values cells (λ c. Undef) env
 
 -- Which block a condition runs: the first at a number other than 0, the second at 0 and where it is undefined. Over ends the
 -- run, and tells the line.
-abbrev pub chosen_block : ℕ → Value → Outcome → Outcome → Outcome
+abbrev pub chosen_block : ℕ → Value → RunState → RunState → RunState
 chosen_block line Undef first second = second
 chosen_block line (Num x) first second = if is_zero x then second else first
 chosen_block line Over first second = stops (over_driver line)
@@ -89,45 +89,45 @@ failure_cause labels (Failed number) = option_map failed (slice_get labels numbe
 failure_cause labels (OverCheck number) = option_map over (slice_get labels number)
 
 -- an end where there is a cause, and else this
-abbrev pub unless_stopped : Option Cause → Outcome → Outcome
+abbrev pub unless_stopped : Option Cause → RunState → RunState
 unless_stopped None outcome = outcome
 unless_stopped (Some cause) outcome = stops cause
 
 -- What the rules do to an environment: the first check that fails or is over, by the values that the rules give, ends the run
 -- with its label. Where there is none, the received cells get the values that the rules give, and all others keep theirs.
-abbrev pub rules_run : Base → List ℕ → Env → Outcome
+abbrev pub rules_run : Base → List ℕ → Env → RunState
 rules_run base received env =
     unless_stopped (option_and_then (failure_cause base.labels) (first_failure base (environment env)))
     (goes (with_values received (value_of base (environment env)) env))
 
-module _ (rules : List ℕ → Env → Outcome) (body : ℕ → Env → Outcome) where
+module _ (rules : List ℕ → Env → RunState) (body : ℕ → Env → RunState) where
   abbrev mutual
     -- What a command does, where the rules and the functions do this. A partition runs its block with its cells undefined, and
     -- these get their former values back; other changes stay. A call runs the body on a copy, and only the received cells
     -- take the copy's values.
-    pub action_run : Action → Env → Outcome
+    pub action_run : Action → Env → RunState
     action_run (assign line c term) env = goes (slice_set env c (formula_value (environment env) term))
     action_run (clear line c) env = goes (slice_set env c Undef)
     action_run (branch line condition first second) env =
         chosen_block line (formula_value (environment env) condition) (block_run first env) (block_run second env)
     action_run (partition line cells block) env =
         then_do (block_run block (without cells env)) (λ after. goes (with_values cells (environment env) after))
-    action_run (call line received function) env =
+    action_run (call line names received function) env =
         then_do (body function env) (λ after. goes (with_values received (environment after) env))
-    action_run (solve line received) env = rules received env
+    action_run (solve line names received) env = rules received env
 
     -- commands one after the other
-    pub block_run : Block → Env → Outcome
+    pub block_run : Block → Env → RunState
     block_run no_actions env = goes env
     block_run (an_action action rest) env = then_do (action_run action env) (block_run rest)
 
 -- What a call of a function does, where calls may be nested so deep. Without a ring and with as many turns as there are
 -- functions the turns never run out.
-abbrev pub called : (List ℕ → Env → Outcome) → List (List Action) → ℕ → ℕ → Env → Outcome
+abbrev pub called : (List ℕ → Env → RunState) → List (List Action) → ℕ → ℕ → Env → RunState
 called rules bodies zero f env = goes env
 called rules bodies (suc turns) f env = block_run rules (called rules bodies turns) (body_among bodies f) env
 
 -- the run of a driver over the rules of a base
-abbrev pub run_of : Core → Base → Env → Outcome
+abbrev pub run_of : Core → Base → Env → RunState
 run_of core base env =
     block_run (rules_run base) (called (rules_run base) core.bodies (length core.bodies)) (body_of core core.main) env

@@ -1,6 +1,6 @@
 -- When a driver is one: each cell and each function that it names is there, and no function reaches itself by calls.
 use Rattle.std.specs.Prelude.{◌≡◌, ℕ, ◌<◌, ◌⊎◌, List, [], ◌∷◌, length, All, Option, None, Some, slice_get}
-use Rattle.micro_m.specs.Bases.{AreDistinct}
+use Rattle.micro_m.specs.Bases.{AreDistinctCells}
 use Rattle.driver_core.specs.declared.program.Core.{Core}
 use Rattle.driver_core.specs.Formulas.{Formula, lit, cell, apply, chain, exists, Formulas, no_formulas, a_formula, Steps, no_steps, a_step}
 use Rattle.driver_core.specs.Actions.{Action, assign, clear, branch, partition, call, solve, Block, no_actions, an_action}
@@ -49,8 +49,8 @@ abbrev mutual
   ActionIsWithin cells functions (branch line condition first second) =
       FormulaIsWithin cells condition × BlockIsWithin cells functions first × BlockIsWithin cells functions second
   ActionIsWithin cells functions (partition line named block) = CellsAreWithin cells named × BlockIsWithin cells functions block
-  ActionIsWithin cells functions (call line received function) = CellsAreWithin cells received × (function < functions)
-  ActionIsWithin cells functions (solve line received) = CellsAreWithin cells received
+  ActionIsWithin cells functions (call line names received function) = CellsAreWithin cells received × (function < functions)
+  ActionIsWithin cells functions (solve line names received) = CellsAreWithin cells received
 
   pub BlockIsWithin : ℕ → ℕ → Block → Type 0
   BlockIsWithin cells functions no_actions = Unit {0}
@@ -65,8 +65,8 @@ abbrev mutual
   ActionCalls (clear line c) f = ⊥
   ActionCalls (branch line condition first second) f = BlockCalls first f ⊎ BlockCalls second f
   ActionCalls (partition line named block) f = BlockCalls block f
-  ActionCalls (call line received function) f = f ≡ function
-  ActionCalls (solve line received) f = ⊥
+  ActionCalls (call line names received function) f = f ≡ function
+  ActionCalls (solve line names received) f = ⊥
 
   pub BlockCalls : Block → ℕ → Type 0
   BlockCalls no_actions f = ⊥
@@ -77,14 +77,14 @@ abbrev pub Calls : Core → ℕ → ℕ → Type 0
 Calls core f g = BlockCalls (body_of core f) g
 
 -- from a function through these, each calling the next, to a function that the last of them calls
-abbrev pub LeadsTo : Core → ℕ → List ℕ → ℕ → Type 0
-LeadsTo core f [] last = Calls core f last
-LeadsTo core f (g ∷ gs) last = Calls core f g × LeadsTo core g gs last
+abbrev pub CallsLeadTo : Core → ℕ → List ℕ → ℕ → Type 0
+CallsLeadTo core f [] last = Calls core f last
+CallsLeadTo core f (g ∷ gs) last = Calls core f g × CallsLeadTo core g gs last
 
 -- A ring: distinct functions, each calling the next, and the last calling the first. One function that calls itself is a ring.
 abbrev pub IsRing : Core → List ℕ → Type 0
 IsRing core [] = ⊥
-IsRing core (f ∷ fs) = AreDistinct (f ∷ fs) × LeadsTo core f fs f
+IsRing core (f ∷ fs) = AreDistinctCells (f ∷ fs) × CallsLeadTo core f fs f
 
 -- no function reaches itself by calls
 abbrev pub HasNoRing : Core → Type 0

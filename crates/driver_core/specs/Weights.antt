@@ -71,8 +71,8 @@ abbrev mutual
   names_changed (clear line c) = 1
   names_changed (branch line condition first second) = names_changed_in first + names_changed_in second
   names_changed (partition line cells block) = names_changed_in block
-  names_changed (call line received function) = length received
-  names_changed (solve line received) = length received
+  names_changed (call line names received function) = names
+  names_changed (solve line names received) = names
 
   pub names_changed_in : Block → ℕ
   names_changed_in no_actions = 0
@@ -87,8 +87,8 @@ module _ (rules cells : ℕ) (body : ℕ → ℕ) where
     action_weight (branch line condition first second) =
         formula_weight condition + block_weight first + block_weight second + names_changed_in first + names_changed_in second
     action_weight (partition line named block) = block_weight block + cells
-    action_weight (call line received function) = body function + cells
-    action_weight (solve line received) = rules
+    action_weight (call line names received function) = body function + cells
+    action_weight (solve line names received) = rules
 
     pub block_weight : Block → ℕ
     block_weight no_actions = 0

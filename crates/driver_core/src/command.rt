@@ -27,10 +27,10 @@ pub enum CCommandNode {
     If(u32, CTerm, Vec<CCommand>, Vec<CCommand>),
     /// Does the block with these cells undefined, and gives them their values back.
     Partition(u32, Seq<u32>, Vec<CCommand>),
-    /// Does the body of the function of this number on a copy, of which these cells come back.
-    Call(u32, Seq<u32>, u32),
-    /// Computes and checks the rules, and these cells get their values.
-    Rules(u32, Seq<u32>),
+    /// Does the body of the function of this number on a copy, of which these cells come back. So many names stand left of `<-`.
+    Call(u32, u64, Seq<u32>, u32),
+    /// Computes and checks the rules, and these cells get their values. So many names stand left of `<-`.
+    Rules(u32, u64, Seq<u32>),
 }
 
 impl Model for CCommand {

@@ -25,8 +25,8 @@ module _ (r r' cells : ℕ) (t u : ℕ → ℕ) (P : ℕ → Type 0) (same_rules
         (capped-sum _ (block_weight r cells t b) _ (block_weight r' cells u b)
         (capped-sum (formula_weight f) (block_weight r cells t a) (formula_weight f) (block_weight r' cells u a) refl (capped-all a h.0)) (capped-all b h.1)) refl) refl
     capped-one (partition line xs a) h = capped-sum (block_weight r cells t a) cells (block_weight r' cells u a) cells (capped-all a h) refl
-    capped-one (call line xs f) h = capped-sum (t f) cells (u f) cells (same f h) refl
-    capped-one (solve line xs) h = same_rules
+    capped-one (call line names xs f) h = capped-sum (t f) cells (u f) cells (same f h) refl
+    capped-one (solve line names xs) h = same_rules
 
     capped-all : (b : Block) → CallsOnly P b → capped (block_weight r cells t b) ≡ capped (block_weight r' cells u b)
     capped-all no_actions h = refl

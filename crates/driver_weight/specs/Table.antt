@@ -14,8 +14,8 @@ module _ (P : ℕ → Type 0) where
     ActionCallsOnly (clear line c) = Unit {0}
     ActionCallsOnly (branch line condition first second) = CallsOnly first × CallsOnly second
     ActionCallsOnly (partition line cells block) = CallsOnly block
-    ActionCallsOnly (call line received function) = P function
-    ActionCallsOnly (solve line received) = Unit {0}
+    ActionCallsOnly (call line names received function) = P function
+    ActionCallsOnly (solve line names received) = Unit {0}
 
     pub CallsOnly : Block → Type 0
     CallsOnly no_actions = Unit {0}

@@ -36,8 +36,8 @@ fn weigh_command(command: &CCommand, rules: u64, cells: u64, table: &[u64]) -> u
         CCommandNode::Partition(_, _, block) => {
             weigh_block(block, rules, cells, table).saturating_add(cells)
         }
-        CCommandNode::Call(_, _, function) => entry(table, *function).saturating_add(cells),
-        CCommandNode::Rules(_, _) => rules,
+        CCommandNode::Call(_, _, _, function) => entry(table, *function).saturating_add(cells),
+        CCommandNode::Rules(_, _, _) => rules,
     }
 }
 
@@ -72,8 +72,8 @@ fn names_of(command: &CCommand) -> u64
         CCommandNode::Del(_, _) => 1,
         CCommandNode::If(_, _, first, second) => names_in(first).saturating_add(names_in(second)),
         CCommandNode::Partition(_, _, block) => names_in(block),
-        CCommandNode::Call(_, received, _) => received.as_slice().len() as u64,
-        CCommandNode::Rules(_, received) => received.as_slice().len() as u64,
+        CCommandNode::Call(_, names, _, _) => *names,
+        CCommandNode::Rules(_, names, _) => *names,
     }
 }
 
@@ -101,8 +101,8 @@ fn command_is_done(command: &CCommand, done: &[bool]) -> bool
             calls_are_done(first, done) && calls_are_done(second, done)
         }
         CCommandNode::Partition(_, _, block) => calls_are_done(block, done),
-        CCommandNode::Call(_, _, function) => is_done(done, *function),
-        CCommandNode::Rules(_, _) => true,
+        CCommandNode::Call(_, _, _, function) => is_done(done, *function),
+        CCommandNode::Rules(_, _, _) => true,
     }
 }
 

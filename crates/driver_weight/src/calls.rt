@@ -62,10 +62,10 @@ fn add_call(command: &CCommand, calls: &mut Vec<u32>) -> Result<(), AllocError> 
             add_calls(second, calls)
         }
         CCommandNode::Partition(_, _, block) => add_calls(block, calls),
-        CCommandNode::Call(_, _, function) => {
+        CCommandNode::Call(_, _, _, function) => {
             calls.push(*function)?;
             Ok(())
         }
-        CCommandNode::Rules(_, _) => Ok(()),
+        CCommandNode::Rules(_, _, _) => Ok(()),
     }
 }

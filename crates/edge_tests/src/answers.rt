@@ -1,7 +1,7 @@
 //! The lines of answers, as they are printed.
 use flat_code::{Face, FaceLabel, Stop};
 use m_fixed::{Amount, Value};
-use m_places::{ErrorKind, Label, Name, Seq};
+use m_places::{ErrorKind, Label, Name, Seq, SharedName};
 use m_ports::{MemSink, Sink};
 use std::alloc::Global;
 use std::test::Fail;
@@ -23,9 +23,9 @@ fn label(
     kind: ErrorKind,
     text: &[u8],
 ) -> Result<FaceLabel, Fail> {
-    let verif = Name::new(alloc, verif)?;
-    let error = Name::new(alloc, error)?;
-    let text = Name::new(alloc, text)?;
+    let verif = SharedName::new(alloc, Name::new(alloc, verif)?)?;
+    let error = SharedName::new(alloc, Name::new(alloc, error)?)?;
+    let text = SharedName::new(alloc, Name::new(alloc, text)?)?;
     Ok(FaceLabel::Verif(Label {
         verif,
         error,

@@ -2,7 +2,8 @@
 ghost use Rattle.std.specs.Prelude.{◌∷◌, [], codes, decimal};
 ghost use Rattle.text_pieces.specs.Giving.{Gives};
 ghost use Rattle.text_pieces.specs.Pieces.{joined};
-ghost use Rattle.fault_lines.specs.Lines.{fault_line, place_pieces, names_text, line_feed};
+ghost use Rattle.text_pieces.specs.Pieces.{new_line};
+ghost use Rattle.fault_lines.specs.Lines.{fault_line, place_pieces, names_text};
 
 use crate::Fault;
 use itoa::Buffer;
@@ -76,7 +77,7 @@ pub fn give_fault<K: Sink>(fault: Fault<'_>, out: &mut K) -> Result<(), Failed>
 }
 
 fn give_words<K: Sink>(out: &mut K, words: &[u8], name: &[u8]) -> Result<(), Failed>
-    ensures { Gives K.written K.faults out.old out.new result (joined (words.now ∷ name.now ∷ line_feed ∷ [])) }
+    ensures { Gives K.written K.faults out.old out.new result (joined (words.now ∷ name.now ∷ new_line ∷ [])) }
 {
     give_pieces(out, &[words, name, b"\n"])
 }
@@ -90,7 +91,7 @@ fn give_number<K: Sink>(
     fault: &[u8],
 ) -> Result<(), Failed>
     ensures { Gives K.written K.faults out.old out.new result
-        (joined (words.now ∷ decimal number ∷ behind.now ∷ fault.now ∷ line_feed ∷ [])) }
+        (joined (words.now ∷ decimal number ∷ behind.now ∷ fault.now ∷ new_line ∷ [])) }
 {
     let mut buffer = Buffer::new();
     let digits = buffer.format(number).as_bytes();
@@ -105,7 +106,7 @@ fn give_five<'a, K: Sink>(
     fault: &'a [u8],
 ) -> Result<(), Failed>
     ensures { Gives K.written K.faults out.old out.new result
-        (joined (words.now ∷ digits.now ∷ behind.now ∷ fault.now ∷ line_feed ∷ [])) }
+        (joined (words.now ∷ digits.now ∷ behind.now ∷ fault.now ∷ new_line ∷ [])) }
 {
     give_pieces(out, &[words, digits, behind, fault, b"\n"])
 }
@@ -117,7 +118,7 @@ fn give_driver_name<K: Sink>(
     name: &[u8],
 ) -> Result<(), Failed>
     ensures { Gives K.written K.faults out.old out.new result
-        (joined (codes "refused driver line " ∷ decimal line ∷ codes ": " ∷ fault.now ∷ name.now ∷ line_feed ∷ [])) }
+        (joined (codes "refused driver line " ∷ decimal line ∷ codes ": " ∷ fault.now ∷ name.now ∷ new_line ∷ [])) }
 {
     let mut buffer = Buffer::new();
     let digits = buffer.format(line).as_bytes();
@@ -135,7 +136,7 @@ fn give_place<K: Sink>(
     name: &[u8],
 ) -> Result<(), Failed>
     ensures { Gives K.written K.faults out.old out.new result
-        (joined (place_pieces file.now place (fault.now ∷ name.now ∷ line_feed ∷ []))) }
+        (joined (place_pieces file.now place (fault.now ∷ name.now ∷ new_line ∷ []))) }
 {
     let mut line_buffer = Buffer::new();
     let line = line_buffer.format(place.line).as_bytes();
@@ -153,7 +154,7 @@ fn give_at<'a, K: Sink>(
     name: &'a [u8],
 ) -> Result<(), Failed>
     ensures { Gives K.written K.faults out.old out.new result
-        (joined (codes "refused " ∷ file.now ∷ codes " line " ∷ line.now ∷ codes " byte " ∷ byte.now ∷ codes ": " ∷ fault.now ∷ name.now ∷ line_feed ∷ [])) }
+        (joined (codes "refused " ∷ file.now ∷ codes " line " ∷ line.now ∷ codes " byte " ∷ byte.now ∷ codes ": " ∷ fault.now ∷ name.now ∷ new_line ∷ [])) }
 {
     give_pieces(
         out,
@@ -174,7 +175,7 @@ fn give_at<'a, K: Sink>(
 
 // A line that ends with names, with a space before each.
 fn give_names<K: Sink>(out: &mut K, words: &[u8], names: &[Name]) -> Result<(), Failed>
-    ensures { Gives K.written K.faults out.old out.new result (joined (words.now ∷ names_text names.now ∷ line_feed ∷ [])) }
+    ensures { Gives K.written K.faults out.old out.new result (joined (words.now ∷ names_text names.now ∷ new_line ∷ [])) }
 {
     give_all(out, words)?;
     for name in names {

@@ -11,7 +11,7 @@ use Rattle.m_names.proofs.NameLemmas.{index_of-some}
 use Rattle.household.specs.declared.fault.HouseholdFault.{HouseholdFault}
 use Rattle.household.specs.declared.table.Row.{Row}
 use Rattle.household.specs.InTurn.{in_turn, if_read}
-use Rattle.household.specs.Household.{AreDifferent, AreInputs, inputs_of, is_among, line_behind}
+use Rattle.household.specs.Household.{AreDifferent, AreInputs, inputs_of, is_input_among, line_behind}
 use Rattle.household.specs.Table.{amount_said, cells_read, column_of, is_label, labelled, new_column, table_row}
 use Rattle.household.proofs.InputLemmas.{AllByRecursion-push, AreDifferent-push, inputs_of-push, other_than_error, read_before, turns_keep}
 
@@ -37,12 +37,12 @@ AreColumns-front {n} xs [] h = subst (AreColumns n) (append-nil xs) h
 AreColumns-front {n} xs (y ∷ ys) h = AreColumns-front xs ys (AreColumns-without xs ys y h)
 
 -- the columns of a table
-new_known : (n : ℕ) (before : List ℕ) (o : Option ℕ) (input : ℕ) → new_column before o ≡ Ok input → ((i : ℕ) → o ≡ Some i → i < n) → (input < n) × (is_among input before ≡ false)
+new_known : (n : ℕ) (before : List ℕ) (o : Option ℕ) (input : ℕ) → new_column before o ≡ Ok input → ((i : ℕ) → o ≡ Some i → i < n) → (input < n) × (is_input_among input before ≡ false)
 new_known n before None input h k = cc h
 new_known n before (Some i) input h k =
-    let a = other_than_error (is_among i before) _ (Ok i) input h in
+    let a = other_than_error (is_input_among i before) _ (Ok i) input h in
     let same : i ≡ input = cc a.1 in
-    (subst (λ (j : ℕ). j < n) same (k i refl), subst (λ (j : ℕ). is_among j before ≡ false) same a.0)
+    (subst (λ (j : ℕ). j < n) same (k i refl), subst (λ (j : ℕ). is_input_among j before ≡ false) same a.0)
 
 columns_known : (inputs fields : List (List ℕ)) (columns : List ℕ) → in_turn (column_of inputs) [] fields ≡ Ok columns → AreColumns (length inputs) columns
 columns_known inputs fields columns h =

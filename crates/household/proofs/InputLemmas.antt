@@ -9,23 +9,23 @@ use Rattle.m_fixed.specs.Text.{text_value, amount_read}
 use Rattle.m_names.specs.Names.{index_of}
 use Rattle.m_names.proofs.NameLemmas.{index_of-some}
 use Rattle.household.specs.InTurn.{in_turn, if_read}
-use Rattle.household.specs.Household.{AreDifferent, AreInputs, inputs_of, is_among, line_behind, new_pair, pair_of, pair_said, row_of}
+use Rattle.household.specs.Household.{AreDifferent, AreInputs, inputs_of, is_input_among, line_behind, new_pair, pair_of, pair_said, row_of}
 
 pub AllByRecursion-push : {X : Type 0} (P : X → Type 0) (xs : List X) (x : X) → AllByRecursion P xs → P x → AllByRecursion P (xs ++ x ∷ [])
 AllByRecursion-push P [] x h p = (p, tt)
 AllByRecursion-push P (y ∷ ys) x h p = (h.0, AllByRecursion-push P ys x h.1 p)
 
-pub AreDifferent-push : (ms : List ℕ) (n : ℕ) → is_among n ms ≡ false → AreDifferent ms → AreDifferent (ms ++ n ∷ [])
+pub AreDifferent-push : (ms : List ℕ) (n : ℕ) → is_input_among n ms ≡ false → AreDifferent ms → AreDifferent (ms ++ n ∷ [])
 AreDifferent-push [] n e h = (tt, tt)
 AreDifferent-push (m ∷ ms) n e h =
-    let parts = or_parts (eqb m n) (is_among n ms) e in
+    let parts = or_parts (eqb m n) (is_input_among n ms) e in
     (AllByRecursion-push (λ other. other ≢ m) ms n h.0 (λ same. eqb-false m n parts.0 (sym same)), AreDifferent-push ms n parts.1 h.1)
 
 pub inputs_of-push : (pairs : List (ℕ × ℤ)) (pair : ℕ × ℤ) → inputs_of (pairs ++ pair ∷ []) ≡ inputs_of pairs ++ pair.0 ∷ []
 inputs_of-push pairs pair = map_push (λ p. p.0) pairs pair
 
 -- one more pair, of a known input that isn't there
-AreInputs-push : (n : ℕ) (pairs : List (ℕ × ℤ)) (pair : ℕ × ℤ) → AreInputs n pairs → pair.0 < n → is_among pair.0 (inputs_of pairs) ≡ false → AreInputs n (pairs ++ pair ∷ [])
+AreInputs-push : (n : ℕ) (pairs : List (ℕ × ℤ)) (pair : ℕ × ℤ) → AreInputs n pairs → pair.0 < n → is_input_among pair.0 (inputs_of pairs) ≡ false → AreInputs n (pairs ++ pair ∷ [])
 AreInputs-push n pairs pair h l e = record {
   known = subst (AllByRecursion (λ input. input < n)) (sym (inputs_of-push pairs pair)) (AllByRecursion-push (λ input. input < n) (inputs_of pairs) pair.0 h.known l);
   once = subst AreDifferent (sym (inputs_of-push pairs pair)) (AreDifferent-push (inputs_of pairs) pair.0 e h.once);
@@ -54,14 +54,14 @@ pair_known inputs line (code ∷ amount ∷ more ∷ rest) pair h = cc h
 
 -- what a row that is read says
 pub row_parts : (inputs : List (List ℕ)) (before : List (ℕ × ℤ)) (fields : List (List ℕ)) (pair : ℕ × ℤ) → row_of inputs before fields ≡ Ok pair
-    → (leb ROWS (length before) ≡ false) × (pair_of inputs (line_behind (length before)) fields ≡ Ok pair) × (is_among pair.0 (inputs_of before) ≡ false)
+    → (leb ROWS (length before) ≡ false) × (pair_of inputs (line_behind (length before)) fields ≡ Ok pair) × (is_input_among pair.0 (inputs_of before) ≡ false)
 row_parts inputs before fields pair h =
     let line = line_behind (length before) in
     let a = other_than_error (leb ROWS (length before)) _ (if_read (new_pair line before) (pair_of inputs line fields)) pair h in
     let b = read_before (new_pair line before) (pair_of inputs line fields) pair a.1 in
-    let d = other_than_error (is_among b.0.0 (inputs_of before)) _ (Ok b.0) pair b.2 in
+    let d = other_than_error (is_input_among b.0.0 (inputs_of before)) _ (Ok b.0) pair b.2 in
     let same : b.0 ≡ pair = cc d.1 in
-    (a.0, b.1 ∙ ap Ok same, subst (λ (p : ℕ × ℤ). is_among p.0 (inputs_of before) ≡ false) same d.0)
+    (a.0, b.1 ∙ ap Ok same, subst (λ (p : ℕ × ℤ). is_input_among p.0 (inputs_of before) ≡ false) same d.0)
 
 -- what each value that is read keeps, all do
 pub turns_keep : {A B F : Type 0} (read : List B → A → Result B F) (Q : List B → Type 0) → ((before : List B) (thing : A) (value : B) → Q before → read before thing ≡ Ok value → Q (before ++ value ∷ []))

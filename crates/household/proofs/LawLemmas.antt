@@ -12,7 +12,7 @@ use Rattle.household.specs.declared.fault.HouseholdFault.{HouseholdFault}
 use Rattle.household.specs.declared.fault.HouseholdFault.TheVariants.{BadHeader}
 use Rattle.household.specs.InTurn.{in_turn, if_read, IsFirstFault}
 use Rattle.household.specs.Records.{records_of}
-use Rattle.household.specs.Household.{AreDifferent, IsHousehold, IsRow, household_of, household_read, inputs_of, is_among, is_header, line_behind, new_pair, pair_of, pair_said, row_of}
+use Rattle.household.specs.Household.{AreDifferent, IsHousehold, IsRow, household_of, household_read, inputs_of, is_input_among, is_header, line_behind, new_pair, pair_of, pair_said, row_of}
 use Rattle.household.specs.Table.{column_of, is_table_header, rows_read, table_of, table_read, table_row}
 use Rattle.household.specs.Refusals.{LacksHeader, IsRefusedHousehold, IsRefusedTable, no_header, at_row, no_table_header, at_column, at_table_row}
 use Rattle.household.proofs.InputLemmas.{household_inputs, read_before, row_parts, turns_keep}
@@ -111,16 +111,16 @@ inside : {X : Type 0} (P : X → Type 0) (xs ys : List X) (x : X) → AllByRecur
 inside P [] ys x h = h.0
 inside P (y ∷ xs) ys x h = inside P xs ys x h.1
 
-twice : (ms ns : List ℕ) (n : ℕ) → is_among n ms ≡ true → AreDifferent (ms ++ n ∷ ns) → ⊥
+twice : (ms ns : List ℕ) (n : ℕ) → is_input_among n ms ≡ true → AreDifferent (ms ++ n ∷ ns) → ⊥
 twice [] ns n e h = cc e
 twice (m ∷ ms) ns n e h =
-    elim (or_cases (eqb m n) (is_among n ms) e) [
+    elim (or_cases (eqb m n) (is_input_among n ms) e) [
       | inl here ↦ inside (λ other. other ≢ m) ms ns n h.0 (sym (eqb-true m n here))
       | inr later ↦ twice ms ns n later h.1
     ]
 
 -- rows that say pairs by themselves say them in turn
-row_whole : (inputs : List (List ℕ)) (before : List (ℕ × ℤ)) (fields : List (List ℕ)) (pair : ℕ × ℤ) → IsRow inputs fields pair → length before < ROWS → is_among pair.0 (inputs_of before) ≡ false → row_of inputs before fields ≡ Ok pair
+row_whole : (inputs : List (List ℕ)) (before : List (ℕ × ℤ)) (fields : List (List ℕ)) (pair : ℕ × ℤ) → IsRow inputs fields pair → length before < ROWS → is_input_among pair.0 (inputs_of before) ≡ false → row_of inputs before fields ≡ Ok pair
 row_whole inputs before fields pair is l fresh =
     let free = no_room ROWS (length before) l in
     rw free (ap (if_read (new_pair (line_behind (length before)) before)) (row_pair inputs (line_behind (length before)) fields pair is) ∙ rw fresh refl)
@@ -132,7 +132,7 @@ rows_whole inputs before [] (pair ∷ pairs) z d l = absurd z
 rows_whole inputs before (fields ∷ rows) [] z d l = absurd z
 rows_whole inputs before (fields ∷ rows) (pair ∷ pairs) z d l =
     let different = subst AreDifferent (map-append (λ (p : ℕ × ℤ). p.0) before (pair ∷ pairs)) d in
-    let fresh = false_from_ne_true (is_among pair.0 (inputs_of before)) (λ e. twice (inputs_of before) (inputs_of pairs) pair.0 e different) in
+    let fresh = false_from_ne_true (is_input_among pair.0 (inputs_of before)) (λ e. twice (inputs_of before) (inputs_of pairs) pair.0 e different) in
     let this = row_whole inputs before fields pair z.0 (omega (arith, length-append before (pair ∷ pairs))) fresh in
     ap (if_read (λ v. in_turn (row_of inputs) (before ++ v ∷ []) rows)) this
     ∙ rows_whole inputs (before ++ pair ∷ []) rows pairs z.1 (subst (λ (ps : List (ℕ × ℤ)). AreDifferent (inputs_of ps)) (sym (append_assoc before (pair ∷ []) pairs)) d) (subst (λ (ps : List (ℕ × ℤ)). length ps ≤ ROWS) (sym (append_assoc before (pair ∷ []) pairs)) l)

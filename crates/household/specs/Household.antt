@@ -18,8 +18,8 @@ abbrev pub inputs_of : List (ℕ × ℤ) → List ℕ
 inputs_of pairs = map (λ pair. pair.0) pairs
 
 -- whether a number stands among numbers
-abbrev pub is_among : ℕ → List ℕ → Bool
-is_among number numbers = list_any (λ other. other == number) numbers
+abbrev pub is_input_among : ℕ → List ℕ → Bool
+is_input_among number numbers = list_any (λ other. other == number) numbers
 
 -- the number of the record behind the header and so many rows, where the header's is 1
 abbrev pub line_behind : ℕ → ℕ
@@ -40,7 +40,7 @@ pair_of inputs line _ = Err (BadRow line)
 
 -- a pair whose input may not stand in the pairs before it
 abbrev pub new_pair : ℕ → List (ℕ × ℤ) → ℕ × ℤ → Result (ℕ × ℤ) HouseholdFault
-new_pair line before pair = if is_among pair.0 (inputs_of before) then Err (CodeTwice line) else Ok pair
+new_pair line before pair = if is_input_among pair.0 (inputs_of before) then Err (CodeTwice line) else Ok pair
 
 -- What a row says behind rows that gave these pairs. The first of these faults that it has decides: it
 -- is one row too many, it hasn't two fields, its code is unknown, its amount is none, its code stands

@@ -11,12 +11,12 @@ use Rattle.household.specs.declared.fault.HouseholdFault.TheVariants.{BadHeader,
 use Rattle.household.specs.declared.table.Row.{Row}
 use Rattle.household.specs.InTurn.{if_read, in_turn}
 use Rattle.household.specs.Records.{records_of}
-use Rattle.household.specs.Household.{is_among, line_behind}
+use Rattle.household.specs.Household.{is_input_among, line_behind}
 
 -- a column's input, which may not be that of a column before it
 abbrev pub new_column : List ℕ → Option ℕ → Result ℕ HouseholdFault
 new_column before None = Err (UnknownCode 1)
-new_column before (Some input) = if is_among input before then Err (CodeTwice 1) else Ok input
+new_column before (Some input) = if is_input_among input before then Err (CodeTwice 1) else Ok input
 
 -- What a field of a table's first record says behind those of these inputs: the input of its column.
 abbrev pub column_of : List (List ℕ) → List ℕ → List ℕ → Result ℕ HouseholdFault

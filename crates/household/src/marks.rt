@@ -1,12 +1,12 @@
 //! Which inputs stand in a file already.
 ghost use Rattle.std.specs.Prelude.{◌≡◌, ◌<◌, ◌++◌, ◌∷◌, [], not, length, List, ℕ};
-ghost use Rattle.household.specs.Household.{is_among};
+ghost use Rattle.household.specs.Household.{is_input_among};
 ghost use Rattle.household.specs.inner.Marks.{Marks};
 
 // Marks an input, and says whether it wasn't marked.
 pub(crate) fn mark(marked: &mut [bool], input: u32) -> bool
     requires { input < length marked.old }
-    ensures fresh { (inputs : List ℕ) → Marks marked.old inputs → result ≡ not (is_among input inputs) }
+    ensures fresh { (inputs : List ℕ) → Marks marked.old inputs → result ≡ not (is_input_among input inputs) }
     ensures marks { (inputs : List ℕ) → Marks marked.old inputs → Marks marked.new (inputs ++ input ∷ []) }
 {
     let fresh = !marked[input as usize];

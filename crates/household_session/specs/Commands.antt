@@ -2,11 +2,8 @@
 use Rattle.std.specs.Prelude.{ℕ, ◌==◌, Bool, false, not, nat_le, List, [], ◌∷◌, length, codes, if◌then◌else◌}
 use Rattle.std.specs.Str.{bytes_eq}
 use Rattle.m_places.specs.declared.limits.TheConstants.{SESSION_LINE_BYTES}
+use Rattle.m_text.specs.Bytes.{space}
 use Rattle.m_text.specs.Lines.{onto_first, without_return}
-
--- what sets words apart
-abbrev pub space : ℕ
-space = 32
 
 -- whether bytes begin with a word
 abbrev pub starts_word : List ℕ → Bool
@@ -15,30 +12,30 @@ starts_word (byte ∷ bytes) = not (byte == space)
 
 -- The words of a line, which any number of spaces set apart: ` set  1AJ 5 ` has the words `set`, `1AJ` and `5`, and a line
 -- of spaces has none.
-abbrev pub words_of : List ℕ → List (List ℕ)
-words_of [] = []
-words_of (byte ∷ bytes) =
-    if byte == space then words_of bytes
-    else if starts_word bytes then onto_first byte (words_of bytes)
-    else (byte ∷ []) ∷ words_of bytes
+abbrev pub line_words : List ℕ → List (List ℕ)
+line_words [] = []
+line_words (byte ∷ bytes) =
+    if byte == space then line_words bytes
+    else if starts_word bytes then onto_first byte (line_words bytes)
+    else (byte ∷ []) ∷ line_words bytes
 
 -- What a line asks for.
-pub data Command : Type 0 where
+pub data SessionCommand : Type 0 where
   -- nothing: the line has no words
-  no_words : Command
+  no_words : SessionCommand
   -- to set the input with this code to this amount
-  sets : (code amount : List ℕ) → Command
+  sets : (code amount : List ℕ) → SessionCommand
   -- to clear the input with this code
-  clears : (code : List ℕ) → Command
+  clears : (code : List ℕ) → SessionCommand
   -- to show the answer
-  shows : Command
+  shows : SessionCommand
   -- nothing that can be done: the line is too long
-  too_long : Command
+  too_long : SessionCommand
   -- nothing that can be done: the words are no command
-  bad : Command
+  bad : SessionCommand
 
 -- what words ask for: `set 1AJ 2500.5`, `clear 1AJ` and `show` are commands, and no others
-abbrev pub words_command : List (List ℕ) → Command
+abbrev pub words_command : List (List ℕ) → SessionCommand
 words_command [] = no_words
 words_command (word ∷ []) = if bytes_eq word (codes "show") then shows else bad
 words_command (word ∷ code ∷ []) = if bytes_eq word (codes "clear") then clears code else bad
@@ -46,5 +43,5 @@ words_command (word ∷ code ∷ amount ∷ []) = if bytes_eq word (codes "set")
 words_command (word ∷ code ∷ amount ∷ another ∷ words) = bad
 
 -- What a line without its line feed asks for. A carriage return at its end counts in its length, and is then dropped.
-abbrev pub command_of : List ℕ → Command
-command_of bytes = if nat_le (length bytes) SESSION_LINE_BYTES then words_command (words_of (without_return bytes)) else too_long
+abbrev pub session_command : List ℕ → SessionCommand
+session_command bytes = if nat_le (length bytes) SESSION_LINE_BYTES then words_command (line_words (without_return bytes)) else too_long

@@ -6,7 +6,7 @@ use Rattle.m_text.specs.Lines.{onto_first}
 use Rattle.household_session.specs.declared.fault.EditFault.{EditFault}
 use Rattle.household_session.specs.declared.fault.EditFault.TheVariants.{UnknownCode, BadAmount}
 use Rattle.household_session.specs.Sessions.{Sitting, set_of, clear_of, edited, answered, line, shown}
-use Rattle.household_session.specs.Commands.{Command, no_words, sets, clears, shows, too_long, bad, command_of}
+use Rattle.household_session.specs.Commands.{SessionCommand, no_words, sets, clears, shows, too_long, bad, session_command}
 
 -- ---- one line
 
@@ -17,7 +17,7 @@ answer_reply (Err UnknownCode) = line (codes "refused unknown code")
 answer_reply (Err BadAmount) = line (codes "refused bad amount")
 
 -- the reply to a command
-abbrev pub command_reply : Sitting → Command → List ℕ
+abbrev pub command_reply : Sitting → SessionCommand → List ℕ
 command_reply sitting no_words = []
 command_reply sitting (sets code amount) = answer_reply (answered (set_of sitting.face.inputs code amount))
 command_reply sitting (clears code) = answer_reply (answered (clear_of sitting.face.inputs code))
@@ -26,7 +26,7 @@ command_reply sitting too_long = line (codes "refused line too long")
 command_reply sitting bad = line (codes "refused bad command")
 
 -- the session after a command
-abbrev pub after_command : Sitting → Command → Sitting
+abbrev pub after_command : Sitting → SessionCommand → Sitting
 after_command sitting no_words = sitting
 after_command sitting (sets code amount) = edited sitting (set_of sitting.face.inputs code amount)
 after_command sitting (clears code) = edited sitting (clear_of sitting.face.inputs code)
@@ -36,11 +36,11 @@ after_command sitting bad = sitting
 
 -- The reply to a line, given without its line feed: to `set 1AJ 5` the line `ok` where `1AJ` is a code.
 abbrev pub reply_of : Sitting → List ℕ → List ℕ
-reply_of sitting bytes = command_reply sitting (command_of bytes)
+reply_of sitting bytes = command_reply sitting (session_command bytes)
 
 -- The session after a line.
 abbrev pub after_line : Sitting → List ℕ → Sitting
-after_line sitting bytes = after_command sitting (command_of bytes)
+after_line sitting bytes = after_command sitting (session_command bytes)
 
 -- ---- many lines
 

@@ -11,7 +11,8 @@ use Rattle.flat_code.specs.declared.face.Face.{Face}
 use Rattle.flat_code.specs.declared.program.Flat.{Flat}
 use Rattle.flat_code.specs.Runs.{flat_run}
 use Rattle.household.specs.Household.{values_of}
-use Rattle.tax_print.specs.Lines.{line_feed, answer_lines}
+use Rattle.text_pieces.specs.Pieces.{new_line}
+use Rattle.tax_print.specs.Lines.{answer_lines}
 use Rattle.household_session.specs.declared.fault.EditFault.{EditFault}
 use Rattle.household_session.specs.declared.fault.EditFault.TheVariants.{UnknownCode, BadAmount}
 
@@ -69,7 +70,7 @@ answered (Err fault) = Err fault
 
 -- a line of these bytes, with its line feed
 abbrev pub line : List ℕ → List ℕ
-line bytes = joined (bytes ∷ line_feed ∷ [])
+line bytes = joined (bytes ∷ new_line ∷ [])
 
 -- What is shown: the lines of what the program answers for the values as they are now, and then a line with a point.
 abbrev pub shown : Sitting → List ℕ

@@ -1,6 +1,6 @@
 //! What a line asks for.
 ghost use Rattle.std.specs.Prelude.{◌≡◌, ◌∷◌};
-ghost use Rattle.household_session.specs.Commands.{command_of, words_command, words_of};
+ghost use Rattle.household_session.specs.Commands.{session_command, words_command, line_words};
 ghost use Rattle.household_session.specs.inner.Ready.{command_in};
 
 use crate::words::{next_word, without_return};
@@ -19,7 +19,7 @@ pub(crate) enum Asked<'a> {
 
 /// What a line, without its line feed, asks for.
 pub(crate) fn asked_by(line: &[u8]) -> Asked<'_>
-    ensures { command_in result ≡ command_of line.now }
+    ensures { command_in result ≡ session_command line.now }
 {
     if line.len() > SESSION_LINE_BYTES {
         return Asked::TooLong;
@@ -32,7 +32,7 @@ pub(crate) fn asked_by(line: &[u8]) -> Asked<'_>
 }
 
 fn behind_one<'a>(word: &'a [u8], rest: &'a [u8]) -> Asked<'a>
-    ensures { command_in result ≡ words_command (word.now ∷ words_of rest.now) }
+    ensures { command_in result ≡ words_command (word.now ∷ line_words rest.now) }
 {
     match next_word(rest) {
         None => {
@@ -47,7 +47,7 @@ fn behind_one<'a>(word: &'a [u8], rest: &'a [u8]) -> Asked<'a>
 }
 
 fn behind_two<'a>(word: &'a [u8], code: &'a [u8], rest: &'a [u8]) -> Asked<'a>
-    ensures { command_in result ≡ words_command (word.now ∷ code.now ∷ words_of rest.now) }
+    ensures { command_in result ≡ words_command (word.now ∷ code.now ∷ line_words rest.now) }
 {
     match next_word(rest) {
         None => {
@@ -62,7 +62,7 @@ fn behind_two<'a>(word: &'a [u8], code: &'a [u8], rest: &'a [u8]) -> Asked<'a>
 }
 
 fn behind_three<'a>(word: &'a [u8], code: &'a [u8], amount: &'a [u8], rest: &'a [u8]) -> Asked<'a>
-    ensures { command_in result ≡ words_command (word.now ∷ code.now ∷ amount.now ∷ words_of rest.now) }
+    ensures { command_in result ≡ words_command (word.now ∷ code.now ∷ amount.now ∷ line_words rest.now) }
 {
     match next_word(rest) {
         None => {

@@ -1,12 +1,12 @@
 //! The words of a line.
 ghost use Rattle.std.specs.Prelude.{◌≡◌, ◌≢◌, ◌⊎◌, [], ◌∷◌, MatchOption, IsTrue};
-ghost use Rattle.m_text.specs.Bytes.{RunsTo};
+ghost use Rattle.m_text.specs.Bytes.{RunsTo, space};
 ghost use Rattle.m_text.specs.Lines.{without_return};
-ghost use Rattle.household_session.specs.Commands.{space, starts_word, words_of};
+ghost use Rattle.household_session.specs.Commands.{starts_word, line_words};
 
 /// The first word of a line and what stands behind it; `None` where the line has no words.
 pub(crate) fn next_word(line: &[u8]) -> Option<(&[u8], &[u8])>
-    ensures { MatchOption result (words_of line.now ≡ []) (λ r. words_of line.now ≡ r.0.now ∷ words_of r.1.now) }
+    ensures { MatchOption result (line_words line.now ≡ []) (λ r. line_words line.now ≡ r.0.now ∷ line_words r.1.now) }
 {
     let line = without_spaces(line);
     if line.is_empty() {
@@ -18,7 +18,7 @@ pub(crate) fn next_word(line: &[u8]) -> Option<(&[u8], &[u8])>
 
 // A line without the spaces at its front.
 fn without_spaces(line: &[u8]) -> &[u8]
-    ensures words { words_of result.now ≡ words_of line.now }
+    ensures words { line_words result.now ≡ line_words line.now }
     ensures front { (result.now ≡ []) ⊎ IsTrue (starts_word result.now) }
 {
     for from in 0..line.len() {

@@ -18,7 +18,7 @@ use crate::parts::{MOST, parts};
 use crate::terms::expanded;
 use loop_values::no_letters;
 use m_ast::{CheckItem, Formula, Item, Term, VerifItem};
-use m_places::{Name, Place, Seq};
+use m_places::{Name, Place, Seq, SharedName};
 use m_symbols::Symbols;
 use plain_rules::{Condition, Definition, Plain};
 use std::alloc::{AllocError, Global};
@@ -254,9 +254,10 @@ fn take_checks(
         (λ fault. IsTooMuch (sum_by check_parts verif.now.checks) total verif.now.place fault) }
     ensures letters { OnOk result (letters.new ≡ letters.old) }
 {
+    let number = SharedName::new(alloc, verif.number.copy(alloc)?)?;
     let mut count = total;
     for check in verif.checks.as_slice() {
-        count = take_check(alloc, verif, check, letters, conditions, count)?;
+        count = take_check(alloc, verif, &number, check, letters, conditions, count)?;
     }
     Ok(count)
 }
@@ -264,11 +265,13 @@ fn take_checks(
 fn take_check(
     alloc: Global,
     verif: &VerifItem,
+    number: &SharedName,
     check: &CheckItem,
     letters: &mut [Option<Name>],
     conditions: &mut Vec<Condition>,
     total: u64,
 ) -> Result<u64, ExpandFault>
+    requires number { number.now ≡ verif.now.number }
     requires letters { letters.old ≡ spec.no_letters }
     requires total { total ≤ 2000000 }
     ensures outcome { Outcome ExpandFault.Memory result
@@ -282,21 +285,21 @@ fn take_check(
         return Err(ExpandFault::TooManyParts(verif.place));
     }
     let term = expanded(alloc, letters, None, &check.condition)?;
-    push_condition(alloc, verif, check, term, conditions)?;
+    push_condition(alloc, number, check, term, conditions)?;
     Ok(count)
 }
 
 fn push_condition(
     alloc: Global,
-    verif: &VerifItem,
+    number: &SharedName,
     check: &CheckItem,
     term: Term,
     conditions: &mut Vec<Condition>,
 ) -> Result<(), AllocError>
     ensures { OnOk result (conditions.new.items ≡ conditions.old.items
-        ++ record { verif = verif.now.number; error = check.now.error; term = term; place = check.now.place } ∷ []) }
+        ++ record { verif = number.now; error = check.now.error; term = term; place = check.now.place } ∷ []) }
 {
-    let number = verif.number.copy(alloc)?;
+    let number = number.share()?;
     let error = check.error.copy(alloc)?;
     conditions.push(Condition {
         verif: number,

@@ -142,6 +142,23 @@ fn partition(alloc: Global) -> Result<CCommand, AllocError> {
     Ok(CCommand::new(CCommandNode::Partition(3, cells(alloc, &[0])?, block)))
 }
 
+// `.. <- call_m()`, which gives back these cells.
+fn rules(alloc: Global, names: u64, all: &[u32]) -> Result<CCommand, AllocError> {
+    Ok(CCommand::new(CCommandNode::Rules(1, names, cells(alloc, all)?)))
+}
+
+// C = 1, and calls of the rules between it and `if A:` a call, `else:` C = 4 and a call.
+fn rules_between(alloc: Global) -> Result<Vec<CCommand>, AllocError> {
+    let mut block = one(alloc, set(2, 1))?;
+    block.push(rules(alloc, 2, &[2, 2])?)?;
+    block.push(rules(alloc, 1, &[0])?)?;
+    let first = one(alloc, rules(alloc, 1, &[2])?)?;
+    let mut second = one(alloc, set(2, 4))?;
+    second.push(rules(alloc, 1, &[2])?)?;
+    block.push(CCommand::new(CCommandNode::If(1, CTerm::new(CNode::Cell(0)), first, second)))?;
+    Ok(block)
+}
+
 // The commands of `main`, by the number of a driver.
 fn main_of(alloc: Global, driver: u32) -> Result<Vec<CCommand>, AllocError> {
     match driver {
@@ -155,11 +172,16 @@ fn main_of(alloc: Global, driver: u32) -> Result<Vec<CCommand>, AllocError> {
         }
         4 => one(
             alloc,
-            CCommand::new(CCommandNode::Call(1, cells(alloc, &[2])?, 1)),
+            CCommand::new(CCommandNode::Call(1, 1, cells(alloc, &[2])?, 1)),
+        ),
+        6 => rules_between(alloc),
+        7 => one(
+            alloc,
+            CCommand::new(CCommandNode::Call(1, 3, cells(alloc, &[2, 1, 2])?, 1)),
         ),
         _ => one(
             alloc,
-            CCommand::new(CCommandNode::Call(1, cells(alloc, &[1])?, 1)),
+            CCommand::new(CCommandNode::Call(1, 1, cells(alloc, &[1])?, 1)),
         ),
     }
 }
@@ -189,7 +211,7 @@ fn found(alloc: Global, driver: u32, a: Value) -> Result<Told, AllocError> {
 }
 
 // For each driver the value of A, and what is told of C: 0 stands for undefined.
-const ROWS: [(u32, i64, i64); 8] = [
+const ROWS: [(u32, i64, i64); 11] = [
     (0, 5, 1),
     (0, 0, 2),
     (1, 0, 0),
@@ -198,6 +220,9 @@ const ROWS: [(u32, i64, i64); 8] = [
     (3, 5, 1),
     (4, 5, 7),
     (5, 5, 0),
+    (6, 5, 1),
+    (6, 0, 4),
+    (7, 5, 7),
 ];
 
 fn wanted(c: i64) -> Told {
@@ -251,7 +276,7 @@ fn a_chain_of_functions_is_weighed(rt: HostRuntime) -> Result<(), Fail> {
     let alloc = rt.alloc();
     let mut bodies = Vec::new(alloc);
     for n in 0..300_000_u32 {
-        let call = CCommand::new(CCommandNode::Call(1, cells(alloc, &[2])?, n + 1));
+        let call = CCommand::new(CCommandNode::Call(1, 1, cells(alloc, &[2])?, n + 1));
         bodies.push(Seq::from_vec(one(alloc, call)?))?;
     }
     bodies.push(Seq::from_vec(one(alloc, set(2, 9))?))?;
@@ -262,5 +287,57 @@ fn a_chain_of_functions_is_weighed(rt: HostRuntime) -> Result<(), Fail> {
         main: 0,
     };
     assert_eq!(rt; weight(alloc, &core, &no_rules(alloc, 3))?, 900_001);
+    Ok(())
+}
+
+// The function of this number, of which the first has 1,000 calls of the rules, and each other one two calls of the one before.
+fn body(alloc: Global, n: u32) -> Result<Seq<CCommand>, AllocError> {
+    let mut block = Vec::new(alloc);
+    if n == 0 {
+        for _ in 0..1000 {
+            block.push(rules(alloc, 1, &[2])?)?;
+        }
+        return Ok(Seq::from_vec(block));
+    }
+    for _ in 0..2 {
+        block.push(CCommand::new(CCommandNode::Call(1, 1, cells(alloc, &[2])?, n - 1)))?;
+    }
+    Ok(Seq::from_vec(block))
+}
+
+// A driver that comes to 2^18 calls of a function with 1,000 calls of the rules.
+fn many_rules(alloc: Global) -> Result<Core, AllocError> {
+    let mut bodies = Vec::new(alloc);
+    for n in 0..19 {
+        bodies.push(body(alloc, n)?)?;
+    }
+    Ok(Core {
+        cells: 3,
+        names: Seq::from_vec(Vec::new(alloc)),
+        bodies: Seq::from_vec(bodies),
+        main: 18,
+    })
+}
+
+fn many_told(alloc: Global) -> Result<Told, AllocError> {
+    let all = items(alloc)?;
+    let Ok(symbols) = declare(alloc, &all) else {
+        return Ok(Told::Nothing);
+    };
+    told_by(alloc, &many_rules(alloc)?, &symbols, units(5))
+}
+
+fn many_weight(alloc: Global) -> Result<u64, AllocError> {
+    let core = many_rules(alloc)?;
+    let base = no_rules(alloc, 3);
+    weight(alloc, &core, &base)
+}
+
+// Over a base without rules 262,144,000 calls of the rules weigh nothing, and the 524,286 calls of functions 3 each.
+#[test]
+fn calls_of_no_rules_cost_nothing(rt: HostRuntime) -> Result<(), Fail> {
+    let alloc = rt.alloc();
+    assert_eq!(rt; many_weight(alloc)?, 1_572_858);
+    assert!(rt; is_told(many_told(alloc)?, wanted(0)), "another answer");
     Ok(())
 }

@@ -4,18 +4,18 @@ use Rattle.std.specs.List.{flat_map, list_any}
 use Rattle.m_ast.specs.declared.header.Header.{Header}
 use Rattle.m_ast.specs.declared.header.Index.{Index}
 use Rattle.loop_values.specs.Letters.{Letters, bind}
-use Rattle.loop_values.specs.Values.{values_of, is_bad_span}
+use Rattle.loop_values.specs.Values.{index_values, is_bad_span}
 
 -- What the letters stand for in each instance of indexes, in order: the first index is the slowest. Of `i = A,B ; j = 1,2` the
 -- instances are A1, A2, B1, B2.
 abbrev pub instances : List Index → Letters → List Letters
 instances [] letters = letters ∷ []
-instances (index ∷ rest) letters = flat_map (λ value. instances rest (bind letters index.letter value)) (values_of index)
+instances (index ∷ rest) letters = flat_map (λ value. instances rest (bind letters index.letter value)) (index_values index)
 
 -- how many instances indexes have: the product of the numbers of their values
 abbrev pub instance_count : List Index → ℕ
 instance_count [] = 1
-instance_count (index ∷ rest) = length (values_of index) * instance_count rest
+instance_count (index ∷ rest) = length (index_values index) * instance_count rest
 
 -- the indexes of all headers, from the outermost to the innermost
 abbrev pub all_indexes : List Header → List Index

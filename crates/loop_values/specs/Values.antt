@@ -48,8 +48,8 @@ abbrev pub span_values : Span → List (List ℕ)
 span_values span = values_between span.from span.to
 
 -- the values of an index: of `i = V, 1..2` they are V, 1, 2
-abbrev pub values_of : Index → List (List ℕ)
-values_of index = flat_map span_values index.values
+abbrev pub index_values : Index → List (List ℕ)
+index_values index = flat_map span_values index.values
 
 -- whether a list is empty
 abbrev pub is_nothing : {A : Type 0} → List A → Bool

@@ -17,7 +17,7 @@ pub const MANY: u64 = 2_000_001;
 /// The values of an index, in the order in which they are written: of `i = V, 1..2` they are V, 1, 2. Its only error is want
 /// of memory.
 pub fn index_values(alloc: Global, index: &Index) -> Result<Vec<Name>, AllocError>
-    ensures { IfOk result (λ values. values.items ≡ spec.values_of index.now) }
+    ensures { IfOk result (λ values. values.items ≡ spec.index_values index.now) }
 {
     let mut values = Vec::new(alloc);
     for span in index.values.as_slice() {
@@ -28,7 +28,7 @@ pub fn index_values(alloc: Global, index: &Index) -> Result<Vec<Name>, AllocErro
 
 /// How many values an index has, or `MANY` where it has more.
 pub fn index_count(index: &Index) -> u64
-    ensures { result ≡ min (length (spec.values_of index.now)) 2000001 }
+    ensures { result ≡ min (length (spec.index_values index.now)) 2000001 }
 {
     let mut count = 0;
     for span in index.values.as_slice() {

@@ -6,15 +6,15 @@ use Rattle.flat_code.specs.declared.answer.Answer.{Answer}
 use Rattle.flat_code.specs.declared.program.Flat.{Flat}
 use Rattle.household.specs.declared.table.Row.{Row}
 use Rattle.household.specs.Household.{AreInputs}
-use Rattle.m_batch.specs.Batch.{HasInputsBelow, answer_of, answers_of}
+use Rattle.m_batch.specs.Batch.{HasInputsBelow, row_answer, answers_of}
 
 -- a row more
 pub answers_next : (flat : Flat) (rows : List Row) (i : ℕ) (row : Row) (answers new : List Answer) → i < length rows → row ≡ get_or rows i row
-    → answers ≡ answers_of flat (take i rows) → new ≡ answers ++ answer_of flat row ∷ [] → new ≡ answers_of flat (take (i + 1) rows)
+    → answers ≡ answers_of flat (take i rows) → new ≡ answers ++ row_answer flat row ∷ [] → new ≡ answers_of flat (take (i + 1) rows)
 answers_next flat rows i row answers new h is before more =
-    more ∙ ap (λ given. given ++ answer_of flat row ∷ []) before
-    ∙ ap (λ r. answers_of flat (take i rows) ++ answer_of flat r ∷ []) is
-    ∙ sym (map-append (answer_of flat) (take i rows) (get_or rows i row ∷ []))
+    more ∙ ap (λ given. given ++ row_answer flat row ∷ []) before
+    ∙ ap (λ r. answers_of flat (take i rows) ++ row_answer flat r ∷ []) is
+    ∙ sym (map-append (row_answer flat) (take i rows) (get_or rows i row ∷ []))
     ∙ ap (answers_of flat) (sym (take_more rows i row h))
 
 -- the rows of a table have no other inputs than the table's codes

@@ -12,9 +12,9 @@ abbrev pub HasInputsBelow : ℕ → Row → Type 0
 HasInputsBelow inputs row = AllByRecursion (λ input. input < inputs) (inputs_of row.household.pairs)
 
 -- What a program answers for a row: its run on the row's amounts, undefined where the row has none.
-abbrev pub answer_of : Flat → Row → Answer
-answer_of flat row = flat_run flat (values_of row.household.pairs flat.inputs)
+abbrev pub row_answer : Flat → Row → Answer
+row_answer flat row = flat_run flat (values_of row.household.pairs flat.inputs)
 
 -- The answers of rows, in their order.
 abbrev pub answers_of : Flat → List Row → List Answer
-answers_of flat rows = map (answer_of flat) rows
+answers_of flat rows = map (row_answer flat) rows

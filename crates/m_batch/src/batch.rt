@@ -2,7 +2,7 @@
 ghost use Rattle.std.specs.Prelude.{◌≡◌, IfOk};
 ghost use Rattle.std.specs.List.{AllByRecursion};
 ghost use Rattle.flat_code.specs.Runs.{IsFlat};
-ghost use Rattle.m_batch.specs.Batch.{HasInputsBelow, answer_of, answers_of};
+ghost use Rattle.m_batch.specs.Batch.{HasInputsBelow, row_answer, answers_of};
 
 use flat_code::{Answer, Flat, run_flat};
 use household::{Row, values};
@@ -26,17 +26,17 @@ pub fn run_batch<R: Threads + Sync>(
 {
     let mut answers = Vec::with_capacity(alloc, rows.len())?;
     for row in rows {
-        let answer = answer_of(alloc, flat, row)?;
+        let answer = row_answer(alloc, flat, row)?;
         answers.push(answer)?;
     }
     Ok(Seq::from_vec(answers))
 }
 
 // The answer of one row.
-fn answer_of(alloc: Global, flat: &Flat, row: &Row) -> Result<Answer, AllocError>
+fn row_answer(alloc: Global, flat: &Flat, row: &Row) -> Result<Answer, AllocError>
     requires valid { IsFlat flat.now }
     requires inputs { HasInputsBelow flat.now.inputs row.now }
-    ensures { IfOk result (λ answer. answer ≡ answer_of flat.now row.now) }
+    ensures { IfOk result (λ answer. answer ≡ row_answer flat.now row.now) }
 {
     let inputs = values(alloc, &row.household, flat.inputs)?;
     run_flat(alloc, flat, &inputs)

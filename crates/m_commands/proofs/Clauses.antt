@@ -17,7 +17,7 @@ use Rattle.m_plan.specs.declared.status.Status.TheVariants.{Done, Memory, Refuse
 use Rattle.m_plan.proofs.Walks.{walks_to_end, walks_fit}
 use Rattle.m_commands.specs.Answer.{InFull, Replies}
 use Rattle.m_commands.specs.Command.{command_of, plan_of}
-use Rattle.m_commands.specs.Clauses.{IsTyped, PrintsOutput, StopsInFront, WritesFront, IsWhole, output, unreadable, cut_off, in_full, cuts_off}
+use Rattle.m_commands.specs.Clauses.{IsTyped, PrintsOutput, StopsInFront, WritesFront, IsWholeText, output, unreadable, cut_off, in_full, cuts_off}
 use Rattle.m_commands.specs.Output.{Output, usage, refuses, answers}
 use Rattle.m_commands.specs.declared.command.Command.{Command}
 use Rattle.m_commands.specs.declared.work.Work.{Work}
@@ -79,21 +79,21 @@ text_of words before after heard told old new status (answered command work c g 
 
 -- a front of a whole text was written
 front : (words : List (List ℕ)) (disk : Disk) (typed text : List ℕ) (own : Status) (before after : FilesView) (heard told : InputView) (old new : OutputView) (status : Status)
-    → Prints text own old new status → (own ≡ WriteFault → ⊥) → status ≡ WriteFault → IsWhole words disk typed before after heard told text
-    → (all : List ℕ) × IsWhole words disk typed before after heard told all × AppendsPrefix old.written new.written all
+    → Prints text own old new status → (own ≡ WriteFault → ⊥) → status ≡ WriteFault → IsWholeText words disk typed before after heard told text
+    → (all : List ℕ) × IsWholeText words disk typed before after heard told all × AppendsPrefix old.written new.written all
 front words disk typed text own before after heard told old new status (inl p) unlike e w = absurd (unlike (sym p.1 ∙ e))
 front words disk typed text own before after heard told old new status (inr p) unlike e w = (text, w, p.0.0)
 
 writing_way : (words : List (List ℕ)) (disk : Disk) (typed : List ℕ) (before after : FilesView) (heard told : InputView) (old new : OutputView) (status : Status) (command : Command) (work : Work)
     → command_of words ≡ Some command → end_of disk (plan_of command) ≡ gathered work → IsWorkOf command work → IsTyped words heard typed → status ≡ WriteFault → Way work heard told old new status
-    → (text : List ℕ) × IsWhole words disk typed before after heard told text × AppendsPrefix old.written new.written text
+    → (text : List ℕ) × IsWholeText words disk typed before after heard told text × AppendsPrefix old.written new.written text
 writing_way words disk typed before after heard told old new status command work c g k i e (tells text own r o same p) =
     front words disk typed text own before after heard told old new status p (λ x. subst IsOfEnd x o) e (output (answers command work c g (r typed)))
 writing_way words disk typed before after heard told old new status command work c g k i e (lacks_memory same n m) = cc (m, e)
 writing_way words disk typed before after heard told old new status command work c g k i e (breaks_off text own r b same a n m) = cc (m, e)
 writing_way words disk typed before after heard told old new status command work c g k i e (serves_all taken text s moved none calm r a is) = cc (is, e)
 writing_way words disk typed before after heard told old new status command work c g k i e (serves_part taken text s moved rose cut p) =
-    front words disk typed text ReadFault before after heard told old new status p (λ x. cc) e (cut_off taken moved (cuts_off command work c g cut))
+    front words disk typed text ReadFault before after heard told old new status p (λ x. cc) e (cut_off taken moved rose (cuts_off command work c g cut))
 writing_way words disk typed before after heard told old new status command work c g k i e (serves_most taken text s moved full calm r p) =
     let t = typed_rest told.left typed taken (sym (i (serve_reads words command work c k s)) ∙ moved) in
     front words disk typed text Refused before after heard told old new status p (λ x. cc) e

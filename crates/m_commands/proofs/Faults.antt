@@ -117,6 +117,36 @@ left_of words before after heard told old new status (has_no_memory s h o e) f =
 left_of words before after heard told old new status (ended command ending c g h p) f = h
 left_of words before after heard told old new status (answered command work c g k a) f = left_way words command work heard told old new status c k (way_of work heard told old new status a) f
 
+-- the count of faults is the same
+no_rise : (heard told : InputView) → told.faults ≡ heard.faults → heard.faults < told.faults → ⊥
+no_rise heard told same h = omega (arith, same, h)
+
+same_faults : (heard told : InputView) → told ≡ heard → told.faults ≡ heard.faults
+same_faults heard told same = ap (λ (v : InputView). v.faults) same
+
+-- a failed read was told, or a write failed
+read_said : (text : List ℕ) (old new : OutputView) (status : Status) → Prints text ReadFault old new status → (status ≡ ReadFault) ⊎ (status ≡ WriteFault)
+read_said text old new status (inl p) = inl p.1
+read_said text old new status (inr p) = inr p.1
+
+-- a read of the input that failed is told, but where a write failed too
+told_way : (work : Work) (heard told : InputView) (old new : OutputView) (status : Status) → Way work heard told old new status
+    → heard.faults < told.faults → (status ≡ ReadFault) ⊎ (status ≡ WriteFault)
+told_way work heard told old new status (tells text own r o same p) h = absurd (no_rise heard told (same_faults heard told same) h)
+told_way work heard told old new status (lacks_memory same n e) h = absurd (no_rise heard told (same_faults heard told same) h)
+told_way work heard told old new status (breaks_off text own r b same a n e) h = absurd (no_rise heard told (same_faults heard told same) h)
+told_way work heard told old new status (serves_all taken text s moved none quiet r a is) h = absurd (no_rise heard told quiet h)
+told_way work heard told old new status (serves_part taken text s moved rose cut p) h = read_said text old new status p
+told_way work heard told old new status (serves_most taken text s moved full quiet r p) h = absurd (no_rise heard told quiet h)
+told_way work heard told old new status (serves_front taken rest text s moved left quiet full b is) h = absurd (no_rise heard told quiet h)
+
+pub told_of : (words : List (List ℕ)) (before after : FilesView) (heard told : InputView) (old new : OutputView) (status : Status) → Course words before after heard told old new status
+    → heard.faults < told.faults → (status ≡ ReadFault) ⊎ (status ≡ WriteFault)
+told_of words before after heard told old new status (is_no_command n s same p) h = absurd (no_rise heard told (same_faults heard told same) h)
+told_of words before after heard told old new status (has_no_memory s same o e) h = absurd (no_rise heard told (same_faults heard told same) h)
+told_of words before after heard told old new status (ended command ending c g same p) h = absurd (no_rise heard told (same_faults heard told same) h)
+told_of words before after heard told old new status (answered command work c g k a) h = told_way work heard told old new status (way_of work heard told old new status a) h
+
 -- ---- the usage line
 
 -- a text was printed whose own status isn't that of the usage line

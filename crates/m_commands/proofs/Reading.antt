@@ -20,7 +20,7 @@ use Rattle.m_plan.specs.declared.status.Status.TheVariants.{Refused, Usage, Read
 use Rattle.m_ports.specs.Counts.{Rose}
 use Rattle.m_plan.proofs.Walks.{walks_in_order, walks_fit}
 use Rattle.m_commands.specs.Command.{command_of, plan_of, reads_input}
-use Rattle.m_commands.specs.Clauses.{Reading, TellsOfInput, cuts_off}
+use Rattle.m_commands.specs.Clauses.{ReadsInOrder, TellsOfInput, cuts_off}
 use Rattle.m_commands.specs.Output.{fetches_of}
 use Rattle.m_commands.specs.declared.command.Command.{Command}
 use Rattle.m_commands.specs.declared.work.Work.{Work}
@@ -56,7 +56,7 @@ OfInput words before heard told old new status = status ≡ ReadFault → (reads
 -- no attempt failed
 reading_none : (words : List (List ℕ)) (before after : FilesView) (heard told : InputView) (old new : OutputView) (status : Status) (made : List Attempt) → after.attempts ≡ before.attempts ++ made
     → ((disk : Disk) → before.told ≡ Some disk → BeginsWith (fetches_of words disk) (names_tried made)) → NoneFailed made → OfInput words before heard told old new status
-    → Reading words before after heard told old new status
+    → ReadsInOrder words before after heard told old new status
 reading_none words before after heard told old new status made a i n r = record {
   made = made;
   appended = a;
@@ -72,14 +72,14 @@ not_read text own old new status unlike (inl p) e = unlike (sym p.1 ∙ e)
 not_read text own old new status unlike (inr p) e = cc (p.1, e)
 
 -- nothing was fetched
-still : (words : List (List ℕ)) (before after : FilesView) (heard told : InputView) (old new : OutputView) (status : Status) → after ≡ before → (status ≡ ReadFault → ⊥) → Reading words before after heard told old new status
+still : (words : List (List ℕ)) (before after : FilesView) (heard told : InputView) (old new : OutputView) (status : Status) → after ≡ before → (status ≡ ReadFault → ⊥) → ReadsInOrder words before after heard told old new status
 still words before after heard told old new status s r =
     reading_none words before after heard told old new status [] (ap (λ (v : FilesView). v.attempts) s ∙ sym (append-nil before.attempts)) (λ disk t. (fetches_of words disk, refl)) tt
     (λ e. absurd (r e))
 
 -- the last attempt failed, and was told
 last_told : (words : List (List ℕ)) (before after : FilesView) (heard told : InputView) (old new : OutputView) (status : Status) (command : Command) (name : List ℕ) → command_of words ≡ Some command
-    → GoesAlong (plan_of command) before after (Err (ending.Unreadable name)) → Prints (unreadable_line name) ReadFault old new status → Reading words before after heard told old new status
+    → GoesAlong (plan_of command) before after (Err (ending.Unreadable name)) → Prints (unreadable_line name) ReadFault old new status → ReadsInOrder words before after heard told old new status
 last_told words before after heard told old new status command name c g p = record {
   made = g.made;
   appended = g.attempts;
@@ -117,7 +117,7 @@ reading_way words before after heard told old new status command work c g k (ser
 reading_way words before after heard told old new status command work c g k (serves_front taken rest text s moved left calm full b is) = λ e. cc (is, e)
 
 pub reading_of : (words : List (List ℕ)) (before after : FilesView) (heard told : InputView) (old new : OutputView) (status : Status) → Course words before after heard told old new status
-    → Reading words before after heard told old new status
+    → ReadsInOrder words before after heard told old new status
 reading_of words before after heard told old new status (is_no_command n s h p) = still words before after heard told old new status s (not_read usage_line Usage old new status (λ x. cc) p)
 reading_of words before after heard told old new status (has_no_memory s h o m) = still words before after heard told old new status s (λ e. cc (m, e))
 reading_of words before after heard told old new status (ended command (ending.Refused refusal) c g h p) =

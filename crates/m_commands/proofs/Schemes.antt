@@ -11,7 +11,7 @@ use Rattle.m_work.specs.Households.{household_fault_line}
 use Rattle.m_work.specs.Schemes.{Scheme}
 use Rattle.m_work.specs.Sources.{IsScheme, Refuses, scheme_said, source_is_refused, households_are_refused}
 use Rattle.m_commands.specs.Output.{AreOneOutput, the_same, both_cycles, both_recursions}
-use Rattle.m_compile.specs.Faults.{AreOneFault}
+use Rattle.m_compile.specs.Faults.{AreOneSourceFault}
 use Rattle.m_compile.specs.Faults as laws
 use Rattle.m_compile.proofs.OneLaws.{no_valid_and_fault, one_validity, one_fault}
 
@@ -36,7 +36,7 @@ not_refused source said line scheme given valid e (households_are_refused other 
 
 -- ---- two refusals of a source
 
-one_line : (texts : List Text) (fault other : SourceFault) (t u : List ℕ) → AreOneFault fault other → source_line texts fault ≡ Some t → source_line texts other ≡ Some u → AreOneOutput t Refused u Refused
+one_line : (texts : List Text) (fault other : SourceFault) (t u : List ℕ) → AreOneSourceFault fault other → source_line texts fault ≡ Some t → source_line texts other ≡ Some u → AreOneOutput t Refused u Refused
 one_line texts fault other t u (laws.the_same e) a b =
     let c : source_line texts other ≡ Some t = subst (λ (f : SourceFault). source_line texts f ≡ Some t) e a in
     the_same (cc (c, b)) refl

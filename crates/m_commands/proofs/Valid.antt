@@ -28,7 +28,7 @@ use Rattle.m_work.specs.Serves as serve
 use Rattle.m_commands.specs.Answer.{Replies, HasAnswer}
 use Rattle.m_commands.specs.Command.{command_of, plan_of}
 use Rattle.m_commands.specs.Clauses.{AnswersValid, TakesFew}
-use Rattle.m_commands.specs.Output.{IsValid}
+use Rattle.m_commands.specs.Output.{IsValidCommand}
 use Rattle.m_commands.specs.declared.command.Command.{Command}
 use Rattle.m_commands.specs.declared.work.Work.{Work}
 use Rattle.m_commands.specs.declared.work.Work.TheVariants.{Run, Serve, Batch, Large}
@@ -60,14 +60,14 @@ replies_complete (Large n) text status h (large.is_refused {line = line} r) = ab
 replies_complete (Large n) text status h (large.is_told scheme pairs v g) = told_complete (told_to scheme pairs)
 
 -- valid words and files aren't refused
-not_refused : (words : List (List ℕ)) (disk : Disk) (command : Command) (line : List ℕ) → IsValid words disk → command_of words ≡ Some command → end_of disk (plan_of command) ≡ refused line → ⊥
+not_refused : (words : List (List ℕ)) (disk : Disk) (command : Command) (line : List ℕ) → IsValidCommand words disk → command_of words ≡ Some command → end_of disk (plan_of command) ≡ refused line → ⊥
 not_refused words disk command line valid c e =
     let s : command ≡ valid.command = cc (c, valid.is_command) in
     let q : end_of disk (plan_of valid.command) ≡ refused line = subst (λ (x : Command). end_of disk (plan_of x) ≡ refused line) s e in
     cc (q, valid.gathers)
 
 -- what valid words and files gather has an answer
-has_answer : (words : List (List ℕ)) (disk : Disk) (command : Command) (work : Work) → IsValid words disk → command_of words ≡ Some command → end_of disk (plan_of command) ≡ gathered work → HasAnswer work
+has_answer : (words : List (List ℕ)) (disk : Disk) (command : Command) (work : Work) → IsValidCommand words disk → command_of words ≡ Some command → end_of disk (plan_of command) ≡ gathered work → HasAnswer work
 has_answer words disk command work valid c e =
     let s : command ≡ valid.command = cc (c, valid.is_command) in
     let q : end_of disk (plan_of valid.command) ≡ gathered work = subst (λ (x : Command). end_of disk (plan_of x) ≡ gathered work) s e in

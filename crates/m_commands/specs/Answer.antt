@@ -1,7 +1,7 @@
 -- What a command answers with what it has gathered.
 use Rattle.std.specs.Prelude.{ℕ, ◌≤◌, List}
 use Rattle.m_places.specs.declared.limits.TheConstants.{LARGE}
-use Rattle.rule_text.specs.Limits.{KeepsLimits as SourceKeepsLimits}
+use Rattle.rule_text.specs.Limits.{SourceKeepsLimits}
 use Rattle.m_plan.specs.declared.status.Status.{Status}
 use Rattle.m_work.specs.Batches.{BatchReplies, BatchHasAnswer}
 use Rattle.m_work.specs.LargeAnswers.{LargeReplies, LargeHasAnswer}
@@ -39,8 +39,8 @@ HasAnswer (Batch source table) = BatchHasAnswer source table
 HasAnswer (Large n) = LargeHasAnswer n
 
 -- the files that were gathered keep the limits of what is made of them
-abbrev pub KeepsLimits : Work → Type 0
-KeepsLimits (Run source rows) = SourceKeepsLimits source
-KeepsLimits (Serve source rows) = SourceKeepsLimits source
-KeepsLimits (Batch source table) = SourceKeepsLimits source
-KeepsLimits (Large n) = (1 ≤ n) × (n ≤ LARGE)
+abbrev pub WorkKeepsLimits : Work → Type 0
+WorkKeepsLimits (Run source rows) = SourceKeepsLimits source
+WorkKeepsLimits (Serve source rows) = SourceKeepsLimits source
+WorkKeepsLimits (Batch source table) = SourceKeepsLimits source
+WorkKeepsLimits (Large n) = (1 ≤ n) × (n ≤ LARGE)

@@ -15,7 +15,7 @@ use Rattle.m_plan.specs.declared.status.Status.{Status}
 use Rattle.m_plan.specs.declared.status.Status.TheVariants.{Usage, ReadFault, WriteFault, Memory}
 use Rattle.m_commands.specs.Answer.{CutOff, InFull}
 use Rattle.m_commands.specs.Command.{command_of, plan_of, reads_input}
-use Rattle.m_commands.specs.Output.{fetches_of, Output, IsValid}
+use Rattle.m_commands.specs.Output.{fetches_of, Output, IsValidCommand}
 use Rattle.m_commands.specs.declared.command.Command.{Command}
 use Rattle.m_commands.specs.declared.work.Work.{Work}
 
@@ -44,7 +44,7 @@ TellsOfInput words before heard told old new =
 -- `fetches_of`. At most the last of them failed, and then the status says so, or that writing did.
 -- `ReadFault` comes only there or where a fault of the input rose, and the line that tells of an
 -- unreadable file names it.
-pub record Reading (words : List (List ℕ)) (before after : FilesView) (heard told : InputView) (old new : OutputView) (status : Status) : Type 0 where
+pub record ReadsInOrder (words : List (List ℕ)) (before after : FilesView) (heard told : InputView) (old new : OutputView) (status : Status) : Type 0 where
   pub made : List Attempt
   pub appended : after.attempts ≡ before.attempts ++ made
   pub in_order : (disk : Disk) → before.told ≡ Some disk → BeginsWith (fetches_of words disk) (names_tried made)
@@ -55,19 +55,19 @@ pub record Reading (words : List (List ℕ)) (before after : FilesView) (heard t
 
 -- A text that a call writes if no write fails: an output, the line of the file that can't be read, or the text of a read of the input that
 -- failed; or, of more than a session takes, the replies to all of it.
-pub data IsWhole (words : List (List ℕ)) (disk : Disk) (typed : List ℕ) (before after : FilesView) (heard told : InputView) (text : List ℕ) : Type 0 where
-  output : {status : Status} → Output words disk typed text status → IsWhole words disk typed before after heard told text
+pub data IsWholeText (words : List (List ℕ)) (disk : Disk) (typed : List ℕ) (before after : FilesView) (heard told : InputView) (text : List ℕ) : Type 0 where
+  output : {status : Status} → Output words disk typed text status → IsWholeText words disk typed before after heard told text
   unreadable : {made : List Attempt} {name : List ℕ} → after.attempts ≡ before.attempts ++ made → LastFailed made name → text ≡ unreadable_line name
-      → IsWhole words disk typed before after heard told text
-  cut_off : (taken : List ℕ) → heard.left ≡ prepend_known taken told.left → IsCutOff words disk taken text → IsWhole words disk typed before after heard told text
+      → IsWholeText words disk typed before after heard told text
+  cut_off : (taken : List ℕ) → heard.left ≡ prepend_known taken told.left → Rose heard.faults told.faults → IsCutOff words disk taken text → IsWholeText words disk typed before after heard told text
   in_full : (command : Command) (work : Work) → command_of words ≡ Some command → end_of disk (plan_of command) ≡ gathered work → InFull work typed text
-      → IsWhole words disk typed before after heard told text
+      → IsWholeText words disk typed before after heard told text
 
 -- Where the files and the input are told and a write failed, what is appended is the front of a whole text.
 abbrev pub WritesFront : List (List ℕ) → FilesView → FilesView → InputView → InputView → OutputView → OutputView → Status → Type 0
 WritesFront words before after heard told old new status =
     (disk : Disk) (typed : List ℕ) → before.told ≡ Some disk → IsTyped words heard typed → status ≡ WriteFault
-    → (text : List ℕ) × IsWhole words disk typed before after heard told text × AppendsPrefix old.written new.written text
+    → (text : List ℕ) × IsWholeText words disk typed before after heard told text × AppendsPrefix old.written new.written text
 
 -- Where the files are told and there was no memory, nothing is appended or the front of an output.
 abbrev pub StopsInFront : List (List ℕ) → FilesView → OutputView → OutputView → Status → Type 0
@@ -87,7 +87,7 @@ TakesFew words heard told = reads_input words ≡ true → (taken : List ℕ) �
 -- What is valid is answered, unless a read, a write or memory failed.
 abbrev pub AnswersValid : List (List ℕ) → FilesView → FilesView → InputView → InputView → OutputView → OutputView → Status → Type 0
 AnswersValid words before after heard told old new status =
-    (disk : Disk) → before.told ≡ Some disk → IsValid words disk → NothingFailed before after heard told old new → TakesFew words heard told → IsComplete status
+    (disk : Disk) → before.told ≡ Some disk → IsValidCommand words disk → NothingFailed before after heard told old new → TakesFew words heard told → IsComplete status
 
 -- The usage line is printed only for words that are no command, and for these always but where a write
 -- or memory failed.

@@ -4,6 +4,7 @@ use Rattle.std.specs.List.{list_all}
 use Rattle.std.specs.Option.{option_map, option_map_or, option_or}
 use Rattle.std.specs.Str.{bytes_eq, is_utf8}
 use Rattle.m_places.specs.declared.limits.TheConstants.{FILE_BYTES, LARGE}
+use Rattle.m_text.specs.Bytes.{is_digit}
 use Rattle.m_plan.specs.Plan.{Plan, done, file_plan, and_then}
 use Rattle.m_source.specs.Source.{source_plan}
 use Rattle.m_source.specs.declared.source.SourceNames.{SourceNames}
@@ -16,9 +17,6 @@ use Rattle.m_commands.specs.declared.work.Work.{Work}
 use Rattle.m_commands.specs.declared.work.Work.TheVariants as work
 
 -- ---- words
-
-abbrev pub is_digit : ℕ → Bool
-is_digit b = nat_le 48 b && nat_le b 57
 
 -- The number of digits behind those of a number so far. One that is past the greatest of `large N` already has no further digits.
 abbrev pub digits_behind : ℕ → List ℕ → Option ℕ

@@ -25,7 +25,7 @@ pub data Output (words : List (List ℕ)) (disk : Disk) (typed : List ℕ) : Lis
 
 -- Words and files for which a command has all that it wants: its files are there and keep their limits, its plan isn't
 -- refused, and what it gathers has an answer.
-pub record IsValid (words : List (List ℕ)) (disk : Disk) : Type 0 where
+pub record IsValidCommand (words : List (List ℕ)) (disk : Disk) : Type 0 where
   pub command : Command
   pub is_command : command_of words ≡ Some command
   pub work : Work

@@ -1,6 +1,6 @@
 //! What a command answers with what it has gathered, printed as it is made.
 ghost use Rattle.m_plan.specs.Views.{input_view, output_view};
-ghost use Rattle.m_commands.specs.Answer.{KeepsLimits};
+ghost use Rattle.m_commands.specs.Answer.{WorkKeepsLimits};
 ghost use Rattle.m_commands.specs.inner.Courses.{WorkIsAnswered};
 
 use crate::work::Work;
@@ -18,7 +18,7 @@ pub fn answer<R: Threads + Sync, S: Source, K: Sink>(
     input: &mut S,
     out: &mut K,
 ) -> Status
-    requires { KeepsLimits work.now }
+    requires { WorkKeepsLimits work.now }
     ensures { WorkIsAnswered work.now (input_view S.left S.faults input.old) (input_view S.left S.faults input.new)
         (output_view K.written K.faults out.old) (output_view K.written K.faults out.new) result }
 {

@@ -1,11 +1,11 @@
 //! The words of the command line.
 ghost use Rattle.std.specs.Prelude.{◌≡◌, IfOk, IfSome};
-ghost use Rattle.m_commands.specs.Command.{IsInReach, command_of, digits_behind, form_of, is_digit, large_command, large_number, of_form, source_command};
+ghost use Rattle.m_commands.specs.Command.{IsInReach, command_of, digits_behind, form_of, large_command, large_number, of_form, source_command};
 
 use m_places::limits::LARGE;
 use m_places::{Name, Word};
 use m_source::SourceNames;
-use m_text::is_text;
+use m_text::{is_digit, is_text};
 use std::alloc::{AllocError, Global};
 
 /// A command, with the names of its files.
@@ -81,12 +81,6 @@ fn digits_of(word: &[u8]) -> Option<u32>
         left = rest;
     }
     Some(number)
-}
-
-fn is_digit(byte: u8) -> bool
-    ensures { result ≡ is_digit byte }
-{
-    b'0' <= byte && byte <= b'9'
 }
 
 // The command over a source that the words are, if they are one. Its only error is want of memory.

@@ -1,9 +1,9 @@
 //! The files of a command, gathered along its plan.
 ghost use Rattle.std.specs.Prelude.{◌≡◌, IfOk, Some};
-ghost use Rattle.rule_text.specs.Limits.{KeepsLimits as SourceKeepsLimits};
+ghost use Rattle.rule_text.specs.Limits.{SourceKeepsLimits};
 ghost use Rattle.m_plan.specs.Trips.{GoesAlong};
 ghost use Rattle.m_plan.specs.Views.{files_view};
-ghost use Rattle.m_commands.specs.Answer.{KeepsLimits};
+ghost use Rattle.m_commands.specs.Answer.{WorkKeepsLimits};
 ghost use Rattle.m_commands.specs.Command.{IsInReach, plan_of, work_of, work_plan};
 ghost use Rattle.m_commands.specs.inner.Courses.{IsWorkOf, work_form};
 
@@ -22,7 +22,7 @@ pub fn gather<F: Files>(alloc: Global, files: &mut F, command: &Command) -> Resu
     requires { IsInReach command.now }
     ensures along { GoesAlong (plan_of command.now) (files_view F.told F.attempts F.taken files.old)
         (files_view F.told F.attempts F.taken files.new) result }
-    ensures within { IfOk result KeepsLimits }
+    ensures within { IfOk result WorkKeepsLimits }
     ensures kind { IfOk result (IsWorkOf command.now) }
 {
     match command {
@@ -45,7 +45,7 @@ fn gather_work<F: Files>(
 ) -> Result<Work, Ending>
     ensures along { GoesAlong (work_plan names.now behind.now (work_of form)) (files_view F.told F.attempts F.taken files.old)
         (files_view F.told F.attempts F.taken files.new) result }
-    ensures within { IfOk result KeepsLimits }
+    ensures within { IfOk result WorkKeepsLimits }
     ensures kind { IfOk result (λ work. work_form work ≡ Some form) }
 {
     let source = gather_source(alloc, files, names)?;
@@ -57,7 +57,7 @@ fn gather_work<F: Files>(
 fn work_of(form: Form, source: Source, bytes: Seq<u8>) -> Work
     requires { SourceKeepsLimits source }
     ensures work { result ≡ work_of form source bytes }
-    ensures within { KeepsLimits result }
+    ensures within { WorkKeepsLimits result }
     ensures kind { work_form result ≡ Some form }
 {
     match form {

@@ -1,11 +1,11 @@
 //! The top call.
-ghost use Rattle.std.specs.Prelude.{◌≡◌, ◌<◌, ℕ, List, false};
+ghost use Rattle.std.specs.Prelude.{◌≡◌, ◌<◌, ◌⊎◌, ℕ, List, false};
 ghost use Rattle.m_ports.specs.Counts.{Rose};
 ghost use Rattle.m_plan.specs.Attempts.{TakesWithin};
 ghost use Rattle.m_plan.specs.Views.{Disk, files_view, input_view, output_view};
 ghost use Rattle.m_plan.specs.declared.status.Status.{Status};
 ghost use Rattle.m_commands.specs.Command.{limit_of, reads_input, writes_early};
-ghost use Rattle.m_commands.specs.Clauses.{PrintsOutput, Reading, WritesFront, StopsInFront, AnswersValid, IsToldUsage};
+ghost use Rattle.m_commands.specs.Clauses.{PrintsOutput, ReadsInOrder, WritesFront, StopsInFront, AnswersValid, IsToldUsage};
 ghost use Rattle.m_commands.specs.Output.{Output, AreOneOutput};
 ghost use Rattle.m_commands.specs.inner.Courses.{Course};
 
@@ -62,13 +62,16 @@ pub fn m_tax<R: Threads + Sync, F: Files, S: Source, K: Sink>(
 
     // The attempts on files are those of `fetches_of`, at most the last of them failed, and a read fault
     // is told only there or where a read of the input failed. All files together give at most one byte past the limit for each that was tried.
-    ensures reading { Reading words.now (files_view F.told F.attempts F.taken files.old) (files_view F.told F.attempts F.taken files.new)
+    ensures reading { ReadsInOrder words.now (files_view F.told F.attempts F.taken files.old) (files_view F.told F.attempts F.taken files.new)
         (input_view S.left S.faults input.old) (input_view S.left S.faults input.new)
         (output_view K.written K.faults out.old) (output_view K.written K.faults out.new) result }
     ensures taken { TakesWithin (limit_of words.now) (files_view F.told F.attempts F.taken files.old)
         (files_view F.told F.attempts F.taken files.new) result }
     ensures input_left { reads_input words.now ≡ false → S.left input.new ≡ S.left input.old }
     ensures input_faults { reads_input words.now ≡ false → S.faults input.new ≡ S.faults input.old }
+
+    // A read of the input that failed is told, but where a write failed too.
+    ensures read_told { S.faults input.old < S.faults input.new → (result ≡ Status.ReadFault) ⊎ (result ≡ Status.WriteFault) }
 
     // A write fault is told only where one happened and always where one did, and what was written is
     // the front of a text, or of the replies to all of an input.

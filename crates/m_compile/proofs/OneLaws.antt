@@ -13,15 +13,15 @@ use Rattle.mpp_parser.specs.declared.command.Driver.{Driver}
 use Rattle.mpp_parser.specs.Faults.{IsDriver, IsFault}
 use Rattle.mpp_parser.proofs.FaultLaws.{one_driver_of, driver_or_fault, one_fault as one_line_fault}
 use Rattle.mpp_core.specs.declared.fault.CoreFault.{CoreFault}
-use Rattle.mpp_core.specs.Cores.{IsCore, IsCoreFault, AreOneFault as AreOneCoreFault, the_same as the_same_core, both_rings as both_core_rings}
+use Rattle.mpp_core.specs.Cores.{IsCore, IsCoreFault, AreOneCoreFault, the_same as the_same_core, both_rings as both_core_rings}
 use Rattle.mpp_core.proofs.OneLaws.{one_core, no_core_and_fault, one_fault as one_core_fault}
 use Rattle.rule_base.specs.declared.fault.RuleFault.{RuleFault}
-use Rattle.rule_base.specs.Faults.{IsRuleFault, AreOneFault as AreOneRuleFault, the_same as the_same_rules, both_cycles as both_rule_cycles}
+use Rattle.rule_base.specs.Faults.{IsRuleFault, AreOneRuleFault, the_same as the_same_rules, both_cycles as both_rule_cycles}
 use Rattle.rule_base.proofs.OneLaws.{one_base, no_base_and_fault, one_fault as one_rule_fault}
 use Rattle.m_compile.specs.declared.fault.SourceFault.{SourceFault}
 use Rattle.m_compile.specs.declared.fault.SourceFault.TheVariants.{Rules, Driver as DriverIs, Core as CoreIs, Requests, DriverTooLarge}
 use Rattle.m_compile.specs.Sources.{HasRules, IsWritten, without, by_driver, running, IsValid}
-use Rattle.m_compile.specs.Faults.{told_weight, IsSourceFault, of_rules, of_driver, of_core, of_requests, of_weight, AreOneFault, the_same, both_cycles, both_rings}
+use Rattle.m_compile.specs.Faults.{told_weight, IsSourceFault, of_rules, of_driver, of_core, of_requests, of_weight, AreOneSourceFault, the_same, both_cycles, both_rings}
 
 some_one : {A : Type 0} {o : Option A} {x y : A} → o ≡ Some x → o ≡ Some y → x ≡ y
 some_one e f = cc
@@ -98,15 +98,15 @@ no_valid_and_fault source declared base written requests _ v (of_weight {declare
     absurd (omega (arith, light, less, same))
 
 -- The faults of an earlier step stand before those of a later one.
-one_of_rules : {fault other : RuleFault} → AreOneRuleFault fault other → AreOneFault (Rules fault) (Rules other)
+one_of_rules : {fault other : RuleFault} → AreOneRuleFault fault other → AreOneSourceFault (Rules fault) (Rules other)
 one_of_rules (the_same_rules e) = the_same (ap Rules e)
 one_of_rules both_rule_cycles = both_cycles
 
-one_of_core : {fault other : CoreFault} → AreOneCoreFault fault other → AreOneFault (CoreIs fault) (CoreIs other)
+one_of_core : {fault other : CoreFault} → AreOneCoreFault fault other → AreOneSourceFault (CoreIs fault) (CoreIs other)
 one_of_core (the_same_core e) = the_same (ap CoreIs e)
 one_of_core both_core_rings = both_rings
 
-by_rules : (source : Source) (fault : RuleFault) (other : SourceFault) → IsRuleFault source.texts source.application fault → IsSourceFault source other → AreOneFault (Rules fault) other
+by_rules : (source : Source) (fault : RuleFault) (other : SourceFault) → IsRuleFault source.texts source.application fault → IsSourceFault source other → AreOneSourceFault (Rules fault) other
 by_rules source fault _ f (of_rules {fault = g} k) = one_of_rules (one_rule_fault source.texts source.application fault g f k)
 by_rules source fault _ f (of_driver h e k) = absurd (rules_or_fault source h f)
 by_rules source fault _ f (of_core driver h e d k) = absurd (rules_or_fault source h f)
@@ -114,7 +114,7 @@ by_rules source fault _ f (of_requests h w e) = absurd (rules_or_fault source h 
 by_rules source fault _ f (of_weight h w r less) = absurd (rules_or_fault source h f)
 
 by_lines : (source : Source) (declared : Declared) (base : Base) (bytes : List ℕ) (fault : DriverFault) (other : SourceFault) → HasRules source declared base → source.driver ≡ Some bytes → IsFault bytes fault
-    → IsSourceFault source other → AreOneFault (DriverIs fault) other
+    → IsSourceFault source other → AreOneSourceFault (DriverIs fault) other
 by_lines source declared base bytes fault _ a e f (of_rules k) = absurd (rules_or_fault source a k)
 by_lines source declared base bytes fault _ a e f (of_driver {bytes = bs} {fault = g} h i k) =
     the_same (ap DriverIs (one_line_fault bs fault g (subst (λ (b : List ℕ). IsFault b fault) (some_one e i) f) k))
@@ -123,7 +123,7 @@ by_lines source declared base bytes fault _ a e f (of_requests {declared = other
 by_lines source declared base bytes fault _ a e f (of_weight {declared = others} {written = w} h x r less) = absurd (lines_well others source.driver w bytes fault e x f)
 
 by_names : (source : Source) (declared : Declared) (base : Base) (bytes : List ℕ) (spelled : Driver) (fault : CoreFault) (other : SourceFault) → HasRules source declared base → source.driver ≡ Some bytes → IsDriver bytes spelled
-    → IsCoreFault spelled declared fault → IsSourceFault source other → AreOneFault (CoreIs fault) other
+    → IsCoreFault spelled declared fault → IsSourceFault source other → AreOneSourceFault (CoreIs fault) other
 by_names source declared base bytes spelled fault _ a e d f (of_rules k) = absurd (rules_or_fault source a k)
 by_names source declared base bytes spelled fault _ a e d f (of_driver {fault = g} h i k) = absurd (driver_or_fault bytes spelled g d (subst (λ (b : List ℕ). IsFault b g) (some_one i e) k))
 by_names source declared base bytes spelled fault _ a e d f (of_core {declared = others} {bytes = bs} {fault = g} driver h i c k) =
@@ -134,7 +134,7 @@ by_names source declared base bytes spelled fault _ a e d f (of_requests {declar
 by_names source declared base bytes spelled fault _ a e d f (of_weight {declared = others} {written = w} h x r less) = absurd (names_well others declared source.driver w bytes spelled fault (rules_one source h a).0 e x d f)
 
 by_requests : (source : Source) (declared : Declared) (base : Base) (written : Option Core) (fault : RequestFault) (other : SourceFault) → HasRules source declared base → IsWritten declared source.driver written
-    → requests_said source.requests declared ≡ Err fault → IsSourceFault source other → AreOneFault (Requests fault) other
+    → requests_said source.requests declared ≡ Err fault → IsSourceFault source other → AreOneSourceFault (Requests fault) other
 by_requests source declared base written fault _ a w e (of_rules k) = absurd (rules_or_fault source a k)
 by_requests source declared base written fault _ a w e (of_driver {bytes = bs} {fault = g} h i k) = absurd (lines_well declared source.driver written bs g i w k)
 by_requests source declared base written fault _ a w e (of_core {declared = others} {bytes = bs} {fault = g} driver h i d k) = absurd (names_well declared others source.driver written bs driver g (rules_one source a h).0 i w d k)
@@ -143,7 +143,7 @@ by_requests source declared base written fault _ a w e (of_weight h x r less) = 
 
 by_weight : (source : Source) (declared : Declared) (base : Base) (written : Option Core) (requests : List ℕ) (other : SourceFault) → HasRules source declared base → IsWritten declared source.driver written
     → requests_said source.requests declared ≡ Ok requests → DRIVER_WEIGHT < weight_of (running written requests declared) base → IsSourceFault source other
-    → AreOneFault (DriverTooLarge (told_weight (running written requests declared) base)) other
+    → AreOneSourceFault (DriverTooLarge (told_weight (running written requests declared) base)) other
 by_weight source declared base written requests _ a w e less (of_rules k) = absurd (rules_or_fault source a k)
 by_weight source declared base written requests _ a w e less (of_driver {bytes = bs} {fault = g} h i k) = absurd (lines_well declared source.driver written bs g i w k)
 by_weight source declared base written requests _ a w e less (of_core {declared = others} {bytes = bs} {fault = g} driver h i d k) =
@@ -155,7 +155,7 @@ by_weight source declared base written requests _ a w e less (of_weight {declare
     let p = ok_one e (requests_one source s.0 ∙ r) in
     the_same (λ i. DriverTooLarge (told_weight (running (q i) (p i) (s.0 i)) (s.1 i)))
 
-pub one_fault : (source : Source) (fault other : SourceFault) → IsSourceFault source fault → IsSourceFault source other → AreOneFault fault other
+pub one_fault : (source : Source) (fault other : SourceFault) → IsSourceFault source fault → IsSourceFault source other → AreOneSourceFault fault other
 one_fault source _ other (of_rules {fault = f} k) h = by_rules source f other k h
 one_fault source _ other (of_driver {declared = d} {base = b} {bytes = bs} {fault = f} a e k) h = by_lines source d b bs f other a e k h
 one_fault source _ other (of_core {declared = d} {base = b} {bytes = bs} {fault = f} driver a e s k) h = by_names source d b bs driver f other a e s k h

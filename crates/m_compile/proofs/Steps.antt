@@ -2,7 +2,7 @@
 use Rattle.std.proofs.Common.{◌≡◌, ◌≢◌, ◌≤◌, ◌<◌, ◌^◌, ℕ, Bool, true, false, List, [], All, map, length, Option, None, Some, min, Result, Ok, Err, nat_lt, cond, refl, sym, ap, ◌∙◌, subst, arith}
 use Rattle.std.proofs.lemmas.Bool.{ltb-false}
 use Rattle.std.proofs.lemmas.List.{length-map}
-use Rattle.std.specs.Prelude.{IfOk}
+use Rattle.std.specs.Prelude.{IfOk, take}
 use Rattle.m_places.specs.Refusals.{Outcome}
 use Rattle.m_places.specs.declared.limits.TheConstants.{DRIVER_WEIGHT, REQUESTS}
 use Rattle.rule_text.specs.declared.Source.{Source}
@@ -11,6 +11,7 @@ use Rattle.m_symbols.specs.Declarations.{Declared, codes_of, inputs_from}
 use Rattle.m_symbols.proofs.Numbered.{as_many_codes}
 use Rattle.m_requests.specs.Cells.{cell_name, returned_cells}
 use Rattle.flat_code.specs.declared.face.FaceLabel.{FaceLabel}
+use Rattle.flat_code.specs.declared.face.FaceLabel.TheVariants.{Verif}
 use Rattle.micro_m.specs.declared.base.Base.{Base}
 use Rattle.micro_m.specs.Reads.{HasNoCycle}
 use Rattle.driver_core.specs.declared.program.Core.{Core}
@@ -40,7 +41,7 @@ use Rattle.m_compile.specs.declared.fault.SourceFault.TheVariants.{Memory}
 use Rattle.m_compile.specs.Sources.{HasRules, IsWritten, IsValid, running}
 use Rattle.m_compile.specs.Faults.{IsSourceFault, of_rules, of_driver, of_core, of_requests, of_weight, told_weight}
 use Rattle.m_compile.specs.Compiled.{IsCompiled, IsRunnable}
-use Rattle.m_compile.specs.inner.Parts.{IsProgram, IsHeavy, heavy, of_lines, of_names, IsFaultOf, of_bytes}
+use Rattle.m_compile.specs.inner.Parts.{IsProgram, IsHeavy, heavy, of_lines, of_names, IsDriverFault}
 use Rattle.m_compile.specs.inner.Steps.{rule_step, driver_step, core_step, request_step, inline_step}
 
 -- the fault of the rule files
@@ -60,26 +61,26 @@ rules_made source texts application declared base t a b n =
     record { made = subst (λ (x : List Text). IsBaseOf x source.application declared base) t (subst (λ (x : List ℕ). IsBaseOf texts x declared base) a b); no_cycle = n }
 
 -- the fault of the driver's lines
-pub lines_told : (declared : Declared) (bytes : List ℕ) (fault : DriverFault) → (fault ≢ lines.Memory → IsFault bytes fault) → driver_step fault ≢ Memory → IsFaultOf declared (Some bytes) (driver_step fault)
+pub lines_told : (declared : Declared) (bytes : List ℕ) (fault : DriverFault) → (fault ≢ lines.Memory → IsFault bytes fault) → driver_step fault ≢ Memory → IsDriverFault declared (Some bytes) (driver_step fault)
 lines_told declared bytes lines.Memory h k = absurd (k refl)
-lines_told declared bytes (lines.DriverToken n) h k = of_bytes (of_lines (h (λ e. cc)))
-lines_told declared bytes (lines.DriverTooDeep n) h k = of_bytes (of_lines (h (λ e. cc)))
-lines_told declared bytes (lines.DriverSyntax n) h k = of_bytes (of_lines (h (λ e. cc)))
+lines_told declared bytes (lines.DriverToken n) h k = of_lines (h (λ e. cc))
+lines_told declared bytes (lines.DriverTooDeep n) h k = of_lines (h (λ e. cc))
+lines_told declared bytes (lines.DriverSyntax n) h k = of_lines (h (λ e. cc))
 
 -- the fault of the driver's names
 pub names_told : (declared : Declared) (bytes : List ℕ) (driver : Driver) (fault : CoreFault) → IsDriver bytes driver → (fault ≢ core.Memory → IsCoreFault driver declared fault) → core_step fault ≢ Memory
-    → IsFaultOf declared (Some bytes) (core_step fault)
+    → IsDriverFault declared (Some bytes) (core_step fault)
 names_told declared bytes driver core.Memory d h k = absurd (k refl)
-names_told declared bytes driver (core.FunctionTwice name line) d h k = of_bytes (of_names driver d (h (λ e. cc)))
-names_told declared bytes driver core.NoMain d h k = of_bytes (of_names driver d (h (λ e. cc)))
-names_told declared bytes driver (core.UnknownInDriver name line) d h k = of_bytes (of_names driver d (h (λ e. cc)))
-names_told declared bytes driver (core.BadTargetInDriver name line) d h k = of_bytes (of_names driver d (h (λ e. cc)))
-names_told declared bytes driver (core.DriverRecursion names) d h k = of_bytes (of_names driver d (h (λ e. cc)))
+names_told declared bytes driver (core.FunctionTwice name line) d h k = of_names driver d (h (λ e. cc))
+names_told declared bytes driver core.NoMain d h k = of_names driver d (h (λ e. cc))
+names_told declared bytes driver (core.UnknownInDriver name line) d h k = of_names driver d (h (λ e. cc))
+names_told declared bytes driver (core.BadTargetInDriver name line) d h k = of_names driver d (h (λ e. cc))
+names_told declared bytes driver (core.DriverRecursion names) d h k = of_names driver d (h (λ e. cc))
 
 -- the fault of a driver is one of the source
-pub driver_told : (source : Source) (declared : Declared) (base : Base) (given : Option (List ℕ)) (fault : SourceFault) → HasRules source declared base → source.driver ≡ given → IsFaultOf declared given fault → IsSourceFault source fault
-driver_told source declared base _ fault r e (of_bytes (of_lines f)) = of_driver r e f
-driver_told source declared base _ fault r e (of_bytes (of_names driver d f)) = of_core driver r e d f
+pub driver_told : (source : Source) (declared : Declared) (base : Base) (given : Option (List ℕ)) (fault : SourceFault) → HasRules source declared base → source.driver ≡ given → IsDriverFault declared given fault → IsSourceFault source fault
+driver_told source declared base _ fault r e (of_lines f) = of_driver r e f
+driver_told source declared base _ fault r e (of_names driver d f) = of_core driver r e d f
 
 -- the fault of the requests
 pub requests_told : (source : Source) (declared : Declared) (base : Base) (written : Option Core) (fault : RequestFault) → HasRules source declared base → IsWritten declared source.driver written
@@ -125,6 +126,8 @@ finished source declared base written asked core (Ok compiled) r d q e p = recor
   runnable = p.runnable;
   codes = p.codes;
   outputs = p.outputs;
+  first_labels = p.first_labels;
+  nodes_fit = p.nodes_fit;
   answers = λ inputs. rw (sym e) (p.answers inputs);
 }
 finished source declared base written asked core (Err fault) r d q e p = λ m. heavy_told source declared base written asked fault r d q (subst (λ c. IsHeavy c base fault) e (p m))
@@ -158,6 +161,8 @@ program_made declared base core asked compiled labels w i l f o d h = record {
   };
   codes = d;
   outputs = o;
+  first_labels = subst (λ (ls : List FaceLabel). take (length base.labels) ls ≡ map Verif base.labels) (sym l) i.first_labels;
+  nodes_fit = i.nodes_fit;
   answers = λ inputs. rw l (i.answer inputs);
 }
 

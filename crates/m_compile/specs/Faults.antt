@@ -44,7 +44,7 @@ pub data IsSourceFault (source : Source) : SourceFault → Type 0 where
       → DRIVER_WEIGHT < weight_of (running written requests declared) base → IsSourceFault source (DriverTooLarge (told_weight (running written requests declared) base))
 
 -- Two faults are one where they are the same, or where both show a cycle of cells, or both a ring of functions, of which any true one may be shown.
-pub data AreOneFault : SourceFault → SourceFault → Type 0 where
-  the_same : {fault other : SourceFault} → fault ≡ other → AreOneFault fault other
-  both_cycles : {names others : List (List ℕ)} → AreOneFault (Rules (Cycle names)) (Rules (Cycle others))
-  both_rings : {names others : List (List ℕ)} → AreOneFault (CoreIs (DriverRecursion names)) (CoreIs (DriverRecursion others))
+pub data AreOneSourceFault : SourceFault → SourceFault → Type 0 where
+  the_same : {fault other : SourceFault} → fault ≡ other → AreOneSourceFault fault other
+  both_cycles : {names others : List (List ℕ)} → AreOneSourceFault (Rules (Cycle names)) (Rules (Cycle others))
+  both_rings : {names others : List (List ℕ)} → AreOneSourceFault (CoreIs (DriverRecursion names)) (CoreIs (DriverRecursion others))

@@ -3,7 +3,7 @@
 ghost use Rattle.std.specs.Prelude.{◌≡◌, ◌<◌, ◌≤◌, All, IfOk, IfSome, Ok, length};
 ghost use Rattle.m_places.specs.Refusals.{Outcome};
 ghost use Rattle.m_places.specs.declared.limits.TheConstants.{FILE_BYTES, REQUESTS};
-ghost use Rattle.rule_text.specs.Limits.{KeepsLimits, IsWithin};
+ghost use Rattle.rule_text.specs.Limits.{SourceKeepsLimits, FileIsWithin};
 ghost use Rattle.m_symbols.specs.Declarations.{owners_from};
 ghost use Rattle.m_requests.specs.Placed.{IsPlaced};
 ghost use Rattle.micro_m.specs.Bases.{IsValidBase};
@@ -11,7 +11,7 @@ ghost use Rattle.rule_order.specs.Orders.{IsOrder};
 ghost use Rattle.m_compile.specs.Sources.{IsWritten, running};
 ghost use Rattle.m_compile.specs.Faults.{IsSourceFault};
 ghost use Rattle.m_compile.specs.Compiled.{IsCompiled, IsRunnable};
-ghost use Rattle.m_compile.specs.inner.Parts.{IsProgram, IsHeavy, IsFaultOf};
+ghost use Rattle.m_compile.specs.inner.Parts.{IsProgram, IsHeavy, IsDriverFault};
 ghost use Rattle.m_compile.specs.declared.fault.SourceFault.TheVariants.{Memory};
 
 use crate::SourceFault;
@@ -45,7 +45,7 @@ pub struct Compiled {
 ///
 /// For every list of values of the inputs the program answers, read through its face, what the source says.
 pub fn compile(alloc: Global, source: &Source) -> Result<Compiled, SourceFault>
-    requires { KeepsLimits source.now }
+    requires { SourceKeepsLimits source.now }
     ensures outcome { Outcome Memory result (IsCompiled source.now) (IsSourceFault source.now) }
     ensures runnable { IfOk result IsRunnable }
 {
@@ -62,9 +62,9 @@ fn written(
     driver: &Option<Seq<u8>>,
     symbols: &Symbols,
 ) -> Result<Option<Core>, SourceFault>
-    requires within { IsWithin driver.now }
+    requires within { FileIsWithin driver.now }
     requires placed { IsPlaced symbols.now }
-    ensures { Outcome Memory result (IsWritten symbols.now driver.now) (IsFaultOf symbols.now driver.now) }
+    ensures { Outcome Memory result (IsWritten symbols.now driver.now) (IsDriverFault symbols.now driver.now) }
 {
     match driver {
         Some(bytes) => Ok(Some(core_of(alloc, bytes.as_slice(), symbols)?)),
@@ -76,7 +76,7 @@ fn written(
 fn core_of(alloc: Global, bytes: &[u8], symbols: &Symbols) -> Result<Core, SourceFault>
     requires within { length bytes.now ≤ FILE_BYTES }
     requires placed { IsPlaced symbols.now }
-    ensures { Outcome Memory result (λ core. IsWritten symbols.now (Some bytes.now) (Some core)) (IsFaultOf symbols.now (Some bytes.now)) }
+    ensures { Outcome Memory result (λ core. IsWritten symbols.now (Some bytes.now) (Some core)) (IsDriverFault symbols.now (Some bytes.now)) }
 {
     let driver = parse_driver(alloc, bytes)?;
     let core = resolve_driver(alloc, &driver, symbols)?;

@@ -5,7 +5,7 @@ ghost use Rattle.m_symbols.specs.Declarations.{Declared};
 ghost use Rattle.micro_m.specs.declared.base.Base.{Base};
 ghost use Rattle.driver_core.specs.declared.program.Core.{Core};
 ghost use Rattle.m_compile.specs.Sources.{IsValid};
-ghost use Rattle.m_compile.specs.Faults.{IsSourceFault, AreOneFault};
+ghost use Rattle.m_compile.specs.Faults.{IsSourceFault, AreOneSourceFault};
 ghost use Rattle.m_compile.specs.declared.fault.SourceFault.{SourceFault};
 
 /// A valid source declares one thing, its rules are one base, one driver was written or none, and these cells alone are asked for.
@@ -23,5 +23,5 @@ pub fn no_valid_and_fault()
 
 /// A source has at most one fault, but for which cycle of cells or which ring of functions is shown.
 pub fn one_fault()
-    ensures { (source : Source) (fault other : SourceFault) → IsSourceFault source fault → IsSourceFault source other → AreOneFault fault other }
+    ensures { (source : Source) (fault other : SourceFault) → IsSourceFault source fault → IsSourceFault source other → AreOneSourceFault fault other }
 {}

@@ -1,8 +1,10 @@
 -- What rounding makes of decimals.
 use Rattle.std.proofs.Common.{◌≡◌, ℕ, suc, ◌+◌, ◌-◌, ◌*◌, ◌^◌, ◌<◌, ◌≤◌, List, length, drop, get_or, arith, sym, ap, ◌∙◌, add-one}
-use Rattle.std.specs.Prelude.{IsTrue}
+use Rattle.std.specs.Prelude.{IsTrue, if◌then◌else◌, ◌==◌, ◌/◌}
 use Rattle.std.proofs.Math.Nat.{pow-suc, le_refl, div-eq_of_lt-le}
+use Rattle.std.proofs.lemmas.Bool.{ne_eqb}
 use Rattle.std.proofs.lemmas.Nat.{mul-le}
+use Rattle.m_fixed.specs.Amounts.{unit}
 use Rattle.std.specs.Str.Parse.{digits_value}
 use Rattle.m_fixed.specs.Rounding.{nearest}
 use Rattle.m_fixed.specs.Text.{only_digits}
@@ -21,6 +23,14 @@ nearest_up q d r n e below half =
 
 pub nearest_down : (q d r n : ℕ) → n ≡ q * d + r → 2 * r < d → nearest n d ≡ q
 nearest_down q d r n e below = div-eq_of_lt-le {k = q} (2 * d) (omega (arith, twice q d)) (omega (arith, one_more q (2 * d), twice q d))
+
+-- a guess is the quotient where what it leaves is less than the divisor
+guessed_right : (n d q : ℕ) → q * d ≤ n → n < q * d + d → n / d ≡ q
+guessed_right n d q low high = div-eq_of_lt-le {k = q} d low (omega (arith, one_more q d))
+
+pub quotient_guessed : (size by q : ℕ) → (2 * q) * by ≤ size * 2_000_000 + by → size * 2_000_000 + by < (2 * q) * by + 2 * by → (if by == 0 then 0 else nearest (size * unit) by) ≡ q
+quotient_guessed size by q low high =
+    rw (ne_eqb by 0 (λ e. absurd (omega arith))) (guessed_right (2 * (size * unit) + by) (2 * by) q (omega arith) (omega arith))
 
 -- the first decimals as a number, and what is left
 pub decimals_more : (f p k s t a b d : ℕ) → t ≡ s * 10 → f * s ≡ p * k + a * s → a * t ≡ d * k + b * t → f * t ≡ (p * 10 + d) * k + b * t

@@ -1,9 +1,9 @@
 //! An amount and a value. Contracts see an amount as its whole number of millionths.
-ghost use Rattle.std.specs.Prelude.{◌≡◌, SomeIff, pos, ◌≤◌, unsigned_abs, neg_ℤ};
+ghost use Rattle.std.specs.Prelude.{◌≡◌, SomeIff, pos, ◌≤◌, unsigned_abs};
 ghost use Rattle.std.specs.Int.{is_negative};
 ghost use Rattle.m_fixed.specs.Amounts.{IsAmount, most};
 ghost use Rattle.m_fixed.specs.Rounding.{signed};
-ghost use Rattle.m_fixed.specs.Operators.{bounded, truth};
+ghost use Rattle.m_fixed.specs.Operators.{truth};
 
 use std::marker::Model;
 
@@ -38,7 +38,7 @@ impl Amount {
     pub fn new(millionths: i128) -> Option<Amount>
         ensures { SomeIff result (IsAmount millionths) millionths }
     {
-        if millionths.unsigned_abs() > MOST as u128 {
+        if millionths < -(MOST as i128) || millionths > MOST as i128 {
             return None;
         }
         Some(Amount { millionths })
@@ -51,40 +51,13 @@ impl Amount {
         Amount { millionths: 0 }
     }
 
-    /// One unit where the test holds, and else 0. It takes no branch: tests are hard to foresee.
+    /// One unit where the test holds, and else 0.
     pub(crate) fn of_test(test: bool) -> Amount
         ensures { result ≡ truth test }
     {
         Amount {
-            millionths: (test as u64 * UNIT) as i128,
+            millionths: if test { UNIT as i128 } else { 0 },
         }
-    }
-
-    /// As much on the other side of zero.
-    pub(crate) fn negated(self) -> Amount
-        ensures { result ≡ neg_ℤ self }
-    {
-        Amount {
-            millionths: -self.millionths,
-        }
-    }
-
-    /// As much, and not below zero.
-    pub(crate) fn absolute(self) -> Amount
-        ensures { result ≡ pos (unsigned_abs self) }
-    {
-        Amount {
-            millionths: self.millionths.abs(),
-        }
-    }
-
-    /// It as a value. An amount is never beyond the greatest one.
-    pub(crate) fn value(self) -> Value
-        ensures { result ≡ bounded self }
-    {
-        Value::Num(Amount {
-            millionths: self.millionths,
-        })
     }
 
     /// So many millionths, below zero or not.

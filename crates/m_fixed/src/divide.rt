@@ -1,13 +1,15 @@
-//! Products, quotients and whole units. Where the numbers fit in 64 bits they are divided as such,
-//! since a division of 128 bits takes ten times as long.
-ghost use Rattle.std.specs.Prelude.{◌≡◌, if◌then◌else◌, ◌≤◌, pos, unsigned_abs, ◌*ℤ◌, ◌/◌, ◌^◌, ◌<◌};
+//! Products, quotients and whole units. A division of 128 bits takes ten times as long as one of
+//! 64, and that one as long as all the rest: so products are divided in parts, and quotients are
+//! guessed and tested.
+ghost use Rattle.std.specs.Prelude.{◌≡◌, ◌==◌, if◌then◌else◌, ◌≤◌, pos, unsigned_abs, ◌*ℤ◌, ◌+◌, ◌*◌, ◌/◌, ◌^◌, ◌<◌};
 ghost use Rattle.m_fixed.specs.declared.operator.Op.TheVariants.{Arr, Inf};
-ghost use Rattle.m_fixed.specs.Amounts.{IsAmount, unit};
+ghost use Rattle.m_fixed.specs.Amounts.{IsAmount, unit, most};
 ghost use Rattle.m_fixed.specs.Rounding.{rounded, signed, nearest};
 ghost use Rattle.m_fixed.specs.Operators.{result_of, cut, quotient};
 
 use crate::Amount;
 use crate::amount::UNIT;
+use std::num::f64_to_bits_with_nan;
 
 /// Half a unit, in millionths.
 const HALF_UNIT: u128 = 500_000;
@@ -21,8 +23,11 @@ const PART: u64 = 17_592_186_044_416;
 /// Numbers below this one are divided by a unit in two parts.
 const TWO_PARTS: u128 = 324_518_553_658_426_726_783_156_020_576_256;
 
-/// Numbers below this one are divided by one another in 64 bits: 2^62.
-const SMALL: u128 = 4_611_686_018_427_387_904;
+/// Numbers below this one lose nothing as floating-point numbers: 2^53.
+const EXACT_AS_FLOAT: u64 = 9_007_199_254_740_992;
+
+/// 2^52: a lesser floating-point number to which it is added is rounded, into the low 52 bits.
+const ROUNDING: u64 = 4_503_599_627_370_496;
 
 /// `x * y` rounded, in millionths.
 pub(crate) fn product(x: i128, y: i128) -> i128
@@ -74,52 +79,49 @@ fn whole_units(n: u128) -> u128
 }
 
 /// `x / y` in millionths, and 0 where y is 0.
-pub(crate) fn quotient(x: i128, y: i128) -> i128
-    requires x_in { IsAmount x }
-    requires y_in { IsAmount y }
+pub(crate) fn quotient(x: Amount, y: Amount) -> i128
     ensures { result ≡ quotient x y }
 {
-    if y == 0 {
+    let size = nearest_quotient(x.size(), y.size());
+    signed(x.is_negative() != y.is_negative(), size)
+}
+
+/// `size / by` in millionths, rounded to the nearest, halves up, and 0 where `by` is 0. It is
+/// guessed, and divided only where what the guess leaves isn't less than the divisor.
+fn nearest_quotient(size: u64, by: u64) -> u128
+    requires size_in { size ≤ most }
+    requires by_in { by ≤ most }
+    ensures value { result ≡ (if by == 0 then 0 else nearest (size * unit) by) }
+    ensures bound { result ≤ 10 ^ 38 }
+{
+    let n = size as u128 * (2 * UNIT) as u128 + by as u128;
+    let d = 2 * by as u128;
+    let guess = guessed(size, by);
+    let rest = n.wrapping_sub((2 * guess) as u128 * by as u128);
+    if rest < d {
+        guess as u128
+    } else {
+        divided(n, d)
+    }
+}
+
+/// Mostly the whole number nearest to `size * 1_000_000 / by`. No clause says so: it is tested.
+fn guessed(size: u64, by: u64) -> u64
+    ensures { result < 2 ^ 52 }
+{
+    if size < EXACT_AS_FLOAT && by < EXACT_AS_FLOAT {
+        let quotient = size as f64 * 1_000_000.0 / by as f64;
+        f64_to_bits_with_nan(quotient + ROUNDING as f64) % ROUNDING
+    } else {
         0
-    } else {
-        rounded(exact_product(x, UNIT as i128), y)
     }
 }
 
-/// `n / d` rounded to the nearest, halves away from zero.
-fn rounded(n: i128, d: i128) -> i128
-    requires n_small { unsigned_abs n ≤ 10 ^ 38 }
-    requires d_small { unsigned_abs d ≤ 2 ^ 64 }
-    requires not_zero { 0 < unsigned_abs d }
-    ensures { result ≡ rounded n d }
+/// `n / d`, cut, and 0 where `d` is 0.
+fn divided(n: u128, d: u128) -> u128
+    ensures { result ≡ (if d == 0 then 0 else n / d) }
 {
-    let (size, by) = (n.unsigned_abs(), d.unsigned_abs());
-    signed((n < 0) != (d < 0), nearest(size, by))
-}
-
-/// `n / d` rounded to the nearest, halves up.
-fn nearest(n: u128, d: u128) -> u128
-    requires n_small { n ≤ 10 ^ 38 }
-    requires d_small { d ≤ 2 ^ 64 }
-    requires not_zero { 0 < d }
-    ensures value { result ≡ nearest n d }
-    ensures bound { result ≤ n }
-{
-    if n < SMALL && d < SMALL {
-        nearest_small(n as u64, d as u64) as u128
-    } else {
-        (2 * n + d) / (2 * d)
-    }
-}
-
-/// `n / d` rounded to the nearest, halves up, in 64 bits.
-fn nearest_small(n: u64, d: u64) -> u64
-    requires n_small { n < 2 ^ 62 }
-    requires d_small { d < 2 ^ 62 }
-    requires not_zero { 0 < d }
-    ensures { result ≡ nearest n d }
-{
-    (2 * n + d) / (2 * d)
+    if d == 0 { 0 } else { n / d }
 }
 
 /// A size with a sign.

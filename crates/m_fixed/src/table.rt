@@ -1,8 +1,8 @@
 //! What each operator gives.
 ghost use Rattle.std.specs.Prelude.{◌≡◌, if◌then◌else◌};
-ghost use Rattle.std.specs.Int.{int_min, int_max};
 ghost use Rattle.m_fixed.specs.Operators.{op_value, of_one, of_two, chosen, truth_of, bounded, counts_undefined_as_zero, result_of, truth};
 
+use crate::amount::UNIT;
 use crate::divide::{cut, nearest_units, product, quotient, units_not_above};
 use crate::{Amount, Op, Value};
 
@@ -58,8 +58,8 @@ fn truth_value(a: Value) -> Value
     ensures { result ≡ truth_of a }
 {
     match a {
-        Value::Num(x) => truth(x.millionths() != 0),
-        Value::Undef | Value::Over => truth(false),
+        Value::Num(x) => whether(x.millionths() != 0),
+        Value::Undef | Value::Over => whether(false),
     }
 }
 
@@ -71,12 +71,12 @@ fn apply_one(op: Op, a: Value) -> Value
         Value::Over => Value::Over,
         Value::Undef => {
             if op == Op::Present {
-                truth(false)
+                whether(false)
             } else {
                 Value::Undef
             }
         }
-        Value::Num(x) => of_numbers(op, x, Amount::zero()),
+        Value::Num(x) => bounded(result_of(op, x, Amount::zero())),
     }
 }
 
@@ -94,7 +94,7 @@ fn apply_two(op: Op, a: Value, b: Value) -> Value
         Value::Num(x) => match b {
             Value::Over => Value::Over,
             Value::Undef => with_one_undefined(op, x, Amount::zero()),
-            Value::Num(y) => of_numbers(op, x, y),
+            Value::Num(y) => bounded(result_of(op, x, y)),
         },
     }
 }
@@ -104,7 +104,7 @@ fn with_one_undefined(op: Op, x: Amount, y: Amount) -> Value
     ensures { result ≡ (if counts_undefined_as_zero op then bounded (result_of op x y) else Value.Undef) }
 {
     match op {
-        Op::Add | Op::Sub | Op::Or | Op::Max | Op::Min => of_numbers(op, x, y),
+        Op::Add | Op::Sub | Op::Or | Op::Max | Op::Min => bounded(result_of(op, x, y)),
         Op::Mul
         | Op::Div
         | Op::Neg
@@ -129,17 +129,17 @@ fn with_one_undefined(op: Op, x: Amount, y: Amount) -> Value
     }
 }
 
-/// What the operator gives of two numbers; one of one argument looks at the first.
-fn of_numbers(op: Op, x: Amount, y: Amount) -> Value
-    ensures { result ≡ bounded (result_of op x y) }
+/// What the operator gives of two numbers, in millionths; one of one argument looks at the first.
+fn result_of(op: Op, x: Amount, y: Amount) -> i128
+    ensures { result ≡ result_of op x y }
 {
     let (a, b) = (x.millionths(), y.millionths());
     match op {
-        Op::Add => bounded(a + b),
-        Op::Sub => bounded(a - b),
-        Op::Mul => bounded(product(a, b)),
-        Op::Div => bounded(quotient(a, b)),
-        Op::Neg => x.negated().value(),
+        Op::Add => a + b,
+        Op::Sub => a - b,
+        Op::Mul => product(a, b),
+        Op::Div => quotient(x, y),
+        Op::Neg => -a,
         Op::Eq => truth(a == b),
         Op::Ne => truth(a != b),
         Op::Lt => truth(a < b),
@@ -149,16 +149,16 @@ fn of_numbers(op: Op, x: Amount, y: Amount) -> Value
         Op::And => truth(a != 0 && b != 0),
         Op::Or => truth(a != 0 || b != 0),
         Op::Not | Op::Null => truth(a == 0),
-        Op::Present => truth(true),
-        Op::Abs => x.absolute().value(),
+        Op::Present => UNIT as i128,
+        Op::Abs => a.abs(),
         Op::Positive => truth(a > 0),
         Op::PositiveOrNull => truth(a >= 0),
-        Op::Arr => bounded(nearest_units(x)),
-        Op::Inf => bounded(units_not_above(x)),
-        Op::Max => greater(x, y).value(),
-        Op::Min => lesser(x, y).value(),
+        Op::Arr => nearest_units(x),
+        Op::Inf => units_not_above(x),
+        Op::Max => a.max(b),
+        Op::Min => a.min(b),
         Op::Truth => truth(a != 0),
-        Op::Choose => y.value(),
+        Op::Choose => b,
         Op::At => truth(cut(x) == cut(y)),
     }
 }
@@ -173,32 +173,16 @@ fn bounded(millionths: i128) -> Value
     }
 }
 
-/// 1 for true and 0 for false.
-fn truth(test: bool) -> Value
-    ensures value { result ≡ Value.Num (truth test) }
-    ensures bounded { result ≡ bounded (truth test) }
+/// 1 for true and 0 for false, in millionths.
+fn truth(test: bool) -> i128
+    ensures { result ≡ truth test }
+{
+    Amount::of_test(test).millionths()
+}
+
+/// The same as a value.
+fn whether(test: bool) -> Value
+    ensures { result ≡ Value.Num (truth test) }
 {
     Value::Num(Amount::of_test(test))
-}
-
-/// The greater of two amounts.
-fn greater(x: Amount, y: Amount) -> Amount
-    ensures { result ≡ int_max x y }
-{
-    if y.millionths() < x.millionths() {
-        x
-    } else {
-        y
-    }
-}
-
-/// The lesser of two amounts.
-fn lesser(x: Amount, y: Amount) -> Amount
-    ensures { result ≡ int_min x y }
-{
-    if y.millionths() < x.millionths() {
-        y
-    } else {
-        x
-    }
 }

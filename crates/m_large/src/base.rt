@@ -1,7 +1,8 @@
 ghost use Rattle.std.specs.Prelude.{◌≡◌, ◌∷◌, [], ◌++◌, ◌+◌, ◌-◌, ◌<◌, ◌≤◌, ◌^◌, IfOk, OnOk, codes, decimal};
 ghost use Rattle.m_places.specs.declared.limits.TheConstants.{LARGE};
 ghost use Rattle.text_pieces.specs.Pieces.{joined};
-ghost use Rattle.m_large.specs.Large.{line_feed, base_name, base_text, declarations, rule, rules, first_rule, check};
+ghost use Rattle.text_pieces.specs.Pieces.{new_line};
+ghost use Rattle.m_large.specs.Large.{base_name, base_text, declarations, rule, rules, first_rule, check};
 
 use itoa::Buffer;
 use m_places::{Name, Seq};
@@ -85,8 +86,8 @@ fn append_sum<'a>(
     next: &'a [u8],
 ) -> Result<(), AllocError>
     ensures { OnOk result (text.new.items ≡ text.old.items ++ joined
-        (codes "regle " ∷ rule.now ∷ codes " : application : iliad ;" ∷ line_feed
-        ∷ codes "T" ∷ sum.now ∷ codes " = max(0, R" ∷ sum.now ∷ codes " - 1000) + T" ∷ next.now ∷ codes " ;" ∷ line_feed ∷ [])) }
+        (codes "regle " ∷ rule.now ∷ codes " : application : iliad ;" ∷ new_line
+        ∷ codes "T" ∷ sum.now ∷ codes " = max(0, R" ∷ sum.now ∷ codes " - 1000) + T" ∷ next.now ∷ codes " ;" ∷ new_line ∷ [])) }
 {
     append_pieces(
         text,

@@ -1,7 +1,8 @@
 ghost use Rattle.std.specs.Prelude.{◌≡◌, ◌∷◌, [], ◌++◌, ◌≤◌, IfOk, OnOk, codes};
 ghost use Rattle.m_places.specs.declared.limits.TheConstants.{LARGE};
 ghost use Rattle.text_pieces.specs.Pieces.{joined};
-ghost use Rattle.m_large.specs.Large.{line_feed, household_text, rows};
+ghost use Rattle.text_pieces.specs.Pieces.{new_line};
+ghost use Rattle.m_large.specs.Large.{household_text, rows};
 
 use itoa::Buffer;
 use std::alloc::{AllocError, Global};
@@ -35,7 +36,7 @@ fn append_rows(text: &mut Vec<u8>, n: u32) -> Result<(), AllocError>
 }
 
 fn append_row<'a>(text: &mut Vec<u8>, code: &'a [u8], amount: &'a [u8]) -> Result<(), AllocError>
-    ensures { OnOk result (text.new.items ≡ text.old.items ++ joined (codes "C" ∷ code.now ∷ codes "," ∷ amount.now ∷ line_feed ∷ [])) }
+    ensures { OnOk result (text.new.items ≡ text.old.items ++ joined (codes "C" ∷ code.now ∷ codes "," ∷ amount.now ∷ new_line ∷ [])) }
 {
     append_pieces(text, &[b"C", code, b",", amount, b"\n"])
 }

@@ -5,7 +5,7 @@ use Rattle.std.specs.Str.{is_utf8}
 use Rattle.std.proofs.lemmas.Bool.{and_from, and_parts, not-true, not_from_false, or_left, or_right, or_cases, le-leb, leb-true, eq-eqb, eqb-true, cases_Bool, cases_lt, false_from_ne_true, lt-leb, both_ways}
 use Rattle.std.proofs.lemmas.Str.{IsUtf8-from_is_utf8, is_utf8-from_IsUtf8}
 use Rattle.m_places.specs.declared.limits.TheConstants.{FILE_NAME_BYTES, LIST_FILES}
-use Rattle.m_text.specs.Bytes.{IsDigit, IsWordByte}
+use Rattle.m_text.specs.Bytes.{IsDigit, IsWordByte, is_digit}
 use Rattle.m_text.specs.Lines.{lines_of}
 use Rattle.m_text.specs.Words.{IsWord}
 use Rattle.m_list.specs.declared.listing.Listing.{Listing}
@@ -13,7 +13,7 @@ use Rattle.m_list.specs.declared.fault.ListFault.{ListFault}
 use Rattle.m_list.specs.declared.fault.ListFault.TheVariants.{BadLine, TooManyFiles, Memory}
 use Rattle.m_list.specs.Files.{files_of}
 use Rattle.m_list.specs.Listing.{IsFileLine, IsFirstBad, missing, no_word, no_name, IsListing, IsListFault}
-use Rattle.m_list.specs.inner.Reading.{is_digit, is_word_byte, is_word, is_file_line, first_bad_from, files_read, lines_read, list_of}
+use Rattle.m_list.specs.inner.Reading.{is_word_byte, is_word, is_file_line, first_bad_from, files_read, lines_read, list_of}
 
 -- tests and what they test
 all_test : (p : ℕ → Bool) (P : ℕ → Type 0) → ((b : ℕ) → P b → p b ≡ true) → (t : List ℕ) → AllByRecursion P t → list_all p t ≡ true

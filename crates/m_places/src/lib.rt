@@ -1,16 +1,18 @@
-//! What every other crate speaks of: names, places in rule files, lists that contracts see as
-//! lists, the kinds and labels of verifications, and the limits of the program.
+//! What every other crate speaks of: names, and names that many own, places in rule files, lists that
+//! contracts see as lists, the kinds and labels of verifications, and the limits of the program.
 //!
-//! This crate stands on nothing but `std`, and knows nothing of files, tokens or amounts.
+//! This crate stands on `std` and `smallvec` alone, and knows nothing of files, tokens or amounts.
 #![tactic(auto)]
 
 pub mod limits;
 mod name;
 mod place;
 mod seq;
+mod shared;
 mod verification;
 
 pub use name::{Name, Word};
 pub use place::Place;
 pub use seq::Seq;
+pub use shared::SharedName;
 pub use verification::{ErrorKind, Label};

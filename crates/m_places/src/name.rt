@@ -1,13 +1,15 @@
 ghost use Rattle.std.specs.Prelude.{◌≡◌, IfOk};
 
+use smallvec::SmallVec;
 use std::alloc::{AllocError, Global};
 use std::marker::Model;
 
 /// A name: of a variable, a code, a file, a word. Contracts see it as its bytes, which need not be
-/// UTF-8, and two names are equal exactly where their bytes are.
+/// UTF-8, and two names are equal exactly where their bytes are. A name of up to 16 bytes, as nearly
+/// every name is, takes no memory of its own.
 #[derive(Drop)]
 pub struct Name {
-    bytes: Vec<u8>,
+    bytes: SmallVec<u8, 16>,
 }
 
 /// A word of the command line.
@@ -27,7 +29,7 @@ impl Name {
         ensures { IfOk result (λ n. n ≡ bytes.now) }
     {
         Ok(Name {
-            bytes: Vec::from_slice(alloc, bytes)?,
+            bytes: SmallVec::from_slice(alloc, bytes)?,
         })
     }
 

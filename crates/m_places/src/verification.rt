@@ -1,4 +1,4 @@
-use crate::Name;
+use crate::SharedName;
 
 /// The kind of an error that a verification raises.
 #[derive(Clone, Copy, Debug, PartialEq, Eq)]
@@ -9,11 +9,12 @@ pub enum ErrorKind {
 }
 
 /// What a failed verification prints: its number as spelled in the source, the error's name and
-/// kind, and the error's text.
+/// kind, and the error's text. Labels of one verification share its number, and labels of one error
+/// its name and text, so a further label takes no memory but its own.
 #[derive(Drop)]
 pub struct Label {
-    pub verif: Name,
-    pub error: Name,
+    pub verif: SharedName,
+    pub error: SharedName,
     pub kind: ErrorKind,
-    pub text: Name,
+    pub text: SharedName,
 }

@@ -9,10 +9,10 @@ abbrev pub content_of : List (List ℕ × Vec ℕ Global) → List ℕ → Optio
 content_of files name = option_map (λ file. file.1.items) (find (λ file. bytes_eq file.0 name) files)
 
 -- The answer to a fetch that is to fail or not, of a name that has these bytes or none.
-abbrev pub answer_of : Bool → Option (List ℕ) → ℕ → Result (List ℕ) FetchFault
-answer_of true content limit = Err Failed
-answer_of false None limit = Err Failed
-answer_of false (Some bytes) limit = if nat_le (length bytes) limit then Ok bytes else Err TooLong
+abbrev pub fetched : Bool → Option (List ℕ) → ℕ → Result (List ℕ) FetchFault
+fetched true content limit = Err Failed
+fetched false None limit = Err Failed
+fetched false (Some bytes) limit = if nat_le (length bytes) limit then Ok bytes else Err TooLong
 
 -- the result is this answer, unless there was no memory for it
 abbrev pub Answers : Result (Vec ℕ Global) FetchFault → Result (List ℕ) FetchFault → Type 0

@@ -69,10 +69,10 @@ fn taken_by(answer: &Result<Vec<u8>, FetchFault>, limit: u64) -> u64
 
 impl MemFiles {
     ghost use Rattle.m_ports.specs.Counts.{is_failing};
-    ghost use Rattle.m_ports.specs.MemFiles.{answer_of};
+    ghost use Rattle.m_ports.specs.MemFiles.{fetched};
 
     fn answer(&self, alloc: Global, name: &[u8], limit: u64) -> Result<Vec<u8>, FetchFault>
-        ensures { Answers result (answer_of (is_failing self.now.failing.items (length self.now.attempts.items))
+        ensures { Answers result (fetched (is_failing self.now.failing.items (length self.now.attempts.items))
             (content_of self.now.files.items name.now) limit) }
     {
         if is_failing(&self.failing, self.attempts.len() as u64) {
@@ -89,7 +89,7 @@ impl MemFiles {
 impl Files for MemFiles {
     ghost use Rattle.std.specs.Prelude.{Some};
     ghost use Rattle.m_ports.specs.Counts.{is_failing};
-    ghost use Rattle.m_ports.specs.MemFiles.{answer_of};
+    ghost use Rattle.m_ports.specs.MemFiles.{fetched};
 
     ghost told = { λ s. Some (content_of s.files.items) };
 
@@ -99,7 +99,7 @@ impl Files for MemFiles {
 
     /// Fails exactly where the number of the fetch is listed or the name is missing.
     fn fetch(&mut self, alloc: Global, name: &Name, limit: u64) -> Result<Vec<u8>, FetchFault>
-        ensures answer { Answers result (answer_of (is_failing self.old.failing.items (length self.old.attempts.items))
+        ensures answer { Answers result (fetched (is_failing self.old.failing.items (length self.old.attempts.items))
             (content_of self.old.files.items name.now) limit) }
         ensures attempt { self.new.attempts.items ≡ self.old.attempts.items ++ attempt_of name.now result }
         ensures taken { self.new.taken ≡ min (self.old.taken + bytes_taken result limit) last_count }

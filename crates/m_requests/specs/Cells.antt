@@ -3,6 +3,7 @@ use Rattle.std.specs.Prelude.{ℕ, ◌+◌, ◌-◌, ◌*◌, ◌==◌, ◌&&◌
 use Rattle.std.specs.Option.{option_map_or, option_and_then}
 use Rattle.std.specs.List.{flat_map, range_with_len}
 use Rattle.m_places.specs.declared.limits.TheConstants.{TABLE_CELLS}
+use Rattle.m_text.specs.Bytes.{is_digit}
 use Rattle.m_names.specs.Names.{has, index_of}
 use Rattle.m_ast.specs.Items.{variable_size}
 use Rattle.m_symbols.specs.declared.variable.Variable.{Variable}
@@ -41,9 +42,6 @@ with_first b parts = (b ∷ parts.0, parts.1)
 abbrev pub split_at_bracket : List ℕ → List ℕ × Option (List ℕ)
 split_at_bracket [] = ([], None)
 split_at_bracket (b ∷ bs) = if b == 91 then ([], Some bs) else with_first b (split_at_bracket bs)
-
-abbrev pub is_digit : ℕ → Bool
-is_digit b = nat_le 48 b && nat_le b 57
 
 -- A number so far, whose further digits and `]` these bytes are. One that is past the most cells of a table already has no further digits.
 abbrev pub closed_number : ℕ → List ℕ → Option ℕ

@@ -5,13 +5,14 @@ ghost use Rattle.std.specs.List.{range_with_len};
 ghost use Rattle.m_ast.specs.Items.{variable_size};
 ghost use Rattle.m_symbols.specs.Declarations.{owners_from};
 ghost use Rattle.m_requests.specs.Placed.{IsPlaced};
-ghost use Rattle.m_requests.specs.Cells.{request_cell, named_cell, split_at_bracket, cell_by, cell_within, is_digit, index_said, has_plain_digits, closed_number, returned_cells, returned_by};
+ghost use Rattle.m_requests.specs.Cells.{request_cell, named_cell, split_at_bracket, cell_by, cell_within, index_said, has_plain_digits, closed_number, returned_cells, returned_by};
 
 use m_ast::Role;
 use m_names::has_name;
 use m_places::Seq;
 use m_places::limits::TABLE_CELLS;
 use m_symbols::{Symbols, Variable};
+use m_text::is_digit;
 use std::alloc::{AllocError, Global};
 
 /// The cell that a request names, if it names one: a variable that is no table by its name, a table's cell as `T[2]`. Takes no
@@ -115,12 +116,6 @@ fn closed_number(text: &[u8]) -> Option<u32>
         left = rest;
     }
     None
-}
-
-fn is_digit(byte: u8) -> bool
-    ensures { result ≡ is_digit byte }
-{
-    b'0' <= byte && byte <= b'9'
 }
 
 /// The cells that rules give back: those of all variables among whose words is `restituee`, in order of declaration, a table by all

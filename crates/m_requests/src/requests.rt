@@ -8,7 +8,7 @@ ghost use Rattle.m_symbols.specs.Declarations.{owners_from};
 ghost use Rattle.m_requests.specs.Placed.{IsPlaced};
 ghost use Rattle.m_requests.specs.Requests.{requests_said, lines_said, few};
 ghost use Rattle.m_requests.specs.declared.fault.RequestFault.TheVariants.{Memory};
-ghost use Rattle.rule_text.specs.Limits.{IsWithin};
+ghost use Rattle.rule_text.specs.Limits.{FileIsWithin};
 
 use crate::cells::{find_request, returned};
 use crate::fault::RequestFault;
@@ -28,7 +28,7 @@ pub fn read_requests(
     symbols: &Symbols,
 ) -> Result<Seq<u32>, RequestFault>
     requires placed { IsPlaced symbols.now }
-    requires small { IsWithin requests.now }
+    requires small { FileIsWithin requests.now }
     ensures outcome { Outcome Memory result (λ cells. requests_said requests.now symbols.now ≡ Ok cells) (λ fault. requests_said requests.now symbols.now ≡ Err fault) }
     ensures known { IfOk result (All (λ c. c < length (owners_from 0 symbols.now.variables))) }
 {

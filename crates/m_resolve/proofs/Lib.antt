@@ -3,3 +3,4 @@ pub mod Sizes
 pub mod Marked
 pub mod TargetLemmas
 pub mod Valid
+pub mod Words

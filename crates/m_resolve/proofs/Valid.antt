@@ -18,7 +18,7 @@ use Rattle.micro_m.specs.Trees.{Tree, lit as lit_tree, cell as cell_tree, pick, 
 use Rattle.micro_m.specs.Views.{trees_of, steps_of}
 use Rattle.micro_m.specs.declared.term.Step.{Step}
 use Rattle.micro_m.specs.declared.base.Base.{Base}
-use Rattle.micro_m.specs.Bases.{Definition as CellDefinition, is_among, AreDistinct, IsWithin, AreWithin, StepsAreWithin, IsValidBase}
+use Rattle.micro_m.specs.Bases.{Definition as CellDefinition, is_among, AreDistinctCells, IsWithin, AreWithin, StepsAreWithin, IsValidBase}
 use Rattle.micro_m.specs.Failures.{Check}
 use Rattle.micro_m.proofs.NumberLemmas.{AreDistinct-push}
 use Rattle.m_requests.specs.Cells.{variable_named}
@@ -186,14 +186,14 @@ definition_within d before definition made p e =
     ((subst (λ c. c < length (owners_from 0 d.variables)) n.1 w, term_within d definition.term t.0 p t.1), subst (λ c. is_among c (cells_of before) ≡ false) n.1 n.0)
 
 definitions_within : (d : Declared) (before : List CellDefinition) (all : List Definition) (made : List CellDefinition) → IsPlaced d → AllByRecursion (DefinitionIsWithin (length (owners_from 0 d.variables))) before
-    → AreDistinct (cells_of before) → definitions_said d before all ≡ Ok made → AllByRecursion (DefinitionIsWithin (length (owners_from 0 d.variables))) made × AreDistinct (cells_of made)
+    → AreDistinctCells (cells_of before) → definitions_said d before all ≡ Ok made → AllByRecursion (DefinitionIsWithin (length (owners_from 0 d.variables))) made × AreDistinctCells (cells_of made)
 definitions_within d before [] made p h u e =
-    subst (λ (l : List CellDefinition). AllByRecursion (DefinitionIsWithin (length (owners_from 0 d.variables))) l × AreDistinct (cells_of l)) (value_of_ok before made e) (h, u)
+    subst (λ (l : List CellDefinition). AllByRecursion (DefinitionIsWithin (length (owners_from 0 d.variables))) l × AreDistinctCells (cells_of l)) (value_of_ok before made e) (h, u)
 definitions_within d before (x ∷ all) made p h u e =
     let k = said_by (λ said. definitions_said d (before ++ said ∷ []) all) (definition_said d before x) made e in
     let w = definition_within d before x k.0 p k.1 in
     definitions_within d (before ++ k.0 ∷ []) all made p (all_push _ before k.0 h w.0)
-    (subst AreDistinct (sym (map_push (λ (y : CellDefinition). y.0) before k.0)) (AreDistinct-push (cells_of before) k.0.0 u w.1)) k.2
+    (subst AreDistinctCells (sym (map_push (λ (y : CellDefinition). y.0) before k.0)) (AreDistinct-push (cells_of before) k.0.0 u w.1)) k.2
 
 targets_within : (n : ℕ) (ds : List CellDefinition) → AllByRecursion (DefinitionIsWithin n) ds → AllByRecursion (λ c. c < n) (map (λ (d : CellDefinition). d.0) ds)
 targets_within n [] h = tt
@@ -251,7 +251,7 @@ not_below f from to (c ∷ cs) h w =
     let l = w.0.0 in or_none (nat_eq f c.0) (is_among f (map (λ (x : ℕ × ℤ). x.0) cs)) (differs f c.0 (λ e. absurd (omega (arith, e, h, l)))) (not_below f from to cs h w.1)
 
 abbrev AreConstants : ℕ → ℕ → List (ℕ × ℤ) → Type 0
-AreConstants from to cs = AllByRecursion (Between from to) cs × AreDistinct (map (λ (c : ℕ × ℤ). c.0) cs)
+AreConstants from to cs = AllByRecursion (Between from to) cs × AreDistinctCells (map (λ (c : ℕ × ℤ). c.0) cs)
 
 one_more : (r : Role) (f cells to : ℕ) (cs : List (ℕ × ℤ)) → cells ≡ cells_in (size_in r) → f + cells ≤ to → AreConstants (f + cells) to cs → AreConstants f to (cons_option (constant_in f r) cs)
 one_more (Input code) f cells to cs e h w = (wider f to (f + cells) to cs (omega arith) (omega arith) w.0, w.1)
@@ -279,7 +279,7 @@ constants_of_declared d p = subst (λ (l : List Variable). AreConstants 0 (0 + l
 
 -- ---- the base
 
-made_valid : (d : Declared) (ds : List CellDefinition) (checks : Checks) → IsPlaced d → AllByRecursion (DefinitionIsWithin (length (owners_from 0 d.variables))) ds × AreDistinct (cells_of ds)
+made_valid : (d : Declared) (ds : List CellDefinition) (checks : Checks) → IsPlaced d → AllByRecursion (DefinitionIsWithin (length (owners_from 0 d.variables))) ds × AreDistinctCells (cells_of ds)
     → AllByRecursion (CheckIsWithin (length (owners_from 0 d.variables)) (length checks.1)) checks.0 → IsValidBase (base_with d ds checks)
 made_valid d ds checks p w k =
     let n = length (owners_from 0 d.variables) in

@@ -1,2 +1,3 @@
 -- What inner functions speak of.
 pub mod Marks
+pub mod Words

@@ -1,15 +1,16 @@
 //! Checks over cells, and what they tell.
 
-ghost use Rattle.std.specs.Prelude.{◌≡◌, ◌++◌, [], drop, Ok, Err, IfOk, OnOk, map};
-ghost use Rattle.std.specs.Option.{option_copied};
+ghost use Rattle.std.specs.Prelude.{◌≡◌, ◌++◌, ◌<◌, [], drop, Some, Ok, Err, IfOk, OnOk, length, map, slice_get};
+ghost use Rattle.std.specs.Option.{option_copied, option_map};
 ghost use Rattle.m_places.specs.Refusals.{Outcome};
-ghost use Rattle.m_resolve.specs.Bases.{conditions_said, label_said, error_named, label_of, error_text, behind_colon, printable};
+ghost use Rattle.m_resolve.specs.Bases.{conditions_said, label_said, error_named, error_text, behind_colon, printable};
+ghost use Rattle.m_resolve.specs.inner.Words.{words_of, label_with, said_with};
 ghost use Rattle.m_resolve.specs.declared.fault.ResolveFault.TheVariants.{Memory};
 
 use crate::ResolveFault;
 use crate::terms::term;
 use m_ast::ErrorItem;
-use m_places::{Label, Name, Place};
+use m_places::{ErrorKind, Label, Name, Place, SharedName};
 use m_symbols::Symbols;
 use micro_m::MTerm;
 use plain_rules::Condition;
@@ -22,6 +23,14 @@ pub(crate) struct Checked {
     pub labels: Vec<Label>,
 }
 
+/// What labels tell of an error. Each error's words are made once, and its labels share them.
+#[derive(Drop)]
+struct ErrorWords {
+    name: SharedName,
+    kind: ErrorKind,
+    text: SharedName,
+}
+
 /// Checks over cells, in order, or the fault of the first condition that has one.
 pub(crate) fn checks(
     alloc: Global,
@@ -30,11 +39,48 @@ pub(crate) fn checks(
 ) -> Result<Checked, ResolveFault>
     ensures { Outcome Memory result (λ made. conditions_said symbols.now ([], []) all.now ≡ Ok (made.checks.items, made.labels.items)) (λ fault. conditions_said symbols.now ([], []) all.now ≡ Err fault) }
 {
+    let errors = errors(alloc, symbols)?;
+    checks_with(alloc, all, symbols, errors.as_slice())
+}
+
+// The words of each error, by its number.
+fn errors(alloc: Global, symbols: &Symbols) -> Result<Vec<ErrorWords>, AllocError>
+    ensures { IfOk result (λ errors. errors.items ≡ map words_of symbols.now.errors) }
+{
+    let mut errors = Vec::with_capacity(alloc, symbols.errors() as usize)?;
+    for number in 0..symbols.errors() {
+        errors.push(words_of(alloc, symbols.error(number))?)?;
+    }
+    Ok(errors)
+}
+
+fn words_of(alloc: Global, error: &ErrorItem) -> Result<ErrorWords, AllocError>
+    ensures { IfOk result (λ words. words ≡ words_of error.now) }
+{
+    let name = SharedName::new(alloc, error.name.copy(alloc)?)?;
+    let text = SharedName::new(alloc, error_text(alloc, error.texts.as_slice())?)?;
+    Ok(ErrorWords {
+        name,
+        kind: error.kind,
+        text,
+    })
+}
+
+// Checks over cells, where the words of all errors are made.
+fn checks_with(
+    alloc: Global,
+    all: &[Condition],
+    symbols: &Symbols,
+    errors: &[ErrorWords],
+) -> Result<Checked, ResolveFault>
+    requires { errors.now ≡ map words_of symbols.now.errors }
+    ensures { Outcome Memory result (λ made. conditions_said symbols.now ([], []) all.now ≡ Ok (made.checks.items, made.labels.items)) (λ fault. conditions_said symbols.now ([], []) all.now ≡ Err fault) }
+{
     let mut checks = Vec::with_capacity(alloc, all.len())?;
     let mut labels = Vec::with_capacity(alloc, all.len())?;
     for one in all {
         let tree = term(alloc, &one.term, symbols)?;
-        let label = label(alloc, one, symbols)?;
+        let label = label(alloc, one, symbols, errors)?;
         let number = number_of(labels.len())?;
         checks.push((Box::into_inner(tree), number, one.place))?;
         labels.push(label)?;
@@ -53,33 +99,66 @@ fn number_of(count: usize) -> Result<u32, ResolveFault>
 }
 
 // What a check tells that fails.
-fn label(alloc: Global, condition: &Condition, symbols: &Symbols) -> Result<Label, ResolveFault>
+fn label(
+    alloc: Global,
+    condition: &Condition,
+    symbols: &Symbols,
+    errors: &[ErrorWords],
+) -> Result<Label, ResolveFault>
+    requires { errors.now ≡ map words_of symbols.now.errors }
     ensures { Outcome Memory result (λ label. label_said condition.now (error_named symbols.now condition.now.error) ≡ Ok label) (λ fault. label_said condition.now (error_named symbols.now condition.now.error) ≡ Err fault) }
 {
-    let Some(error) = error_named(symbols, &condition.error) else {
-        return Err(ResolveFault::UnknownError(condition.error.copy(alloc)?, condition.place));
-    };
-    Ok(label_of(alloc, &condition.verif, error)?)
+    let words = error_named(symbols, errors, &condition.error);
+    said_with(alloc, condition, words)
 }
 
-// The error of a name.
-fn error_named<'a>(symbols: &'a Symbols, name: &Name) -> Option<&'a ErrorItem>
-    ensures { option_copied result ≡ error_named symbols.now name.now }
+// What a check tells that fails, where its error has these words.
+fn said_with(
+    alloc: Global,
+    condition: &Condition,
+    words: Option<&ErrorWords>,
+) -> Result<Label, ResolveFault>
+    ensures { Outcome Memory result (λ label. said_with condition.now (option_copied words.entry) ≡ Ok label) (λ fault. said_with condition.now (option_copied words.entry) ≡ Err fault) }
+{
+    match words {
+        None => Err(ResolveFault::UnknownError(condition.error.copy(alloc)?, condition.place)),
+        Some(words) => Ok(label_with(&condition.verif, words)?),
+    }
+}
+
+// The words of the error of a name.
+fn error_named<'a>(
+    symbols: &Symbols,
+    errors: &'a [ErrorWords],
+    name: &Name,
+) -> Option<&'a ErrorWords>
+    requires { errors.now ≡ map words_of symbols.now.errors }
+    ensures { option_copied result ≡ option_map words_of (error_named symbols.now name.now) }
 {
     let number = symbols.find_error(name.bytes())?;
-    Some(symbols.error(number))
+    Some(words_at(symbols, errors, number))
 }
 
-fn label_of(alloc: Global, verif: &Name, error: &ErrorItem) -> Result<Label, AllocError>
-    ensures { IfOk result (λ label. label ≡ label_of verif.now error.now) }
+// The words of the error of this number, which is below the count.
+fn words_at<'a>(symbols: &Symbols, errors: &'a [ErrorWords], number: u32) -> &'a ErrorWords
+    requires within { number < length symbols.now.errors }
+    requires words { errors.now ≡ map words_of symbols.now.errors }
+    ensures { option_map words_of (slice_get symbols.now.errors number) ≡ Some result.now }
 {
-    let verif = verif.copy(alloc)?;
-    let name = error.name.copy(alloc)?;
-    let text = error_text(alloc, error.texts.as_slice())?;
+    &errors[number as usize]
+}
+
+// The label of a check of this verification, with the words of the error that it raises.
+fn label_with(verif: &SharedName, words: &ErrorWords) -> Result<Label, AllocError>
+    ensures { IfOk result (λ label. label ≡ label_with verif.now words.now) }
+{
+    let verif = verif.share()?;
+    let error = words.name.share()?;
+    let text = words.text.share()?;
     Ok(Label {
         verif,
-        error: name,
-        kind: error.kind,
+        error,
+        kind: words.kind,
         text,
     })
 }

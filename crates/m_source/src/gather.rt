@@ -3,7 +3,7 @@ ghost use Rattle.std.specs.Prelude.{◌≡◌, IfOk};
 ghost use Rattle.m_places.specs.declared.limits.TheConstants.{RULE_BYTES};
 ghost use Rattle.m_plan.specs.Trips.{GoesAlong};
 ghost use Rattle.m_plan.specs.Views.{files_view};
-ghost use Rattle.rule_text.specs.Limits.{AreWithin, IsWithin, KeepsLimits};
+ghost use Rattle.rule_text.specs.Limits.{TextsAreWithin, FileIsWithin, SourceKeepsLimits};
 ghost use Rattle.m_source.specs.Source.{is_none, list_plan, rules_plan, optional_plan, parts_plan, source_plan};
 
 use crate::SourceNames;
@@ -27,7 +27,7 @@ pub fn gather_source<F: Files>(
 ) -> Result<Source, Ending>
     ensures along { GoesAlong (source_plan names.now) (files_view F.told F.attempts F.taken files.old)
         (files_view F.told F.attempts F.taken files.new) result }
-    ensures within { IfOk result KeepsLimits }
+    ensures within { IfOk result SourceKeepsLimits }
 {
     let Listing {
         application,
@@ -55,7 +55,7 @@ fn gather_list<F: Files>(alloc: Global, files: &mut F, name: &Name) -> Result<Li
 fn gather_rules<F: Files>(alloc: Global, files: &mut F, names: &[Name]) -> Result<Seq<Text>, Ending>
     ensures along { GoesAlong (rules_plan RULE_BYTES names.now) (files_view F.told F.attempts F.taken files.old)
         (files_view F.told F.attempts F.taken files.new) result }
-    ensures within { IfOk result AreWithin }
+    ensures within { IfOk result TextsAreWithin }
 {
     let mut texts = Vec::new(alloc);
     let mut left = RULE_BYTES;
@@ -83,7 +83,7 @@ fn gather_optional<F: Files>(
 ) -> Result<Option<Seq<u8>>, Ending>
     ensures along { GoesAlong (optional_plan name.now) (files_view F.told F.attempts F.taken files.old)
         (files_view F.told F.attempts F.taken files.new) result }
-    ensures within { IfOk result IsWithin }
+    ensures within { IfOk result FileIsWithin }
 {
     if is_none(name) {
         return Ok(None);
@@ -103,8 +103,8 @@ fn gather_parts<F: Files>(
     ensures along { GoesAlong (parts_plan names.now application texts) (files_view F.told F.attempts F.taken files.old)
         (files_view F.told F.attempts F.taken files.new) result }
     ensures texts { IfOk result (λ source. source.texts ≡ texts) }
-    ensures driver { IfOk result (λ source. IsWithin source.driver) }
-    ensures requests { IfOk result (λ source. IsWithin source.requests) }
+    ensures driver { IfOk result (λ source. FileIsWithin source.driver) }
+    ensures requests { IfOk result (λ source. FileIsWithin source.requests) }
 {
     let driver = gather_optional(alloc, files, &names.driver)?;
     let requests = gather_optional(alloc, files, &names.requests)?;

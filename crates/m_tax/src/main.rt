@@ -6,18 +6,24 @@ use m_commands::{Status, m_tax};
 use m_places::{Name, Word};
 use m_ports::{HostFiles, HostSink, HostSource};
 use std::alloc::AllocError;
-use std::env;
 use std::process::ExitCode;
+use std::{env, io};
 
 /// The words behind the program's name. A command line that can't be read as text has none, and so is
-/// no command.
+/// no command. The only error is want of memory.
 fn command_words<R: env::Env + AllocGlobal>(rt: &R) -> Result<Vec<Word>, AllocError> {
     let mut words = Vec::new(rt.alloc());
-    let Ok(arguments) = env::args(rt) else {
-        return Ok(words);
-    };
-    for argument in arguments.skip(1) {
-        words.push(Name::new(rt.alloc(), argument.as_bytes())?)?;
+    match env::args(rt) {
+        Ok(arguments) => {
+            for argument in arguments.skip(1) {
+                words.push(Name::new(rt.alloc(), argument.as_bytes())?)?;
+            }
+        }
+        Err(error) => {
+            if error.kind() == io::ErrorKind::OutOfMemory {
+                return Err(AllocError);
+            }
+        }
     }
     Ok(words)
 }

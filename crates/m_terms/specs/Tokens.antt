@@ -2,6 +2,7 @@
 use Rattle.std.specs.Prelude.{◌≡◌, ℕ, Bool, cond, ◌&&◌, ◌||◌, nat_lt, nat_le, List, [], ◌∷◌, length, Option, Some, None}
 use Rattle.std.specs.List.{list_all}
 use denote.Enum.Bare.{sameb}
+use Rattle.m_text.specs.Bytes.{is_digit}
 use Rattle.m_places.specs.declared.place.Place.{Place}
 use Rattle.m_lexer.specs.declared.token.Token.{Token}
 use Rattle.m_lexer.specs.declared.token.Kind.{Kind}
@@ -68,9 +69,6 @@ is_small b = nat_le 97 b && nat_le b 122
 
 abbrev pub is_not_small : ℕ → Bool
 is_not_small b = nat_lt b 97 || nat_lt 122 b
-
-abbrev pub is_digit : ℕ → Bool
-is_digit b = nat_le 48 b && nat_le b 57
 
 -- a word without a letter from a to z, as `REV` and `1AJ`
 abbrev pub is_name : List ℕ → Bool

@@ -1,7 +1,8 @@
 //! A place in the tokens, and the readers of single tokens. It knows nothing of trees.
 ghost use Rattle.std.specs.Prelude.{◌≡◌, ◌<◌, ◌∷◌, [], length, Some, None, MatchBool, MatchOption, OnSome};
 ghost use Rattle.std.specs.Bool.{OnTrue};
-ghost use Rattle.m_terms.specs.Tokens.{kind_is_sign, kind_is_key, is_name, is_whole, is_digit, small_letter};
+ghost use Rattle.m_text.specs.Bytes.{is_digit};
+ghost use Rattle.m_terms.specs.Tokens.{kind_is_sign, kind_is_key, is_name, is_whole, small_letter};
 ghost use Rattle.std.specs.List.{list_all};
 ghost use Rattle.m_terms.specs.Headers.{point, point_of, letter, letter_of};
 ghost use Rattle.m_terms.specs.Grammar.{comparison, comparison_of};

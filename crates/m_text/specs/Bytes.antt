@@ -1,5 +1,5 @@
 -- Kinds of bytes, and how far bytes of one kind go on.
-use Rattle.std.specs.Prelude.{◌≡◌, ◌⊎◌, ℕ, ◌≤◌, ◌<◌, List, length, slice_index}
+use Rattle.std.specs.Prelude.{◌≡◌, ◌⊎◌, ℕ, ◌≤◌, ◌<◌, nat_le, Bool, ◌&&◌, List, length, slice_index}
 
 -- what ends a line
 abbrev pub line_feed : ℕ
@@ -21,6 +21,10 @@ hash = 35
 abbrev pub point : ℕ
 point = 46
 
+-- the byte of a blank
+abbrev pub space : ℕ
+space = 32
+
 -- a letter of ASCII: `A` to `Z`, `a` to `z`
 abbrev pub IsLetter : ℕ → Type 0
 IsLetter b = ((65 ≤ b) × (b ≤ 90)) ⊎ ((97 ≤ b) × (b ≤ 122))
@@ -28,6 +32,10 @@ IsLetter b = ((65 ≤ b) × (b ≤ 90)) ⊎ ((97 ≤ b) × (b ≤ 122))
 -- `0` to `9`
 abbrev pub IsDigit : ℕ → Type 0
 IsDigit b = (48 ≤ b) × (b ≤ 57)
+
+-- whether a byte is one of `0` to `9`
+abbrev pub is_digit : ℕ → Bool
+is_digit b = nat_le 48 b && nat_le b 57
 
 -- a letter, a digit or `_`
 abbrev pub IsWordByte : ℕ → Type 0

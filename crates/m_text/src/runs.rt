@@ -1,13 +1,20 @@
 //! Kinds of bytes, and how far the bytes of one kind go on.
 
 ghost use Rattle.std.specs.Prelude.{◌≡◌, ◌≢◌, ◌≤◌, ◌↔◌, ◌==◌, IsTrue, length, count_by};
-ghost use Rattle.m_text.specs.Bytes.{IsWordByte, IsDigit, RunsTo, line_feed, quote};
+ghost use Rattle.m_text.specs.Bytes.{IsWordByte, IsDigit, RunsTo, is_digit, line_feed, quote};
 
 /// Whether a byte may stand in a word: a letter of ASCII, a digit or `_`.
 pub fn is_word_byte(b: u8) -> bool
     ensures { IsTrue result ↔ IsWordByte b }
 {
     b.is_ascii_alphanumeric() || b == b'_'
+}
+
+/// Whether a byte is a digit, `0` to `9`.
+pub fn is_digit(b: u8) -> bool
+    ensures { result ≡ is_digit b }
+{
+    b'0' <= b && b <= b'9'
 }
 
 /// Where the bytes of words from a position on end: 3 in `1AJ+2` from 0, and 3 from 3.

@@ -22,11 +22,12 @@ use Rattle.household.specs.Household.{values_of}
 use Rattle.household.specs.declared.table.Row.{Row}
 use Rattle.household_session.proofs.OutputLemmas.{stop_label}
 use Rattle.household_session.specs.Sessions.{IsFaceOf}
-use Rattle.m_batch.specs.Batch.{answer_of, answers_of}
-use Rattle.tax_print.specs.Lines.{IsWithin, household_lines, line_feed, told_lines}
+use Rattle.m_batch.specs.Batch.{row_answer, answers_of}
+use Rattle.text_pieces.specs.Pieces.{new_line}
+use Rattle.tax_print.specs.Lines.{AnswerIsWithin, household_lines, told_lines}
 use Rattle.m_work.specs.Schemes.{Scheme, Shows}
 use Rattle.m_work.specs.Tables.{rows_lines}
-use Rattle.m_work.specs.inner.Groups.{Counted, Writes, answered_lines, program_lines}
+use Rattle.m_work.specs.inner.Groups.{Counted, WritesGroups, answered_lines, program_lines}
 use Rattle.m_work.specs.declared.groups.GroupFault.{GroupFault}
 use Rattle.m_work.specs.declared.groups.GroupFault.TheVariants.{Memory, Failed}
 use Rattle.m_work.proofs.SessionLemmas.{lines_told}
@@ -48,24 +49,24 @@ all_taken P (suc n) (x ∷ xs) all = (all.0, all_taken P n xs all.1)
 -- rows with the answers that a program gives them
 pub answered_all : (flat : Flat) (face : Face) (rows : List Row) → answered_lines face rows (answers_of flat rows) ≡ program_lines flat face rows
 answered_all flat face [] = refl
-answered_all flat face (row ∷ rows) = ap (λ rest. household_lines row.label face (answer_of flat row) ++ rest) (answered_all flat face rows)
+answered_all flat face (row ∷ rows) = ap (λ rest. household_lines row.label face (row_answer flat row) ++ rest) (answered_all flat face rows)
 
 -- rows by a program are rows by its scheme
 pub rows_told : (scheme : Scheme) (flat : Flat) (face : Face) (rows : List Row) → Shows scheme flat face → program_lines flat face rows ≡ rows_lines scheme rows
 rows_told scheme flat face [] shown = refl
 rows_told scheme flat face (row ∷ rows) shown =
-    ap (λ text. (joined (codes "household " ∷ row.label ∷ line_feed ∷ []) ++ text) ++ program_lines flat face rows)
+    ap (λ text. (joined (codes "household " ∷ row.label ∷ new_line ∷ []) ++ text) ++ program_lines flat face rows)
     (lines_told scheme flat face (values_of row.household.pairs flat.inputs) shown
     ∙ ap (λ inputs. told_lines scheme.names (scheme.tells (values_of row.household.pairs inputs))) shown.inputs)
-    ∙ ap (λ rest. (joined (codes "household " ∷ row.label ∷ line_feed ∷ []) ++ told_lines scheme.names (scheme.tells (values_of row.household.pairs (length scheme.codes)))) ++ rest)
+    ∙ ap (λ rest. (joined (codes "household " ∷ row.label ∷ new_line ∷ []) ++ told_lines scheme.names (scheme.tells (values_of row.household.pairs (length scheme.codes)))) ++ rest)
     (rows_told scheme flat face rows shown)
 
 -- some rows and then others
 program_append : (flat : Flat) (face : Face) (one other : List Row) → program_lines flat face (one ++ other) ≡ program_lines flat face one ++ program_lines flat face other
 program_append flat face [] other = refl
 program_append flat face (row ∷ rows) other =
-    ap (λ rest. household_lines row.label face (answer_of flat row) ++ rest) (program_append flat face rows other)
-    ∙ sym (append_assoc (household_lines row.label face (answer_of flat row)) (program_lines flat face rows) (program_lines flat face other))
+    ap (λ rest. household_lines row.label face (row_answer flat row) ++ rest) (program_append flat face rows other)
+    ∙ sym (append_assoc (household_lines row.label face (row_answer flat row)) (program_lines flat face rows) (program_lines flat face other))
 
 -- the rows that are left begin with a group
 pub group_at : (flat : Flat) (face : Face) (rows : List Row) (from end : ℕ) → from < end
@@ -96,17 +97,17 @@ answered_end face rows answers k h = ap (λ left. answered_lines face left (drop
 -- ---- answers are within the face
 
 within_found : (face : Face) (found : Option Stop) (vs : List Value) → ((stop : Stop) → found ≡ Some stop → label_number stop < length face.labels)
-    → length vs ≤ length face.outputs → IsWithin face (option_map_or Stopped found (Values vs))
+    → length vs ≤ length face.outputs → AnswerIsWithin face (option_map_or Stopped found (Values vs))
 within_found face None vs stops few = few
 within_found face (Some stop) vs stops few = stops stop refl
 
-pub run_within : (flat : Flat) (face : Face) (inputs : List Value) → IsFaceOf face flat → IsWithin face (flat_run flat inputs)
+pub run_within : (flat : Flat) (face : Face) (inputs : List Value) → IsFaceOf face flat → AnswerIsWithin face (flat_run flat inputs)
 run_within flat face inputs is =
     within_found face (first_stop (node_values inputs flat.nodes) flat.checks) (map (value_at (node_values inputs flat.nodes)) flat.outputs)
     (λ stop stops. stop_label (node_values inputs flat.nodes) (length face.labels) flat.checks stop is.labels stops)
     (let many = length-map flat.outputs (value_at (node_values inputs flat.nodes)) in omega (arith, many, is.outputs))
 
-pub answers_within : (flat : Flat) (face : Face) (rows : List Row) → IsFaceOf face flat → AllByRecursion (IsWithin face) (answers_of flat rows)
+pub answers_within : (flat : Flat) (face : Face) (rows : List Row) → IsFaceOf face flat → AllByRecursion (AnswerIsWithin face) (answers_of flat rows)
 answers_within flat face [] is = tt
 answers_within flat face (row ∷ rows) is = (run_within flat face (values_of row.household.pairs flat.inputs) is, answers_within flat face rows is)
 
@@ -115,7 +116,7 @@ answers_within flat face (row ∷ rows) is = (run_within flat face (values_of ro
 -- the next part was not written to its end
 pub part_stopped : {S U : Type 0} (written : S → Option (List ℕ)) (faults : S → ℕ) (old now new : S) (text piece rest left : List ℕ)
     (whole : Result U GroupFault) (other fault : GroupFault) → whole ≡ Err other → other ≡ fault → left ≡ piece ++ rest → Given written faults old now text left
-    → AppendsPrefix (written now) (written new) piece → Counted {T = Unit {0}} (Err fault) (faults now) (faults new) → Writes written faults old new whole text
+    → AppendsPrefix (written now) (written new) piece → Counted {T = Unit {0}} (Err fault) (faults now) (faults new) → WritesGroups written faults old new whole text
 part_stopped written faults old now new text piece rest left whole other Memory f s is given prefix counted = rw (f ∙ ap Err s) (record {
   all = tt;
   prefix = rw (given.whole ∙ ap (λ bytes. given.front ++ bytes) is)
@@ -134,7 +135,7 @@ part_stopped written faults old now new text piece rest left whole other Failed 
 -- a call failed that was to write all
 pub gave_failed : {S U : Type 0} (written : S → Option (List ℕ)) (faults : S → ℕ) (old new : S) (text whole : List ℕ) (result : Result U GroupFault) (fault : GroupFault)
     → result ≡ Err fault → fault ≡ Failed → text ≡ whole → Rose (faults old) (faults new) → AppendsPrefix (written old) (written new) text
-    → Writes written faults old new result whole
+    → WritesGroups written faults old new result whole
 gave_failed written faults old new text whole result fault f s is rose prefix = rw (f ∙ ap Err s) (record {
   all = tt;
   prefix = subst (AppendsPrefix (written old) (written new)) is prefix;
@@ -143,7 +144,7 @@ gave_failed written faults old new text whole result fault f s is rose prefix = 
 
 -- and wrote it
 pub gave_all : {S U : Type 0} (written : S → Option (List ℕ)) (faults : S → ℕ) (old new : S) (text whole : List ℕ) (value : U)
-    → text ≡ whole → written new ≡ append_known (written old) text → faults new ≡ faults old → Writes written faults old new (Ok value) whole
+    → text ≡ whole → written new ≡ append_known (written old) text → faults new ≡ faults old → WritesGroups written faults old new (Ok value) whole
 gave_all written faults old new text whole value is all none = record {
   all = all ∙ ap (append_known (written old)) is;
   prefix = tt;

@@ -3,8 +3,9 @@ use Rattle.std.proofs.Common.{◌≡◌, ℕ, zero, suc, ◌+◌, ◌-◌, ◌*�
 use Rattle.std.specs.Prelude.{codes, decimal}
 use Rattle.std.proofs.lemmas.Fmt.{length-decimal-le}
 use Rattle.text_pieces.specs.Pieces.{joined}
-use Rattle.rule_text.specs.Limits.{KeepsLimits}
-use Rattle.m_large.specs.Large.{line_feed, declaration, declarations, rule, rules, first_rule, check, base_text}
+use Rattle.rule_text.specs.Limits.{SourceKeepsLimits}
+use Rattle.text_pieces.specs.Pieces.{new_line}
+use Rattle.m_large.specs.Large.{declaration, declarations, rule, rules, first_rule, check, base_text}
 use Rattle.m_work.specs.Larges.{large_requests, large_source}
 
 -- the lengths of pieces together
@@ -26,8 +27,8 @@ six k h = length-decimal-le 6 k (omega arith) h (omega (arith, h))
 declaration_within : (k : ℕ) → k < 100000 → length (declaration k) ≤ 81
 declaration_within k h =
     let e : length (declaration k) ≡ 1 + (length (decimal k) + (35 + (length (decimal k) + (8 + (1 + (1 + (length (decimal k) + (19 + (1 + 0))))))))) =
-    length-joined (codes "R" ∷ decimal k ∷ codes " : saisie revenu classe = 0 alias C" ∷ decimal k ∷ codes " : \"r\" ;" ∷ line_feed
-    ∷ codes "T" ∷ decimal k ∷ codes " : calculee : \"t\" ;" ∷ line_feed ∷ []) in
+    length-joined (codes "R" ∷ decimal k ∷ codes " : saisie revenu classe = 0 alias C" ∷ decimal k ∷ codes " : \"r\" ;" ∷ new_line
+    ∷ codes "T" ∷ decimal k ∷ codes " : calculee : \"t\" ;" ∷ new_line ∷ []) in
     omega (arith, e, five k h)
 
 declarations_within : (n : ℕ) → n ≤ 100000 → length (declarations n) ≤ 81 * n
@@ -40,8 +41,8 @@ declarations_within (suc k) h =
 rule_within : (number k j : ℕ) → number < 1000000 → k < 100000 → j < 100000 → length (rule number k j) ≤ 79
 rule_within number k j a b c =
     let e : length (rule number k j) ≡ 6 + (length (decimal number) + (24 + (1 + (1 + (length (decimal k) + (11 + (length (decimal k) + (12 + (length (decimal j) + (2 + (1 + 0))))))))))) =
-    length-joined (codes "regle " ∷ decimal number ∷ codes " : application : iliad ;" ∷ line_feed
-    ∷ codes "T" ∷ decimal k ∷ codes " = max(0, R" ∷ decimal k ∷ codes " - 1000) + T" ∷ decimal j ∷ codes " ;" ∷ line_feed ∷ []) in
+    length-joined (codes "regle " ∷ decimal number ∷ codes " : application : iliad ;" ∷ new_line
+    ∷ codes "T" ∷ decimal k ∷ codes " = max(0, R" ∷ decimal k ∷ codes " - 1000) + T" ∷ decimal j ∷ codes " ;" ∷ new_line ∷ []) in
     omega (arith, e, six number a, five k b, five j c)
 
 rules_within : (k : ℕ) → k < 100000 → length (rules k) ≤ 79 * k
@@ -54,9 +55,9 @@ rules_within (suc j) h =
 check_within : (k : ℕ) → k < 100000 → length (check k) ≤ 111
 check_within k h =
     let e : length (check k) ≡ 46 + (1 + (31 + (1 + (4 + (length (decimal k) + (22 + (1 + 0))))))) =
-    length-joined (codes "E1 : anomalie : \"E\" : \"1\" : \"0\" : \"negative\" ;" ∷ line_feed
-    ∷ codes "verif 1 : application : iliad ;" ∷ line_feed
-    ∷ codes "si T" ∷ decimal k ∷ codes " < 0 alors erreur E1 ;" ∷ line_feed ∷ []) in
+    length-joined (codes "E1 : anomalie : \"E\" : \"1\" : \"0\" : \"negative\" ;" ∷ new_line
+    ∷ codes "verif 1 : application : iliad ;" ∷ new_line
+    ∷ codes "si T" ∷ decimal k ∷ codes " < 0 alors erreur E1 ;" ∷ new_line ∷ []) in
     omega (arith, e, five k h)
 
 base_within : (n : ℕ) → 1 ≤ n → n ≤ 100000 → length (base_text n) ≤ 16777216
@@ -69,9 +70,9 @@ base_within n some few =
 
 requests_within : (n : ℕ) → n ≤ 100000 → length (large_requests n) ≤ 16777216
 requests_within n few =
-    let e : length (large_requests n) ≡ 1 + (length (decimal (n - 1)) + (1 + 0)) = length-joined (codes "T" ∷ decimal (n - 1) ∷ line_feed ∷ []) in
+    let e : length (large_requests n) ≡ 1 + (length (decimal (n - 1)) + (1 + 0)) = length-joined (codes "T" ∷ decimal (n - 1) ∷ new_line ∷ []) in
     let digits = six (n - 1) (omega (arith, few)) in
     omega (arith, e, digits)
 
-pub large_within : (n : ℕ) → 1 ≤ n → n ≤ 100000 → KeepsLimits (large_source n)
+pub large_within : (n : ℕ) → 1 ≤ n → n ≤ 100000 → SourceKeepsLimits (large_source n)
 large_within n some few = record { texts = (base_within n some few, tt); driver = tt; requests = requests_within n few }

@@ -6,7 +6,7 @@ use Rattle.m_fixed.specs.declared.amount.Value.{Value}
 use Rattle.flat_code.specs.Runs.{flat_run}
 use Rattle.flat_code.specs.declared.face.Face.{Face}
 use Rattle.flat_code.specs.declared.program.Flat.{Flat}
-use Rattle.household_session.specs.Commands.{Command, no_words, sets, clears, shows, too_long, bad, command_of}
+use Rattle.household_session.specs.Commands.{SessionCommand, no_words, sets, clears, shows, too_long, bad, session_command}
 use Rattle.household_session.specs.Replies.{after_command, answer_reply, command_reply, replies_to}
 use Rattle.household_session.specs.Sessions.{Sitting, answered, clear_of, edited, line, set_of}
 use Rattle.household_session.specs.declared.fault.EditFault.{EditFault}
@@ -28,7 +28,7 @@ edited_is : (flat : Flat) (face : Face) (values : List Value) (edit : Result (�
 edited_is flat face values (Ok edit) = refl
 edited_is flat face values (Err fault) = refl
 
-reply_is : (scheme : Scheme) (flat : Flat) (face : Face) (values : List Value) (command : Command) → Shows scheme flat face
+reply_is : (scheme : Scheme) (flat : Flat) (face : Face) (values : List Value) (command : SessionCommand) → Shows scheme flat face
     → command_reply (sitting_of flat face values) command ≡ command_replied scheme values command
 reply_is scheme flat face values no_words shown = refl
 reply_is scheme flat face values (sets code amount) shown = ap (λ inputs. answer_reply (answered (set_of inputs code amount))) shown.codes
@@ -37,7 +37,7 @@ reply_is scheme flat face values shows shown = ap (λ text. text ++ line (codes 
 reply_is scheme flat face values too_long shown = refl
 reply_is scheme flat face values bad shown = refl
 
-after_is : (scheme : Scheme) (flat : Flat) (face : Face) (values : List Value) (command : Command) → Shows scheme flat face
+after_is : (scheme : Scheme) (flat : Flat) (face : Face) (values : List Value) (command : SessionCommand) → Shows scheme flat face
     → after_command (sitting_of flat face values) command ≡ sitting_of flat face (command_values scheme values command)
 after_is scheme flat face values no_words shown = refl
 after_is scheme flat face values (sets code amount) shown =
@@ -53,7 +53,7 @@ pub replies_are : (scheme : Scheme) (flat : Flat) (face : Face) (lines : List (L
     → replies_to (sitting_of flat face values) lines ≡ lines_replied scheme values lines
 replies_are scheme flat face [] values shown = refl
 replies_are scheme flat face (first ∷ lines) values shown =
-    ap (λ reply. reply ++ replies_to (after_command (sitting_of flat face values) (command_of first)) lines) (reply_is scheme flat face values (command_of first) shown)
-    ∙ ap (λ sitting. command_replied scheme values (command_of first) ++ replies_to sitting lines) (after_is scheme flat face values (command_of first) shown)
-    ∙ ap (λ rest. command_replied scheme values (command_of first) ++ rest)
-    (replies_are scheme flat face lines (command_values scheme values (command_of first)) shown)
+    ap (λ reply. reply ++ replies_to (after_command (sitting_of flat face values) (session_command first)) lines) (reply_is scheme flat face values (session_command first) shown)
+    ∙ ap (λ sitting. command_replied scheme values (session_command first) ++ replies_to sitting lines) (after_is scheme flat face values (session_command first) shown)
+    ∙ ap (λ rest. command_replied scheme values (session_command first) ++ rest)
+    (replies_are scheme flat face lines (command_values scheme values (session_command first)) shown)

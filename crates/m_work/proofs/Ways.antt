@@ -33,7 +33,7 @@ use Rattle.m_work.specs.Serving.{Served, to_its_end, unread, too_long, unwritten
 use Rattle.m_work.specs.Sessions.{ended_replies, lines_replied, session_replies}
 use Rattle.m_work.specs.Sources.{Refuses}
 use Rattle.m_work.specs.inner.Answers.{IsAnswerOf, IsBegun}
-use Rattle.m_work.specs.inner.Groups.{Writes, group_status}
+use Rattle.m_work.specs.inner.Groups.{WritesGroups, group_status}
 use Rattle.m_work.specs.inner.Refusals.{TellsRefusal}
 use Rattle.m_work.specs.declared.groups.GroupFault.{GroupFault}
 use Rattle.m_work.specs.declared.groups.GroupFault.TheVariants as group
@@ -84,7 +84,7 @@ batch_refused source table old new status (inl (line, refused, shown)) = batch.p
 batch_refused source table old new status (inr (same, memory)) = batch.no_memory same memory
 
 pub batch_written : {S T : Type 0} (written : S → Option (List ℕ)) (faults : S → ℕ) (old new : S) (result : Result T GroupFault) (text : List ℕ) (Replies : List ℕ → Status → Type 0) (status : Status)
-    → Replies text Done → status ≡ group_status result → Writes written faults old new result text
+    → Replies text Done → status ≡ group_status result → WritesGroups written faults old new result text
     → IsWrittenInParts Replies (output_view written faults old) (output_view written faults new) status
 batch_written written faults old new (Ok value) text Replies status replied is wrote = batch.printed text Done replied tt (inl ((wrote.all, wrote.counted), is))
 batch_written written faults old new (Err group.Memory) text Replies status replied is wrote = broke_off text Done replied wrote.prefix wrote.counted is

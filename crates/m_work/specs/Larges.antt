@@ -3,11 +3,11 @@ use Rattle.std.specs.Prelude.{ℕ, ◌-◌, List, [], ◌∷◌, codes, decimal,
 use Rattle.text_pieces.specs.Pieces.{joined}
 use Rattle.rule_text.specs.declared.Source.{Source}
 use Rattle.m_large.specs.Large.{base_name, base_text}
-use Rattle.tax_print.specs.Lines.{line_feed}
+use Rattle.text_pieces.specs.Pieces.{new_line}
 
 -- what is asked for: the last of the sums
 abbrev pub large_requests : ℕ → List ℕ
-large_requests n = joined (codes "T" ∷ decimal (n - 1) ∷ line_feed ∷ [])
+large_requests n = joined (codes "T" ∷ decimal (n - 1) ∷ new_line ∷ [])
 
 -- The source: the one generated rule file, its application, no driver, and the last sum as what is asked for.
 abbrev pub large_source : ℕ → Source
@@ -15,4 +15,4 @@ large_source n = record { application = codes "iliad"; texts = record { name = b
 
 -- the line in front of the answer: `large 3`
 abbrev pub large_line : ℕ → List ℕ
-large_line n = joined (codes "large " ∷ decimal n ∷ line_feed ∷ [])
+large_line n = joined (codes "large " ∷ decimal n ∷ new_line ∷ [])

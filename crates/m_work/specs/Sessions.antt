@@ -2,7 +2,7 @@
 use Rattle.std.specs.Prelude.{ℕ, ℤ, List, [], ◌∷◌, ◌++◌, length, codes, slice_set, Result, Ok, Err}
 use Rattle.m_fixed.specs.declared.amount.Value.{Value}
 use Rattle.household.specs.Household.{values_of}
-use Rattle.household_session.specs.Commands.{Command, no_words, sets, clears, shows, too_long, bad, command_of}
+use Rattle.household_session.specs.Commands.{SessionCommand, no_words, sets, clears, shows, too_long, bad, session_command}
 use Rattle.household_session.specs.Replies.{answer_reply, ended_lines, input_lines}
 use Rattle.household_session.specs.Sessions.{answered, clear_of, line, set_of}
 use Rattle.household_session.specs.declared.fault.EditFault.{EditFault}
@@ -19,7 +19,7 @@ values_edited values (Ok edit) = slice_set values edit.0 edit.1
 values_edited values (Err fault) = values
 
 -- the reply to a command, where the inputs have these values
-abbrev pub command_replied : Scheme → List Value → Command → List ℕ
+abbrev pub command_replied : Scheme → List Value → SessionCommand → List ℕ
 command_replied scheme values no_words = []
 command_replied scheme values (sets code amount) = answer_reply (answered (set_of scheme.codes code amount))
 command_replied scheme values (clears code) = answer_reply (answered (clear_of scheme.codes code))
@@ -28,7 +28,7 @@ command_replied scheme values too_long = line (codes "refused line too long")
 command_replied scheme values bad = line (codes "refused bad command")
 
 -- the values after a command
-abbrev pub command_values : Scheme → List Value → Command → List Value
+abbrev pub command_values : Scheme → List Value → SessionCommand → List Value
 command_values scheme values no_words = values
 command_values scheme values (sets code amount) = values_edited values (set_of scheme.codes code amount)
 command_values scheme values (clears code) = values_edited values (clear_of scheme.codes code)
@@ -40,7 +40,7 @@ command_values scheme values bad = values
 abbrev pub lines_replied : Scheme → List Value → List (List ℕ) → List ℕ
 lines_replied scheme values [] = []
 lines_replied scheme values (first ∷ lines) =
-    command_replied scheme values (command_of first) ++ lines_replied scheme (command_values scheme values (command_of first)) lines
+    command_replied scheme values (session_command first) ++ lines_replied scheme (command_values scheme values (session_command first)) lines
 
 -- The replies to a whole input, where a session begins with these pairs. Of the pair of `1AJ` and 5, to `set 1AJ x` and `clear 1AJ` the
 -- lines `refused bad amount` and `ok`.

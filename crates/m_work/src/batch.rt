@@ -1,6 +1,6 @@
 //! A batch: a source is compiled, and its answers to the rows of a table are printed, in groups.
 ghost use Rattle.std.specs.Prelude.{◌≡◌};
-ghost use Rattle.rule_text.specs.Limits.{KeepsLimits};
+ghost use Rattle.rule_text.specs.Limits.{SourceKeepsLimits};
 ghost use Rattle.rule_text.specs.declared.Source.{Source};
 ghost use Rattle.m_compile.specs.Compiled.{IsCompiled, IsRunnable};
 ghost use Rattle.m_plan.specs.Views.{output_view};
@@ -26,7 +26,7 @@ pub fn answer_batch<R: Threads + Sync, K: Sink>(
     table: &[u8],
     out: &mut K,
 ) -> Status
-    requires { KeepsLimits source.now }
+    requires { SourceKeepsLimits source.now }
     ensures { IsWrittenInParts (BatchReplies source.now table.now) (output_view K.written K.faults out.old) (output_view K.written K.faults out.new) result }
 {
     match compile(alloc, source) {

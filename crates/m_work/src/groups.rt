@@ -5,8 +5,8 @@ ghost use Rattle.text_pieces.specs.Giving.{Gives};
 ghost use Rattle.flat_code.specs.Runs.{IsFlat};
 ghost use Rattle.household_session.specs.Sessions.{IsFaceOf};
 ghost use Rattle.m_batch.specs.Batch.{HasInputsBelow};
-ghost use Rattle.tax_print.specs.Lines.{IsWithin};
-ghost use Rattle.m_work.specs.inner.Groups.{Writes, answered_lines, program_lines};
+ghost use Rattle.tax_print.specs.Lines.{AnswerIsWithin};
+ghost use Rattle.m_work.specs.inner.Groups.{WritesGroups, answered_lines, program_lines};
 ghost use Rattle.m_work.specs.declared.groups.GroupFault.TheVariants.{Memory as NoMemory, Failed as NotWritten};
 
 use flat_code::{Answer, Face, Flat};
@@ -57,7 +57,7 @@ pub(crate) fn print_rows<R: Threads + Sync, K: Sink>(
     requires valid { IsFlat flat.now }
     requires face { IsFaceOf face.now flat.now }
     requires inputs { AllByRecursion (HasInputsBelow flat.now.inputs) rows.now }
-    ensures { Writes K.written K.faults out.old out.new result (program_lines flat.now face.now rows.now) }
+    ensures { WritesGroups K.written K.faults out.old out.new result (program_lines flat.now face.now rows.now) }
 {
     let mut from = 0;
     while from < rows.len() {
@@ -93,7 +93,7 @@ fn print_group<R: Threads + Sync, K: Sink>(
     requires valid { IsFlat flat.now }
     requires face { IsFaceOf face.now flat.now }
     requires inputs { AllByRecursion (HasInputsBelow flat.now.inputs) rows.now }
-    ensures { Writes K.written K.faults out.old out.new result (program_lines flat.now face.now rows.now) }
+    ensures { WritesGroups K.written K.faults out.old out.new result (program_lines flat.now face.now rows.now) }
 {
     let answers = run_batch(rt, alloc, flat, rows)?;
     print_answers(face, rows, answers.as_slice(), out)?;
@@ -108,7 +108,7 @@ fn print_answers<K: Sink>(
     out: &mut K,
 ) -> Result<(), Failed>
     requires many { length answers.now ≡ length rows.now }
-    requires within { AllByRecursion (IsWithin face.now) answers.now }
+    requires within { AllByRecursion (AnswerIsWithin face.now) answers.now }
     ensures { Gives K.written K.faults out.old out.new result (answered_lines face.now rows.now answers.now) }
 {
     for (k, row) in rows.iter().enumerate() {

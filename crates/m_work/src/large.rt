@@ -4,7 +4,7 @@ ghost use Rattle.m_places.specs.declared.limits.TheConstants.{LARGE};
 ghost use Rattle.text_pieces.specs.Giving.{Gives};
 ghost use Rattle.rule_text.specs.declared.Source.{Source};
 ghost use Rattle.m_large.specs.Large.{household_text};
-ghost use Rattle.tax_print.specs.Lines.{IsWithin, answer_lines};
+ghost use Rattle.tax_print.specs.Lines.{AnswerIsWithin, answer_lines};
 ghost use Rattle.m_compile.specs.Compiled.{IsCompiled, IsRunnable};
 ghost use Rattle.m_plan.specs.Printing.{IsAnswered};
 ghost use Rattle.m_plan.specs.Views.{output_view};
@@ -107,7 +107,7 @@ fn print_compiled<K: Sink>(
 
 // Prints the line and then an answer.
 fn print_large<K: Sink>(n: u32, face: &Face, answer: &Answer, out: &mut K) -> Result<(), Failed>
-    requires { IsWithin face.now answer.now }
+    requires { AnswerIsWithin face.now answer.now }
     ensures { Gives K.written K.faults out.old out.new result (large_line n ++ answer_lines face.now answer.now) }
 {
     let mut buffer = Buffer::new();

@@ -1,7 +1,7 @@
 //! A run: a source is compiled, and its answer to a household is printed.
 ghost use Rattle.std.specs.Prelude.{◌≡◌, ℕ, ℤ, List, Ok, Err};
 ghost use Rattle.m_places.specs.Refusals.{Outcome};
-ghost use Rattle.rule_text.specs.Limits.{KeepsLimits};
+ghost use Rattle.rule_text.specs.Limits.{SourceKeepsLimits};
 ghost use Rattle.flat_code.specs.Runs.{flat_run};
 ghost use Rattle.household.specs.Household.{household_of, values_of};
 ghost use Rattle.household.specs.declared.fault.HouseholdFault.TheVariants.{Memory};
@@ -23,7 +23,7 @@ use tax_print::print_answer;
 
 /// Compiles a source, and prints its answer to the household of these bytes, or the line by which one of them is refused.
 pub fn answer_run<K: Sink>(alloc: Global, source: &Source, household: &[u8], out: &mut K) -> Status
-    requires { KeepsLimits source.now }
+    requires { SourceKeepsLimits source.now }
     ensures { IsAnswered (RunReplies source.now household.now) (output_view K.written K.faults out.old) (output_view K.written K.faults out.new) result }
 {
     match compile(alloc, source) {

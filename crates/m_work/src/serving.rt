@@ -1,7 +1,7 @@
 //! A session: a source is compiled and a household read, and then the lines of the input are done, one after another.
 ghost use Rattle.std.specs.Prelude.{◌≡◌, Err};
 ghost use Rattle.m_places.specs.Refusals.{Outcome};
-ghost use Rattle.rule_text.specs.Limits.{KeepsLimits};
+ghost use Rattle.rule_text.specs.Limits.{SourceKeepsLimits};
 ghost use Rattle.rule_text.specs.declared.Source.{Source};
 ghost use Rattle.household.specs.Household.{household_of};
 ghost use Rattle.household.specs.declared.fault.HouseholdFault.TheVariants.{Memory};
@@ -29,7 +29,7 @@ pub fn answer_serve<S: Input, K: Sink>(
     input: &mut S,
     out: &mut K,
 ) -> Status
-    requires { KeepsLimits source.now }
+    requires { SourceKeepsLimits source.now }
     ensures { IsServed source.now household.now (input_view S.left S.faults input.old) (input_view S.left S.faults input.new)
         (output_view K.written K.faults out.old) (output_view K.written K.faults out.new) result }
 {

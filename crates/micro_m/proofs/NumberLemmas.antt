@@ -6,7 +6,7 @@ use Rattle.std.proofs.lemmas.Bool.Decides.{nat_tests}
 use Rattle.std.proofs.lemmas.Cmp.{nat_eq_equiv}
 use Rattle.std.proofs.lemmas.List.Folds.{list_any-append}
 use Rattle.std.proofs.lemmas.Map.Made.{length-le_from_is_member}
-use Rattle.micro_m.specs.Bases.{is_among, AreDistinct}
+use Rattle.micro_m.specs.Bases.{is_among, AreDistinctCells}
 
 pub same : (a b : ℕ) → nat_eq a b ≡ true → a ≡ b
 same a b t = grind (arith, nat_tests)
@@ -31,7 +31,7 @@ apart : (x : ℕ) (xs : List ℕ) → is_among x xs ≡ false → AllByRecursion
 apart x [] h = tt
 apart x (y ∷ ys) h = let k = or-false (nat_eq x y) (is_among x ys) h in (k.0, apart x ys k.1)
 
-pub distinct : (xs : List ℕ) → AreDistinct xs → IsDistinct nat_eq xs
+pub distinct : (xs : List ℕ) → AreDistinctCells xs → IsDistinct nat_eq xs
 unfolding IsDistinct
 distinct [] d = tt
 distinct (x ∷ xs) d = (apart x xs d.0, distinct xs d.1)
@@ -56,7 +56,7 @@ place-among x (y ∷ ys) h = cases (nat_eq x y)
     (suc k.0, omega arith, k.2))
 
 -- places of distinct numbers are told by the numbers
-pub place-one : (xs : List ℕ) (i j : ℕ) → AreDistinct xs → i < length xs → j < length xs → get_or xs i 0 ≡ get_or xs j 0 → i ≡ j
+pub place-one : (xs : List ℕ) (i j : ℕ) → AreDistinctCells xs → i < length xs → j < length xs → get_or xs i 0 ≡ get_or xs j 0 → i ≡ j
 place-one [] i j d hi hj e = absurd (omega arith)
 place-one (x ∷ xs) zero zero d hi hj e = refl
 place-one (x ∷ xs) zero (suc j) d hi hj e = absurd (clash (subst (λ n. is_among n xs ≡ true) (sym e) (among-at xs j (omega arith))) d.0)
@@ -76,7 +76,7 @@ pub among-append : (x : ℕ) (xs ys : List ℕ) → is_among x (xs ++ ys) ≡ (i
 among-append x xs ys = list_any-append (λ y. nat_eq x y) xs ys
 
 -- distinct numbers and one more that isn't among them
-pub AreDistinct-push : (xs : List ℕ) (x : ℕ) → AreDistinct xs → is_among x xs ≡ false → AreDistinct (xs ++ x ∷ [])
+pub AreDistinct-push : (xs : List ℕ) (x : ℕ) → AreDistinctCells xs → is_among x xs ≡ false → AreDistinctCells (xs ++ x ∷ [])
 AreDistinct-push [] x d h = (refl, tt)
 AreDistinct-push (y ∷ ys) x d h =
     let k = or-false (nat_eq x y) (is_among x ys) h in (
@@ -89,5 +89,5 @@ AreDistinct-push (y ∷ ys) x d h =
     )
 
 -- distinct numbers that stand in another list are no more than it is long
-pub length-le_from_among : (xs ys : List ℕ) → AreDistinct xs → ((x : ℕ) → is_among x xs ≡ true → is_among x ys ≡ true) → length xs ≤ length ys
+pub length-le_from_among : (xs ys : List ℕ) → AreDistinctCells xs → ((x : ℕ) → is_among x xs ≡ true → is_among x ys ≡ true) → length xs ≤ length ys
 length-le_from_among xs ys d h = length-le_from_is_member nat_eq_equiv xs ys (distinct xs d) h

@@ -6,7 +6,7 @@ use Rattle.std.specs.Option.{IsSomeAnd}
 use Rattle.m_fixed.specs.declared.amount.Value.TheVariants.{Undef}
 use Rattle.micro_m.specs.Trees.{Tree, lit}
 use Rattle.micro_m.specs.declared.base.Base.{Base}
-use Rattle.micro_m.specs.Bases.{Definition, is_among, AreDistinct, targets_of, target_at, term_at, definition_among, definition_of, IsValidBase}
+use Rattle.micro_m.specs.Bases.{Definition, is_among, AreDistinctCells, targets_of, target_at, term_at, definition_among, definition_of, IsValidBase}
 use Rattle.micro_m.specs.Reads.{TermReads, Reads}
 use Rattle.micro_m.proofs.NumberLemmas.{same, itself, cases, clash, among-at, place-one}
 
@@ -16,7 +16,7 @@ cells ds = map (λ d. d.0) ds
 abbrev terms : List Definition → List Tree
 terms ds = map (λ d. d.1) ds
 
-defined-at : (ds : List Definition) (p : ℕ) → AreDistinct (cells ds) → p < length ds → definition_among ds (get_or (cells ds) p 0) ≡ Some (get_or (terms ds) p (lit Undef))
+defined-at : (ds : List Definition) (p : ℕ) → AreDistinctCells (cells ds) → p < length ds → definition_among ds (get_or (cells ds) p 0) ≡ Some (get_or (terms ds) p (lit Undef))
 defined-at [] p d h = absurd (omega arith)
 defined-at (x ∷ ds) zero d h = ap (λ b. cond b (Some x.1) (definition_among ds x.0)) (itself x.0)
 defined-at (x ∷ ds) (suc p) d h =
@@ -36,20 +36,20 @@ position-of (x ∷ ds) c t e = cases (nat_eq c x.0)
     let k = position-of ds c t (sym (ap (λ b. cond b (Some x.1) (definition_among ds c)) n) ∙ e) in
     (suc k.0, omega arith, k.2, k.3))
 
-pub definition_of-target : (base : Base) (p : ℕ) → AreDistinct (targets_of base) → p < length base.definitions → definition_of base (target_at base p) ≡ Some (term_at base p)
+pub definition_of-target : (base : Base) (p : ℕ) → AreDistinctCells (targets_of base) → p < length base.definitions → definition_of base (target_at base p) ≡ Some (term_at base p)
 definition_of-target base p d h = defined-at base.definitions p d h
 
 pub definition_of-position : (base : Base) (c : ℕ) (t : Tree) → definition_of base c ≡ Some t → (p : ℕ) × (p < length base.definitions) × (target_at base p ≡ c) × (term_at base p ≡ t)
 definition_of-position base c t e = position-of base.definitions c t e
 
 -- two positions of one cell are one
-pub position-one : (base : Base) (p q : ℕ) → AreDistinct (targets_of base) → p < length base.definitions → q < length base.definitions → target_at base p ≡ target_at base q → p ≡ q
+pub position-one : (base : Base) (p q : ℕ) → AreDistinctCells (targets_of base) → p < length base.definitions → q < length base.definitions → target_at base p ≡ target_at base q → p ≡ q
 position-one base p q d hp hq e =
     let long : length (targets_of base) ≡ length base.definitions = length-map base.definitions (λ (x : Definition). x.0) in
     place-one (targets_of base) p q d (omega arith) (omega arith) e
 
 -- a cell reads what the term at its position reads
-pub Reads-target : (base : Base) (p c : ℕ) → AreDistinct (targets_of base) → p < length base.definitions → TermReads (term_at base p) c → Reads base (target_at base p) c
+pub Reads-target : (base : Base) (p c : ℕ) → AreDistinctCells (targets_of base) → p < length base.definitions → TermReads (term_at base p) c → Reads base (target_at base p) c
 Reads-target base p c d h r = subst (λ o. IsSomeAnd o (λ t. TermReads t c)) (sym (definition_of-target base p d h)) r
 
 -- what stands at a position of the list of definitions

@@ -5,7 +5,7 @@ use Rattle.std.specs.Option.{option_map_or, IsSomeAnd}
 use Rattle.std.proofs.Math.ListN.{length-map}
 use Rattle.micro_m.specs.Trees.{Tree}
 use Rattle.micro_m.specs.declared.base.Base.{Base}
-use Rattle.micro_m.specs.Bases.{Definition, is_among, AreDistinct, targets_of, definition_among, definition_of}
+use Rattle.micro_m.specs.Bases.{Definition, is_among, AreDistinctCells, targets_of, definition_among, definition_of}
 use Rattle.micro_m.specs.Values.{Environment, term_value, value_in, value_of, IsSolution}
 use Rattle.micro_m.specs.Reads.{TermReads, Reads, LeadsTo, IsCycle, HasNoCycle}
 use Rattle.micro_m.proofs.NumberLemmas.{clash, same, itself, cases, or-true, length-le_from_among}
@@ -37,14 +37,14 @@ path-among base x (p ∷ ps) path q h = cases (nat_eq q p)
     (λ (f : nat_eq q p ≡ false). path-among base p ps path.1 q (ap (λ b. b || is_among q ps) (sym f) ∙ h))
 
 -- a path of distinct cells is no longer than there are definitions
-pub path-length : (base : Base) (x : ℕ) (ps : List ℕ) → Path base x ps → AreDistinct ps → length ps ≤ length base.definitions
+pub path-length : (base : Base) (x : ℕ) (ps : List ℕ) → Path base x ps → AreDistinctCells ps → length ps ≤ length base.definitions
 path-length base x ps path d =
     let low = length-le_from_among ps (targets_of base) d (path-among base x ps path) in
     let all : length (targets_of base) ≡ length base.definitions = length-map base.definitions (λ (d : Definition). d.0) in
     omega arith
 
 -- From y through `back` to x, and a path of further cells that leads to y: where x is one of these, it is on a cycle.
-closes : (base : Base) (x y : ℕ) (back ps : List ℕ) → LeadsTo base y back x → Path base y ps → AreDistinct (y ∷ back) → AreDistinct ps → ((q : ℕ) → is_among q ps ≡ true → is_among q (y ∷ back) ≡ false) → is_among x (y ∷ ps) ≡ true → (cells : List ℕ) × IsCycle base cells
+closes : (base : Base) (x y : ℕ) (back ps : List ℕ) → LeadsTo base y back x → Path base y ps → AreDistinctCells (y ∷ back) → AreDistinctCells ps → ((q : ℕ) → is_among q ps ≡ true → is_among q (y ∷ back) ≡ false) → is_among x (y ∷ ps) ≡ true → (cells : List ℕ) × IsCycle base cells
 closes base x y back [] leads path distinct ds apart here =
     let is : x ≡ y = same x y (cases (nat_eq x y) (λ (t : nat_eq x y ≡ true). t) (λ (f : nat_eq x y ≡ false). absurd (cc))) in
     (y ∷ back, (distinct, subst (λ n. LeadsTo base y back n) is leads))
@@ -58,7 +58,7 @@ closes base x y back (p ∷ ps) leads path distinct ds apart here = cases (nat_e
     (ap (λ b. b || is_among x (p ∷ ps)) (sym f) ∙ here))
 
 -- what is read by a path doesn't stand on it, if there is no cycle
-pub off-path : (base : Base) (x : ℕ) (ps : List ℕ) → HasNoCycle base → Path base x ps → AreDistinct ps → is_among x ps ≡ false
+pub off-path : (base : Base) (x : ℕ) (ps : List ℕ) → HasNoCycle base → Path base x ps → AreDistinctCells ps → is_among x ps ≡ false
 off-path base x [] free path ds = refl
 off-path base x (p ∷ ps) free path ds = cases (is_among x (p ∷ ps))
     (λ (t : is_among x (p ∷ ps) ≡ true).
@@ -92,7 +92,7 @@ one_less k zero h = absurd (omega arith)
 one_less k (suc j) h = (j, refl, omega arith)
 
 -- Two such maps agree at a cell, once there are as many turns as there are definitions off a path that leads to it.
-pub agree : (base : Base) (given : Environment) (e f : ℕ → Environment) → HasNoCycle base → Follows base given e → Follows base given f → (fuel x : ℕ) (ps : List ℕ) → Path base x ps → AreDistinct ps → length base.definitions ≤ length ps + fuel → (m n : ℕ) → fuel ≤ m → fuel ≤ n → e (suc m) x ≡ f (suc n) x
+pub agree : (base : Base) (given : Environment) (e f : ℕ → Environment) → HasNoCycle base → Follows base given e → Follows base given f → (fuel x : ℕ) (ps : List ℕ) → Path base x ps → AreDistinctCells ps → length base.definitions ≤ length ps + fuel → (m n : ℕ) → fuel ≤ m → fuel ≤ n → e (suc m) x ≡ f (suc n) x
 agree base given e f free by_e by_f zero x ps path ds enough m n hm hn =
     agree-step base given e f by_e by_f m n x (λ y r.
     let long : length (x ∷ ps) ≤ length base.definitions = path-length base y (x ∷ ps) (r, path) (off-path base x ps free path ds, ds) in

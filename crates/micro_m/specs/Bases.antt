@@ -13,9 +13,9 @@ abbrev pub is_among : ℕ → List ℕ → Bool
 is_among n ns = list_any (λ m. n == m) ns
 
 -- no number stands twice
-abbrev pub AreDistinct : List ℕ → Type 0
-AreDistinct [] = Unit {0}
-AreDistinct (n ∷ ns) = (is_among n ns ≡ false) × AreDistinct ns
+abbrev pub AreDistinctCells : List ℕ → Type 0
+AreDistinctCells [] = Unit {0}
+AreDistinctCells (n ∷ ns) = (is_among n ns ≡ false) × AreDistinctCells ns
 
 -- ---- definitions
 
@@ -73,5 +73,5 @@ pub record IsValidBase (base : Base) : Type 0 where
   pub terms : All (IsWithin base.cells) (terms_of base)
   pub conditions : All (λ check. IsWithin base.cells check.0) base.checks
   pub labels : All (λ check. check.1 < length base.labels) base.checks
-  pub defined_once : AreDistinct (targets_of base)
-  pub constant_once : AreDistinct (map (λ constant. constant.0) base.constants)
+  pub defined_once : AreDistinctCells (targets_of base)
+  pub constant_once : AreDistinctCells (map (λ constant. constant.0) base.constants)

@@ -3,7 +3,7 @@ use Rattle.std.specs.Prelude.{◌≡◌, ℕ, ◌+◌, ◌<◌, ◌≤◌, ◌�
 use Rattle.micro_m.specs.Trees.{Tree, lit, cell, pick, apply, chain, Trees, none, more, Steps, end, step}
 use Rattle.micro_m.specs.declared.table.Picked.TheVariants.{Cell}
 use Rattle.micro_m.specs.declared.base.Base.{Base}
-use Rattle.micro_m.specs.Bases.{AreDistinct, definition_of}
+use Rattle.micro_m.specs.Bases.{AreDistinctCells, definition_of}
 use Rattle.micro_m.specs.Values.{picked}
 
 -- A table read reads these cells of the table: at a literal the one cell that it comes to, if it comes to one, and at any
@@ -41,7 +41,7 @@ LeadsTo base x (y ∷ ys) last = Reads base x y × LeadsTo base y ys last
 -- a cycle: distinct cells, each reading the next, and the last reading the first; one cell that reads itself is a cycle
 abbrev pub IsCycle : Base → List ℕ → Type 0
 IsCycle base [] = ⊥
-IsCycle base (x ∷ xs) = AreDistinct (x ∷ xs) × LeadsTo base x xs x
+IsCycle base (x ∷ xs) = AreDistinctCells (x ∷ xs) × LeadsTo base x xs x
 
 abbrev pub HasNoCycle : Base → Type 0
 HasNoCycle base = (cells : List ℕ) → IsCycle base cells → ⊥

@@ -4,3 +4,4 @@ pub mod ListLemmas
 pub mod RingLemmas
 pub mod ShownLemmas
 pub mod OneLaws
+pub mod OnceLemmas

@@ -6,7 +6,7 @@ use Rattle.driver_core.specs.declared.program.Core.{Core}
 use Rattle.driver_core.specs.Valid.{IsRing}
 use Rattle.mpp_core.specs.declared.fault.CoreFault.{CoreFault}
 use Rattle.mpp_core.specs.declared.fault.CoreFault.TheVariants.{FunctionTwice, NoMain, UnknownInDriver, BadTargetInDriver, DriverRecursion, Memory}
-use Rattle.mpp_core.specs.Cores.{IsCore, ShowsRing, IsRecursion, IsCoreFault, AreOneFault, the_same, both_rings}
+use Rattle.mpp_core.specs.Cores.{IsCore, ShowsRing, IsRecursion, IsCoreFault, AreOneCoreFault, the_same, both_rings}
 
 ok_one : {A E : Type 0} {r : Result A E} {x y : A} → r ≡ Ok x → r ≡ Ok y → x ≡ y
 ok_one e f = cc
@@ -35,13 +35,13 @@ no_core_and_fault driver declared core fault a (inr h) =
     let shown = (shows h.0 fault h.2).2 in
     a.no_ring shown.functions (subst (λ (k : Core). IsRing k shown.functions) (ok_one h.1 a.named) shown.ring)
 
-both_show : (core other : Core) (fault another : CoreFault) → IsRecursion core fault → IsRecursion other another → AreOneFault fault another
+both_show : (core other : Core) (fault another : CoreFault) → IsRecursion core fault → IsRecursion other another → AreOneCoreFault fault another
 both_show core other fault another a b =
     let p = shows core fault a in
     let q = shows other another b in
-    subst (λ (f : CoreFault). AreOneFault f another) (sym p.1) (subst (λ (g : CoreFault). AreOneFault (DriverRecursion p.0) g) (sym q.1) both_rings)
+    subst (λ (f : CoreFault). AreOneCoreFault f another) (sym p.1) (subst (λ (g : CoreFault). AreOneCoreFault (DriverRecursion p.0) g) (sym q.1) both_rings)
 
-pub one_fault : (driver : Driver) (declared : Declared) (fault other : CoreFault) → IsCoreFault driver declared fault → IsCoreFault driver declared other → AreOneFault fault other
+pub one_fault : (driver : Driver) (declared : Declared) (fault other : CoreFault) → IsCoreFault driver declared fault → IsCoreFault driver declared other → AreOneCoreFault fault other
 one_fault driver declared fault other (inl e) (inl f) = the_same (err_one e f)
 one_fault driver declared fault other (inl e) (inr h) = absurd (ok_or_err h.1 e)
 one_fault driver declared fault other (inr h) (inl f) = absurd (ok_or_err h.1 f)

@@ -4,12 +4,12 @@ use Rattle.std.specs.Prelude.{IfOk}
 use Rattle.std.proofs.lemmas.List.Elements.{All-nil, All-cons, All-filter}
 use Rattle.m_symbols.specs.Declarations.{Declared, owners_from}
 use Rattle.driver_core.specs.declared.program.Core.{Core}
-use Rattle.driver_core.specs.Actions.{Action, solve}
+use Rattle.driver_core.specs.Actions.{Action}
 use Rattle.driver_core.specs.ActionView.{block_of}
 use Rattle.driver_core.specs.Valid.{body_among, BlockCalls, BlockIsWithin, IsRing, IsValidCore}
-use Rattle.mpp_core.specs.Cores.{plain_core, received_cells, is_constant_cell}
+use Rattle.mpp_core.specs.Cores.{plain_core, received_alone, received_cells, is_constant_cell}
 
-no_calls : (received : List ℕ) (f g : ℕ) → BlockCalls (body_among ((solve 1 received ∷ []) ∷ []) f) g → ⊥
+no_calls : (received : List ℕ) (f g : ℕ) → BlockCalls (body_among ((received_alone received ∷ []) ∷ []) f) g → ⊥
 no_calls received zero g (inl e) = e
 no_calls received zero g (inr e) = e
 no_calls received (suc f) g e = e
@@ -27,7 +27,7 @@ plain_valid requests d h =
       in_range = record {
         names = refl;
         main = omega arith;
-        bodies = All-cons (λ (commands : List Action). BlockIsWithin all 1 (block_of commands)) (solve 1 (received_cells requests d) ∷ []) [] (known, tt) (All-nil (λ (commands : List Action). BlockIsWithin all 1 (block_of commands)));
+        bodies = All-cons (λ (commands : List Action). BlockIsWithin all 1 (block_of commands)) (received_alone (received_cells requests d) ∷ []) [] (known, tt) (All-nil (λ (commands : List Action). BlockIsWithin all 1 (block_of commands)));
       };
       no_ring = no_ring requests d;
     }

@@ -5,7 +5,7 @@ use Rattle.std.proofs.lemmas.Bool.{ltb-true}
 use Rattle.driver_core.specs.declared.program.Core.{Core}
 use Rattle.driver_core.specs.Actions.{Action, assign, clear, branch, partition, call, solve, action_nodes, nodes_of_block, Block, no_actions, an_action}
 use Rattle.driver_core.specs.ActionView.{block_of}
-use Rattle.driver_core.specs.Valid.{body_among, ActionCalls, BlockCalls, LeadsTo, HasNoRing}
+use Rattle.driver_core.specs.Valid.{body_among, ActionCalls, BlockCalls, CallsLeadTo, HasNoRing}
 use Rattle.mpp_core.specs.inner.Ranks.{rank_is_below, action_descends, block_descends, bodies_descend}
 
 both : (a b : Bool) → (a && b) ≡ true → (a ≡ true) × (b ≡ true)
@@ -20,8 +20,8 @@ mutual
   action_falls ranks rank (branch line condition first second) g d (inl k) = block_falls ranks rank first g (both (block_descends ranks rank first) (block_descends ranks rank second) d).0 k
   action_falls ranks rank (branch line condition first second) g d (inr k) = block_falls ranks rank second g (both (block_descends ranks rank first) (block_descends ranks rank second) d).1 k
   action_falls ranks rank (partition line cells block) g d k = block_falls ranks rank block g d k
-  action_falls ranks rank (call line received function) g d k = ap (λ n. rank_is_below rank (slice_get ranks n)) k ∙ d
-  action_falls ranks rank (solve line received) g d k = absurd k
+  action_falls ranks rank (call line names received function) g d k = ap (λ n. rank_is_below rank (slice_get ranks n)) k ∙ d
+  action_falls ranks rank (solve line names received) g d k = absurd k
 
   block_falls : (ranks : List ℕ) (rank : ℕ) (block : Block) (g : ℕ) → block_descends ranks rank block ≡ true → BlockCalls block g → rank_is_below rank (slice_get ranks g) ≡ true
   block_falls ranks rank no_actions g d k = absurd k
@@ -45,7 +45,7 @@ falls ranks (rank ∷ own) (body ∷ bodies) zero g d k =
     below rank (slice_get ranks g) (block_falls ranks rank (block_of body) g (both (block_descends ranks rank (block_of body)) (bodies_descend ranks own bodies) d).0 k)
 falls ranks (rank ∷ own) (body ∷ bodies) (suc f) g d k = falls ranks own bodies f g (both (block_descends ranks rank (block_of body)) (bodies_descend ranks own bodies) d).1 k
 
-leads : (ranks : List ℕ) (core : Core) (f : ℕ) (gs : List ℕ) (last : ℕ) → bodies_descend ranks ranks core.bodies ≡ true → LeadsTo core f gs last → ranked (slice_get ranks last) < ranked (slice_get ranks f)
+leads : (ranks : List ℕ) (core : Core) (f : ℕ) (gs : List ℕ) (last : ℕ) → bodies_descend ranks ranks core.bodies ≡ true → CallsLeadTo core f gs last → ranked (slice_get ranks last) < ranked (slice_get ranks f)
 leads ranks core f [] last d k = falls ranks ranks core.bodies f last d k
 leads ranks core f (g ∷ gs) last d k = let a = falls ranks ranks core.bodies f g d k.0 in let b = leads ranks core g gs last d k.1 in omega (arith, a, b)
 

@@ -3,11 +3,11 @@ use Rattle.std.proofs.Common.{◌≡◌, ◌≤◌, ◌<◌, ◌+◌, ℕ, Bool,
 use mathlib.Core.Bool.{◌&&◌, ◌||◌}
 use Rattle.std.proofs.lemmas.Bool.{eqb-true, leb-true}
 use Rattle.std.proofs.lemmas.List.Elements.{All-nil, All-cons}
-use Rattle.micro_m.specs.Bases.{is_among, AreDistinct}
+use Rattle.micro_m.specs.Bases.{is_among, AreDistinctCells}
 use Rattle.micro_m.specs.Reads.{BeginsWithLeast}
 use Rattle.driver_core.specs.declared.program.Core.{Core}
 use Rattle.driver_core.specs.Actions.{Action, assign, clear, branch, partition, call, solve, Block, no_actions, an_action}
-use Rattle.driver_core.specs.Valid.{body_among, ActionCalls, BlockCalls, LeadsTo, IsRing}
+use Rattle.driver_core.specs.Valid.{body_among, ActionCalls, BlockCalls, CallsLeadTo, IsRing}
 use Rattle.mpp_core.specs.inner.Rings.{stands_at, stand_at, none_below, action_calls, block_calls, leads, is_ring}
 
 both : (a b : Bool) → (a && b) ≡ true → (a ≡ true) × (b ≡ true)
@@ -50,7 +50,7 @@ absent places (f ∷ fs) i n k s e h =
     (differs n f (eqb n f) refl (λ q. let w = same k i (slice_get places f) (sym (ap (slice_get places) q) ∙ e) (stands i (slice_get places f) p.0) in omega (arith, h, w)))
     (absent places fs (i + 1) n k p.1 e (omega (arith, h)))
 
-distinct : (places fs : List ℕ) (i : ℕ) → stand_at places i fs ≡ true → AreDistinct fs
+distinct : (places fs : List ℕ) (i : ℕ) → stand_at places i fs ≡ true → AreDistinctCells fs
 distinct places [] i s = tt
 distinct places (f ∷ fs) i s =
     let p = both (stands_at i (slice_get places f)) (stand_at places (i + 1) fs) s in
@@ -70,14 +70,14 @@ mutual
   action_called g (clear line c) s = absurd (cc)
   action_called g (branch line condition first second) s = each (λ q. block_called g first q) (λ q. block_called g second q) (either (block_calls g first) (block_calls g second) s)
   action_called g (partition line cells block) s = block_called g block s
-  action_called g (call line received function) s = eqb-true g function s
-  action_called g (solve line received) s = absurd (cc)
+  action_called g (call line names received function) s = eqb-true g function s
+  action_called g (solve line names received) s = absurd (cc)
 
   block_called : (g : ℕ) (block : Block) → block_calls g block ≡ true → BlockCalls block g
   block_called g no_actions s = absurd (cc)
   block_called g (an_action action rest) s = each (λ q. action_called g action q) (λ q. block_called g rest q) (either (action_calls g action) (block_calls g rest) s)
 
-leads_to : (core : Core) (f : ℕ) (gs : List ℕ) (last : ℕ) → leads core.bodies f gs last ≡ true → LeadsTo core f gs last
+leads_to : (core : Core) (f : ℕ) (gs : List ℕ) (last : ℕ) → leads core.bodies f gs last ≡ true → CallsLeadTo core f gs last
 leads_to core f [] last s = block_called last (body_among core.bodies f) s
 leads_to core f (g ∷ gs) last s =
     let p = both (block_calls g (body_among core.bodies f)) (leads core.bodies g gs last) s in (block_called g (body_among core.bodies f) p.0, leads_to core g gs last p.1)

@@ -1,5 +1,5 @@
 -- What terms and commands of a driver are over cells and functions, or the first of their faults from the top and from left to right.
-use Rattle.std.specs.Prelude.{ℕ, List, [], ◌∷◌, ◌++◌, Result, Ok, if◌then◌else◌}
+use Rattle.std.specs.Prelude.{ℕ, List, [], ◌∷◌, ◌++◌, length, Result, Ok, if◌then◌else◌}
 use Rattle.std.specs.Str.{bytes_eq}
 use Rattle.m_symbols.specs.Declarations.{Declared}
 use Rattle.mpp_parser.specs.Trees.{Term, lit, named, apply, chain, exists, Terms, no_terms, a_term, Links, no_links, a_link}
@@ -11,7 +11,7 @@ use Rattle.driver_core.specs.FormulaView.{formulas_of, steps_of}
 use Rattle.driver_core.specs.declared.term.CStep.{CStep}
 use Rattle.driver_core.specs.Actions.{Action, assign, clear, branch, partition as partition_action, call as call_action, solve}
 use Rattle.driver_core.specs.ActionView.{block_of}
-use Rattle.mpp_core.specs.Names.{if_said, cell_said, target_said, targets_said, kind_cells, rules_name, function_said}
+use Rattle.mpp_core.specs.Names.{if_said, cell_said, target_said, targets_said, each_once, kind_cells, rules_name, function_said}
 use Rattle.mpp_core.specs.declared.fault.CoreFault.{CoreFault}
 
 -- ---- terms
@@ -38,10 +38,12 @@ abbrev mutual
 
 -- ---- commands
 
--- what a call is that gives back these cells: of the rules, or of one of the functions of these names
+-- What a call is that gives back these cells: of the rules, or of one of the functions of these names. A cell that is named more than
+-- once comes back once, and counts as often as it is named.
 abbrev pub call_said : List (List ℕ) → ℕ → List ℕ → List ℕ → Result Action CoreFault
 call_said names line name received =
-    if bytes_eq name rules_name then Ok (solve line received) else if_said (λ f. Ok (call_action line received f)) (function_said names line name)
+    if bytes_eq name rules_name then Ok (solve line (length received) (each_once received))
+    else if_said (λ f. Ok (call_action line (length received) (each_once received) f)) (function_said names line name)
 
 -- What a command is, where these are the names of the functions: in `A = B` the target `A` comes before `B`, and in `A, B <- f()` come
 -- the targets and then the function.

@@ -8,7 +8,7 @@ use Rattle.micro_m.specs.Reads.{BeginsWithLeast}
 use Rattle.m_requests.specs.Cells.{owner_of}
 use Rattle.mpp_parser.specs.declared.command.Driver.{Driver}
 use Rattle.driver_core.specs.declared.program.Core.{Core}
-use Rattle.driver_core.specs.Actions.{solve}
+use Rattle.driver_core.specs.Actions.{Action, solve}
 use Rattle.driver_core.specs.Valid.{IsRing, HasNoRing}
 use Rattle.mpp_core.specs.Names.{if_said, name_in, names_said, main_said}
 use Rattle.mpp_core.specs.Bodies.{bodies_said}
@@ -60,9 +60,9 @@ abbrev pub IsCoreFault : Driver → Declared → CoreFault → Type 0
 IsCoreFault driver declared fault = (core_of driver declared ≡ Err fault) ⊎ ((core : Core) × (core_of driver declared ≡ Ok core) × IsRecursion core fault)
 
 -- Two faults are one where they are the same, or where both show a ring, of which any true one may be shown.
-pub data AreOneFault : CoreFault → CoreFault → Type 0 where
-  the_same : {fault other : CoreFault} → fault ≡ other → AreOneFault fault other
-  both_rings : {names others : List (List ℕ)} → AreOneFault (DriverRecursion names) (DriverRecursion others)
+pub data AreOneCoreFault : CoreFault → CoreFault → Type 0 where
+  the_same : {fault other : CoreFault} → fault ≡ other → AreOneCoreFault fault other
+  both_rings : {names others : List (List ℕ)} → AreOneCoreFault (DriverRecursion names) (DriverRecursion others)
 
 -- ---- the driver of rules without one
 
@@ -74,7 +74,11 @@ is_constant_cell declared cell = option_map_or (λ (v : Variable). is_constant v
 abbrev pub received_cells : List ℕ → Declared → List ℕ
 received_cells requests declared = filter (λ cell. not (is_constant_cell declared cell)) requests
 
+-- a call of the rules on line 1 that gives back these cells
+abbrev pub received_alone : List ℕ → Action
+received_alone cells = solve 1 (length cells) cells
+
 -- the function `main` with one call of the rules that gives back the requests without the cells of constants
 abbrev pub plain_core : List ℕ → Declared → Core
 plain_core requests declared =
-    record { cells = length (owners_from 0 declared.variables); names = codes "main" ∷ []; bodies = (solve 1 (received_cells requests declared) ∷ []) ∷ []; main = 0 }
+    record { cells = length (owners_from 0 declared.variables); names = codes "main" ∷ []; bodies = (received_alone (received_cells requests declared) ∷ []) ∷ []; main = 0 }

@@ -1,5 +1,5 @@
 -- What the names of a driver name: cells, cells that may be changed, the inputs of a kind, and functions.
-use Rattle.std.specs.Prelude.{ℕ, ◌+◌, nat_lt, ◌||◌, List, [], ◌∷◌, ◌++◌, Option, Some, None, Result, Ok, Err, if◌then◌else◌, codes}
+use Rattle.std.specs.Prelude.{ℕ, ◌+◌, nat_lt, ◌==◌, ◌||◌, List, [], ◌∷◌, ◌++◌, Option, Some, None, Result, Ok, Err, if◌then◌else◌, codes}
 use Rattle.std.specs.Option.{option_map_or}
 use Rattle.std.specs.Str.{bytes_eq}
 use Rattle.m_names.specs.Names.{has, index_of}
@@ -61,6 +61,16 @@ target_said declared line c = target_of_variable line c (variable_named declared
 abbrev pub targets_said : Declared → ℕ → List ℕ → List CellName → Result (List ℕ) CoreFault
 targets_said declared line before [] = Ok before
 targets_said declared line before (c ∷ cs) = if_said (λ cell. targets_said declared line (before ++ cell ∷ []) cs) (target_said declared line c)
+
+-- a cell at its place among ascending cells, unless it stands there already
+abbrev pub with_cell : ℕ → List ℕ → List ℕ
+with_cell c [] = c ∷ []
+with_cell c (d ∷ ds) = if nat_lt c d then c ∷ d ∷ ds else if c == d then d ∷ ds else d ∷ with_cell c ds
+
+-- cells in ascending order, each once: of 7, 3 and 7 these are 3 and 7
+abbrev pub each_once : List ℕ → List ℕ
+each_once [] = []
+each_once (c ∷ cs) = with_cell c (each_once cs)
 
 -- ---- kinds
 

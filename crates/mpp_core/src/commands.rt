@@ -11,11 +11,11 @@ ghost use Rattle.mpp_core.specs.Bodies.{term_said, act_said, acts_said, call_sai
 ghost use Rattle.mpp_core.specs.declared.fault.CoreFault.TheVariants.{Memory};
 
 use crate::CoreFault;
-use crate::names::{kind_cells, target_of, targets_of, unknown};
+use crate::names::{each_once, kind_cells, target_of, targets_of, unknown};
 use crate::terms::term;
 use driver_core::{CCommand, CCommandNode};
 use m_names::Names;
-use m_places::{Name, Seq};
+use m_places::Name;
 use m_symbols::Symbols;
 use mpp_parser::{CellName, Command, CommandNode, DTerm, Kind};
 use std::alloc::{AllocError, Global};
@@ -127,17 +127,19 @@ fn partitioned(
 fn called(
     alloc: Global,
     line: u32,
-    received: Seq<u32>,
+    received: Vec<u32>,
     name: &Name,
     names: &Names,
 ) -> Result<CCommand, CoreFault>
-    ensures { Outcome Memory result (λ c. call_said names.now line name.now received ≡ Ok c) (λ fault. call_said names.now line name.now received ≡ Err fault) }
+    ensures { Outcome Memory result (λ c. call_said names.now line name.now received.items ≡ Ok c) (λ fault. call_said names.now line name.now received.items ≡ Err fault) }
 {
+    let count = received.len() as u64;
+    let cells = each_once(received);
     if name.bytes() == b"call_m".as_slice() {
-        return Ok(CCommand::new(CCommandNode::Rules(line, received)));
+        return Ok(CCommand::new(CCommandNode::Rules(line, count, cells)));
     }
     match names.find(name.bytes()) {
-        Some(function) => Ok(CCommand::new(CCommandNode::Call(line, received, function))),
+        Some(function) => Ok(CCommand::new(CCommandNode::Call(line, count, cells, function))),
         None => Err(unknown(alloc, name, line)),
     }
 }

@@ -17,6 +17,6 @@ mod shown;
 mod terms;
 
 pub use fault::CoreFault;
-pub use laws::{no_core_and_fault, one_core, one_fault};
+pub use laws::{no_core_and_fault, one_core, one_fault, received_few, received_once};
 pub use plain::plain_driver;
 pub use resolving::resolve_driver;

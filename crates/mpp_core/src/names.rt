@@ -6,7 +6,7 @@ ghost use Rattle.m_places.specs.Refusals.{Outcome};
 ghost use Rattle.m_ast.specs.Items.{variable_size};
 ghost use Rattle.m_requests.specs.Cells.{variable_named};
 ghost use Rattle.m_requests.specs.Placed.{IsPlaced};
-ghost use Rattle.mpp_core.specs.Names.{cell_said, cell_at, target_said, constant_target, targets_said, kind_cells, with_kind};
+ghost use Rattle.mpp_core.specs.Names.{cell_said, cell_at, target_said, constant_target, targets_said, each_once, kind_cells, with_kind};
 ghost use Rattle.mpp_core.specs.declared.fault.CoreFault.TheVariants.{Memory, UnknownInDriver};
 
 use crate::CoreFault;
@@ -119,16 +119,26 @@ pub(crate) fn targets_of(
     symbols: &Symbols,
     line: u32,
     names: &[CellName],
-) -> Result<Seq<u32>, CoreFault>
+) -> Result<Vec<u32>, CoreFault>
     requires { IsPlaced symbols.now }
-    ensures { Outcome Memory result (λ cells. targets_said symbols.now line [] names.now ≡ Ok cells) (λ fault. targets_said symbols.now line [] names.now ≡ Err fault) }
+    ensures { Outcome Memory result (λ cells. targets_said symbols.now line [] names.now ≡ Ok cells.items) (λ fault. targets_said symbols.now line [] names.now ≡ Err fault) }
 {
     let mut cells = Vec::with_capacity(alloc, names.len())?;
     for name in names {
         let cell = target_of(alloc, symbols, line, name)?;
         cells.push(cell)?;
     }
-    Ok(Seq::from_vec(cells))
+    Ok(cells)
+}
+
+/// These cells in ascending order, each once.
+pub(crate) fn each_once(cells: Vec<u32>) -> Seq<u32>
+    ensures { result ≡ each_once cells.items }
+{
+    let mut cells = cells;
+    cells.sort_unstable();
+    cells.dedup();
+    Seq::from_vec(cells)
 }
 
 /// The cells of the inputs of a kind, in order of declaration.

@@ -29,7 +29,8 @@ fn main_alone(alloc: Global, requests: &[u32], symbols: &Symbols) -> Result<Core
 {
     let received = received_cells(alloc, requests, symbols)?;
     let mut commands = Vec::with_capacity(alloc, 1)?;
-    commands.push(CCommand::new(CCommandNode::Rules(1, received)))?;
+    let names = received.as_slice().len() as u64;
+    commands.push(CCommand::new(CCommandNode::Rules(1, names, received)))?;
     let mut bodies = Vec::with_capacity(alloc, 1)?;
     bodies.push(Seq::from_vec(commands))?;
     let mut names = Vec::with_capacity(alloc, 1)?;

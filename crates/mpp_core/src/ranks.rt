@@ -53,7 +53,7 @@ fn add_call(command: &CCommand, caller: usize, edges: &mut Vec<Edge>) -> Result<
             add_calls(second, caller, edges)
         }
         CCommandNode::Partition(_, _, block) => add_calls(block, caller, edges),
-        CCommandNode::Call(_, _, function) => {
+        CCommandNode::Call(_, _, _, function) => {
             edges.push(Edge {
                 caller,
                 called: *function as usize,
@@ -61,7 +61,9 @@ fn add_call(command: &CCommand, caller: usize, edges: &mut Vec<Edge>) -> Result<
             })?;
             Ok(())
         }
-        CCommandNode::Set(_, _, _) | CCommandNode::Del(_, _) | CCommandNode::Rules(_, _) => Ok(()),
+        CCommandNode::Set(_, _, _) | CCommandNode::Del(_, _) | CCommandNode::Rules(_, _, _) => Ok(
+            (),
+        ),
     }
 }
 

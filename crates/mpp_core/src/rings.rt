@@ -76,8 +76,8 @@ fn action_descends(command: &CCommand, ranks: &[usize], rank: usize) -> bool
             block_descends(first, ranks, rank) && block_descends(second, ranks, rank)
         }
         CCommandNode::Partition(_, _, block) => block_descends(block, ranks, rank),
-        CCommandNode::Call(_, _, function) => rank_is_below(ranks, *function, rank),
-        CCommandNode::Rules(_, _) => true,
+        CCommandNode::Call(_, _, _, function) => rank_is_below(ranks, *function, rank),
+        CCommandNode::Rules(_, _, _) => true,
     }
 }
 

@@ -136,8 +136,8 @@ fn action_calls(command: &CCommand, g: usize) -> bool
         CCommandNode::Del(_, _) => false,
         CCommandNode::If(_, _, first, second) => block_calls(first, g) || block_calls(second, g),
         CCommandNode::Partition(_, _, block) => block_calls(block, g),
-        CCommandNode::Call(_, _, function) => g == *function as usize,
-        CCommandNode::Rules(_, _) => false,
+        CCommandNode::Call(_, _, _, function) => g == *function as usize,
+        CCommandNode::Rules(_, _, _) => false,
     }
 }
 

@@ -29,7 +29,7 @@ use Rattle.flat_code.specs.declared.face.FaceLabel.TheVariants.{Verif, DriverLin
 use Rattle.flat_code.specs.Answers.{Cause, stopped, label_number, cause_of, told_of}
 use Rattle.flat_code.specs.Runs.{IsCheck, AreNodes, node_values, is_one, stop_of as stop_at, check_stop, first_stop}
 use Rattle.driver_core.specs.Answers.{first_value, next_input, start_from, told_by}
-use Rattle.driver_core.specs.Meaning.{Env, Outcome, then_do}
+use Rattle.driver_core.specs.Meaning.{Env, RunState, then_do}
 use Rattle.mpp_inline.specs.declared.builder.Builder.{Builder}
 use Rattle.mpp_inline.specs.inner.Growth.{count, at, stop_of, stop_read, denoted, outcome_of, run, IsCheckWithin, Sane, Known, HasLiterals, Begun, Grows, Gives, InputIsThere}
 use Rattle.mpp_inline.specs.inner.Told.{ended, Answers}
@@ -178,7 +178,7 @@ pub last-known : (b : Builder) (env requests : List ℕ) → Sane b → Known b 
 last-known b env [] s k = tt
 last-known b env (x ∷ xs) s k = (known-get x s k, last-known b env xs s k)
 
-pub whole-run : {a b c : Builder} {env env' : List ℕ} {next : Env → Outcome} {labels : List Label} {start : List Value → Env} (inputs : List Value) → HasLiterals labels a → Begun a b start env → Step b c 2 env env' next → run c inputs env' ≡ next (start inputs)
+pub whole-run : {a b c : Builder} {env env' : List ℕ} {next : Env → RunState} {labels : List Label} {start : List Value → Env} (inputs : List Value) → HasLiterals labels a → Begun a b start env → Step b c 2 env env' next → run c inputs env' ≡ next (start inputs)
 whole-run {a} {b} {c} {env} {env'} {next} {labels} {start} inputs l g s =
     let one : at b inputs 2 ≡ Num (pos 1000000) = g.grows.base.keeps inputs 2 (omega (arith, l.sane.three)) ∙ l.one inputs in
     s.moved inputs (inr one) ∙ ap (λ v. under v (run b inputs env) next) one

@@ -8,3 +8,4 @@ pub mod TableLemmas
 pub mod CallLemmas
 pub mod OrderLemmas
 pub mod BeginLemmas
+pub mod RulelessLemmas

@@ -22,7 +22,7 @@ use Rattle.flat_code.specs.Answers.{Cause, failed, over}
 use Rattle.driver_core.specs.declared.program.Core.{Core}
 use Rattle.driver_core.specs.Actions.{Action, assign, clear, branch, partition, call, solve, Block, no_actions, an_action}
 use Rattle.driver_core.specs.Valid.{body_among}
-use Rattle.driver_core.specs.Meaning.{Env, Outcome, goes, stops, then_do, with_values, without, formula_value, chosen_block, failure_cause, unless_stopped, rules_run, run_of, action_run, block_run, called}
+use Rattle.driver_core.specs.Meaning.{Env, RunState, goes, stops, then_do, with_values, without, formula_value, chosen_block, failure_cause, unless_stopped, rules_run, run_of, action_run, block_run, called}
 use Rattle.mpp_inline.specs.inner.Growth.{checked, computed, rules_in_turn}
 use Rattle.mpp_inline.proofs.ListLemmas.{with-same, length-with}
 
@@ -39,11 +39,11 @@ some-none p = cc
 none-some : {X : Type 0} {x : X} → None ≡ Some x → ⊥
 none-some p = cc
 
-next-cause : (cause : Option Cause) (e : Env) (next : Env → Outcome) → (cause ≡ None → ⊥) → then_do (unless_stopped cause (goes e)) next ≡ unless_stopped cause (goes e)
+next-cause : (cause : Option Cause) (e : Env) (next : Env → RunState) → (cause ≡ None → ⊥) → then_do (unless_stopped cause (goes e)) next ≡ unless_stopped cause (goes e)
 next-cause None e next h = absurd (h refl)
 next-cause (Some cause) e next h = refl
 
-next-failure : (labels : List Label) (f g : Option Failure) (e : Env) (next : Env → Outcome) → next e ≡ unless_stopped (option_and_then (failure_cause labels) g) (goes e) → ((failure : Failure) → f ≡ Some failure → failure_cause labels failure ≡ None → ⊥) →
+next-failure : (labels : List Label) (f g : Option Failure) (e : Env) (next : Env → RunState) → next e ≡ unless_stopped (option_and_then (failure_cause labels) g) (goes e) → ((failure : Failure) → f ≡ Some failure → failure_cause labels failure ≡ None → ⊥) →
     then_do (unless_stopped (option_and_then (failure_cause labels) f) (goes e)) next ≡ unless_stopped (option_and_then (failure_cause labels) (option_or f g)) (goes e)
 next-failure labels None g e next is h = is
 next-failure labels (Some failure) g e next is h = next-cause (failure_cause labels failure) e next (h failure refl)
@@ -90,26 +90,26 @@ rules-same : (base : Base) (sequence xs : List ℕ) (e : Env) → IsValidBase ba
 rules-same base sequence xs e valid order size =
     let values = computed base sequence e in
     let same : (c : ℕ) → environment values c ≡ value_of base (environment e) c = λ c. ap (λ (l : Env). environment l c) (computed-filled base sequence e) ∙ filled-values base sequence e valid order size c in
-    let next : Env → Outcome = λ v. goes (with_values xs (environment v) e) in
+    let next : Env → RunState = λ v. goes (with_values xs (environment v) e) in
     ap (λ o. then_do o next) (checked-all base.labels base.checks values valid.labels)
     ∙ received-behind (option_and_then (failure_cause base.labels) (failure_among (environment values) base.checks)) xs values e
     ∙ (λ i. unless_stopped (option_and_then (failure_cause base.labels) (failure_among-same (environment values) (value_of base (environment e)) base.checks same i)) (goes (with-same xs (environment values) (value_of base (environment e)) e same i)))
 
 -- ---- runs over as many cells
 
-abbrev Long : ℕ → Outcome → Type 0
+abbrev Long : ℕ → RunState → Type 0
 Long n (goes e) = length e ≡ n
 Long n (stops cause) = Unit {0}
 
-long-then : (n : ℕ) (o : Outcome) (next : Env → Outcome) → Long n o → ((e : Env) → length e ≡ n → Long n (next e)) → Long n (then_do o next)
+long-then : (n : ℕ) (o : RunState) (next : Env → RunState) → Long n o → ((e : Env) → length e ≡ n → Long n (next e)) → Long n (then_do o next)
 long-then n (goes e) next h k = k e h
 long-then n (stops cause) next h k = tt
 
-same-then : (n : ℕ) (o : Outcome) (next next' : Env → Outcome) → Long n o → ((e : Env) → length e ≡ n → next e ≡ next' e) → then_do o next ≡ then_do o next'
+same-then : (n : ℕ) (o : RunState) (next next' : Env → RunState) → Long n o → ((e : Env) → length e ≡ n → next e ≡ next' e) → then_do o next ≡ then_do o next'
 same-then n (goes e) next next' h k = k e h
 same-then n (stops cause) next next' h k = refl
 
-long-chosen : (n line : ℕ) (v : Value) (a b : Outcome) → Long n a → Long n b → Long n (chosen_block line v a b)
+long-chosen : (n line : ℕ) (v : Value) (a b : RunState) → Long n a → Long n b → Long n (chosen_block line v a b)
 long-chosen n line Undef a b p q = q
 long-chosen n line (Num z) a b p q = elim (is_zero z) as (λ t. Long n (cond t b a)) [ true ↦ q | false ↦ p ]
 long-chosen n line Over a b p q = tt
@@ -118,19 +118,19 @@ long-unless : (n : ℕ) (o : Option Cause) (e : Env) → length e ≡ n → Long
 long-unless n None e h = h
 long-unless n (Some cause) e h = tt
 
-pub record Alike (n : ℕ) (one two : Env → Outcome) : Type 0 where
+pub record Alike (n : ℕ) (one two : Env → RunState) : Type 0 where
   pub long : (e : Env) → length e ≡ n → Long n (two e)
   pub same : (e : Env) → length e ≡ n → one e ≡ two e
 
-module _ (n : ℕ) (r r' : List ℕ → Env → Outcome) (b b' : ℕ → Env → Outcome) (rules : (xs : List ℕ) → Alike n (r xs) (r' xs)) (bodies : (f : ℕ) → Alike n (b f) (b' f)) where
+module _ (n : ℕ) (r r' : List ℕ → Env → RunState) (b b' : ℕ → Env → RunState) (rules : (xs : List ℕ) → Alike n (r xs) (r' xs)) (bodies : (f : ℕ) → Alike n (b f) (b' f)) where
   mutual
     action-long : (a : Action) (e : Env) → length e ≡ n → Long n (action_run r' b' a e)
     action-long (assign line c t) e h = length-set e c (formula_value (environment e) t) ∙ h
     action-long (clear line c) e h = length-set e c Undef ∙ h
     action-long (branch line t x y) e h = long-chosen n line (formula_value (environment e) t) (block_run r' b' x e) (block_run r' b' y e) (block-long x e h) (block-long y e h)
     action-long (partition line xs x) e h = long-then n (block_run r' b' x (without xs e)) (λ f. goes (with_values xs (environment e) f)) (block-long x (without xs e) (length-with xs (λ c. Undef) e ∙ h)) (λ f k. length-with xs (environment e) f ∙ k)
-    action-long (call line xs f) e h = long-then n (b' f e) (λ g. goes (with_values xs (environment g) e)) ((bodies f).long e h) (λ g k. length-with xs (environment g) e ∙ h)
-    action-long (solve line xs) e h = (rules xs).long e h
+    action-long (call line names xs f) e h = long-then n (b' f e) (λ g. goes (with_values xs (environment g) e)) ((bodies f).long e h) (λ g k. length-with xs (environment g) e ∙ h)
+    action-long (solve line names xs) e h = (rules xs).long e h
 
     block-long : (x : Block) (e : Env) → length e ≡ n → Long n (block_run r' b' x e)
     block-long no_actions e h = h
@@ -142,8 +142,8 @@ module _ (n : ℕ) (r r' : List ℕ → Env → Outcome) (b b' : ℕ → Env →
     action-same (clear line c) e h = refl
     action-same (branch line t x y) e h = λ i. chosen_block line (formula_value (environment e) t) (block-same x e h i) (block-same y e h i)
     action-same (partition line xs x) e h = ap (λ o. then_do o (λ f. goes (with_values xs (environment e) f))) (block-same x (without xs e) (length-with xs (λ c. Undef) e ∙ h))
-    action-same (call line xs f) e h = ap (λ o. then_do o (λ g. goes (with_values xs (environment g) e))) ((bodies f).same e h)
-    action-same (solve line xs) e h = (rules xs).same e h
+    action-same (call line names xs f) e h = ap (λ o. then_do o (λ g. goes (with_values xs (environment g) e))) ((bodies f).same e h)
+    action-same (solve line names xs) e h = (rules xs).same e h
 
     block-same : (x : Block) (e : Env) → length e ≡ n → block_run r b x e ≡ block_run r' b' x e
     block-same no_actions e h = refl

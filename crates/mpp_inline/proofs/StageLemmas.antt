@@ -16,7 +16,7 @@ use Rattle.flat_code.specs.declared.program.Node.TheVariants.{Do}
 use Rattle.flat_code.specs.declared.face.FaceLabel.{FaceLabel}
 use Rattle.flat_code.specs.declared.face.FaceLabel.TheVariants.{Verif, DriverLine}
 use Rattle.flat_code.specs.Answers.{Cause, failed, over}
-use Rattle.driver_core.specs.Meaning.{Env, Outcome, goes, stops, then_do, chosen_block, with_values, failure_cause, unless_stopped}
+use Rattle.driver_core.specs.Meaning.{Env, RunState, goes, stops, then_do, chosen_block, with_values, failure_cause, unless_stopped}
 use Rattle.mpp_inline.specs.declared.builder.Builder.{Builder}
 use Rattle.mpp_inline.specs.inner.Cells.{picked, written, received}
 use Rattle.mpp_inline.specs.inner.Growth.{count, at, stop_of, denoted, outcome_of, run, Sane, Known, Placed, Ready, CheckedRule, CheckedLine, Pushed, Checked, Grows, TermStep, Computed, Stage, Opened, over_judged, judged, Held, Merged, entries}
@@ -34,11 +34,11 @@ unfolding op_value
 truth-value a b c = refl
 
 -- outcomes
-pub goes-last : (o : Outcome) → then_do o (λ e. goes e) ≡ o
+pub goes-last : (o : RunState) → then_do o (λ e. goes e) ≡ o
 goes-last (goes e) = refl
 goes-last (stops s) = refl
 
-pub then-then : (o : Outcome) (f g : Env → Outcome) → then_do (then_do o f) g ≡ then_do o (λ e. then_do (f e) g)
+pub then-then : (o : RunState) (f g : Env → RunState) → then_do (then_do o f) g ≡ then_do o (λ e. then_do (f e) g)
 then-then (goes e) f g = refl
 then-then (stops s) f g = refl
 
@@ -47,16 +47,16 @@ or-none None = refl
 or-none (Some s) = refl
 
 -- stages one after the other
-pub stage-first : {b : Builder} {env : List ℕ} {g : ℕ} (does : Env → Outcome) → Placed b env g → Stage b b g env env does does
+pub stage-first : {b : Builder} {env : List ℕ} {g : ℕ} (does : Env → RunState) → Placed b env g → Stage b b g env env does does
 stage-first does r = record { base = longer-none r.sane; known = r.known; taken = λ inputs h. refl; idle = λ inputs h. refl }
 
-pub stage-ready : {labels : List Label} {b c : Builder} {env env' : List ℕ} {g : ℕ} {rest whole : Env → Outcome} → Ready labels b env g → Stage b c g env env' rest whole → Ready labels c env' g
+pub stage-ready : {labels : List Label} {b c : Builder} {env env' : List ℕ} {g : ℕ} {rest whole : Env → RunState} → Ready labels b env g → Stage b c g env env' rest whole → Ready labels c env' g
 stage-ready r s = record {
   placed = record { sane = s.base.sane; known = s.known; guard = omega (arith, r.placed.guard, s.base.longer) };
   labelled = faces-on s.base r.labelled;
 }
 
-pub stage-next : {labels : List Label} {b c d : Builder} {e f h : List ℕ} {g : ℕ} {does rest whole : Env → Outcome} → Ready labels b e g → Stage b c g e f (λ x. then_do (does x) rest) whole → (Ready labels c f g → Stage c d g f h (λ x. goes x) does) → Stage b d g e h rest whole
+pub stage-next : {labels : List Label} {b c d : Builder} {e f h : List ℕ} {g : ℕ} {does rest whole : Env → RunState} → Ready labels b e g → Stage b c g e f (λ x. then_do (does x) rest) whole → (Ready labels c f g → Stage c d g f h (λ x. goes x) does) → Stage b d g e h rest whole
 stage-next {labels} {b} {c} {d} {e} {f} {h} {g} {does} {rest} {whole} r s t =
     let n = t (stage-ready r s) in
     record {
@@ -100,11 +100,11 @@ del-stage {b} {env} {g} x r =
     (λ inputs. denoted-set inputs x 0 Undef (longer-none r.sane) r.known (r.sane.undef inputs))
 
 -- a condition and its check
-check-run : (s : Option Cause) (e : Env) (t : Environment → Value) (only : Bool) (f : FaceLabel) (j : Value → Env → Outcome) → ((v : Value) (x : Env) → outcome_of (face_judged only f v) x ≡ j v x) → outcome_of (option_or s (face_judged only f (t (environment e)))) e ≡ then_do (outcome_of s e) (λ x. j (t (environment x)) x)
+check-run : (s : Option Cause) (e : Env) (t : Environment → Value) (only : Bool) (f : FaceLabel) (j : Value → Env → RunState) → ((v : Value) (x : Env) → outcome_of (face_judged only f v) x ≡ j v x) → outcome_of (option_or s (face_judged only f (t (environment e)))) e ≡ then_do (outcome_of s e) (λ x. j (t (environment x)) x)
 check-run None e t only f j same = same (t (environment e)) e
 check-run (Some s) e t only f j same = refl
 
-pub check-stage : {b c d : Builder} {env : List ℕ} {g k l : ℕ} {only : Bool} {f : FaceLabel} (t : Environment → Value) (j : Value → Env → Outcome) → ((v : Value) (x : Env) → outcome_of (face_judged only f v) x ≡ j v x) → (Sane b → Known b env → TermStep b c env t k) → Checked c d g k only l → Faced c d l f → Placed b env g → Stage b d g env env (λ e. goes e) (λ e. j (t (environment e)) e)
+pub check-stage : {b c d : Builder} {env : List ℕ} {g k l : ℕ} {only : Bool} {f : FaceLabel} (t : Environment → Value) (j : Value → Env → RunState) → ((v : Value) (x : Env) → outcome_of (face_judged only f v) x ≡ j v x) → (Sane b → Known b env → TermStep b c env t k) → Checked c d g k only l → Faced c d l f → Placed b env g → Stage b d g env env (λ e. goes e) (λ e. j (t (environment e)) e)
 check-stage {b} {c} {d} {env} {g} {k} {l} {only} {f} t j same step p q r =
     let s = step r.sane r.known in
     let lb = s.grows.base in
@@ -164,11 +164,11 @@ computed-next {b} {c} {d} {env} {env'} {k} {rest} {whole} t x s f =
     }
 
 -- a stage between a change of the environment and another
-pub wrap : (s : Option Cause) (e : Env) (before : Env → Env) (does : Env → Outcome) (after : Env → Env → Env) → then_do (then_do (outcome_of s (before e)) does) (λ f. goes (after e f)) ≡ then_do (outcome_of s e) (λ x. then_do (does (before x)) (λ f. goes (after x f)))
+pub wrap : (s : Option Cause) (e : Env) (before : Env → Env) (does : Env → RunState) (after : Env → Env → Env) → then_do (then_do (outcome_of s (before e)) does) (λ f. goes (after e f)) ≡ then_do (outcome_of s e) (λ x. then_do (does (before x)) (λ f. goes (after x f)))
 wrap None e before does after = refl
 wrap (Some s) e before does after = refl
 
-pub wrapped : {b c d : Builder} {env env1 env2 env3 : List ℕ} {g : ℕ} {does : Env → Outcome} (before : Env → Env) (after : Env → Env → Env) → Placed b env g → Grows b c → ((inputs : List Value) → denoted c inputs env1 ≡ before (denoted b inputs env)) → Stage c d g env1 env2 (λ e. goes e) does → Known d env3 → ((inputs : List Value) → denoted d inputs env3 ≡ after (denoted b inputs env) (denoted d inputs env2)) → Stage b d g env env3 (λ e. goes e) (λ e. then_do (does (before e)) (λ f. goes (after e f)))
+pub wrapped : {b c d : Builder} {env env1 env2 env3 : List ℕ} {g : ℕ} {does : Env → RunState} (before : Env → Env) (after : Env → Env → Env) → Placed b env g → Grows b c → ((inputs : List Value) → denoted c inputs env1 ≡ before (denoted b inputs env)) → Stage c d g env1 env2 (λ e. goes e) does → Known d env3 → ((inputs : List Value) → denoted d inputs env3 ≡ after (denoted b inputs env) (denoted d inputs env2)) → Stage b d g env env3 (λ e. goes e) (λ e. then_do (does (before e)) (λ f. goes (after e f)))
 wrapped {b} {c} {d} {env} {env1} {env2} {env3} {g} {does} before after r grows first s kn last = record {
   base = longer-then grows.base s.base;
   known = kn;
@@ -195,7 +195,7 @@ denoted-received {b} inputs xs from env s =
     received-map (at b inputs) 0 xs from env ∙ ap (λ v. received v xs (denoted b inputs from) (denoted b inputs env)) (s.undef inputs)
     ∙ sym (with-received xs (denoted b inputs from) (denoted b inputs env))
 
-pub rules-stage : {labels : List Label} {b c d : Builder} {env env' : List ℕ} {g : ℕ} {does : Env → Outcome} {first : Env → Env} (xs : List ℕ) → (Sane b → Known b env → Computed b c env env' (λ e. e) first) → (Ready labels c env' g → Stage c d g env' env' (λ e. goes e) does) → Ready labels b env g → Stage b d g env (received 0 xs env' env) (λ e. goes e) (λ e. then_do (does (first e)) (λ f. goes (with_values xs (environment f) e)))
+pub rules-stage : {labels : List Label} {b c d : Builder} {env env' : List ℕ} {g : ℕ} {does : Env → RunState} {first : Env → Env} (xs : List ℕ) → (Sane b → Known b env → Computed b c env env' (λ e. e) first) → (Ready labels c env' g → Stage c d g env' env' (λ e. goes e) does) → Ready labels b env g → Stage b d g env (received 0 xs env' env) (λ e. goes e) (λ e. then_do (does (first e)) (λ f. goes (with_values xs (environment f) e)))
 rules-stage {labels} {b} {c} {d} {env} {env'} {g} {does} {first} xs defs checks r =
     let k = defs r.placed.sane r.placed.known in
     let s = checks (record { placed = record { sane = k.grows.base.sane; known = k.known; guard = omega (arith, r.placed.guard, k.grows.base.longer) }; labelled = faces-on k.grows.base r.labelled }) in
@@ -223,29 +223,29 @@ both-zero v = ⊎_elim
 not-both : (v : Value) → v ≡ Num (pos 0) → v ≡ Num (pos 1000000) → ⊥
 not-both v e f = cc
 
-first-number : (c : Bool) (e : Env) (a b : Env → Outcome) → Num (truth (not c)) ≡ Num (pos 1000000) → a e ≡ cond c (b e) (a e)
+first-number : (c : Bool) (e : Env) (a b : Env → RunState) → Num (truth (not c)) ≡ Num (pos 1000000) → a e ≡ cond c (b e) (a e)
 first-number true e a b h = absurd (not-both (Num (pos 0)) refl h)
 first-number false e a b h = refl
 
-judged-first : (line : ℕ) (v : Value) (e : Env) (a b : Env → Outcome) → truth_of v ≡ Num (pos 1000000) → then_do (over_judged line v e) a ≡ chosen_block line v (a e) (b e)
+judged-first : (line : ℕ) (v : Value) (e : Env) (a b : Env → RunState) → truth_of v ≡ Num (pos 1000000) → then_do (over_judged line v e) a ≡ chosen_block line v (a e) (b e)
 judged-first line Undef e a b h = absurd (not-both (Num (pos 0)) refl h)
 judged-first line (Num z) e a b h = first-number (is_zero z) e a b h
 judged-first line Over e a b h = absurd (not-both (Num (pos 0)) refl h)
 
-second-number : (c : Bool) (e : Env) (a b : Env → Outcome) → Num (truth (not c)) ≡ Num (pos 0) → b e ≡ cond c (b e) (a e)
+second-number : (c : Bool) (e : Env) (a b : Env → RunState) → Num (truth (not c)) ≡ Num (pos 0) → b e ≡ cond c (b e) (a e)
 second-number true e a b h = refl
 second-number false e a b h = absurd (not-both (Num (pos 1000000)) h refl)
 
-judged-second : (line : ℕ) (v : Value) (e : Env) (a b : Env → Outcome) → truth_of v ≡ Num (pos 0) → then_do (over_judged line v e) b ≡ chosen_block line v (a e) (b e)
+judged-second : (line : ℕ) (v : Value) (e : Env) (a b : Env → RunState) → truth_of v ≡ Num (pos 0) → then_do (over_judged line v e) b ≡ chosen_block line v (a e) (b e)
 judged-second line Undef e a b h = refl
 judged-second line (Num z) e a b h = second-number (is_zero z) e a b h
 judged-second line Over e a b h = refl
 
-pub chosen-first : (s : Option Cause) (e : Env) (line : ℕ) (t : Environment → Value) (a b : Env → Outcome) → truth_of (t (environment e)) ≡ Num (pos 1000000) → then_do (then_do (outcome_of s e) (λ x. over_judged line (t (environment x)) x)) a ≡ then_do (outcome_of s e) (λ x. chosen_block line (t (environment x)) (a x) (b x))
+pub chosen-first : (s : Option Cause) (e : Env) (line : ℕ) (t : Environment → Value) (a b : Env → RunState) → truth_of (t (environment e)) ≡ Num (pos 1000000) → then_do (then_do (outcome_of s e) (λ x. over_judged line (t (environment x)) x)) a ≡ then_do (outcome_of s e) (λ x. chosen_block line (t (environment x)) (a x) (b x))
 chosen-first None e line t a b h = judged-first line (t (environment e)) e a b h
 chosen-first (Some s) e line t a b h = refl
 
-pub chosen-second : (s : Option Cause) (e : Env) (line : ℕ) (t : Environment → Value) (a b : Env → Outcome) → truth_of (t (environment e)) ≡ Num (pos 0) → then_do (then_do (outcome_of s e) (λ x. over_judged line (t (environment x)) x)) b ≡ then_do (outcome_of s e) (λ x. chosen_block line (t (environment x)) (a x) (b x))
+pub chosen-second : (s : Option Cause) (e : Env) (line : ℕ) (t : Environment → Value) (a b : Env → RunState) → truth_of (t (environment e)) ≡ Num (pos 0) → then_do (then_do (outcome_of s e) (λ x. over_judged line (t (environment x)) x)) b ≡ then_do (outcome_of s e) (λ x. chosen_block line (t (environment x)) (a x) (b x))
 chosen-second None e line t a b h = judged-second line (t (environment e)) e a b h
 chosen-second (Some s) e line t a b h = refl
 

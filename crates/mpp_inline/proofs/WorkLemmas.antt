@@ -12,7 +12,7 @@ use Rattle.flat_code.specs.Runs.{is_one}
 use Rattle.driver_core.specs.Actions.{Action, branch, partition, call}
 use Rattle.driver_core.specs.ActionView.{block_of}
 use Rattle.driver_core.specs.Formulas.{Formula}
-use Rattle.driver_core.specs.Meaning.{Env, Outcome, goes, then_do, formula_value, chosen_block, with_values, without}
+use Rattle.driver_core.specs.Meaning.{Env, RunState, goes, then_do, formula_value, chosen_block, with_values, without}
 use Rattle.mpp_inline.specs.declared.builder.Builder.{Builder}
 use Rattle.mpp_inline.specs.declared.branches.Branches.{Branches}
 use Rattle.mpp_inline.specs.declared.work.Work.{Work}
@@ -25,10 +25,10 @@ use Rattle.mpp_inline.proofs.GrowthLemmas.{longer-none, longer-then, known-on, d
 use Rattle.mpp_inline.proofs.StageLemmas.{goes-last, then-then, set-stage, del-stage, rules-stage, set-goes, wrap, truth-cases, both-zero, chosen-first, chosen-second, known-received, denoted-received}
 
 -- a guard of 0 or 1
-pub under-none : (v : Value) (o : Outcome) → under v o (λ e. goes e) ≡ o
+pub under-none : (v : Value) (o : RunState) → under v o (λ e. goes e) ≡ o
 under-none v o = elim (is_one v) as (λ b. cond b (then_do o (λ e. goes e)) o ≡ o) [ true ↦ goes-last o | false ↦ refl ]
 
-pub under-under : (v : Value) (o : Outcome) (f g : Env → Outcome) → under v (under v o f) g ≡ under v o (λ e. then_do (f e) g)
+pub under-under : (v : Value) (o : RunState) (f g : Env → RunState) → under v (under v o f) g ≡ under v o (λ e. then_do (f e) g)
 under-under v o f g = elim (is_one v) as (λ b. cond b (then_do (cond b (then_do o f) o) g) (cond b (then_do o f) o) ≡ cond b (then_do o (λ e. then_do (f e) g)) o) [ true ↦ then-then o f g | false ↦ refl ]
 
 pub bit-of : {v w : Value} → v ≡ w → IsBit w → IsBit v
@@ -41,7 +41,7 @@ bit-chosen t x y b p q = ⊎_elim
     b
 
 -- a change by writes that count where the guard is 1
-pub step-written : {b d f : Builder} {env env1 env2 : List ℕ} {g : ℕ} {next : Env → Outcome} (given : List (ℕ × ℕ)) → Placed b env g → Stage b d g env env1 (λ e. goes e) next → env1 ≡ written given env → Merged d f g [] given env env2 → Step b f g env env2 next
+pub step-written : {b d f : Builder} {env env1 env2 : List ℕ} {g : ℕ} {next : Env → RunState} (given : List (ℕ × ℕ)) → Placed b env g → Stage b d g env env1 (λ e. goes e) next → env1 ≡ written given env → Merged d f g [] given env env2 → Step b f g env env2 next
 step-written {b} {d} {f} {env} {env1} {env2} {g} {next} given r s is m =
     let there : (inputs : List Value) → at d inputs g ≡ at b inputs g = λ inputs. s.base.keeps inputs g r.guard in
     record {
@@ -71,7 +71,7 @@ set-step {b} {c} {d} {env} {env'} {g} {k} t x term write r =
 pub del-step : {b d : Builder} {env env' : List ℕ} {g : ℕ} (x : ℕ) → (Placed b env g → 0 < count b → Merged b d g [] ((x, 0) ∷ []) env env') → Placed b env g → Step b d g env env' (λ e. goes (set e x Undef))
 del-step {b} {d} {env} {env'} {g} x write r = step-written ((x, 0) ∷ []) r (del-stage x r) refl (write r (omega (arith, r.sane.three)))
 
-pub rules-step : {labels : List Label} {b c d f : Builder} {env env1 env2 : List ℕ} {g : ℕ} {checks' : Env → Outcome} {first : Env → Env} (xs : List ℕ) → (Sane b → Known b env → Computed b c env env1 (λ e. e) first) → (Ready labels c env1 g → Stage c d g env1 env1 (λ e. goes e) checks') → (Placed d env g → Held d (picked 0 xs env1) → Merged d f g [] (picked 0 xs env1) env env2) → Ready labels b env g → Step b f g env env2 (λ e. then_do (checks' (first e)) (λ h. goes (with_values xs (environment h) e)))
+pub rules-step : {labels : List Label} {b c d f : Builder} {env env1 env2 : List ℕ} {g : ℕ} {checks' : Env → RunState} {first : Env → Env} (xs : List ℕ) → (Sane b → Known b env → Computed b c env env1 (λ e. e) first) → (Ready labels c env1 g → Stage c d g env1 env1 (λ e. goes e) checks') → (Placed d env g → Held d (picked 0 xs env1) → Merged d f g [] (picked 0 xs env1) env env2) → Ready labels b env g → Step b f g env env2 (λ e. then_do (checks' (first e)) (λ h. goes (with_values xs (environment h) e)))
 rules-step {labels} {b} {c} {d} {f} {env} {env1} {env2} {g} xs defs checks write r =
     let k = defs r.placed.sane r.placed.known in
     let l1 = k.grows.base in
@@ -160,11 +160,11 @@ pub step-moves-is : {whole : Whole} {b c : Builder} {env env' : List ℕ} {g : �
 step-moves-is {whole} {b} {c} {env} {env'} {g} {ws} {a} {a'} depth is s t = subst (λ x. Moves whole b c env' g ws ws (λ inputs. ahead whole b inputs env g depth x)) is (step-moves depth a s t)
 
 -- a choice
-pub guards-apart : {b d : Builder} {env : List ℕ} {g line : ℕ} {t : Environment → Value} {r : Branches} → Placed b env g → (inputs : List Value) (one two : Env → Outcome) → IsBit (at b inputs g) → Opened b d env g line t r → under (at d inputs r.second) (under (at d inputs r.first) (run d inputs env) one) two ≡ under (at b inputs g) (run b inputs env) (λ e. chosen_block line (t (environment e)) (one e) (two e))
+pub guards-apart : {b d : Builder} {env : List ℕ} {g line : ℕ} {t : Environment → Value} {r : Branches} → Placed b env g → (inputs : List Value) (one two : Env → RunState) → IsBit (at b inputs g) → Opened b d env g line t r → under (at d inputs r.second) (under (at d inputs r.first) (run d inputs env) one) two ≡ under (at b inputs g) (run b inputs env) (λ e. chosen_block line (t (environment e)) (one e) (two e))
 guards-apart {b} {d} {env} {g} {line} {t} {r} p inputs one two bit o =
     let e = denoted b inputs env in
     let v = t (environment e) in
-    let all : Env → Outcome = λ x. chosen_block line (t (environment x)) (one x) (two x) in
+    let all : Env → RunState = λ x. chosen_block line (t (environment x)) (one x) (two x) in
     ⊎_elim
     (λ (h : at b inputs g ≡ Num (pos 0)).
     let off1 : at d inputs r.first ≡ Num (pos 0) = o.first inputs ∙ (λ i. chosen (o.truth inputs i) (h i) (Num (pos 0))) ∙ both-zero v in
@@ -224,14 +224,14 @@ known-blanked {b} xs env s k = record { all = all-blanked (λ n. n < count b) 0 
 entries-picked : {b : Builder} (inputs : List Value) (xs env : List ℕ) → Sane b → entries b inputs (picked 0 xs env) ≡ picked Undef xs (denoted b inputs env)
 entries-picked {b} inputs xs env s = picked-map (at b inputs) 0 xs env ∙ ap (λ v. picked v xs (denoted b inputs env)) (s.undef inputs)
 
-around-part : (b : Builder) (env : List ℕ) (g : ℕ) (inputs : List Value) (xs : List ℕ) (next : Env → Outcome) → Sane b → IsBit (at b inputs g) → then_do (under (at b inputs g) (run b inputs (blanked 0 xs env)) next) (λ e. goes (written (entries b inputs (picked 0 xs env)) e)) ≡ under (at b inputs g) (run b inputs env) (λ e. then_do (next (without xs e)) (λ f. goes (with_values xs (environment e) f)))
+around-part : (b : Builder) (env : List ℕ) (g : ℕ) (inputs : List Value) (xs : List ℕ) (next : Env → RunState) → Sane b → IsBit (at b inputs g) → then_do (under (at b inputs g) (run b inputs (blanked 0 xs env)) next) (λ e. goes (written (entries b inputs (picked 0 xs env)) e)) ≡ under (at b inputs g) (run b inputs env) (λ e. then_do (next (without xs e)) (λ f. goes (with_values xs (environment e) f)))
 around-part b env g inputs xs next s bit =
     let e = denoted b inputs env in
     let v = at b inputs g in
     let ps = picked 0 xs env in
     let before = blanked 0 xs env in
-    let after : Env → Outcome = λ f. goes (written (entries b inputs ps) f) in
-    let all : Env → Outcome = λ x. then_do (next (without xs x)) (λ f. goes (with_values xs (environment x) f)) in
+    let after : Env → RunState = λ f. goes (written (entries b inputs ps) f) in
+    let all : Env → RunState = λ x. then_do (next (without xs x)) (λ f. goes (with_values xs (environment x) f)) in
     let written-same : (f : Env) → written (entries b inputs ps) f ≡ with_values xs (environment e) f = λ f. ap (λ qs. written qs f) (entries-picked inputs xs env s) ∙ sym (with-received xs e f) in
     let blank-same : denoted b inputs before ≡ without xs e = blanked-map (at b inputs) 0 xs env ∙ ap (λ x. blanked x xs e) (s.undef inputs) ∙ sym (without-blanked xs e) in
     ⊎_elim
@@ -264,12 +264,12 @@ part-moves {whole} {b} {env} {g} {ws} depth line before xs block is s =
     }
 
 -- a call
-around-call : (b : Builder) (env : List ℕ) (g : ℕ) (inputs : List Value) (xs : List ℕ) (next : Env → Outcome) → Sane b → IsBit (at b inputs g) → then_do (under (at b inputs g) (run b inputs env) next) (λ e. goes (with_values xs (environment e) (denoted b inputs env))) ≡ under (at b inputs g) (run b inputs env) (λ e. then_do (next e) (λ f. goes (with_values xs (environment f) e)))
+around-call : (b : Builder) (env : List ℕ) (g : ℕ) (inputs : List Value) (xs : List ℕ) (next : Env → RunState) → Sane b → IsBit (at b inputs g) → then_do (under (at b inputs g) (run b inputs env) next) (λ e. goes (with_values xs (environment e) (denoted b inputs env))) ≡ under (at b inputs g) (run b inputs env) (λ e. then_do (next e) (λ f. goes (with_values xs (environment f) e)))
 around-call b env g inputs xs next s bit =
     let e = denoted b inputs env in
     let v = at b inputs g in
-    let after : Env → Outcome = λ f. goes (with_values xs (environment f) e) in
-    let all : Env → Outcome = λ x. then_do (next x) (λ f. goes (with_values xs (environment f) x)) in
+    let after : Env → RunState = λ f. goes (with_values xs (environment f) e) in
+    let all : Env → RunState = λ x. then_do (next x) (λ f. goes (with_values xs (environment f) x)) in
     ⊎_elim
     (λ (h : v ≡ Num (pos 0)).
     ap (λ x. then_do (under x (run b inputs env) next) after) h
@@ -282,8 +282,8 @@ around-call b env g inputs xs next s bit =
     ∙ sym (ap (λ x. under x (run b inputs env) all) h))
     bit
 
-pub call-moves : {whole : Whole} {b : Builder} {env : List ℕ} {g : ℕ} {ws : List Work} (depth line deep f : ℕ) (cells : Bor (List ℕ)) (outer : Vec ℕ Global) (block : Bor (List Action)) → outer.items ≡ env → does whole deep block.now ≡ calls whole.core whole.ordered.base whole.ordered.sequence depth f → Standing whole b env g ws → Moves whole b b env g ws ((ws ++ Return cells outer ∷ []) ++ Run deep block ∷ []) (λ inputs. ahead whole b inputs env g depth (call line cells.now f))
-call-moves {whole} {b} {env} {g} {ws} depth line deep f cells outer block is body s =
+pub call-moves : {whole : Whole} {b : Builder} {env : List ℕ} {g : ℕ} {ws : List Work} (depth line names deep f : ℕ) (cells : Bor (List ℕ)) (outer : Vec ℕ Global) (block : Bor (List Action)) → outer.items ≡ env → does whole deep block.now ≡ calls whole.core whole.ordered.base whole.ordered.sequence depth f → Standing whole b env g ws → Moves whole b b env g ws ((ws ++ Return cells outer ∷ []) ++ Run deep block ∷ []) (λ inputs. ahead whole b inputs env g depth (call line names cells.now f))
+call-moves {whole} {b} {env} {g} {ws} depth line names deep f cells outer block is body s =
     let sane = s.ready.placed.sane in
     let ws1 = ws ++ Return cells outer ∷ [] in
     record {
@@ -341,17 +341,17 @@ return-moves {whole} {b} {env} {g} {ws} cells outer k s =
     }
 
 -- the loop
-abbrev pub main-point : Builder → List ℕ → (Env → Outcome) → List Value → Point
+abbrev pub main-point : Builder → List ℕ → (Env → RunState) → List Value → Point
 main-point b env next inputs = record { guard = at b inputs 2; far = under (at b inputs 2) (run b inputs env) next }
 
-pub main-first : {whole : Whole} {b : Builder} {env : List ℕ} (depth : ℕ) (block : Bor (List Action)) (next : Env → Outcome) → does whole depth block.now ≡ next → Ready whole.ordered.base.labels b env 2 → Moves whole b b env 2 [] (Run depth block ∷ []) (main-point b env next)
+pub main-first : {whole : Whole} {b : Builder} {env : List ℕ} (depth : ℕ) (block : Bor (List Action)) (next : Env → RunState) → does whole depth block.now ≡ next → Ready whole.ordered.base.labels b env 2 → Moves whole b b env 2 [] (Run depth block ∷ []) (main-point b env next)
 main-first {whole} {b} {env} depth block next is r = record {
   base = longer-none r.placed.sane;
   standing = record { ready = r; bit = λ inputs. inr (r.placed.sane.one inputs); left = (tt, tt) };
   same = λ inputs. λ i. record { guard = at b inputs 2; far = under (at b inputs 2) (run b inputs env) (is i) };
 }
 
-pub main-last : {whole : Whole} {b c : Builder} {env env' : List ℕ} {g : ℕ} {ws : List Work} {next : Env → Outcome} → ws ≡ [] → Moves whole b c env' g [] ws (main-point b env next) → Step b c 2 env env' next
+pub main-last : {whole : Whole} {b c : Builder} {env env' : List ℕ} {g : ℕ} {ws : List Work} {next : Env → RunState} → ws ≡ [] → Moves whole b c env' g [] ws (main-point b env next) → Step b c 2 env env' next
 main-last {whole} {b} {c} {env} {env'} {g} {ws} {next} is m = record {
   base = m.base;
   known = m.standing.ready.placed.known;

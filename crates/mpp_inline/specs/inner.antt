@@ -4,3 +4,4 @@ pub mod Cells
 pub mod Growth
 pub mod Work
 pub mod Told
+pub mod Ruleless

@@ -50,18 +50,18 @@ fn first_labels(alloc: Global, labels: &[Label]) -> Result<Vec<FaceLabel>, Alloc
 {
     let mut faces = Vec::new(alloc);
     for label in labels {
-        faces.push(FaceLabel::Verif(copied_label(alloc, label)?))?;
+        faces.push(FaceLabel::Verif(equal_label(label)?))?;
     }
     Ok(faces)
 }
 
-/// An equal label.
-fn copied_label(alloc: Global, label: &Label) -> Result<Label, AllocError>
-    ensures { IfOk result (λ copy. copy ≡ label.now) }
+/// An equal label, which shares the words of this one.
+fn equal_label(label: &Label) -> Result<Label, AllocError>
+    ensures { IfOk result (λ equal. equal ≡ label.now) }
 {
-    let verif = label.verif.copy(alloc)?;
-    let error = label.error.copy(alloc)?;
-    let text = label.text.copy(alloc)?;
+    let verif = label.verif.share()?;
+    let error = label.error.share()?;
+    let text = label.text.share()?;
     Ok(Label {
         verif,
         error,

@@ -22,8 +22,8 @@ use driver_core::{CCommand, CCommandNode, CTerm, Core};
 use rule_order::Ordered;
 use std::alloc::{AllocError, Global};
 
-/// The most turns. A driver of the greatest weight needs a fifth of them, where each command weighs 1 at least.
-const TURNS: u32 = 100_000_000;
+/// The most turns, which no machine takes in a man's life: a billion each second take five hundred years.
+const TURNS: u64 = 18_446_744_073_709_551_615;
 
 /// The body of a function, which is empty where calls are nested too deep, and where it isn't there.
 fn body_at(core: &Core, depth: usize, function: u32) -> &[CCommand]
@@ -93,13 +93,14 @@ fn begin_call<'a>(
     left: &mut Vec<Work<'a>>,
     depth: usize,
     line: u32,
+    names: u64,
     cells: &'a [u32],
     function: u32,
 ) -> Result<(), AllocError>
     ensures { OnOk result ((ordered : Ordered) (b : Builder) (guard : ℕ)
         → Standing (whole_of core.now ordered) b env.now guard left.old.items
         → Moves (whole_of core.now ordered) b b env.now guard left.old.items left.new.items
-        (λ inputs. ahead (whole_of core.now ordered) b inputs env.now guard depth (call line cells.now function))) }
+        (λ inputs. ahead (whole_of core.now ordered) b inputs env.now guard depth (call line names cells.now function))) }
 {
     let outer = env.to_vec(alloc)?;
     left.push(Work::Return(cells, outer))?;
@@ -143,7 +144,7 @@ fn begin_command<'a>(
             begin_partition(alloc, env, left, depth, *line, cells.as_slice(), block)?;
             Ok(guard)
         }
-        CCommandNode::Call(line, cells, function) => {
+        CCommandNode::Call(line, names, cells, function) => {
             begin_call(
                 alloc,
                 env,
@@ -151,12 +152,13 @@ fn begin_command<'a>(
                 left,
                 depth,
                 *line,
+                *names,
                 cells.as_slice(),
                 *function,
             )?;
             Ok(guard)
         }
-        CCommandNode::Rules(_, cells) => {
+        CCommandNode::Rules(_, _, cells) => {
             emit_rules(alloc, b, env, guard, ordered, cells.as_slice())?;
             Ok(guard)
         }

@@ -15,6 +15,7 @@ use crate::InlineFault;
 use crate::begin::{first_cells, first_nodes, outputs_of};
 use crate::blocks::emit_all;
 use crate::builder::{Builder, MOST};
+use crate::ruleless::{is_ruleless, without_rules};
 use driver_core::Core;
 use driver_weight::weight;
 use flat_code::{FaceLabel, Flat};
@@ -54,9 +55,32 @@ pub fn inline(
     Ok(made)
 }
 
-/// The same, whatever the driver weighs. It gives up as for want of memory where it comes to more than 100,000,000 nodes,
-/// checks or turns.
+/// The same, whatever the driver weighs. It gives up as for want of memory where it comes to more than 100,000,000 nodes or
+/// checks.
+///
+/// A call of the rules over a base that has none weighs nothing, so there may be any number of such calls. They are left out of
+/// the driver at first.
 fn flat_program(
+    alloc: Global,
+    core: &Core,
+    ordered: &Ordered,
+    symbols: &Symbols,
+    requests: &[u32],
+) -> Result<(Flat, Seq<FaceLabel>), AllocError>
+    requires base { IsValidBase ordered.now.base }
+    requires order { IsOrder ordered.now.base ordered.now.sequence }
+    requires cells { ordered.now.base.cells ≡ length (owners_from 0 symbols.now.variables) }
+    ensures { IfOk result (λ made. IsInlined core.now ordered.now.base symbols.now requests.now made.0 made.1) }
+{
+    if is_ruleless(&ordered.base) {
+        let left = without_rules(alloc, core)?;
+        return whole_program(alloc, &left, ordered, symbols, requests);
+    }
+    whole_program(alloc, core, ordered, symbols, requests)
+}
+
+/// The same, command by command.
+fn whole_program(
     alloc: Global,
     core: &Core,
     ordered: &Ordered,

@@ -2,7 +2,7 @@
 use Rattle.std.proofs.Common.{◌≡◌, ◌⊎◌, ℕ, codes, cond, List, [], ◌∷◌, refl, sym, ap, ◌∙◌, subst, arith, inl, inr}
 use Rattle.std.specs.List.{AllByRecursion}
 use Rattle.std.specs.Str.{bytes_eq}
-use Rattle.m_text.specs.Bytes.{IsWordByte, hash, point}
+use Rattle.m_text.specs.Bytes.{IsWordByte, hash, point, space}
 use Rattle.m_text.specs.Words.{IsWord, IsNumber, LongestOf}
 use Rattle.m_text.proofs.Fronts.{all_right}
 use Rattle.m_text.proofs.Longest.{one_longest}
@@ -12,7 +12,7 @@ use Rattle.mpp_lexer.specs.declared.piece.DriverSign.TheVariants.{OpenParen, Clo
 use Rattle.mpp_lexer.specs.declared.piece.DriverPiece.{DriverPiece}
 use Rattle.mpp_lexer.specs.declared.piece.DriverPiece.TheVariants.{Number, Sign}
 use Rattle.mpp_lexer.specs.declared.piece.Line.{Line}
-use Rattle.mpp_lexer.specs.Tokens.{sign_spelling, IsToken, Spells, word, number, sign, IsTooGreat, TokensOf, end, comment, blank, token, HasBadToken, no_token, too_great, space, spaces}
+use Rattle.mpp_lexer.specs.Tokens.{sign_spelling, IsToken, Spells, word, number, sign, IsTooGreat, TokensOf, end, comment, blank, token, HasBadToken, no_token, too_great, spaces}
 use Rattle.mpp_lexer.specs.Lines.{Lexes, end, without, with, FirstBadToken, here, later}
 use Rattle.mpp_lexer.proofs.Tokens.{IsMark, sign_first, token_first, not_empty}
 

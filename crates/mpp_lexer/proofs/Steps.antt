@@ -2,13 +2,13 @@
 use Rattle.std.proofs.Common.{◌≡◌, ◌≢◌, ℕ, zero, suc, ◌+◌, ◌-◌, ◌<◌, ◌≤◌, cond, List, [], ◌∷◌, ◌++◌, length, get_or, drop, sym, ap, ◌∙◌, subst, arith, inl, inr}
 use Rattle.std.proofs.lemmas.Bool.{cases_lt, ne_eqb}
 use Rattle.std.proofs.lemmas.List.{append_assoc, append-nil, drop_more, drop_all}
-use Rattle.m_text.specs.Bytes.{IsWordByte, RunsTo, hash}
+use Rattle.m_text.specs.Bytes.{IsWordByte, RunsTo, hash, space}
 use Rattle.m_text.specs.Words.{LongestOf, LongestBetween}
 use Rattle.m_text.proofs.Fronts.{part}
 use Rattle.mpp_lexer.specs.declared.piece.DriverSign.{DriverSign}
 use Rattle.mpp_lexer.specs.declared.piece.DriverPiece.{DriverPiece}
 use Rattle.mpp_lexer.specs.declared.piece.DriverPiece.TheVariants.{Sign}
-use Rattle.mpp_lexer.specs.Tokens.{IsToken, number, Spells, sign, IsTooGreat, TokensOf, end, comment, blank, token, HasBadToken, no_token, too_great, NoToken, space, spaces, sign_spelling}
+use Rattle.mpp_lexer.specs.Tokens.{IsToken, number, Spells, sign, IsTooGreat, TokensOf, end, comment, blank, token, HasBadToken, no_token, too_great, NoToken, spaces, sign_spelling}
 use Rattle.mpp_lexer.specs.inner.Steps.{GoesOn, NoSign}
 use Rattle.mpp_lexer.proofs.Tokens.{token_of_word, longest_one, longest_two, NoTwo, no_token_at}
 

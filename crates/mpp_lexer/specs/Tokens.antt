@@ -2,16 +2,12 @@
 use Rattle.std.specs.Prelude.{◌≡◌, ◌≢◌, ◌==◌, ℕ, ◌+◌, ℤ, Ok, Err, List, [], ◌∷◌, ◌++◌, codes, if◌then◌else◌}
 use Rattle.m_fixed.specs.Text.{text_value, amount_read}
 use Rattle.m_fixed.specs.declared.read.AmountFault.TheVariants.{TooGreat}
-use Rattle.m_text.specs.Bytes.{hash}
+use Rattle.m_text.specs.Bytes.{hash, space}
 use Rattle.m_text.specs.Words.{IsWord, IsNumber, LongestOf}
 use Rattle.mpp_lexer.specs.declared.piece.DriverSign.{DriverSign}
 use Rattle.mpp_lexer.specs.declared.piece.DriverSign.TheVariants.{OpenParen, CloseParen, OpenBracket, CloseBracket, Comma, Colon, Assign, Equal, NotEqual, Less, LessEqual, Greater, GreaterEqual, Plus, Minus, Star, Slash, Receive}
 use Rattle.mpp_lexer.specs.declared.piece.DriverPiece.{DriverPiece}
 use Rattle.mpp_lexer.specs.declared.piece.DriverPiece.TheVariants.{Word, Number, Sign}
-
--- the only byte that may stand between tokens: a tab may not
-abbrev pub space : ℕ
-space = 32
 
 -- the spelling of each sign
 abbrev pub sign_spelling : DriverSign → List ℕ

@@ -1,10 +1,10 @@
 //! The tokens of one line.
 
 ghost use Rattle.std.specs.Prelude.{◌≡◌, ◌≢◌, ◌≤◌, ◌<◌, ◌∷◌, [], IfOk, IfSome, MatchOption, length, drop, slice_index, slice_range};
-ghost use Rattle.m_text.specs.Bytes.{IsWordByte, RunsTo, hash};
+ghost use Rattle.m_text.specs.Bytes.{IsWordByte, RunsTo, hash, space};
 ghost use Rattle.m_text.specs.Words.{IsNumber};
 ghost use Rattle.mpp_lexer.specs.declared.piece.DriverPiece.TheVariants.{Sign};
-ghost use Rattle.mpp_lexer.specs.Tokens.{TokensOf, HasBadToken, Spells, IsTooGreat, space, spaces};
+ghost use Rattle.mpp_lexer.specs.Tokens.{TokensOf, HasBadToken, Spells, IsTooGreat, spaces};
 ghost use Rattle.mpp_lexer.specs.inner.Steps.{GoesOn, NoSign};
 
 use crate::piece::{DriverPiece, DriverSign};

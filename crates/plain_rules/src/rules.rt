@@ -1,5 +1,5 @@
 use m_ast::{Slot, Term};
-use m_places::{Name, Place, Seq};
+use m_places::{Name, Place, Seq, SharedName};
 
 /// An instance of a formula: what it sets, and to which term.
 #[derive(Drop)]
@@ -15,8 +15,8 @@ pub struct Definition {
 /// A check of a verification, without loops.
 #[derive(Drop)]
 pub struct Condition {
-    /// The number of the verification as it is spelled.
-    pub verif: Name,
+    /// The number of the verification as it is spelled, one for all its checks.
+    pub verif: SharedName,
     /// The first word after `erreur`.
     pub error: Name,
     /// A term without loops.

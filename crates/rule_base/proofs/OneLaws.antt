@@ -17,7 +17,7 @@ use Rattle.rule_base.specs.declared.fault.RuleFault.{RuleFault}
 use Rattle.rule_base.specs.declared.fault.RuleFault.TheVariants.{Declare, Expand, Resolve, Cycle}
 use Rattle.rule_base.specs.Files.{SayAll, IsFirstFileFault}
 use Rattle.rule_base.specs.Base.{Declares, IsBaseOf}
-use Rattle.rule_base.specs.Faults.{IsRuleFault, of_a_file, of_declarations, of_loops, of_names, of_a_cycle, AreOneFault, the_same, both_cycles}
+use Rattle.rule_base.specs.Faults.{IsRuleFault, of_a_file, of_declarations, of_loops, of_names, of_a_cycle, AreOneRuleFault, the_same, both_cycles}
 use Rattle.rule_base.proofs.OneFiles.{say_one, say_or_fail, fail_once}
 
 some_one : {A : Type 0} {o : Option A} {x y : A} → o ≡ Some x → o ≡ Some y → x ≡ y
@@ -81,7 +81,7 @@ no_base_and_fault texts application declared base _ made free (of_a_cycle {decla
     free cells (subst (λ (k : Base). IsCycle k cells) (sym (one_base texts application declared others base other made also).1) c)
 
 -- The faults of an earlier step stand before those of a later one.
-by_file : (texts : List Text) (application : List ℕ) (fault other : RuleFault) → IsFirstFileFault 0 texts fault → IsRuleFault texts application other → AreOneFault fault other
+by_file : (texts : List Text) (application : List ℕ) (fault other : RuleFault) → IsFirstFileFault 0 texts fault → IsRuleFault texts application other → AreOneRuleFault fault other
 by_file texts application fault other f (of_a_file g) = the_same (fail_once 0 texts fault other f g)
 by_file texts application fault _ f (of_declarations {items = is} s e) = absurd (say_or_fail 0 texts is fault s f)
 by_file texts application fault _ f (of_loops {items = is} d e) = absurd (say_or_fail 0 texts is fault d.said f)
@@ -89,7 +89,7 @@ by_file texts application fault _ f (of_names {items = is} d x e) = absurd (say_
 by_file texts application fault _ f (of_a_cycle cells made c b) = absurd (say_or_fail 0 texts made.items fault made.declares.said f)
 
 by_declarations : (texts : List Text) (application : List ℕ) (items : List Item) (fault : DeclareFault) (other : RuleFault) → SayAll 0 texts items → first_fault items ≡ Some fault → IsRuleFault texts application other
-    → AreOneFault (Declare fault) other
+    → AreOneRuleFault (Declare fault) other
 by_declarations texts application items fault other s e (of_a_file g) = absurd (say_or_fail 0 texts items other s g)
 by_declarations texts application items fault _ s e (of_declarations {items = is} {fault = f} u g) = the_same (ap Declare (some_one e (ap first_fault (say_one 0 texts items is s u) ∙ g)))
 by_declarations texts application items fault _ s e (of_loops {items = is} d g) = absurd (declared_well texts is items fault d s e)
@@ -97,7 +97,7 @@ by_declarations texts application items fault _ s e (of_names {items = is} d x g
 by_declarations texts application items fault _ s e (of_a_cycle cells made c b) = absurd (declared_well texts made.items items fault made.declares s e)
 
 by_loops : (texts : List Text) (application : List ℕ) (items : List Item) (fault : ExpandFault) (other : RuleFault) → Declares texts items → expand_fault items application (declared_by items) ≡ Some fault
-    → IsRuleFault texts application other → AreOneFault (Expand fault) other
+    → IsRuleFault texts application other → AreOneRuleFault (Expand fault) other
 by_loops texts application items fault other d e (of_a_file g) = absurd (say_or_fail 0 texts items other d.said g)
 by_loops texts application items fault _ d e (of_declarations {items = is} {fault = f} u g) = absurd (declared_well texts items is f d u g)
 by_loops texts application items fault _ d e (of_loops {items = is} {fault = f} c g) = the_same (ap Expand (some_one e (loops_one texts application items is d c ∙ g)))
@@ -105,7 +105,7 @@ by_loops texts application items fault _ d e (of_names {items = is} c x g) = abs
 by_loops texts application items fault _ d e (of_a_cycle {declared = k} {base = base} cells made c b) = absurd (base_or_loops texts application k base items fault made d e)
 
 by_names : (texts : List Text) (application : List ℕ) (items : List Item) (fault : ResolveFault) (other : RuleFault) → Declares texts items → expand_fault items application (declared_by items) ≡ None
-    → resolved (declared_by items) (expansion items application (declared_by items)) ≡ Err fault → IsRuleFault texts application other → AreOneFault (Resolve fault) other
+    → resolved (declared_by items) (expansion items application (declared_by items)) ≡ Err fault → IsRuleFault texts application other → AreOneRuleFault (Resolve fault) other
 by_names texts application items fault other d x e (of_a_file g) = absurd (say_or_fail 0 texts items other d.said g)
 by_names texts application items fault _ d x e (of_declarations {items = is} {fault = f} u g) = absurd (declared_well texts items is f d u g)
 by_names texts application items fault _ d x e (of_loops {items = is} c g) = absurd (some_or_none g (loops_one texts application is items c d ∙ x))
@@ -113,14 +113,14 @@ by_names texts application items fault _ d x e (of_names {items = is} {fault = f
 by_names texts application items fault _ d x e (of_a_cycle {declared = k} {base = base} cells made c b) = absurd (base_or_names texts application k base items fault made d e)
 
 by_cycle : (texts : List Text) (application : List ℕ) (declared : Declared) (base : Base) (names : List (List ℕ)) (other : RuleFault) → IsBaseOf texts application declared base → IsRuleFault texts application other
-    → AreOneFault (Cycle names) other
+    → AreOneRuleFault (Cycle names) other
 by_cycle texts application declared base names other made (of_a_file g) = absurd (say_or_fail 0 texts made.items other made.declares.said g)
 by_cycle texts application declared base names _ made (of_declarations {items = is} {fault = f} s e) = absurd (declared_well texts made.items is f made.declares s e)
 by_cycle texts application declared base names _ made (of_loops {items = is} {fault = f} d e) = absurd (base_or_loops texts application declared base is f made d e)
 by_cycle texts application declared base names _ made (of_names {items = is} {fault = f} d x e) = absurd (base_or_names texts application declared base is f made d e)
 by_cycle texts application declared base names _ made (of_a_cycle cells also c b) = both_cycles
 
-pub one_fault : (texts : List Text) (application : List ℕ) (fault other : RuleFault) → IsRuleFault texts application fault → IsRuleFault texts application other → AreOneFault fault other
+pub one_fault : (texts : List Text) (application : List ℕ) (fault other : RuleFault) → IsRuleFault texts application fault → IsRuleFault texts application other → AreOneRuleFault fault other
 one_fault texts application fault other (of_a_file f) h = by_file texts application fault other f h
 one_fault texts application _ other (of_declarations {items = is} {fault = f} s e) h = by_declarations texts application is f other s e h
 one_fault texts application _ other (of_loops {items = is} {fault = f} d e) h = by_loops texts application is f other d e h

@@ -3,7 +3,7 @@ use Rattle.std.proofs.Common.{◌≡◌, ◌<◌, ◌≤◌, ◌+◌, ℕ, suc, 
 use Rattle.std.proofs.Math.Seq.{drop-cons}
 use Rattle.std.proofs.lemmas.List.{append-nil, drop_all}
 use Rattle.rule_text.specs.declared.Text.{Text}
-use Rattle.rule_text.specs.Limits.{AreWithin}
+use Rattle.rule_text.specs.Limits.{TextsAreWithin}
 use Rattle.m_ast.specs.declared.item.Item.{Item}
 use Rattle.rule_base.specs.declared.fault.RuleFault.{RuleFault}
 use Rattle.rule_base.specs.Files.{SaysItems, IsFileFault, SayAll, no_files, a_file, IsFirstFileFault, here, later}
@@ -12,9 +12,9 @@ use Rattle.rule_base.specs.Files.{SaysItems, IsFileFault, SayAll, no_files, a_fi
 pub record Goes (texts left : List Text) (number : ℕ) (items : List Item) : Type 0 where
   pub good : (more : List Item) → SayAll number left more → SayAll 0 texts (items ++ more)
   pub bad : (fault : RuleFault) → IsFirstFileFault number left fault → IsFirstFileFault 0 texts fault
-  pub within : AreWithin left
+  pub within : TextsAreWithin left
 
-pub goes_first : (texts : List Text) (items : List Item) → items ≡ [] → AreWithin texts → Goes texts texts 0 items
+pub goes_first : (texts : List Text) (items : List Item) → items ≡ [] → TextsAreWithin texts → Goes texts texts 0 items
 goes_first texts items e w = record {
   good = λ more s. subst (λ (l : List Item). SayAll 0 texts (l ++ more)) (sym e) s;
   bad = λ fault f. f;

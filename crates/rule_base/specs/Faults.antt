@@ -30,6 +30,6 @@ pub data IsRuleFault (texts : List Text) (application : List ℕ) : RuleFault �
       → IsRuleFault texts application (Cycle (map (cell_name declared) cells))
 
 -- Two faults are one where they are the same, or where both show a cycle, of which any true one may be shown.
-pub data AreOneFault : RuleFault → RuleFault → Type 0 where
-  the_same : {fault other : RuleFault} → fault ≡ other → AreOneFault fault other
-  both_cycles : {names others : List (List ℕ)} → AreOneFault (Cycle names) (Cycle others)
+pub data AreOneRuleFault : RuleFault → RuleFault → Type 0 where
+  the_same : {fault other : RuleFault} → fault ≡ other → AreOneRuleFault fault other
+  both_cycles : {names others : List (List ℕ)} → AreOneRuleFault (Cycle names) (Cycle others)

@@ -2,7 +2,7 @@
 
 ghost use Rattle.m_places.specs.Refusals.{Outcome};
 ghost use Rattle.std.specs.Prelude.{◌≡◌, ◌≢◌, ◌<◌, All, IfOk, OnOk, length, map};
-ghost use Rattle.rule_text.specs.Limits.{AreWithin};
+ghost use Rattle.rule_text.specs.Limits.{TextsAreWithin};
 ghost use Rattle.m_ast.specs.Whole.{IsWholeItem};
 ghost use Rattle.m_symbols.specs.Declarations.{owners_from};
 ghost use Rattle.m_requests.specs.Cells.{cell_name};
@@ -40,7 +40,7 @@ pub struct RuleBase {
 /// Of the one file `A : const = 1 ; B : calculee : "b" ; regle 1 : application : iliad ; B = A ;` the base for `iliad` has
 /// two cells and one definition.
 pub fn rule_base(alloc: Global, texts: &[Text], application: &[u8]) -> Result<RuleBase, RuleFault>
-    requires { AreWithin texts.now }
+    requires { TextsAreWithin texts.now }
     ensures outcome { Outcome Memory result
         (λ made. IsBaseOf texts.now application.now made.symbols made.ordered.base × IsOrder made.ordered.base made.ordered.sequence)
         (IsRuleFault texts.now application.now) }

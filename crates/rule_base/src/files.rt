@@ -3,7 +3,7 @@
 ghost use Rattle.m_places.specs.Refusals.{Outcome};
 ghost use Rattle.m_places.specs.declared.limits.TheConstants.{FILE_BYTES};
 ghost use Rattle.std.specs.Prelude.{◌≡◌, ◌≤◌, ◌+◌, All, IfOk, length};
-ghost use Rattle.rule_text.specs.Limits.{AreWithin};
+ghost use Rattle.rule_text.specs.Limits.{TextsAreWithin};
 ghost use Rattle.m_ast.specs.Whole.{IsWholeItem};
 ghost use Rattle.rule_base.specs.Files.{SaysItems, IsFileFault, SayAll, IsFirstFileFault};
 ghost use Rattle.rule_base.specs.declared.fault.RuleFault.TheVariants.{Memory};
@@ -18,7 +18,7 @@ use std::alloc::Global;
 /// The items of all files in order, or the fault of the first file that has one. The tokens of a file are dropped
 /// before the next one is read.
 pub(crate) fn items_of(alloc: Global, texts: &[Text]) -> Result<Vec<Item>, RuleFault>
-    requires { AreWithin texts.now }
+    requires { TextsAreWithin texts.now }
     ensures outcome { Outcome Memory result (λ items. SayAll 0 texts.now items.items) (IsFirstFileFault 0 texts.now) }
     ensures whole { IfOk result (λ items. All IsWholeItem items.items) }
 {

@@ -5,7 +5,7 @@ ghost use Rattle.m_symbols.specs.Declarations.{Declared};
 ghost use Rattle.micro_m.specs.declared.base.Base.{Base};
 ghost use Rattle.micro_m.specs.Reads.{HasNoCycle};
 ghost use Rattle.rule_base.specs.Base.{IsBaseOf};
-ghost use Rattle.rule_base.specs.Faults.{IsRuleFault, AreOneFault};
+ghost use Rattle.rule_base.specs.Faults.{IsRuleFault, AreOneRuleFault};
 ghost use Rattle.rule_base.specs.declared.fault.RuleFault.{RuleFault};
 
 /// The rule files of an application declare one thing, and are one base over it.
@@ -23,5 +23,5 @@ pub fn no_base_and_fault()
 /// Rule files have at most one fault, but for which cycle is shown.
 pub fn one_fault()
     ensures { (texts : List Text) (application : List ℕ) (fault other : RuleFault) →
-        IsRuleFault texts application fault → IsRuleFault texts application other → AreOneFault fault other }
+        IsRuleFault texts application fault → IsRuleFault texts application other → AreOneRuleFault fault other }
 {}

@@ -6,7 +6,7 @@ use Rattle.std.proofs.Math.ListN.{length-map}
 use Rattle.std.proofs.Math.Seq.{drop-cons}
 use Rattle.std.specs.List.{All}
 use Rattle.micro_m.specs.declared.base.Base.{Base}
-use Rattle.micro_m.specs.Bases.{is_among, AreDistinct}
+use Rattle.micro_m.specs.Bases.{is_among, AreDistinctCells}
 use Rattle.micro_m.specs.Reads.{LeadsTo, IsCycle, BeginsWithLeast}
 use Rattle.micro_m.proofs.NumberLemmas.{same, itself, cases, or-true, clash, among-append}
 use Rattle.rule_order.specs.inner.Marks.{ReadsNext, LastReads, cells_of}
@@ -32,7 +32,7 @@ not-left n xs ys h = cases (is_among n xs)
     (λ (t : is_among n xs ≡ true). absurd (clash (left n xs ys t) h))
     (λ (f : is_among n xs ≡ false). f)
 
-back-distinct : (xs ys : List ℕ) → AreDistinct (xs ++ ys) → AreDistinct ys
+back-distinct : (xs ys : List ℕ) → AreDistinctCells (xs ++ ys) → AreDistinctCells ys
 back-distinct [] ys d = d
 back-distinct (x ∷ xs) ys d = back-distinct xs ys d.1
 
@@ -43,7 +43,7 @@ between y x ys xs t f a = cases (nat_eq y x)
     let k : is_among y (ys ++ xs) ≡ true = among-append y ys xs ∙ ap (λ b. is_among y ys || (b || is_among y xs)) (sym g) ∙ sym (among-append y ys (x ∷ xs)) ∙ t in
     clash k f)
 
-put : (x : ℕ) (ys xs : List ℕ) → AreDistinct (ys ++ xs) → is_among x ys ≡ false → is_among x xs ≡ false → AreDistinct (ys ++ x ∷ xs)
+put : (x : ℕ) (ys xs : List ℕ) → AreDistinctCells (ys ++ xs) → is_among x ys ≡ false → is_among x xs ≡ false → AreDistinctCells (ys ++ x ∷ xs)
 put x [] xs d a b = (b, d)
 put x (y ∷ ys) xs d a b = (
   cases (is_among y (ys ++ x ∷ xs))
@@ -52,8 +52,8 @@ put x (y ∷ ys) xs d a b = (
   put x ys xs d.1 (not-right x (y ∷ []) ys a) b,
 )
 
-swap-distinct : (xs ys : List ℕ) → AreDistinct (xs ++ ys) → AreDistinct (ys ++ xs)
-swap-distinct [] ys d = subst (λ (zs : List ℕ). AreDistinct zs) (sym (append-nil ys)) d
+swap-distinct : (xs ys : List ℕ) → AreDistinctCells (xs ++ ys) → AreDistinctCells (ys ++ xs)
+swap-distinct [] ys d = subst (λ (zs : List ℕ). AreDistinctCells zs) (sym (append-nil ys)) d
 swap-distinct (x ∷ xs) ys d = put x ys xs (swap-distinct xs ys d.1) (not-right x xs ys d.0) (not-left x xs ys d.0)
 
 -- ---- reads along a ring
@@ -82,7 +82,7 @@ leads-join base x [] y ys last h k = (h, k)
 leads-join base x (z ∷ xs) y ys last h k = (h.0, leads-join base z xs y ys last h.1 k)
 
 -- a ring that begins with c, begun with another of its cells
-turned : (base : Base) (c : ℕ) (xs : List ℕ) (y : ℕ) (ys rest : List ℕ) → c ∷ rest ≡ xs ++ y ∷ ys → AreDistinct (c ∷ rest) → LeadsTo base c rest c → IsCycle base ((y ∷ ys) ++ xs)
+turned : (base : Base) (c : ℕ) (xs : List ℕ) (y : ℕ) (ys rest : List ℕ) → c ∷ rest ≡ xs ++ y ∷ ys → AreDistinctCells (c ∷ rest) → LeadsTo base c rest c → IsCycle base ((y ∷ ys) ++ xs)
 turned base c [] y ys rest e d l =
     let is : IsCycle base (y ∷ ys) = subst (λ (zs : List ℕ). IsCycle base zs) e (d, l) in
     subst (λ (zs : List ℕ). IsCycle base zs) (sym (append-nil (y ∷ ys))) is
@@ -92,12 +92,12 @@ turned base c (x ∷ xs) y ys rest e d l =
     (swap-distinct (x ∷ xs) (y ∷ ys) is.0, leads-join base y ys x xs y k.1 k.0)
 
 -- the cycle that is shown, where the path has the cell at one place, and the ring from there on begins at another
-pub shown : (base : Base) (zs : List ℕ) (c j l : ℕ) → AreDistinct zs → ReadsNext base zs → LastReads base zs c → j < length zs → get_or zs j 0 ≡ c → l < length (drop j zs) → IsCycle base (drop l (drop j zs) ++ take l (drop j zs))
+pub shown : (base : Base) (zs : List ℕ) (c j l : ℕ) → AreDistinctCells zs → ReadsNext base zs → LastReads base zs c → j < length zs → get_or zs j 0 ≡ c → l < length (drop j zs) → IsCycle base (drop l (drop j zs) ++ take l (drop j zs))
 shown base zs c j l d next last low here within =
     let rest : List ℕ = drop (suc j) zs in
     let ring : drop j zs ≡ c ∷ rest = drop-cons zs j 0 low ∙ ap (λ n. n ∷ rest) here in
     let whole : zs ≡ take j zs ++ c ∷ rest = sym (take-append-drop j zs) ∙ ap (λ (rs : List ℕ). take j zs ++ rs) ring in
-    let distinct : AreDistinct (c ∷ rest) = back-distinct (take j zs) (c ∷ rest) (subst (λ (ws : List ℕ). AreDistinct ws) whole d) in
+    let distinct : AreDistinctCells (c ∷ rest) = back-distinct (take j zs) (c ∷ rest) (subst (λ (ws : List ℕ). AreDistinctCells ws) whole d) in
     let reads : ReadsNext base (c ∷ rest) = back-reads base (take j zs) (c ∷ rest) (subst (λ (ws : List ℕ). ReadsNext base ws) whole next) in
     let closes : LastReads base (c ∷ rest) c = back-last base (take j zs) rest c c (subst (λ (ws : List ℕ). LastReads base ws c) whole last) in
     let y : ℕ = get_or (drop j zs) l 0 in

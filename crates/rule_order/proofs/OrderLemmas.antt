@@ -4,7 +4,7 @@ use mathlib.Core.Bool.{◌||◌}
 use Rattle.std.specs.Option.{IsSomeAnd}
 use Rattle.std.specs.List.{All}
 use Rattle.micro_m.specs.declared.base.Base.{Base}
-use Rattle.micro_m.specs.Bases.{is_among, AreDistinct, targets_of, target_at, term_at, definition_of, IsValidBase}
+use Rattle.micro_m.specs.Bases.{is_among, AreDistinctCells, targets_of, target_at, term_at, definition_of, IsValidBase}
 use Rattle.micro_m.specs.Reads.{TermReads, Reads, LeadsTo, HasNoCycle}
 use Rattle.micro_m.proofs.NumberLemmas.{same, itself, cases, or-true, clash, among-map, among-at}
 use Rattle.micro_m.proofs.PositionLemmas.{definition_of-target, definition_of-position, position-one}
@@ -42,7 +42,7 @@ cells-among base c ps h =
     (get_or ps k.0 0, among-at ps k.0 k.1, k.2 0)
 
 -- distinct positions are those of distinct cells
-pub cells-distinct : (base : Base) (ps : List ℕ) → AreDistinct (targets_of base) → All (λ p. p < length base.definitions) ps → AreDistinct ps → AreDistinct (cells_at base ps)
+pub cells-distinct : (base : Base) (ps : List ℕ) → AreDistinctCells (targets_of base) → All (λ p. p < length base.definitions) ps → AreDistinctCells ps → AreDistinctCells (cells_at base ps)
 cells-distinct base [] once within d = tt
 cells-distinct base (p ∷ ps) once within d = (
   cases (is_among (target_at base p) (cells_at base ps))
@@ -77,7 +77,7 @@ ring-reads base x (y ∷ ys) last c leads h = cases (nat_eq c x)
     (k.0, k.1, elim k.2 [ inl t ↦ inl (or-true (nat_eq k.0 y) (is_among k.0 ys) t) | inr e ↦ inr e ]))
 
 -- no cell of a ring stands at the positions of which all that the ring reads does: the first of them would read a later one
-no-ring : (base : Base) (x : ℕ) (xs ps : List ℕ) → LeadsTo base x xs x → AreDistinct (targets_of base) → All (λ p. p < length base.definitions) ps → ReadsEarlier base ps → ((c : ℕ) → is_among c (x ∷ xs) ≡ true → is_among c (cells_at base ps) ≡ true) → ⊥
+no-ring : (base : Base) (x : ℕ) (xs ps : List ℕ) → LeadsTo base x xs x → AreDistinctCells (targets_of base) → All (λ p. p < length base.definitions) ps → ReadsEarlier base ps → ((c : ℕ) → is_among c (x ∷ xs) ≡ true → is_among c (cells_at base ps) ≡ true) → ⊥
 no-ring base x xs [] leads once within earlier all = clash (all x (ap (λ b. b || is_among x xs) (itself x))) refl
 no-ring base x xs (p ∷ ps) leads once within earlier all =
     let t : ℕ = target_at base p in

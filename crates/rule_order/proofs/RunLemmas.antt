@@ -10,7 +10,7 @@ use Rattle.micro_m.specs.Values.{picked}
 use Rattle.micro_m.specs.Reads.{PickReads, TermReads, ArgumentsRead, StepsRead}
 use Rattle.micro_m.proofs.TermLemmas.{picked-within}
 use Rattle.rule_order.specs.declared.reads.Run.{Run}
-use Rattle.rule_order.specs.inner.Runs.{run, IsInRun, run_of, picked_runs, runs_in, runs_among, runs_along}
+use Rattle.rule_order.specs.inner.Runs.{run, IsInRun, runs_of, picked_runs, runs_in, runs_among, runs_along}
 use Rattle.rule_order.specs.inner.Marks.{RunsFit}
 
 -- one of the runs has the cell
@@ -44,11 +44,11 @@ AnyHas-at (r ∷ rs) c (suc i) d h k = inr (AnyHas-at rs c i d (omega arith) k)
 
 -- ---- what a term reads
 
-of-literal : (p : Picked) (c : ℕ) → p ≡ Cell c → AnyHas (run_of p) c
+of-literal : (p : Picked) (c : ℕ) → p ≡ Cell c → AnyHas (runs_of p) c
 of-literal (Cell d) c e = let is : d ≡ c = cc in inl (omega arith, omega arith)
 of-literal (Fixed v) c e = absurd (cc)
 
-from-literal : (p : Picked) (c : ℕ) → AnyHas (run_of p) c → p ≡ Cell c
+from-literal : (p : Picked) (c : ℕ) → AnyHas (runs_of p) c → p ≡ Cell c
 from-literal (Cell d) c (inl h) = let is : d ≡ c = omega arith in ap Cell is
 from-literal (Cell d) c (inr h) = absurd h
 from-literal (Fixed v) c h = absurd h
@@ -116,7 +116,7 @@ Fit-append : (cells : ℕ) (rs ss : List Run) → Fit cells rs → Fit cells ss 
 Fit-append cells [] ss h k = k
 Fit-append cells (r ∷ rs) ss h k = (h.0, Fit-append cells rs ss h.1 k)
 
-fit-literal : (cells first size : ℕ) (v : Value) (p : Picked) → picked first size v ≡ p → first + size ≤ cells → Fit cells (run_of p)
+fit-literal : (cells first size : ℕ) (v : Value) (p : Picked) → picked first size v ≡ p → first + size ≤ cells → Fit cells (runs_of p)
 fit-literal cells first size v (Cell c) e h = let k = picked-within first size v c e in (omega arith, tt)
 fit-literal cells first size v (Fixed w) e h = tt
 

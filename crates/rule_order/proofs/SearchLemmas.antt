@@ -5,7 +5,7 @@ use Rattle.std.proofs.lemmas.List.{length-set, get_or-set_same, get_or-set_other
 use Rattle.std.proofs.lemmas.List.Sums.{sum_by-set}
 use Rattle.std.specs.List.{sum_by}
 use Rattle.micro_m.specs.declared.base.Base.{Base}
-use Rattle.micro_m.specs.Bases.{is_among, AreDistinct, target_at, term_at, IsValidBase}
+use Rattle.micro_m.specs.Bases.{is_among, AreDistinctCells, target_at, term_at, IsValidBase}
 use Rattle.micro_m.specs.Reads.{TermReads, Reads}
 use Rattle.micro_m.proofs.NumberLemmas.{same, itself, cases, or-true, clash, among-append, AreDistinct-push}
 use Rattle.micro_m.proofs.PositionLemmas.{position-one}
@@ -34,7 +34,7 @@ among-push c x xs h = cases (is_among c xs)
     let k : (nat_eq c x || false) ≡ true = sym (among-append c xs (x ∷ []) ∙ ap (λ b. b || (nat_eq c x || false)) f) ∙ h in
     inr (cases (nat_eq c x) (λ (t : nat_eq c x ≡ true). same c x t) (λ (g : nat_eq c x ≡ false). absurd (clash k (ap (λ b. b || false) g)))))
 
-front-distinct : (xs : List ℕ) (x : ℕ) → AreDistinct (xs ++ x ∷ []) → AreDistinct xs × (is_among x xs ≡ false)
+front-distinct : (xs : List ℕ) (x : ℕ) → AreDistinctCells (xs ++ x ∷ []) → AreDistinctCells xs × (is_among x xs ≡ false)
 front-distinct [] x d = (tt, refl)
 front-distinct (y ∷ ys) x d =
     let k = front-distinct ys x d.1 in
@@ -156,7 +156,7 @@ begun-step base marks path sequence p valid s waits reads =
       placed = λ q h. eq_cases (target_at base q) t
           (λ e. absurd (unsettled (target_at base q) e (s.placed q h)))
           (λ n. off (target_at base q) n ∙ s.placed q h);
-      path_once = subst (λ (cs : List ℕ). AreDistinct cs) (sym cells)
+      path_once = subst (λ (cs : List ℕ). AreDistinctCells cs) (sym cells)
           (AreDistinct-push (cells_at base path) t s.path_once
           (cases (is_among t (cells_at base path))
           (λ (k : is_among t (cells_at base path) ≡ true). absurd (mark_open (sym (s.on_path t k) ∙ waits)))
@@ -190,7 +190,7 @@ placed-step base marks path sequence p valid s reads =
     let off : (c : ℕ) → (c ≡ t → ⊥) → mark_of new c ≡ mark_of marks c = λ c n. mark-other marks t c Settled n in
     let kept : (c : ℕ) → IsSettled marks c → IsSettled new c = λ c h. eq_cases c t (λ e. at c e) (λ n. off c n ∙ h) in
     let within : p < length base.definitions = s.path_within p (among-new p path) in
-    let apart = front-distinct (cells_at base path) t (subst (λ (cs : List ℕ). AreDistinct cs) cells s.path_once) in
+    let apart = front-distinct (cells_at base path) t (subst (λ (cs : List ℕ). AreDistinctCells cs) cells s.path_once) in
     let unread : (q : ℕ) → is_among q (sequence ++ p ∷ []) ≡ true → TermReads (term_at base q) t → ⊥ = λ q h r.
     elim (among-push q p sequence h) [ inl k ↦ open_settled (sym here ∙ s.closed q t k r) | inr e ↦ open_settled (sym here ∙ reads t (subst (λ n. TermReads (term_at base n) t) e r)) ] in
     record {

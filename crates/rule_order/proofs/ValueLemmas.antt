@@ -10,7 +10,7 @@ use Rattle.m_fixed.specs.declared.amount.Value.{Value}
 use Rattle.m_fixed.specs.declared.amount.Value.TheVariants.{Undef}
 use Rattle.micro_m.specs.Trees.{Tree}
 use Rattle.micro_m.specs.declared.base.Base.{Base}
-use Rattle.micro_m.specs.Bases.{Definition, is_among, AreDistinct, target_at, term_at, definition_of, IsValidBase}
+use Rattle.micro_m.specs.Bases.{Definition, is_among, AreDistinctCells, target_at, term_at, definition_of, IsValidBase}
 use Rattle.micro_m.specs.Values.{Environment, environment, term_value, value_of, IsSolution}
 use Rattle.micro_m.specs.Failures.{Check, failure_of, failure_among}
 use Rattle.micro_m.proofs.NumberLemmas.{same, itself, cases, or-false, clash}
@@ -35,7 +35,7 @@ filled-others base (p ∷ ps) values c away =
     (λ e. clash (subst (λ n. nat_eq c n ≡ true) e (itself c)) k.0)
 
 -- and the others have the values of their terms
-filled-defined : (base : Base) (ps : List ℕ) (values : List Value) (p : ℕ) → ReadsEarlier base ps → AreDistinct (cells_at base ps) → All (λ q. target_at base q < length values) ps → is_among p ps ≡ true →
+filled-defined : (base : Base) (ps : List ℕ) (values : List Value) (p : ℕ) → ReadsEarlier base ps → AreDistinctCells (cells_at base ps) → All (λ q. target_at base q < length values) ps → is_among p ps ≡ true →
     environment (filled base ps values) (target_at base p) ≡ term_value (environment (filled base ps values)) (term_at base p)
 filled-defined base [] values p earlier once within h = absurd (cc)
 filled-defined base (q ∷ ps) values p earlier once within h =

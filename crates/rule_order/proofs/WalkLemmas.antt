@@ -8,7 +8,7 @@ use Rattle.std.specs.List.{All, sum_by}
 use Rattle.m_fixed.specs.declared.amount.Value.TheVariants.{Undef}
 use Rattle.micro_m.specs.Trees.{lit}
 use Rattle.micro_m.specs.declared.base.Base.{Base}
-use Rattle.micro_m.specs.Bases.{Definition, is_among, AreDistinct, targets_of, target_at, term_at, IsWithin, IsValidBase}
+use Rattle.micro_m.specs.Bases.{Definition, is_among, AreDistinctCells, targets_of, target_at, term_at, IsWithin, IsValidBase}
 use Rattle.micro_m.specs.Reads.{TermReads, Reads}
 use Rattle.std.proofs.lemmas.Map.Steps.{length-le_from_distinct_below}
 use Rattle.micro_m.proofs.NumberLemmas.{clash, distinct, place-among}
@@ -226,12 +226,12 @@ on-path base marks known sequence path slice c m w unsettled is begun same_path 
     let mark : mark_of marks c ≡ Open = mark-is marks c m (mark-low marks c unsettled) is ∙ begun in
     ap (λ (fs : List Frame). is_among c (cells_of fs)) same_path ∙ ap (is_among c) (cells_of-at base marks path w.frames) ∙ w.search.begun c mark
 
-pub closed-cycle : (base : Base) (marks : List Mark) (known sequence : List ℕ) (path slice : List Frame) (c : ℕ) (P : Type 0) → IsWalk base marks known sequence path → LastReads base (cells_of path) c → slice ≡ path → (AreDistinct (cells_of slice) → ReadsNext base (cells_of slice) → LastReads base (cells_of slice) c → P) → P
+pub closed-cycle : (base : Base) (marks : List Mark) (known sequence : List ℕ) (path slice : List Frame) (c : ℕ) (P : Type 0) → IsWalk base marks known sequence path → LastReads base (cells_of path) c → slice ≡ path → (AreDistinctCells (cells_of slice) → ReadsNext base (cells_of slice) → LastReads base (cells_of slice) c → P) → P
 closed-cycle base marks known sequence path slice c P w last same_path shows =
     let is = cells_of-at base marks path w.frames in
     let cells : cells_of slice ≡ cells_of path = ap cells_of same_path in
     shows
-    (subst (λ (cs : List ℕ). AreDistinct cs) (sym (cells ∙ is)) w.search.path_once)
+    (subst (λ (cs : List ℕ). AreDistinctCells cs) (sym (cells ∙ is)) w.search.path_once)
     (subst (λ (cs : List ℕ). ReadsNext base cs) (sym (cells ∙ is)) w.search.path_reads)
     (subst (λ (cs : List ℕ). LastReads base cs c) (sym cells) last)
 

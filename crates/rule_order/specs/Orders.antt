@@ -1,7 +1,7 @@
 -- What an order of a base's definitions is, and what a refusal shows.
 use Rattle.std.specs.Prelude.{◌≡◌, ℕ, ◌<◌, true, false, List, [], ◌∷◌, map, length, All}
 use Rattle.micro_m.specs.declared.base.Base.{Base}
-use Rattle.micro_m.specs.Bases.{is_among, AreDistinct, target_at, term_at}
+use Rattle.micro_m.specs.Bases.{is_among, AreDistinctCells, target_at, term_at}
 use Rattle.micro_m.specs.Reads.{TermReads, IsCycle, BeginsWithLeast}
 use Rattle.rule_order.specs.declared.fault.OrderFault.{OrderFault}
 use Rattle.rule_order.specs.declared.fault.OrderFault.TheVariants.{Cycle, Memory}
@@ -20,7 +20,7 @@ ReadsEarlier base (p ∷ later) = ((c : ℕ) → TermReads (term_at base p) c �
 pub record IsOrder (base : Base) (sequence : List ℕ) : Type 0 where
   pub within : All (λ p. p < length base.definitions) sequence
   pub every : (p : ℕ) → p < length base.definitions → is_among p sequence ≡ true
-  pub once : AreDistinct sequence
+  pub once : AreDistinctCells sequence
   pub earlier : ReadsEarlier base sequence
 
 -- what a refusal shows: a cycle of the base, which begins with its least cell

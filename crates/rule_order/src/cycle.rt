@@ -2,7 +2,7 @@
 
 ghost use Rattle.std.specs.Prelude.{◌≡◌, ◌<◌, ◌≤◌, ◌^◌, ◌++◌, ℕ, true, length, map, All, IfOk, OnOk, slice_index_or};
 ghost use Rattle.micro_m.specs.declared.base.Base.{Base};
-ghost use Rattle.micro_m.specs.Bases.{is_among, AreDistinct};
+ghost use Rattle.micro_m.specs.Bases.{is_among, AreDistinctCells};
 ghost use Rattle.micro_m.specs.Reads.{IsCycle, BeginsWithLeast};
 ghost use Rattle.rule_order.specs.inner.Marks.{ReadsNext, LastReads, cells_of};
 
@@ -14,7 +14,7 @@ use std::alloc::{AllocError, Global};
 pub fn shown_cycle(alloc: Global, path: &[Frame], cell: usize) -> Result<Seq<u32>, AllocError>
     requires fits { All (λ f. f.cell < 2 ^ 32) path.now }
     requires there { is_among cell (cells_of path.now) ≡ true }
-    ensures cycle { IfOk result (λ cells. (base : Base) → AreDistinct (cells_of path.now)
+    ensures cycle { IfOk result (λ cells. (base : Base) → AreDistinctCells (cells_of path.now)
         → ReadsNext base (cells_of path.now) → LastReads base (cells_of path.now) cell → IsCycle base cells) }
     ensures least { IfOk result (λ cells. BeginsWithLeast cells) }
 {

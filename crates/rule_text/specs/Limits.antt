@@ -5,16 +5,16 @@ use Rattle.rule_text.specs.declared.Text.{Text}
 use Rattle.rule_text.specs.declared.Source.{Source}
 
 -- no rule file has more bytes than a file may have
-abbrev pub AreWithin : List Text → Type 0
-AreWithin [] = Unit {0}
-AreWithin (text ∷ texts) = (length text.bytes ≤ FILE_BYTES) × AreWithin texts
+abbrev pub TextsAreWithin : List Text → Type 0
+TextsAreWithin [] = Unit {0}
+TextsAreWithin (text ∷ texts) = (length text.bytes ≤ FILE_BYTES) × TextsAreWithin texts
 
 -- nor has a driver or a file of requests, where there is one
-abbrev pub IsWithin : Option (List ℕ) → Type 0
-IsWithin bytes = IfSome bytes (λ b. length b ≤ FILE_BYTES)
+abbrev pub FileIsWithin : Option (List ℕ) → Type 0
+FileIsWithin bytes = IfSome bytes (λ b. length b ≤ FILE_BYTES)
 
 -- a source whose files keep the limit
-pub record KeepsLimits (source : Source) : Type 0 where
-  pub texts : AreWithin source.texts
-  pub driver : IsWithin source.driver
-  pub requests : IsWithin source.requests
+pub record SourceKeepsLimits (source : Source) : Type 0 where
+  pub texts : TextsAreWithin source.texts
+  pub driver : FileIsWithin source.driver
+  pub requests : FileIsWithin source.requests

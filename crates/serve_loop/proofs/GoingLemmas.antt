@@ -9,7 +9,7 @@ use Rattle.m_ports.proofs.SinkLemmas.{append_known-append, AppendsPrefix-after}
 use Rattle.household_session.specs.Sessions.{Sitting}
 use Rattle.household_session.specs.Replies.{IsUnended, after_line, ended_lines, replies_of, replies_to, reply_of}
 use Rattle.household_session.proofs.ReplyLemmas.{replies-line, replies-ended, replies-long, replies_ended-long, ended_lines-last}
-use Rattle.serve_loop.specs.inner.Going.{Goes, Breaks}
+use Rattle.serve_loop.specs.inner.Going.{Goes, BreaksOff}
 
 nothing_more : (known : Option (List ℕ)) → known ≡ append_known known []
 nothing_more None = refl
@@ -106,7 +106,7 @@ goes_cut written faults old now start sitting before left fewer free freed long 
 
 -- one way, and then a break
 pub breaks_then : {K : Type 0} (written : K → Option (List ℕ)) (faults : K → ℕ) (old now new : K) (start sitting : Sitting) (before left piece rest : List ℕ)
-    → Goes written faults old now start sitting before left → Breaks written faults now new sitting ((left ++ piece) ++ rest)
+    → Goes written faults old now start sitting before left → BreaksOff written faults now new sitting ((left ++ piece) ++ rest)
     → Rose (faults old) (faults new) × AppendsPrefix (written old) (written new) (replies_of start ((before ++ piece) ++ rest))
 unfolding goes_taken
 breaks_then written faults old now new start sitting before left piece rest goes breaks =

@@ -7,7 +7,7 @@ use Rattle.m_places.specs.declared.limits.TheConstants.{INPUT_BYTES}
 use Rattle.household_session.specs.Sessions.{Sitting}
 use Rattle.household_session.specs.Replies.{IsUnended}
 use Rattle.serve_loop.specs.Serving.{Counts, Ends, IsLeft}
-use Rattle.serve_loop.specs.inner.Going.{Breaks, Finished, Goes, Stopped, Took}
+use Rattle.serve_loop.specs.inner.Going.{BreaksOff, Finished, Goes, Stopped, Took}
 use Rattle.serve_loop.specs.declared.turns.ServeEnd.{ServeEnd}
 use Rattle.serve_loop.specs.declared.turns.ServeEnd.TheVariants.{Done, ReadFault, WriteFault, TooLong}
 use Rattle.serve_loop.proofs.ByteLemmas.{unended_take}
@@ -54,7 +54,7 @@ stopped_at_end left source_faults written faults source_old source_now old now s
         [],
         moved,
         none_is_left (left source_now) (subst (λ (known : Option (List ℕ)). IsAtEnd known) (sym same) none),
-        subst (λ (bytes : List ℕ). Breaks written faults old now start bytes) (sym (append-nil (held ++ []) ∙ append-nil held)) broken,
+        subst (λ (bytes : List ℕ). BreaksOff written faults old now start bytes) (sym (append-nil (held ++ []) ∙ append-nil held)) broken,
       ),
     )
 stopped_at_end left source_faults written faults source_old source_now old now start held ReadFault moved none calm never = absurd never

@@ -1,7 +1,7 @@
 -- The lines of an answer, each with its line feed.
 use Rattle.std.specs.Prelude.{ℕ, ◌<◌, ◌≤◌, List, [], ◌∷◌, ◌++◌, length, codes, decimal, slice_get}
 use Rattle.std.specs.Option.{option_map_or}
-use Rattle.text_pieces.specs.Pieces.{joined}
+use Rattle.text_pieces.specs.Pieces.{new_line, joined}
 use Rattle.m_fixed.specs.declared.amount.Value.{Value}
 use Rattle.m_fixed.specs.declared.amount.Value.TheVariants.{Undef, Num, Over as OverValue}
 use Rattle.m_fixed.specs.Text.{printed}
@@ -14,15 +14,11 @@ use Rattle.flat_code.specs.declared.face.Face.{Face}
 use Rattle.flat_code.specs.declared.face.FaceLabel.{FaceLabel}
 use Rattle.flat_code.specs.Answers.{Cause, failed, over, over_driver, Told, values, stopped, label_number, cause_of, told_of}
 
--- the end of each line
-abbrev pub line_feed : List ℕ
-line_feed = 10 ∷ []
-
 -- the line of a name and its value: `IRN = 1500.5`, `IRN undefined`, `IRN over`
 abbrev pub value_line : List ℕ → Value → List ℕ
-value_line name Undef = joined (name ∷ codes " undefined" ∷ line_feed ∷ [])
-value_line name (Num amount) = joined (name ∷ codes " = " ∷ printed amount ∷ line_feed ∷ [])
-value_line name OverValue = joined (name ∷ codes " over" ∷ line_feed ∷ [])
+value_line name Undef = joined (name ∷ codes " undefined" ∷ new_line ∷ [])
+value_line name (Num amount) = joined (name ∷ codes " = " ∷ printed amount ∷ new_line ∷ [])
+value_line name OverValue = joined (name ∷ codes " over" ∷ new_line ∷ [])
 
 -- the line of the name with this number
 abbrev pub output_line : List (List ℕ) → ℕ → Value → List ℕ
@@ -43,9 +39,9 @@ kind_text Informative = codes "informative"
 -- in a line of its own the error's text
 abbrev pub cause_lines : Cause → List ℕ
 cause_lines (failed label) =
-    joined (codes "failed " ∷ label.verif ∷ codes " " ∷ label.error ∷ codes " " ∷ kind_text label.kind ∷ line_feed ∷ label.text ∷ line_feed ∷ [])
-cause_lines (over label) = joined (codes "over verification " ∷ label.verif ∷ codes " " ∷ label.error ∷ line_feed ∷ [])
-cause_lines (over_driver line) = joined (codes "over driver line " ∷ decimal line ∷ line_feed ∷ [])
+    joined (codes "failed " ∷ label.verif ∷ codes " " ∷ label.error ∷ codes " " ∷ kind_text label.kind ∷ new_line ∷ label.text ∷ new_line ∷ [])
+cause_lines (over label) = joined (codes "over verification " ∷ label.verif ∷ codes " " ∷ label.error ∷ new_line ∷ [])
+cause_lines (over_driver line) = joined (codes "over driver line " ∷ decimal line ∷ new_line ∷ [])
 
 -- The lines of what a household is told, where these are the names of what was asked for.
 abbrev pub told_lines : List (List ℕ) → Told → List ℕ
@@ -62,9 +58,9 @@ answer_lines face answer = option_map_or (told_lines face.outputs) (told_of face
 
 -- the lines of a household of a table: its label, and then its answer
 abbrev pub household_lines : List ℕ → Face → Answer → List ℕ
-household_lines label face answer = joined (codes "household " ∷ label ∷ line_feed ∷ []) ++ answer_lines face answer
+household_lines label face answer = joined (codes "household " ∷ label ∷ new_line ∷ []) ++ answer_lines face answer
 
 -- an answer's numbers are within those of the face
-abbrev pub IsWithin : Face → Answer → Type 0
-IsWithin face (Values vs) = length vs ≤ length face.outputs
-IsWithin face (Stopped stop) = label_number stop < length face.labels
+abbrev pub AnswerIsWithin : Face → Answer → Type 0
+AnswerIsWithin face (Values vs) = length vs ≤ length face.outputs
+AnswerIsWithin face (Stopped stop) = label_number stop < length face.labels

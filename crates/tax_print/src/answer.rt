@@ -1,6 +1,6 @@
 ghost use Rattle.std.specs.Prelude.{◌≤◌, length};
 ghost use Rattle.text_pieces.specs.Giving.{Gives};
-ghost use Rattle.tax_print.specs.Lines.{IsWithin, answer_lines, household_lines, values_lines};
+ghost use Rattle.tax_print.specs.Lines.{AnswerIsWithin, answer_lines, household_lines, values_lines};
 
 use crate::stop::print_stop;
 use crate::value::print_value;
@@ -13,7 +13,7 @@ use text_pieces::give_pieces;
 /// Writes the lines of an answer: one for each output, in order, or those of what ended the run. On a
 /// failure a prefix of the lines was appended. It takes no memory.
 pub fn print_answer<K: Sink>(face: &Face, answer: &Answer, out: &mut K) -> Result<(), Failed>
-    requires { IsWithin face.now answer.now }
+    requires { AnswerIsWithin face.now answer.now }
     ensures { Gives K.written K.faults out.old out.new result (answer_lines face.now answer.now) }
 {
     match answer {
@@ -30,7 +30,7 @@ pub fn print_household<K: Sink>(
     answer: &Answer,
     out: &mut K,
 ) -> Result<(), Failed>
-    requires { IsWithin face.now answer.now }
+    requires { AnswerIsWithin face.now answer.now }
     ensures { Gives K.written K.faults out.old out.new result (household_lines label.now face.now answer.now) }
 {
     give_pieces(out, &[b"household ", label.bytes(), b"\n"])?;

@@ -2,7 +2,8 @@ ghost use Rattle.std.specs.Prelude.{◌∷◌, [], ◌<◌, ◌≡◌, length, c
 ghost use Rattle.text_pieces.specs.Giving.{Gives};
 ghost use Rattle.text_pieces.specs.Pieces.{joined};
 ghost use Rattle.flat_code.specs.Answers.{label_number, cause_of, failed, over};
-ghost use Rattle.tax_print.specs.Lines.{line_feed, kind_text, cause_lines, stop_lines};
+ghost use Rattle.text_pieces.specs.Pieces.{new_line};
+ghost use Rattle.tax_print.specs.Lines.{kind_text, cause_lines, stop_lines};
 
 use flat_code::{Face, FaceLabel, Stop};
 use itoa::Buffer;
@@ -59,7 +60,7 @@ fn give_failed<'a, K: Sink>(
     out: &mut K,
 ) -> Result<(), Failed>
     ensures { Gives K.written K.faults out.old out.new result
-        (joined (codes "failed " ∷ verif.now ∷ codes " " ∷ error.now ∷ codes " " ∷ kind.now ∷ line_feed ∷ text.now ∷ line_feed ∷ [])) }
+        (joined (codes "failed " ∷ verif.now ∷ codes " " ∷ error.now ∷ codes " " ∷ kind.now ∷ new_line ∷ text.now ∷ new_line ∷ [])) }
 {
     give_pieces(
         out,
@@ -79,7 +80,7 @@ fn print_over<K: Sink>(label: &Label, out: &mut K) -> Result<(), Failed>
 
 fn print_driver_line<K: Sink>(line: u32, out: &mut K) -> Result<(), Failed>
     ensures { Gives K.written K.faults out.old out.new result
-        (joined (codes "over driver line " ∷ decimal line ∷ line_feed ∷ [])) }
+        (joined (codes "over driver line " ∷ decimal line ∷ new_line ∷ [])) }
 {
     let mut buffer = Buffer::new();
     let digits = buffer.format(line).as_bytes();

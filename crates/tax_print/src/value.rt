@@ -2,7 +2,8 @@ ghost use Rattle.std.specs.Prelude.{◌∷◌, [], ◌<◌, length, codes};
 ghost use Rattle.text_pieces.specs.Giving.{Gives};
 ghost use Rattle.text_pieces.specs.Pieces.{joined};
 ghost use Rattle.m_fixed.specs.Text.{printed};
-ghost use Rattle.tax_print.specs.Lines.{line_feed, output_line, value_line};
+ghost use Rattle.text_pieces.specs.Pieces.{new_line};
+ghost use Rattle.tax_print.specs.Lines.{output_line, value_line};
 
 use flat_code::Face;
 use m_fixed::{Amount, Value, write_amount};
@@ -31,7 +32,7 @@ pub(crate) fn print_value<K: Sink>(name: &[u8], value: Value, out: &mut K) -> Re
 }
 
 fn print_amount<K: Sink>(name: &[u8], amount: Amount, out: &mut K) -> Result<(), Failed>
-    ensures { Gives K.written K.faults out.old out.new result (joined (name.now ∷ codes " = " ∷ printed amount ∷ line_feed ∷ [])) }
+    ensures { Gives K.written K.faults out.old out.new result (joined (name.now ∷ codes " = " ∷ printed amount ∷ new_line ∷ [])) }
 {
     let mut room = [0; 32];
     let length = write_amount(amount, &mut room);
@@ -39,7 +40,7 @@ fn print_amount<K: Sink>(name: &[u8], amount: Amount, out: &mut K) -> Result<(),
 }
 
 fn give_amount<'a, K: Sink>(name: &'a [u8], amount: &'a [u8], out: &mut K) -> Result<(), Failed>
-    ensures { Gives K.written K.faults out.old out.new result (joined (name.now ∷ codes " = " ∷ amount.now ∷ line_feed ∷ [])) }
+    ensures { Gives K.written K.faults out.old out.new result (joined (name.now ∷ codes " = " ∷ amount.now ∷ new_line ∷ [])) }
 {
     give_pieces(out, &[name, b" = ", amount, b"\n"])
 }

@@ -2,6 +2,10 @@
 use Rattle.std.specs.Prelude.{ℕ, List, [], ◌∷◌, ◌++◌}
 use Rattle.std.specs.Borrow.{Bor}
 
+-- the end of a line that is printed
+abbrev pub new_line : List ℕ
+new_line = 10 ∷ []
+
 -- The pieces one behind the other: of `REV`, ` = ` and `1.5` the text `REV = 1.5`.
 abbrev pub joined : List (List ℕ) → List ℕ
 joined [] = []

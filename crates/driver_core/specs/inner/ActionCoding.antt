@@ -11,8 +11,8 @@ abbrev mutual
   code (clear n c) = gcons (gnum 1) (gcons (gnum n) (gnum c))
   code (branch n t a b) = gcons (gnum 2) (gcons (gnum n) (gcons (coded_formula.code t) (gcons (code_all a) (code_all b))))
   code (partition n cs a) = gcons (gnum 3) (gcons (gnum n) (gcons ((coded_list coded_ℕ).code cs) (code_all a)))
-  code (call n cs f) = gcons (gnum 4) (gcons (gnum n) (gcons (gnum f) ((coded_list coded_ℕ).code cs)))
-  code (solve n cs) = gcons (gnum 5) (gcons (gnum n) ((coded_list coded_ℕ).code cs))
+  code (call n k cs f) = gcons (gnum 4) (gcons (gnum n) (gcons (gnum f) (gcons (gnum k) ((coded_list coded_ℕ).code cs))))
+  code (solve n k cs) = gcons (gnum 5) (gcons (gnum n) (gcons (gnum k) ((coded_list coded_ℕ).code cs)))
 
   pub code_all : Block → Gv
   code_all no_actions = gnil
@@ -24,8 +24,8 @@ mutual
   inj (clear m c) (clear n d) p = λ i. clear (ap (λ g. num (head (tail g))) p i) (ap (λ g. num (tail (tail g))) p i)
   inj (branch m t a b) (branch n u c d) p = λ i. branch (ap (λ g. num (head (tail g))) p i) (coded_formula.inj t u (ap (λ g. head (tail (tail g))) p) i) (inj_all a c (ap (λ g. head (tail (tail (tail g)))) p) i) (inj_all b d (ap (λ g. tail (tail (tail (tail g)))) p) i)
   inj (partition m xs a) (partition n ys b) p = λ i. partition (ap (λ g. num (head (tail g))) p i) ((coded_list coded_ℕ).inj xs ys (ap (λ g. head (tail (tail g))) p) i) (inj_all a b (ap (λ g. tail (tail (tail g))) p) i)
-  inj (call m xs f) (call n ys g) p = λ i. call (ap (λ g. num (head (tail g))) p i) ((coded_list coded_ℕ).inj xs ys (ap (λ g. tail (tail (tail g))) p) i) (ap (λ g. num (head (tail (tail g)))) p i)
-  inj (solve m xs) (solve n ys) p = λ i. solve (ap (λ g. num (head (tail g))) p i) ((coded_list coded_ℕ).inj xs ys (ap (λ g. tail (tail g)) p) i)
+  inj (call m j xs f) (call n k ys g) p = λ i. call (ap (λ g. num (head (tail g))) p i) (ap (λ g. num (head (tail (tail (tail g))))) p i) ((coded_list coded_ℕ).inj xs ys (ap (λ g. tail (tail (tail (tail g)))) p) i) (ap (λ g. num (head (tail (tail g)))) p i)
+  inj (solve m j xs) (solve n k ys) p = λ i. solve (ap (λ g. num (head (tail g))) p i) (ap (λ g. num (head (tail (tail g)))) p i) ((coded_list coded_ℕ).inj xs ys (ap (λ g. tail (tail (tail g))) p) i)
   inj _ _ p = absurd (omega (arith, ap (λ g. num (head g)) p))
 
   pub inj_all : (x y : Block) → code_all x ≡ code_all y → x ≡ y

@@ -17,5 +17,5 @@ falls (Set n c t) = omega arith
 falls (Del n c) = omega arith
 falls (If n t a b) = omega (arith, block_falls a.items, block_falls b.items)
 falls (Partition n cs a) = omega (arith, block_falls a.items)
-falls (Call n cs f) = omega arith
-falls (Rules n cs) = omega arith
+falls (Call n m cs f) = omega arith
+falls (Rules n m cs) = omega arith

@@ -4,7 +4,7 @@ use Rattle.flat_code.specs.declared.face.Face.{Face}
 use Rattle.flat_code.specs.declared.program.Flat.{Flat}
 use Rattle.flat_code.specs.Runs.{IsFlat}
 use Rattle.household_session.specs.Sessions.{IsFaceOf}
-use Rattle.household_session.specs.Commands.{Command, no_words, sets, clears, shows, too_long, bad}
+use Rattle.household_session.specs.Commands.{SessionCommand, no_words, sets, clears, shows, too_long, bad}
 use Rattle.household_session.specs.declared.command.Asked.{Asked}
 use Rattle.household_session.specs.declared.command.Asked.TheVariants.{Nothing, Set, Clear, Show, TooLong, Bad}
 
@@ -17,7 +17,7 @@ pub record IsReady (flat : Flat) (face : Face) (inputs : List (List ℕ)) (value
   pub room : places ≡ length flat.nodes
 
 -- what the code's command asks for
-abbrev pub command_in : Asked → Command
+abbrev pub command_in : Asked → SessionCommand
 command_in Nothing = no_words
 command_in (Set code amount) = sets code.now amount.now
 command_in (Clear code) = clears code.now

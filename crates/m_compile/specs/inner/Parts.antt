@@ -1,15 +1,17 @@
 -- The last steps by themselves: from rules in an order and what is asked for to a program with its face.
-use Rattle.std.specs.Prelude.{◌≡◌, ℕ, ◌<◌, ◌≤◌, List, Option, map, Some}
+use Rattle.std.specs.Prelude.{◌≡◌, ℕ, ◌<◌, ◌≤◌, List, Option, length, map, take, Some}
 use Rattle.m_places.specs.declared.limits.TheConstants.{DRIVER_WEIGHT}
 use Rattle.m_fixed.specs.declared.amount.Value.{Value}
 use Rattle.m_symbols.specs.Declarations.{Declared, codes_of}
 use Rattle.micro_m.specs.declared.base.Base.{Base}
+use Rattle.flat_code.specs.declared.face.FaceLabel.TheVariants.{Verif}
 use Rattle.flat_code.specs.Runs.{flat_run}
 use Rattle.flat_code.specs.Answers.{told_of}
 use Rattle.driver_core.specs.declared.program.Core.{Core}
 use Rattle.driver_core.specs.Answers.{answer_of}
 use Rattle.driver_core.specs.Weights.{weight_of}
 use Rattle.m_requests.specs.Cells.{cell_name}
+use Rattle.mpp_inline.specs.Inlined.{most_nodes}
 use Rattle.mpp_lexer.specs.declared.fault.DriverFault.{DriverFault}
 use Rattle.mpp_parser.specs.declared.command.Driver.{Driver}
 use Rattle.mpp_parser.specs.Faults.{IsDriver, IsFault}
@@ -21,14 +23,11 @@ use Rattle.m_compile.specs.declared.fault.SourceFault.TheVariants.{Driver as Dri
 use Rattle.m_compile.specs.Faults.{told_weight}
 use Rattle.m_compile.specs.Compiled.{IsRunnable}
 
--- why the bytes of a driver are refused over what is declared: its lines, or else its names
-pub data IsDriverFault (declared : Declared) : List ℕ → SourceFault → Type 0 where
-  of_lines : {bytes : List ℕ} {fault : DriverFault} → IsFault bytes fault → IsDriverFault declared bytes (DriverIs fault)
-  of_names : {bytes : List ℕ} {fault : CoreFault} (driver : Driver) → IsDriver bytes driver → IsCoreFault driver declared fault → IsDriverFault declared bytes (CoreIs fault)
-
--- the same where there may be none, which has no fault
-pub data IsFaultOf (declared : Declared) : Option (List ℕ) → SourceFault → Type 0 where
-  of_bytes : {bytes : List ℕ} {fault : SourceFault} → IsDriverFault declared bytes fault → IsFaultOf declared (Some bytes) fault
+-- Why a driver is refused over what is declared: its lines, or else its names. Where there is none there is no fault.
+pub data IsDriverFault (declared : Declared) : Option (List ℕ) → SourceFault → Type 0 where
+  of_lines : {bytes : List ℕ} {fault : DriverFault} → IsFault bytes fault → IsDriverFault declared (Some bytes) (DriverIs fault)
+  of_names : {bytes : List ℕ} {fault : CoreFault} (driver : Driver) → IsDriver bytes driver → IsCoreFault driver declared fault
+      → IsDriverFault declared (Some bytes) (CoreIs fault)
 
 -- what a driver over rules in an order is compiled to, where these cells are asked for
 pub record IsProgram (declared : Declared) (base : Base) (core : Core) (requests : List ℕ) (compiled : Compiled) : Type 0 where
@@ -36,6 +35,8 @@ pub record IsProgram (declared : Declared) (base : Base) (core : Core) (requests
   pub runnable : IsRunnable compiled
   pub codes : compiled.codes ≡ codes_of declared.variables
   pub outputs : compiled.face.outputs ≡ map (cell_name declared) requests
+  pub first_labels : take (length base.labels) compiled.face.labels ≡ map Verif base.labels
+  pub nodes_fit : length compiled.flat.nodes ≤ most_nodes
   pub answers : (inputs : List Value) → told_of compiled.face.labels (flat_run compiled.flat inputs) ≡ Some (answer_of core base declared requests inputs)
 
 -- a driver that weighs too much

@@ -3,15 +3,12 @@ use Rattle.std.specs.Prelude.{ℕ, ◌+◌, ◌==◌, ◌||◌, ◌&&◌, Bool, 
 use Rattle.std.specs.List.{list_all}
 use Rattle.std.specs.Str.{is_utf8}
 use Rattle.m_places.specs.declared.limits.TheConstants.{FILE_NAME_BYTES, LIST_FILES}
+use Rattle.m_text.specs.Bytes.{is_digit}
 use Rattle.m_text.specs.Lines.{lines_of}
 use Rattle.m_list.specs.declared.listing.Listing.{Listing}
 use Rattle.m_list.specs.declared.fault.ListFault.{ListFault}
 use Rattle.m_list.specs.declared.fault.ListFault.TheVariants.{BadLine, TooManyFiles}
 use Rattle.m_list.specs.Files.{files_of}
-
--- whether a byte is a digit
-abbrev pub is_digit : ℕ → Bool
-is_digit byte = nat_le 48 byte && nat_le byte 57
 
 -- whether a byte is a letter, a digit or `_`
 abbrev pub is_word_byte : ℕ → Bool

@@ -7,7 +7,7 @@ use Rattle.flat_code.specs.declared.answer.Answer.{Answer}
 use Rattle.flat_code.specs.declared.face.Face.{Face}
 use Rattle.flat_code.specs.declared.program.Flat.{Flat}
 use Rattle.household.specs.declared.table.Row.{Row}
-use Rattle.m_batch.specs.Batch.{answer_of}
+use Rattle.m_batch.specs.Batch.{row_answer}
 use Rattle.tax_print.specs.Lines.{household_lines}
 use Rattle.m_plan.specs.declared.status.Status.{Status}
 use Rattle.m_plan.specs.declared.status.Status.TheVariants.{Done, WriteFault, Memory as NoMemory}
@@ -17,7 +17,7 @@ use Rattle.m_work.specs.declared.groups.GroupFault.TheVariants.{Memory, Failed}
 -- the lines of rows by a program: each label, and the answer to the row's amounts
 abbrev pub program_lines : Flat → Face → List Row → List ℕ
 program_lines flat face [] = []
-program_lines flat face (row ∷ rows) = household_lines row.label face (answer_of flat row) ++ program_lines flat face rows
+program_lines flat face (row ∷ rows) = household_lines row.label face (row_answer flat row) ++ program_lines flat face rows
 
 -- the lines of rows with these answers
 abbrev pub answered_lines : Face → List Row → List Answer → List ℕ
@@ -31,7 +31,7 @@ Counted (Err Memory) old new = new ≡ old
 Counted (Err Failed) old new = Rose old new
 
 -- A text was written; or there was no memory on the way, or a write failed, and a front of it was.
-pub record Writes {S T : Type 0} (written : S → Option (List ℕ)) (faults : S → ℕ) (old new : S) (result : Result T GroupFault) (text : List ℕ) : Type 0 where
+pub record WritesGroups {S T : Type 0} (written : S → Option (List ℕ)) (faults : S → ℕ) (old new : S) (result : Result T GroupFault) (text : List ℕ) : Type 0 where
   pub all : OnOk result (written new ≡ append_known (written old) text)
   pub prefix : OnErr result (AppendsPrefix (written old) (written new) text)
   pub counted : Counted result (faults old) (faults new)

@@ -15,8 +15,8 @@ abbrev mutual
   action_descends ranks rank (clear line c) = true
   action_descends ranks rank (branch line condition first second) = block_descends ranks rank first && block_descends ranks rank second
   action_descends ranks rank (partition line cells block) = block_descends ranks rank block
-  action_descends ranks rank (call line received function) = rank_is_below rank (slice_get ranks function)
-  action_descends ranks rank (solve line received) = true
+  action_descends ranks rank (call line names received function) = rank_is_below rank (slice_get ranks function)
+  action_descends ranks rank (solve line names received) = true
 
   pub block_descends : List ℕ → ℕ → Block → Bool
   block_descends ranks rank no_actions = true

@@ -25,8 +25,8 @@ abbrev mutual
   action_calls g (clear line c) = false
   action_calls g (branch line condition first second) = block_calls g first || block_calls g second
   action_calls g (partition line cells block) = block_calls g block
-  action_calls g (call line received function) = g == function
-  action_calls g (solve line received) = false
+  action_calls g (call line names received function) = g == function
+  action_calls g (solve line names received) = false
 
   pub block_calls : ℕ → Block → Bool
   block_calls g no_actions = false

@@ -21,7 +21,7 @@ use Rattle.flat_code.specs.Answers.{Cause, over_driver, label_number, cause_of}
 use Rattle.flat_code.specs.Runs.{AreNodes, node_values, first_stop}
 use Rattle.driver_core.specs.declared.program.Core.{Core}
 use Rattle.driver_core.specs.Actions.{Action, Block}
-use Rattle.driver_core.specs.Meaning.{Env, Outcome, goes, stops, then_do, with_values, unless_stopped, failure_cause, action_run, block_run, called}
+use Rattle.driver_core.specs.Meaning.{Env, RunState, goes, stops, then_do, with_values, unless_stopped, failure_cause, action_run, block_run, called}
 use Rattle.mpp_inline.specs.inner.Cells.{written}
 use Rattle.mpp_inline.specs.declared.builder.Builder.{Builder}
 use Rattle.mpp_inline.specs.declared.branches.Branches.{Branches}
@@ -49,11 +49,11 @@ stop_of b inputs = stop_read b.labels.items (first_stop (node_values inputs b.no
 abbrev pub denoted : Builder → List Value → List ℕ → Env
 denoted b inputs env = map (at b inputs) env
 
-abbrev pub outcome_of : Option Cause → Env → Outcome
+abbrev pub outcome_of : Option Cause → Env → RunState
 outcome_of cause env = unless_stopped cause (goes env)
 
 -- the run so far: its first stop, and else the values of the cells
-abbrev pub run : Builder → List Value → List ℕ → Outcome
+abbrev pub run : Builder → List Value → List ℕ → RunState
 run b inputs env = outcome_of (stop_of b inputs) (denoted b inputs env)
 
 -- a check's nodes and its label are there
@@ -157,7 +157,7 @@ pub record Computed (b c : Builder) (env env' : List ℕ) (rest whole : Env → 
 
 -- The run so far, and then the rest, is the run before and then the whole, where this place is
 -- reached. Where it isn't, no stop is added.
-pub record Stage (b c : Builder) (guard : ℕ) (env env' : List ℕ) (rest whole : Env → Outcome) : Type 0 where
+pub record Stage (b c : Builder) (guard : ℕ) (env env' : List ℕ) (rest whole : Env → RunState) : Type 0 where
   pub base : Longer b c
   pub known : Known c env'
   pub taken : (inputs : List Value) → at b inputs guard ≡ Num (pos 1000000) → then_do (run c inputs env') rest ≡ then_do (run b inputs env) whole
@@ -175,7 +175,7 @@ pub record SameButSome (rest whole : List ℕ) (env env' : List ℕ) : Type 0 wh
   pub same : (x : ℕ) → is_among x whole ≡ false → slice_index_or env' x 0 ≡ slice_index_or env x 0
 
 -- a stop where the condition is Over
-abbrev pub over_judged : ℕ → Value → Env → Outcome
+abbrev pub over_judged : ℕ → Value → Env → RunState
 over_judged line Undef env = goes env
 over_judged line (Num x) env = goes env
 over_judged line OverValue env = stops (over_driver line)
@@ -242,11 +242,11 @@ outside index = chosen (op_value Le index (Num (negsuc 999999)) Undef) (Num (pos
 -- ---- the rules in turn
 
 -- what a check of the rules does, by its condition's value
-abbrev pub judged : List Label → ℕ → Value → Env → Outcome
+abbrev pub judged : List Label → ℕ → Value → Env → RunState
 judged labels number value env = unless_stopped (option_and_then (failure_cause labels) (failure_of value number)) (goes env)
 
 -- the first check that stops
-abbrev pub checked : List Label → List Check → Env → Outcome
+abbrev pub checked : List Label → List Check → Env → RunState
 checked labels [] env = goes env
 checked labels (c ∷ cs) env = then_do (judged labels c.1 (term_value (environment env) c.0) env) (checked labels cs)
 
@@ -255,16 +255,16 @@ abbrev pub computed : Base → List ℕ → Env → Env
 computed base [] env = env
 computed base (p ∷ later) env = computed base later (slice_set env (target_at base p) (term_value (environment env) (term_at base p)))
 
-abbrev pub rules_in_turn : Base → List ℕ → List ℕ → Env → Outcome
+abbrev pub rules_in_turn : Base → List ℕ → List ℕ → Env → RunState
 rules_in_turn base sequence received env =
     then_do (checked base.labels base.checks (computed base sequence env)) (λ values. goes (with_values received (environment values) env))
 
 -- what calls and blocks do, where the definitions are computed one after the other
-abbrev pub calls : Core → Base → List ℕ → ℕ → ℕ → Env → Outcome
+abbrev pub calls : Core → Base → List ℕ → ℕ → ℕ → Env → RunState
 calls core base sequence depth = called (rules_in_turn base sequence) core.bodies depth
 
-abbrev pub means : Core → Base → List ℕ → ℕ → Block → Env → Outcome
+abbrev pub means : Core → Base → List ℕ → ℕ → Block → Env → RunState
 means core base sequence depth block = block_run (rules_in_turn base sequence) (calls core base sequence depth) block
 
-abbrev pub means_one : Core → Base → List ℕ → ℕ → Action → Env → Outcome
+abbrev pub means_one : Core → Base → List ℕ → ℕ → Action → Env → RunState
 means_one core base sequence depth action = action_run (rules_in_turn base sequence) (calls core base sequence depth) action

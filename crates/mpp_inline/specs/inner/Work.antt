@@ -7,7 +7,7 @@ use Rattle.flat_code.specs.Runs.{is_one}
 use Rattle.driver_core.specs.declared.program.Core.{Core}
 use Rattle.driver_core.specs.Actions.{Action}
 use Rattle.driver_core.specs.ActionView.{block_of}
-use Rattle.driver_core.specs.Meaning.{Env, Outcome, goes, then_do, with_values}
+use Rattle.driver_core.specs.Meaning.{Env, RunState, goes, then_do, with_values}
 use Rattle.micro_m.specs.Values.{environment}
 use Rattle.rule_order.specs.declared.ordered.Ordered.{Ordered}
 use Rattle.mpp_inline.specs.inner.Cells.{written}
@@ -17,13 +17,13 @@ use Rattle.mpp_inline.specs.declared.work.Work.TheVariants.{Run, Under, Restore,
 use Rattle.mpp_inline.specs.inner.Growth.{count, at, denoted, run, entries, Known, Held, Ready, Longer, means, means_one}
 
 -- what counts where a guard is 1
-abbrev pub under : Value → Outcome → (Env → Outcome) → Outcome
+abbrev pub under : Value → RunState → (Env → RunState) → RunState
 under guard outcome next = if is_one guard then then_do outcome next else outcome
 
 -- the value of a guard, and the run so far
 pub record Point : Type 0 where
   pub guard : Value
-  pub far : Outcome
+  pub far : RunState
 
 abbrev pub point : Builder → List Value → List ℕ → ℕ → Point
 point b inputs env g = record { guard = at b inputs g; far = run b inputs env }
@@ -37,10 +37,10 @@ abbrev pub whole_of : Core → Ordered → Whole
 whole_of core ordered = record { core = core; ordered = ordered }
 
 -- what commands do, where the definitions are computed one after the other
-abbrev pub does : Whole → ℕ → List Action → Env → Outcome
+abbrev pub does : Whole → ℕ → List Action → Env → RunState
 does whole depth block = means whole.core whole.ordered.base whole.ordered.sequence depth (block_of block)
 
-abbrev pub does_one : Whole → ℕ → Action → Env → Outcome
+abbrev pub does_one : Whole → ℕ → Action → Env → RunState
 does_one whole depth action = means_one whole.core whole.ordered.base whole.ordered.sequence depth action
 
 -- an item that is done
@@ -92,7 +92,7 @@ pub record Moves (whole : Whole) (b c : Builder) (env : List ℕ) (g : ℕ) (ws 
   pub same : (inputs : List Value) → finish whole c inputs ws' (point c inputs env g) ≡ finish whole b inputs ws (target inputs)
 
 -- a change that counts where a guard is 1
-pub record Step (b c : Builder) (g : ℕ) (env env' : List ℕ) (next : Env → Outcome) : Type 0 where
+pub record Step (b c : Builder) (g : ℕ) (env env' : List ℕ) (next : Env → RunState) : Type 0 where
   pub base : Longer b c
   pub known : Known c env'
   pub moved : (inputs : List Value) → IsBit (at b inputs g) → run c inputs env' ≡ under (at b inputs g) (run b inputs env) next

@@ -1,7 +1,7 @@
 -- The marks of cells while an order is sought, and what they say of the definitions that were placed and of those on the path.
 use Rattle.std.specs.Prelude.{◌≡◌, ℕ, ◌+◌, ◌<◌, ◌≤◌, true, List, [], ◌∷◌, map, length, All, slice_index_or}
 use Rattle.micro_m.specs.declared.base.Base.{Base}
-use Rattle.micro_m.specs.Bases.{is_among, AreDistinct, target_at, term_at}
+use Rattle.micro_m.specs.Bases.{is_among, AreDistinctCells, target_at, term_at}
 use Rattle.micro_m.specs.Reads.{TermReads, Reads}
 use Rattle.rule_order.specs.declared.search.Mark.{Mark}
 use Rattle.rule_order.specs.declared.search.Mark.TheVariants.{Settled, Waiting, Open}
@@ -87,8 +87,8 @@ pub record IsSearch (base : Base) (marks : List Mark) (path sequence : List ℕ)
   pub settled : (p : ℕ) → p < length base.definitions → IsSettled marks (target_at base p) → is_among p sequence ≡ true
   pub on_path : (c : ℕ) → is_among c (cells_at base path) ≡ true → mark_of marks c ≡ Open
   pub placed : (p : ℕ) → is_among p sequence ≡ true → IsSettled marks (target_at base p)
-  pub path_once : AreDistinct (cells_at base path)
-  pub placed_once : AreDistinct sequence
+  pub path_once : AreDistinctCells (cells_at base path)
+  pub placed_once : AreDistinctCells sequence
   pub path_reads : ReadsNext base (cells_at base path)
   pub closed : (p c : ℕ) → is_among p sequence ≡ true → TermReads (term_at base p) c → IsSettled marks c
   pub earlier : ReadsEarlier base sequence

@@ -14,13 +14,13 @@ run first count = record { first = first; count = count }
 abbrev pub IsInRun : Run → ℕ → Type 0
 IsInRun r c = (r.first ≤ c) × (c < r.first + r.count)
 
-abbrev pub run_of : Picked → List Run
-run_of (Cell c) = run c 1 ∷ []
-run_of (Fixed value) = []
+abbrev pub runs_of : Picked → List Run
+runs_of (Cell c) = run c 1 ∷ []
+runs_of (Fixed value) = []
 
 -- what a table read reads of its table
 abbrev pub picked_runs : ℕ → ℕ → Tree → List Run
-picked_runs first size (lit index) = run_of (picked first size index)
+picked_runs first size (lit index) = runs_of (picked first size index)
 picked_runs first size _ = run first size ∷ []
 
 abbrev mutual

@@ -20,14 +20,14 @@ pub record Goes {K : Type 0} (written : K → Option (List ℕ)) (faults : K →
   pub faultless : faults now ≡ faults old
 
 -- A write failed: what was written is a front of the replies to these bytes.
-pub record Breaks {K : Type 0} (written : K → Option (List ℕ)) (faults : K → ℕ) (old now : K) (start : Sitting) (bytes : List ℕ) : Type 0 where
+pub record BreaksOff {K : Type 0} (written : K → Option (List ℕ)) (faults : K → ℕ) (old now : K) (start : Sitting) (bytes : List ℕ) : Type 0 where
   pub rose : Rose (faults old) (faults now)
   pub prefix : AppendsPrefix (written old) (written now) (replies_of start bytes)
 
 -- the last line, without its line feed, has its reply, or its write failed
 abbrev pub Finished : {K : Type 0} (written : K → Option (List ℕ)) (faults : K → ℕ) (old now : K) (start : Sitting) (held : List ℕ) → ServeEnd → Type 0
 Finished written faults old now start held Done = (written now ≡ append_known (written old) (replies_of start held)) × (faults now ≡ faults old)
-Finished written faults old now start held WriteFault = Breaks written faults old now start held
+Finished written faults old now start held WriteFault = BreaksOff written faults old now start held
 Finished written faults old now start held ReadFault = ⊥
 Finished written faults old now start held TooLong = ⊥
 
@@ -53,7 +53,7 @@ Stopped left source_faults written faults source_old source_now old now start he
 Stopped left source_faults written faults source_old source_now old now start held WriteFault =
     (source_faults source_now ≡ source_faults source_old)
     × ((piece rest : List ℕ) × (left source_old ≡ prepend_known piece (left source_now)) × IsLeft (left source_now) rest
-    × Breaks written faults old now start ((held ++ piece) ++ rest))
+    × BreaksOff written faults old now start ((held ++ piece) ++ rest))
 Stopped left source_faults written faults source_old source_now old now start held TooLong = ⊥
 
 -- what a turn did, where the room is this then

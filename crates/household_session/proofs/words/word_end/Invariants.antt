@@ -1,5 +1,5 @@
 use Rattle.std.proofs.Common.{ℕ, ◌<◌, ◌≢◌, get_or}
-use Rattle.household_session.specs.Commands.{space}
+use Rattle.m_text.specs.Bytes.{space}
 use Rattle.household_session.proofs.words.word_end.Given as goal
 
 abbrev pub invariant-loop-end : goal.invariant-loop-end

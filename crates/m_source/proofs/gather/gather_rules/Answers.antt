@@ -1,10 +1,10 @@
 use Rattle.m_source.proofs.Rules.{resumes_first, rules_turn, rules_end, rules_stop, rules_whole, within_push}
 use Rattle.std.proofs.Common.{sym, subst}
-use Rattle.rule_text.specs.Limits.{AreWithin}
+use Rattle.rule_text.specs.Limits.{TextsAreWithin}
 use Rattle.m_source.proofs.gather.gather_rules.Goals as goal
 
 pub loop-name-init : goal.loop-name-init
-loop-name-init g c = record { resumes = resumes_first _ _ _ c.new-texts.ensures.items; within = subst AreWithin (sym c.new-texts.ensures.items) tt }
+loop-name-init g c = record { resumes = resumes_first _ _ _ c.new-texts.ensures.items; within = subst TextsAreWithin (sym c.new-texts.ensures.items) tt }
 
 pub loop-name-preserved : goal.loop-name-preserved
 loop-name-preserved g c = record {

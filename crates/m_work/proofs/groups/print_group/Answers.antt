@@ -1,13 +1,13 @@
 use Rattle.std.proofs.Common.{sym, ◌∙◌, subst}
 use Rattle.std.specs.List.{AllByRecursion}
 use Rattle.std.proofs.lemmas.Result.{err_from_is_err_and}
-use Rattle.tax_print.specs.Lines.{IsWithin}
+use Rattle.tax_print.specs.Lines.{AnswerIsWithin}
 use Rattle.m_work.proofs.GroupLemmas.{answers_within, gave_all, gave_failed, program_answered}
 use Rattle.m_work.proofs.groups.print_group.Goals as goal
 
 pub print_answers-requires-clause-within : goal.print_answers-requires-clause-within
 print_answers-requires-clause-within g c =
-    subst (AllByRecursion (IsWithin c.args.face.now)) (sym (c.as_slice.ensures ∙ c.in_ok-answers.ensures))
+    subst (AllByRecursion (AnswerIsWithin c.args.face.now)) (sym (c.as_slice.ensures ∙ c.in_ok-answers.ensures))
     (answers_within c.args.flat.now c.args.face.now c.args.rows.now c.requires.face)
 
 pub returns-in_err-print_answers : goal.returns-in_err-print_answers

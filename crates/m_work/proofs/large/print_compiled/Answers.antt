@@ -1,7 +1,7 @@
 use Rattle.std.proofs.Common.{sym, subst}
 use Rattle.household.specs.Household.{household_of, values_of}
 use Rattle.m_large.specs.Large.{household_text}
-use Rattle.tax_print.specs.Lines.{IsWithin}
+use Rattle.tax_print.specs.Lines.{AnswerIsWithin}
 use Rattle.m_work.specs.Larges.{large_source}
 use Rattle.m_work.proofs.Compileds.{face_is}
 use Rattle.m_work.proofs.GroupLemmas.{run_within}
@@ -13,7 +13,7 @@ use Rattle.m_work.proofs.large.print_compiled.Goals as goal
 pub print_large-requires : goal.print_large-requires
 print_large-requires g c =
     let of = c.in-Ok.ensures in
-    subst (IsWithin c.args.compiled.now.face) (sym of.ran)
+    subst (AnswerIsWithin c.args.compiled.now.face) (sym of.ran)
     (run_within c.args.compiled.now.flat c.args.compiled.now.face (values_of of.pairs c.args.compiled.now.flat.inputs) (face_is c.args.compiled.now c.requires.runnable))
 
 pub returns-in-Ok : goal.returns-in-Ok

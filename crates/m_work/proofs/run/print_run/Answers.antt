@@ -1,6 +1,6 @@
 use Rattle.std.proofs.Common.{sym, subst}
 use Rattle.household.specs.Household.{household_of, values_of}
-use Rattle.tax_print.specs.Lines.{IsWithin}
+use Rattle.tax_print.specs.Lines.{AnswerIsWithin}
 use Rattle.m_work.proofs.Compileds.{face_is}
 use Rattle.m_work.proofs.GroupLemmas.{run_within}
 use Rattle.m_work.proofs.Printings.{prints_given}
@@ -11,7 +11,7 @@ use Rattle.m_work.proofs.run.print_run.Goals as goal
 pub print_answer-requires : goal.print_answer-requires
 print_answer-requires g c =
     let of = c.in-Ok.ensures in
-    subst (IsWithin c.args.compiled.now.face) (sym of.ran)
+    subst (AnswerIsWithin c.args.compiled.now.face) (sym of.ran)
     (run_within c.args.compiled.now.flat c.args.compiled.now.face (values_of of.pairs c.args.compiled.now.flat.inputs) (face_is c.args.compiled.now c.requires))
 
 pub returns-in-Ok : goal.returns-in-Ok

@@ -53,12 +53,12 @@ returns-in_ok-begin_call-in-Call c =
     let whole = whole_of c.args.core.now c.args.ordered.now in
     let b = c.args.b.now in
     let e = c.args.env.now in
-    let is : call c.in-Call.line c.as_slice-in-Call.result.now c.in-Call.function ≡ c.args.command.now =
-    ap (λ xs. call c.in-Call.line xs c.in-Call.function) c.as_slice-in-Call.ensures ∙ sym (ap action_of c.in-Call.is) ∙ c.command.view_is in
+    let is : call c.in-Call.line c.in-Call.names c.as_slice-in-Call.result.now c.in-Call.function ≡ c.args.command.now =
+    ap (λ xs. call c.in-Call.line c.in-Call.names xs c.in-Call.function) c.as_slice-in-Call.ensures ∙ sym (ap action_of c.in-Call.is) ∙ c.command.view_is in
     λ s. subst (λ a. Moves whole b b e c.args.guard c.args.left.now.items c.begin_call.new.left.items (λ inputs. ahead whole b inputs e c.args.guard c.args.depth a)) is
     (c.in_ok-begin_call-in-Call.ensures c.args.ordered.now b c.args.guard s)
 
 pub returns-in_ok-emit_rules-in-Rules : goal.returns-in_ok-emit_rules-in-Rules
 returns-in_ok-emit_rules-in-Rules c =
-    λ s. step-moves-is c.args.depth (ap (solve c.in-Rules.field-0) c.as_slice-in-Rules.ensures ∙ sym (ap action_of c.in-Rules.is) ∙ c.command.view_is) s
+    λ s. step-moves-is c.args.depth (ap (solve c.in-Rules.field-0 c.in-Rules.field-1) c.as_slice-in-Rules.ensures ∙ sym (ap action_of c.in-Rules.is) ∙ c.command.view_is) s
     (c.in_ok-emit_rules-in-Rules.ensures s.ready)

@@ -1,5 +1,5 @@
 use Rattle.std.proofs.Common.{◌≢◌, ◌<◌, ◌≤◌, ◌-◌, length, get_or}
-use Rattle.mpp_lexer.specs.Tokens.{space}
+use Rattle.m_text.specs.Bytes.{space}
 use Rattle.mpp_lexer.specs.inner.Steps.{GoesOn}
 use Rattle.mpp_lexer.proofs.line.line_tokens.Given as goal
 

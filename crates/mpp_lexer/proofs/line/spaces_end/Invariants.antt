@@ -1,5 +1,5 @@
 use Rattle.std.proofs.Common.{◌≡◌, ℕ, ◌≤◌, ◌<◌, get_or}
-use Rattle.mpp_lexer.specs.Tokens.{space}
+use Rattle.m_text.specs.Bytes.{space}
 use Rattle.mpp_lexer.proofs.line.spaces_end.Given as goal
 
 abbrev pub invariant-loop-end : goal.invariant-loop-end

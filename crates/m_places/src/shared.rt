@@ -1,0 +1,50 @@
+ghost use Rattle.std.specs.Prelude.{◌≡◌, IfOk};
+
+use crate::Name;
+use std::alloc::{AllocError, Global};
+use std::marker::Model;
+use std::sync::Arc;
+
+/// A name that many may own, with one copy of its bytes for all of them. Contracts see it as its
+/// bytes, as they see a `Name`.
+#[derive(Drop)]
+pub struct SharedName {
+    name: Arc<Name, Global>,
+}
+
+impl Model for SharedName {
+    ghost use Rattle.std.specs.Prelude.{List, ℕ};
+    ghost use Rattle.std.specs.Arc.{arc_value};
+
+    ghost Value = { List ℕ };
+
+    ghost view = { λ s. arc_value s.name };
+}
+
+impl SharedName {
+    /// A name that can be shared. Its only error is want of memory.
+    pub fn new(alloc: Global, name: Name) -> Result<SharedName, AllocError>
+        ensures { IfOk result (λ s. s ≡ name) }
+    {
+        Ok(SharedName {
+            name: Arc::new(alloc, name)?,
+        })
+    }
+
+    /// The bytes of the name. Takes no memory.
+    pub fn bytes(&self) -> &[u8]
+        ensures { result.now ≡ self.now }
+    {
+        self.name.bytes()
+    }
+
+    /// The same name for one more owner, which takes no memory. Its only error, as for want of
+    /// memory, is that owners are more than can be counted in 63 bits.
+    pub fn share(&self) -> Result<SharedName, AllocError>
+        ensures { IfOk result (λ s. s ≡ self.now) }
+    {
+        Ok(SharedName {
+            name: self.name.clone()?,
+        })
+    }
+}

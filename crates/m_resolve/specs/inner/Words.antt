@@ -1,0 +1,22 @@
+-- What labels tell of an error.
+use Rattle.std.specs.Prelude.{ℕ, List, Option, Some, None, Result, Ok, Err}
+use Rattle.m_places.specs.declared.verification.Label.{Label}
+use Rattle.m_ast.specs.declared.item.ErrorItem.{ErrorItem}
+use Rattle.plain_rules.specs.declared.rules.Condition.{Condition}
+use Rattle.m_resolve.specs.declared.checks.ErrorWords.{ErrorWords}
+use Rattle.m_resolve.specs.declared.fault.ResolveFault.{ResolveFault}
+use Rattle.m_resolve.specs.declared.fault.ResolveFault.TheVariants.{UnknownError}
+use Rattle.m_resolve.specs.Bases.{error_text}
+
+-- the words of an error: those of `A20:anomalie :"A":"20":"00":"revenu nul":"N"` are A20, anomalie and `A:20:00:revenu nul:N`
+abbrev pub words_of : ErrorItem → ErrorWords
+words_of e = record { name = e.name; kind = e.kind; text = error_text e.texts }
+
+-- what a check of this verification tells that raises an error with these words
+abbrev pub label_with : List ℕ → ErrorWords → Label
+label_with verif words = record { verif = verif; error = words.name; kind = words.kind; text = words.text }
+
+-- what a check tells whose error has these words
+abbrev pub said_with : Condition → Option ErrorWords → Result Label ResolveFault
+said_with condition None = Err (UnknownError condition.error condition.place)
+said_with condition (Some words) = Ok (label_with condition.verif words)

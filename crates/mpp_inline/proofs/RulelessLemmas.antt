@@ -1,0 +1,122 @@
+-- Where a base has neither definitions nor checks, calls of the rules change nothing.
+use Rattle.std.proofs.Common.{◌≡◌, ℕ, zero, suc, ◌+◌, ◌<◌, ◌≤◌, List, [], ◌∷◌, ◌++◌, length, get_or, set, drop, map, Some, None, refl, sym, ap, ◌∙◌, subst, arith, add-one}
+use Rattle.std.specs.Prelude.{slice_get, option_and_then, IfOk, Result, Ok, Err}
+use Rattle.std.specs.Option.{option_map_or}
+use Rattle.std.proofs.lemmas.List.{length-map}
+use Rattle.m_fixed.specs.declared.amount.Value.{Value}
+use Rattle.m_fixed.specs.declared.amount.Value.TheVariants.{Undef, Num, Over}
+use Rattle.m_symbols.specs.Declarations.{Declared}
+use Rattle.micro_m.specs.declared.base.Base.{Base}
+use Rattle.micro_m.specs.Bases.{definition_among}
+use Rattle.micro_m.specs.Values.{Environment, environment, term_value, value_in, value_of}
+use Rattle.micro_m.specs.Failures.{failure_among}
+use Rattle.flat_code.specs.declared.face.FaceLabel.{FaceLabel}
+use Rattle.flat_code.specs.declared.program.Flat.{Flat}
+use Rattle.driver_core.specs.declared.program.Core.{Core}
+use Rattle.driver_core.specs.Actions.{Action, assign, clear, branch, partition, call, solve, Block, no_actions, an_action}
+use Rattle.driver_core.specs.ActionView.{block_of}
+use Rattle.driver_core.specs.Valid.{block_or_none, body_among}
+use Rattle.driver_core.specs.Answers.{answer_of, start_of, told_by}
+use Rattle.driver_core.specs.Meaning.{Env, RunState, goes, stops, then_do, with_values, without, formula_value, chosen_block, failure_cause, unless_stopped, rules_run, run_of, action_run, block_run, called}
+use Rattle.mpp_inline.specs.Inlined.{IsInlined}
+use Rattle.mpp_inline.specs.inner.Ruleless.{IsRuleless, left, left_behind, body_left, left_in, core_left}
+use Rattle.mpp_inline.proofs.ListLemmas.{with-same}
+
+-- ---- the rules
+
+-- a cell that gets its own value
+set-own : (l : Env) (i : ℕ) → set l i (get_or l i Undef) ≡ l
+set-own [] i = refl
+set-own (v ∷ vs) zero = refl
+set-own (v ∷ vs) (suc i) = ap (λ l. v ∷ l) (set-own vs i)
+
+own-values : (xs : List ℕ) (e : Env) → with_values xs (environment e) e ≡ e
+own-values [] e = refl
+own-values (x ∷ xs) e = ap (with_values xs (environment e)) (set-own e x) ∙ own-values xs e
+
+value-given : (base : Base) (given : Environment) (c : ℕ) → base.definitions ≡ [] → value_of base given c ≡ given c
+value-given base given c e =
+    ap (λ n. value_in base given n c) (add-one (length base.definitions))
+    ∙ ap (λ ds. option_map_or (term_value (value_in base given (length base.definitions))) (definition_among ds c) (given c)) e
+
+-- a call of the rules changes nothing
+pub rules-rest : (base : Base) → IsRuleless base → (xs : List ℕ) (e : Env) → rules_run base xs e ≡ goes e
+rules-rest base r xs e =
+    ap (λ cs. unless_stopped (option_and_then (failure_cause base.labels) (failure_among (value_of base (environment e)) cs)) (goes (with_values xs (value_of base (environment e)) e))) r.checks
+    ∙ ap goes (with-same xs (value_of base (environment e)) (environment e) e (λ c. value-given base (environment e) c r.definitions) ∙ own-values xs e)
+
+-- ---- blocks
+
+then-goes : (o : RunState) → then_do o (λ e. goes e) ≡ o
+then-goes (goes e) = refl
+then-goes (stops cause) = refl
+
+then-then : (o : RunState) (f g : Env → RunState) → then_do (then_do o f) g ≡ then_do o (λ e. then_do (f e) g)
+then-then (goes e) f g = refl
+then-then (stops cause) f g = refl
+
+module _ (rules : List ℕ → Env → RunState) (b b' : ℕ → Env → RunState) (rest-of : (xs : List ℕ) (e : Env) → rules xs e ≡ goes e) (same : (f : ℕ) (e : Env) → b' f e ≡ b f e) where
+  append-run : (xs ys : List Action) (e : Env) → block_run rules b' (block_of (xs ++ ys)) e ≡ then_do (block_run rules b' (block_of xs) e) (block_run rules b' (block_of ys))
+  append-run [] ys e = refl
+  append-run (x ∷ xs) ys e =
+      (λ i. then_do (action_run rules b' x e) (λ f. append-run xs ys f i))
+      ∙ sym (then-then (action_run rules b' x e) (block_run rules b' (block_of xs)) (block_run rules b' (block_of ys)))
+
+  mutual
+    one-left : (a : Action) (e : Env) → block_run rules b' (block_of (left a)) e ≡ action_run rules b a e
+    one-left (assign line c t) e = refl
+    one-left (clear line c) e = refl
+    one-left (branch line t x y) e =
+        then-goes (chosen_block line (formula_value (environment e) t) (block_run rules b' (block_of (left_behind [] x)) e) (block_run rules b' (block_of (left_behind [] y)) e))
+        ∙ (λ i. chosen_block line (formula_value (environment e) t) (all-left [] x e i) (all-left [] y e i))
+    one-left (partition line xs x) e =
+        then-goes (then_do (block_run rules b' (block_of (left_behind [] x)) (without xs e)) (λ f. goes (with_values xs (environment e) f)))
+        ∙ ap (λ o. then_do o (λ f. goes (with_values xs (environment e) f))) (all-left [] x (without xs e))
+    one-left (call line names xs f) e =
+        then-goes (then_do (b' f e) (λ g. goes (with_values xs (environment g) e)))
+        ∙ ap (λ o. then_do o (λ g. goes (with_values xs (environment g) e))) (same f e)
+    one-left (solve line names xs) e = sym (rest-of xs e)
+
+    all-left : (before : List Action) (x : Block) (e : Env) → block_run rules b' (block_of (left_behind before x)) e ≡ then_do (block_run rules b' (block_of before) e) (block_run rules b x)
+    all-left before no_actions e = sym (then-goes (block_run rules b' (block_of before) e))
+    all-left before (an_action a rest) e =
+        all-left (before ++ left a) rest e
+        ∙ ap (λ o. then_do o (block_run rules b rest)) (append-run before (left a) e)
+        ∙ then-then (block_run rules b' (block_of before) e) (block_run rules b' (block_of (left a))) (block_run rules b rest)
+        ∙ (λ i. then_do (block_run rules b' (block_of before) e) (λ f. then_do (one-left a f i) (block_run rules b rest)))
+
+-- ---- functions
+
+body-left : (bodies : List (List Action)) (f : ℕ) → body_among (left_in bodies) f ≡ block_of (left_behind [] (body_among bodies f))
+body-left [] zero = refl
+body-left [] (suc f) = refl
+body-left (b ∷ bs) zero = refl
+body-left (b ∷ bs) (suc f) = body-left bs f
+
+called-left : (rules : List ℕ → Env → RunState) (bodies : List (List Action)) → ((xs : List ℕ) (e : Env) → rules xs e ≡ goes e) → (turns f : ℕ) (e : Env) → called rules (left_in bodies) turns f e ≡ called rules bodies turns f e
+called-left rules bodies rest-of zero f e = refl
+called-left rules bodies rest-of (suc turns) f e =
+    ap (λ x. block_run rules (called rules (left_in bodies) turns) x e) (body-left bodies f)
+    ∙ all-left rules (called rules bodies turns) (called rules (left_in bodies) turns) rest-of (called-left rules bodies rest-of turns) [] (body_among bodies f) e
+
+run-left : (core : Core) (base : Base) (e : Env) → IsRuleless base → run_of (core_left core) base e ≡ run_of core base e
+run-left core base e r =
+    ap (λ n. called (rules_run base) (left_in core.bodies) (suc n) core.main e) (length-map core.bodies body_left)
+    ∙ called-left (rules_run base) core.bodies (rules-rest base r) (suc (length core.bodies)) core.main e
+
+-- the flat program of what is left is that of the driver
+pub inlined-left : (core made : Core) (base : Base) (declared : Declared) (requests : List ℕ) (flat : Flat) (labels : List FaceLabel) → IsRuleless base → made ≡ core_left core → IsInlined made base declared requests flat labels → IsInlined core base declared requests flat labels
+inlined-left core made base declared requests flat labels r is h = record {
+  answer = λ inputs.
+      h.answer inputs
+      ∙ ap Some (ap (λ (k : Core). answer_of k base declared requests inputs) is
+      ∙ ap (told_by requests) (run-left core base (start_of declared inputs) r));
+  flat_program = h.flat_program;
+  inputs = h.inputs;
+  outputs = h.outputs;
+  first_labels = h.first_labels;
+  labelled = h.labelled;
+  nodes_fit = h.nodes_fit;
+  checks_fit = h.checks_fit;
+  labels_fit = h.labels_fit;
+}
