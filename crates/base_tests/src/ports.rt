@@ -96,7 +96,7 @@ fn input_in_memory(rt: HostRuntime) -> Result<(), Fail> {
 }
 
 /// How long a piece is, the write that fails, whether all is given, and what is written.
-const OUTPUTS: [(u64, u64, bool, &str); 4] = [
+const OUTPUTS: [(usize, u64, bool, &str); 4] = [
     (1, 3, false, "IR"),
     (5, 9, true, "IRN = 1500.5\n"),
     (5, 3, false, "IRN = 1500"),
