@@ -4,13 +4,12 @@ use Rattle.std.specs.Option.{option_map_or}
 use Rattle.m_ports.specs.declared.files.Attempt.{Attempt}
 use Rattle.m_places.specs.declared.limits.TheConstants.{FILE_BYTES}
 use Rattle.m_plan.specs.Attempts.{allowance, TakesWithin}
-use Rattle.m_plan.specs.Plan.{KeepsWithin}
 use Rattle.m_plan.specs.Views.{FilesView, InputView, OutputView}
 use Rattle.m_plan.specs.declared.ending.Ending.TheVariants as ending
 use Rattle.m_plan.specs.declared.status.Status.{Status}
 use Rattle.m_plan.specs.declared.status.Status.TheVariants.{Done, Refused, Usage, ReadFault, WriteFault, Memory, Stopped}
 use Rattle.m_plan.proofs.Walks.{walks_within}
-use Rattle.m_plan.proofs.Within.{within_then}
+use Rattle.m_plan.proofs.Within.{KeepsWithin, within_then}
 use Rattle.m_source.specs.Source.{source_plan}
 use Rattle.m_source.proofs.Within.{source_within}
 use Rattle.m_commands.specs.Command.{command_of, plan_of, file_limit, limit_of}

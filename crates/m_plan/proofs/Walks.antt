@@ -5,7 +5,7 @@ use Rattle.std.specs.Prelude.{IsSomeAnd}
 use Rattle.m_ports.specs.Files.{Holds, HoldsMoreThan}
 use Rattle.m_ports.specs.declared.files.Attempt.{Attempt}
 use Rattle.m_plan.specs.Attempts.{BeginsWith, names_tried, NoneFailed, LastFailed, allowance}
-use Rattle.m_plan.specs.Plan.{Plan, refuses, asks, and_then, End, gathered, refused, asked, end_of, names_behind, names_fetched, KeepsWithin}
+use Rattle.m_plan.specs.Plan.{Plan, refuses, asks, and_then, End, gathered, refused, asked, end_of, names_behind, names_fetched}
 use Rattle.fault_lines.specs.Lines.{too_long_line}
 use Rattle.m_plan.specs.Refusals.{refusal_line}
 use Rattle.m_plan.specs.Views.{Disk}
@@ -13,6 +13,7 @@ use Rattle.m_plan.specs.Trips.{Walks, ends, ends_refused, ends_without_memory, f
 use Rattle.m_plan.specs.declared.ending.Ending.{Ending}
 use Rattle.m_plan.specs.declared.ending.Ending.TheVariants.{Refused, Unreadable, Memory}
 use Rattle.m_plan.specs.declared.refusal.Refusal.TheVariants.{FileTooLong}
+use Rattle.m_plan.proofs.Within.{KeepsWithin}
 
 at_most : (a b : ℕ) → a ≤ b → nat_le a b ≡ true
 at_most a b h = grind (arith, nat_tests)

@@ -1,6 +1,12 @@
 -- Plans whose files keep a limit.
-use Rattle.m_plan.specs.Plan.{Plan, done, refuses, asks, and_then, KeepsWithin}
-use Rattle.std.proofs.Common.{ℕ}
+use Rattle.std.proofs.Common.{ℕ, ◌≤◌, List}
+use Rattle.m_plan.specs.Plan.{Plan, done, refuses, asks, and_then}
+
+-- no file of a plan may have more bytes than this
+abbrev pub KeepsWithin : {Gathered : Type 0} → ℕ → Plan Gathered → Type 0
+KeepsWithin most (done all) = Unit {0}
+KeepsWithin most (refuses line) = Unit {0}
+KeepsWithin most (asks name limit behind) = (limit ≤ most) × ((bytes : List ℕ) → KeepsWithin most (behind bytes))
 
 -- one plan, and another behind it
 pub within_then : {A B : Type 0} (most : ℕ) (plan : Plan A) (next : A → Plan B) → KeepsWithin most plan → ((all : A) → KeepsWithin most (next all)) → KeepsWithin most (and_then plan next)

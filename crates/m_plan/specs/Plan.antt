@@ -1,5 +1,5 @@
 -- A command as a plan: which files it asks for, one after the other, and where it refuses.
-use Rattle.std.specs.Prelude.{ℕ, ◌≤◌, List, [], ◌∷◌, length, Option, Some, None, if◌then◌else◌, nat_le}
+use Rattle.std.specs.Prelude.{ℕ, List, [], ◌∷◌, length, Option, Some, None, if◌then◌else◌, nat_le}
 use Rattle.m_plan.specs.Views.{Disk}
 use Rattle.fault_lines.specs.Lines.{too_long_line}
 
@@ -48,9 +48,3 @@ abbrev pub names_fetched : {Gathered : Type 0} → Disk → Plan Gathered → Li
 names_fetched disk (done all) = []
 names_fetched disk (refuses line) = []
 names_fetched disk (asks name limit behind) = name ∷ names_behind limit (λ bytes. names_fetched disk (behind bytes)) (disk name)
-
--- no file of a plan may have more bytes than this
-abbrev pub KeepsWithin : {Gathered : Type 0} → ℕ → Plan Gathered → Type 0
-KeepsWithin most (done all) = Unit {0}
-KeepsWithin most (refuses line) = Unit {0}
-KeepsWithin most (asks name limit behind) = (limit ≤ most) × ((bytes : List ℕ) → KeepsWithin most (behind bytes))
