@@ -16,9 +16,10 @@ use Rattle.m_compile.specs.Compiled.{IsCompiled, IsRunnable}
 use Rattle.m_compile.specs.declared.compiling.Compiled.{Compiled}
 use Rattle.m_plan.specs.declared.status.Status.TheVariants as status
 use Rattle.m_work.specs.Households.{answer_status, told_status}
-use Rattle.m_work.specs.Schemes.{Scheme, Shows, told_to}
+use Rattle.m_work.specs.Schemes.{Scheme, told_to}
 use Rattle.m_work.specs.Sources.{IsScheme, scheme_said}
 use Rattle.m_work.specs.inner.Answers.{IsAnswerOf}
+use Rattle.m_work.proofs.Shows.{Shows}
 use Rattle.m_work.proofs.SessionLemmas.{lines_told}
 
 -- what a compiled source is to households

@@ -25,11 +25,12 @@ use Rattle.household_session.specs.Sessions.{IsFaceOf}
 use Rattle.m_batch.specs.Batch.{row_answer, answers_of}
 use Rattle.text_pieces.specs.Pieces.{new_line}
 use Rattle.tax_print.specs.Lines.{AnswerIsWithin, household_lines, told_lines}
-use Rattle.m_work.specs.Schemes.{Scheme, Shows}
+use Rattle.m_work.specs.Schemes.{Scheme}
 use Rattle.m_work.specs.Tables.{rows_lines}
 use Rattle.m_work.specs.inner.Groups.{Counted, WritesGroups, answered_lines, program_lines}
 use Rattle.m_work.specs.declared.groups.GroupFault.{GroupFault}
 use Rattle.m_work.specs.declared.groups.GroupFault.TheVariants.{Memory, Failed}
+use Rattle.m_work.proofs.Shows.{Shows}
 use Rattle.m_work.proofs.SessionLemmas.{lines_told}
 
 -- ---- what holds of all holds of a part

@@ -1,3 +1,4 @@
+pub mod Shows
 pub mod SessionLemmas
 pub mod GroupLemmas
 pub mod Printings

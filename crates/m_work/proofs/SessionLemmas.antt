@@ -11,8 +11,9 @@ use Rattle.household_session.specs.Replies.{after_command, answer_reply, command
 use Rattle.household_session.specs.Sessions.{Sitting, answered, clear_of, edited, line, set_of}
 use Rattle.household_session.specs.declared.fault.EditFault.{EditFault}
 use Rattle.tax_print.specs.Lines.{answer_lines, told_lines}
-use Rattle.m_work.specs.Schemes.{Scheme, Shows}
+use Rattle.m_work.specs.Schemes.{Scheme}
 use Rattle.m_work.specs.Sessions.{command_replied, command_values, lines_replied, values_edited}
+use Rattle.m_work.proofs.Shows.{Shows}
 
 -- the lines of the program's answer
 pub lines_told : (scheme : Scheme) (flat : Flat) (face : Face) (values : List Value) → Shows scheme flat face
