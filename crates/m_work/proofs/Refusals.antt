@@ -1,5 +1,5 @@
 -- Refusals that were told.
-use Rattle.std.proofs.Common.{◌≡◌, ℕ, List, Option, None, Some, Result, Err, refl, ap, subst, inl, inr}
+use Rattle.std.proofs.Common.{◌≡◌, ◌⊎◌, ℕ, List, Option, None, Some, Result, Err, refl, ap, subst, inl, inr}
 use Rattle.std.specs.Prelude.{◌≢◌}
 use Rattle.rule_text.specs.declared.Source.{Source}
 use Rattle.household.specs.declared.fault.HouseholdFault.{HouseholdFault}
@@ -10,13 +10,19 @@ use Rattle.m_compile.specs.declared.fault.SourceFault.{SourceFault}
 use Rattle.m_compile.specs.declared.fault.SourceFault.TheVariants as source
 use Rattle.m_compile.specs.Compiled.{IsCompiled}
 use Rattle.m_compile.specs.declared.compiling.Compiled.{Compiled}
+use Rattle.m_plan.specs.Printing.{Prints}
 use Rattle.m_plan.specs.Views.{OutputView}
 use Rattle.m_plan.specs.declared.status.Status.{Status}
+use Rattle.m_plan.specs.declared.status.Status.TheVariants.{Memory, Refused}
 use Rattle.m_work.specs.Households.{household_fault_line}
 use Rattle.m_work.specs.Schemes.{Scheme}
 use Rattle.m_work.specs.Sources.{IsScheme, Refuses, source_is_refused, households_are_refused}
-use Rattle.m_work.specs.inner.Refusals.{TellsLine, TellsRefusal}
+use Rattle.m_work.specs.inner.Refusals.{TellsLine}
 use Rattle.m_work.proofs.Compileds.{is_scheme, scheme_of}
+
+-- A line of this kind was printed, or there was no memory.
+abbrev pub TellsRefusal : (List ℕ → Type 0) → OutputView → OutputView → Status → Type 0
+TellsRefusal IsLine old new status = ((line : List ℕ) × IsLine line × Prints line Refused old new status) ⊎ ((new ≡ old) × (status ≡ Memory))
 
 told_by_line : (s : Source) {Given : Type 0} (said : List (List ℕ) → Result Given HouseholdFault) (fault : SourceFault) (found : Option (List ℕ)) (old new : OutputView) (status : Status)
     → (fault ≢ source.Memory → IsSourceFault s fault) → source_line s.texts fault ≡ found → TellsLine found old new status → TellsRefusal (Refuses s said) old new status

@@ -34,10 +34,10 @@ use Rattle.m_work.specs.Sessions.{ended_replies, lines_replied, session_replies}
 use Rattle.m_work.specs.Sources.{Refuses}
 use Rattle.m_work.specs.inner.Answers.{IsAnswerOf, IsBegun}
 use Rattle.m_work.specs.inner.Groups.{WritesGroups, group_status}
-use Rattle.m_work.specs.inner.Refusals.{TellsRefusal}
 use Rattle.m_work.specs.declared.groups.GroupFault.{GroupFault}
 use Rattle.m_work.specs.declared.groups.GroupFault.TheVariants as group
 use Rattle.m_work.proofs.Compileds.{scheme_of, is_scheme, shows_scheme, answer_told, answer_ends}
+use Rattle.m_work.proofs.Refusals.{TellsRefusal}
 use Rattle.m_work.proofs.SessionLemmas.{replies_are}
 
 of_end : (told : Told) → IsOfEnd (told_status told)

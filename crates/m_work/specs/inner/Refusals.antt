@@ -1,5 +1,5 @@
 -- What a call has done that tells of a refusal.
-use Rattle.std.specs.Prelude.{◌≡◌, ◌⊎◌, ℕ, List, Option, Some, None}
+use Rattle.std.specs.Prelude.{◌≡◌, ℕ, List, Option, Some, None}
 use Rattle.m_plan.specs.Printing.{Prints}
 use Rattle.m_plan.specs.Views.{OutputView}
 use Rattle.m_plan.specs.declared.status.Status.{Status}
@@ -9,7 +9,3 @@ use Rattle.m_plan.specs.declared.status.Status.TheVariants.{Memory, Refused}
 abbrev pub TellsLine : Option (List ℕ) → OutputView → OutputView → Status → Type 0
 TellsLine None old new status = (new ≡ old) × (status ≡ Memory)
 TellsLine (Some line) old new status = Prints line Refused old new status
-
--- A line of this kind was printed, or there was no memory.
-abbrev pub TellsRefusal : (List ℕ → Type 0) → OutputView → OutputView → Status → Type 0
-TellsRefusal IsLine old new status = ((line : List ℕ) × IsLine line × Prints line Refused old new status) ⊎ ((new ≡ old) × (status ≡ Memory))
