@@ -35,7 +35,7 @@ pub fn gather<F: Files>(alloc: Global, files: &mut F, command: &Command) -> Resu
     }
 }
 
-/// Gathers a source, and the one file behind it.
+// Gathers a source, and the one file behind it.
 fn gather_work<F: Files>(
     alloc: Global,
     files: &mut F,
@@ -53,7 +53,7 @@ fn gather_work<F: Files>(
     Ok(work_of(form, source, bytes))
 }
 
-/// What a command of a form has gathered.
+// What a command of a form has gathered.
 fn work_of(form: Form, source: Source, bytes: Seq<u8>) -> Work
     requires { SourceKeepsLimits source }
     ensures work { result ≡ work_of form source bytes }

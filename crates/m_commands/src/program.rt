@@ -19,7 +19,7 @@ use m_ports::{Files, Sink, Source};
 use std::alloc::Global;
 use std::thread::Threads;
 
-/// Does the command that the words are.
+// Does the command that the words are.
 fn perform<R: Threads + Sync, F: Files, S: Source, K: Sink>(
     rt: &R,
     alloc: Global,

@@ -15,7 +15,7 @@ use m_ports::Files;
 use rule_text::{Source, Text};
 use std::alloc::Global;
 
-/// The name of a driver or of requests where there are none.
+// The name of a driver or of requests where there are none.
 const NONE: &[u8] = b"-";
 
 /// Gathers a source: the list, its rule files in order, the driver and the requests. What ends the
@@ -37,7 +37,7 @@ pub fn gather_source<F: Files>(
     gather_parts(alloc, files, names, application, texts)
 }
 
-/// Fetches the list, and reads it.
+// Fetches the list, and reads it.
 fn gather_list<F: Files>(alloc: Global, files: &mut F, name: &Name) -> Result<Listing, Ending>
     ensures { GoesAlong (list_plan name.now) (files_view F.told F.attempts F.taken files.old)
         (files_view F.told F.attempts F.taken files.new) result }
@@ -51,7 +51,7 @@ fn gather_list<F: Files>(alloc: Global, files: &mut F, name: &Name) -> Result<Li
     }
 }
 
-/// Fetches the rule files.
+// Fetches the rule files.
 fn gather_rules<F: Files>(alloc: Global, files: &mut F, names: &[Name]) -> Result<Seq<Text>, Ending>
     ensures along { GoesAlong (rules_plan RULE_BYTES names.now) (files_view F.told F.attempts F.taken files.old)
         (files_view F.told F.attempts F.taken files.new) result }
@@ -75,7 +75,7 @@ pub fn is_none(name: &Name) -> bool
     name.bytes() == NONE
 }
 
-/// Fetches a driver or requests, where there are any.
+// Fetches a driver or requests, where there are any.
 fn gather_optional<F: Files>(
     alloc: Global,
     files: &mut F,
@@ -92,7 +92,7 @@ fn gather_optional<F: Files>(
     Ok(Some(bytes))
 }
 
-/// Fetches what comes behind the rule files.
+// Fetches what comes behind the rule files.
 fn gather_parts<F: Files>(
     alloc: Global,
     files: &mut F,
