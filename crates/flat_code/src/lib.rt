@@ -12,4 +12,4 @@ mod run;
 pub use answer::{Answer, Stop};
 pub use face::{Face, FaceLabel};
 pub use program::{Check, Flat, Node};
-pub use run::run_flat;
+pub use run::{run_flat, stop_among, value_of};

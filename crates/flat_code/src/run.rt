@@ -42,7 +42,8 @@ fn values_of(alloc: Global, nodes: &[Node], inputs: &[Value]) -> Result<Vec<Valu
     Ok(values)
 }
 
-fn value_of(node: Node, values: &[Value], inputs: &[Value]) -> Value
+/// The value of a node, where the nodes before it have these. It takes no memory.
+pub fn value_of(node: Node, values: &[Value], inputs: &[Value]) -> Value
     requires { IsNode (length inputs.now) (length values.now) node }
     ensures { result ≡ entry_of (values_for inputs.now) values.now node }
 {
@@ -58,8 +59,8 @@ fn value_of(node: Node, values: &[Value], inputs: &[Value]) -> Value
     }
 }
 
-// The stop of the first check that has one.
-fn stop_among(checks: &[Check], values: &[Value]) -> Option<Stop>
+/// The stop of the first check that has one, where the nodes have these values. It takes no memory.
+pub fn stop_among(checks: &[Check], values: &[Value]) -> Option<Stop>
     requires { AllByRecursion (IsCheck (length values.now)) checks.now }
     ensures { result ≡ first_stop values.now checks.now }
 {

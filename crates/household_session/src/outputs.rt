@@ -6,8 +6,8 @@ ghost use Rattle.flat_code.specs.Runs.{IsFlat, answer_by, flat_run, value_at};
 ghost use Rattle.tax_print.specs.Lines.{answer_lines, values_lines};
 ghost use Rattle.household_session.specs.Sessions.{IsFaceOf};
 
-use crate::run::{fill_nodes, stop_among};
-use flat_code::{Face, Flat};
+use crate::run::fill_nodes;
+use flat_code::{Face, Flat, stop_among};
 use m_fixed::Value;
 use m_ports::{Failed, Sink};
 use tax_print::{print_stop, print_values};
