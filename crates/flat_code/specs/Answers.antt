@@ -26,7 +26,8 @@ abbrev pub label_number : Stop → ℕ
 label_number (Failed label) = label
 label_number (Over label) = label
 
--- what a stop at this label tells: a line of the driver stops only where its condition is over
+-- What a stop at this label tells. At a line of the driver both stops tell that its condition is over. The checks of such lines
+-- look for over only; that they do is the program's affair, and no part of `IsFlat`.
 abbrev pub cause_of : Stop → FaceLabel → Cause
 cause_of stop (DriverLine line) = over_driver line
 cause_of (Failed number) (Verif label) = failed label
