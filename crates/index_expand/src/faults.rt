@@ -11,6 +11,7 @@ use crate::ExpandFault;
 use loop_values::{has_bad_span, instance_count, repeated_letters};
 use m_ast::{CheckItem, Formula, Header, Index, Link, Member, Node, Term};
 use m_places::Place;
+use m_places::limits::LOOP_INSTANCES;
 
 // The first of these faults, or one with an earlier place that an item has. Items other than rules and verifications have
 // none.
@@ -84,7 +85,7 @@ fn with_header(first: Option<ExpandFault>, header: &Header) -> Option<ExpandFaul
 fn with_size(first: Option<ExpandFault>, header: &Header) -> Option<ExpandFault>
     ensures { result ≡ spec.least first (spec.too_large header.now) }
 {
-    if instance_count(1, header.indexes.as_slice()) > 10_000 {
+    if instance_count(1, header.indexes.as_slice()) > LOOP_INSTANCES as u64 {
         earlier(first, ExpandFault::LoopTooLarge(header.place))
     } else {
         first

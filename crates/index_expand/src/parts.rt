@@ -5,10 +5,11 @@ ghost use Rattle.index_expand.specs.Parts as spec;
 
 use loop_values::instance_count;
 use m_ast::{Link, Member, Node, Term};
+use m_places::limits::PARTS;
 use plain_rules::is_single;
 
 /// The most parts that count. Counts stop here.
-pub(crate) const MOST: u64 = 2_000_000;
+pub(crate) const MOST: u64 = PARTS as u64;
 
 /// How many parts a term has once its loops are replaced, or the most where it has more.
 #[cycle(parts)]

@@ -9,10 +9,11 @@ ghost use Rattle.loop_values.specs.Values as spec;
 use itoa::Buffer;
 use m_ast::{Index, Span};
 use m_places::Name;
+use m_places::limits::PARTS;
 use std::alloc::{AllocError, Global};
 
 /// More instances than a loop, or than a base has parts for. Counts stop here.
-pub const MANY: u64 = 2_000_001;
+pub const MANY: u64 = PARTS as u64 + 1;
 
 /// The values of an index, in the order in which they are written: of `i = V, 1..2` they are V, 1, 2. Its only error is want
 /// of memory.
