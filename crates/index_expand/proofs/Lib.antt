@@ -1,3 +1,4 @@
+pub mod Loads
 pub mod FaultLemmas
 pub mod TermLemmas
 pub mod TakenLemmas

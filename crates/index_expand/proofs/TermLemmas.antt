@@ -12,7 +12,8 @@ use Rattle.m_ast.specs.View.{terms_of, links_of, members_of}
 use Rattle.loop_values.specs.Headers.{instances}
 use Rattle.loop_values.specs.Letters.{Letters}
 use Rattle.index_expand.specs.Terms.{expanded, expanded_terms, expanded_links, expanded_members, added, summed}
-use Rattle.index_expand.specs.inner.Loads.{load, terms_load, links_load, members_load, link_expanded, member_expanded, instance_link, links_sum}
+use Rattle.index_expand.specs.inner.Operands.{link_expanded, member_expanded, instance_link, links_sum}
+use Rattle.index_expand.proofs.Loads.{load, terms_load, links_load, members_load}
 use Rattle.index_expand.proofs.FaultLemmas.{drop_next}
 
 pub term_below : (all : List Syntax) (i : ℕ) (x : Syntax) → i < length all → x ≡ get_or all i x → load x < terms_load (terms_of all)

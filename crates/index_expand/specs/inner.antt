@@ -1,3 +1,3 @@
-pub mod Loads
+pub mod Operands
 pub mod Repeats
 pub mod Taken

@@ -6,7 +6,7 @@ ghost use Rattle.m_ast.specs.View.{syntax_of};
 ghost use Rattle.loop_values.specs.Headers.{instances};
 ghost use Rattle.loop_values.specs.Letters.{bind};
 ghost use Rattle.index_expand.specs.Terms as spec;
-ghost use Rattle.index_expand.specs.inner.Loads.{link_expanded, member_expanded, instance_link, links_sum, chain_of};
+ghost use Rattle.index_expand.specs.inner.Operands.{link_expanded, member_expanded, instance_link, links_sum, chain_of};
 
 use loop_values::{index_values, is_digits, number, replaced};
 use m_ast::{Index, Link, Member, Node, Term, made};

@@ -6,7 +6,7 @@ use Rattle.m_ast.specs.View.{syntax_of, terms_of, links_of, members_of}
 use Rattle.loop_values.specs.Headers.{instances}
 use Rattle.loop_values.specs.Letters.{bind}
 use Rattle.index_expand.specs.Terms.{expanded}
-use Rattle.index_expand.specs.inner.Loads.{link_expanded, member_expanded, instance_link, links_sum}
+use Rattle.index_expand.specs.inner.Operands.{link_expanded, member_expanded, instance_link, links_sum}
 use Rattle.index_expand.proofs.TermLemmas.{term_below, link_below, low_below, high_below, terms_map, links_map, members_map, sum_is, instances_next, put_back}
 use Rattle.index_expand.proofs.terms.+expanded.Goals as goal
 

@@ -4,7 +4,8 @@ use Rattle.m_ast.specs.View.{terms_of, links_of, members_of}
 use Rattle.loop_values.specs.Headers.{instances}
 use Rattle.loop_values.specs.Letters.{bind}
 use Rattle.index_expand.specs.Terms as spec
-use Rattle.index_expand.specs.inner.Loads.{load, terms_load, links_load, members_load, link_expanded, member_expanded, instance_link}
+use Rattle.index_expand.specs.inner.Operands.{link_expanded, member_expanded, instance_link}
+use Rattle.index_expand.proofs.Loads.{load, terms_load, links_load, members_load}
 use Rattle.index_expand.proofs.terms.+expanded.Given as goal
 
 abbrev pub decreases-expanded_box : goal.decreases-expanded_box
