@@ -5,7 +5,12 @@ use Rattle.std.proofs.lemmas.Bool.{cases_lt, lt-ltb, le-ltb}
 use Rattle.mpp_lexer.specs.declared.piece.Line.{Line}
 use Rattle.m_places.specs.declared.limits.TheConstants.{DRIVER_LEVEL}
 use Rattle.mpp_parser.specs.Depths.{outer_indents, opens_too_many, is_too_deep, FirstTooDeep, here, later, Shallow, none, next}
-use Rattle.mpp_parser.specs.inner.Outers.{left_outers, chain_of}
+use Rattle.mpp_parser.specs.inner.Outers.{left_outers}
+
+-- the indentations of the last line and of its outer lines
+abbrev pub chain_of : List Line → List ℕ
+chain_of [] = []
+chain_of (l ∷ earlier) = l.indent ∷ outer_indents earlier l.indent
 
 not_less : (x i : ℕ) → i ≤ x → nat_lt x i ≡ false
 not_less x i h = le-ltb x i h

@@ -1,14 +1,7 @@
 -- The indentations of a line and of its outer lines, kept from line to line.
 use Rattle.std.specs.Prelude.{ℕ, nat_lt, if◌then◌else◌, List, [], ◌∷◌}
-use Rattle.mpp_lexer.specs.declared.piece.Line.{Line}
-use Rattle.mpp_parser.specs.Depths.{outer_indents}
 
 -- what is left of them, nearest first, where those go that aren't less than i
 abbrev pub left_outers : ℕ → List ℕ → List ℕ
 left_outers i [] = []
 left_outers i (x ∷ xs) = if nat_lt x i then x ∷ xs else left_outers i xs
-
--- those of the last line and of its outer lines
-abbrev pub chain_of : List Line → List ℕ
-chain_of [] = []
-chain_of (l ∷ earlier) = l.indent ∷ outer_indents earlier l.indent
