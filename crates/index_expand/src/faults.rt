@@ -13,8 +13,8 @@ use m_ast::{CheckItem, Formula, Header, Index, Link, Member, Node, Term};
 use m_places::Place;
 use m_places::limits::LOOP_INSTANCES;
 
-// The first of these faults, or one with an earlier place that an item has. Items other than rules and verifications have
-// none.
+/// The first of these faults, or one with an earlier place that an item has. Items other than rules and verifications have
+/// none.
 pub(crate) fn with_formula(first: Option<ExpandFault>, formula: &Formula) -> Option<ExpandFault>
     ensures { result ≡ spec.least first (spec.formula_faults formula.now) }
 {

@@ -58,7 +58,7 @@ pub(crate) fn take_formula(
     )
 }
 
-/// With more headers than this, a formula whose instances are too many isn't looked at further.
+// With more headers than this, a formula whose instances are too many isn't looked at further.
 const MANY_HEADERS: usize = 1_000;
 
 // The fault of a formula with more instances than there may be parts. Where it is for each cell of a table, only its making

@@ -23,7 +23,7 @@ pub(crate) struct Checked {
     pub labels: Vec<Label>,
 }
 
-/// What labels tell of an error. Each error's words are made once, and its labels share them.
+// What labels tell of an error. Each error's words are made once, and its labels share them.
 #[derive(Drop)]
 struct ErrorWords {
     name: SharedName,

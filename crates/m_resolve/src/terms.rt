@@ -18,7 +18,7 @@ use micro_m::{MNode, MTerm, Step};
 use plain_rules::is_single;
 use std::alloc::{AllocError, Global};
 
-/// The name that `X` is in a term.
+// The name that `X` is in a term.
 const X: &[u8] = b"X";
 
 /// What a term is over cells, or the first of its faults from left to right.

@@ -17,7 +17,7 @@ use std::alloc::{AllocError, Global};
 use std::thread::Threads;
 use tax_print::print_household;
 
-/// How many rows are computed before they are written.
+// How many rows are computed before they are written.
 const GROUP: usize = 256;
 
 /// Why rows are not written to their end.

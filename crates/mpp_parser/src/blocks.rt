@@ -38,7 +38,7 @@ impl<'a> LineCursor<'a> {
         LineCursor { left: lines }
     }
 
-    /// A second cursor at the same place.
+    // A second cursor at the same place.
     fn here(&self) -> LineCursor<'a>
         ensures { result ≡ self.now }
     {
@@ -62,7 +62,7 @@ impl<'a> LineCursor<'a> {
         Some(first)
     }
 
-    /// Takes the next line if it says `else:` at an indentation.
+    // Takes the next line if it says `else:` at an indentation.
     #[tactic(auto, unfolding(crate::specs::inner::Blocks::else_at))]
     fn take_else(&mut self, indent: u32) -> bool
         ensures line { MatchBool result (else_at indent self.old ≡ Some self.new) ((self.new ≡ self.old) × (else_at indent self.old ≡ None)) }

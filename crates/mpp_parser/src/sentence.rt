@@ -172,7 +172,7 @@ fn read_front(alloc: Global, cursor: &mut Cursor<'_>) -> Result<Sentence, Unread
     }
 }
 
-// What the tokens of a whole line say, as a function reads them.
+/// What the tokens of a whole line say, as a function reads them.
 #[tactic(auto, unfolding(crate::specs::inner::Reading::line_at))]
 pub fn read_line(alloc: Global, tokens: &[DriverPiece]) -> Result<Sentence, Unread>
     ensures { ReadsAll result (line_at tokens.now) }

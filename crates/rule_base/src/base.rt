@@ -55,7 +55,7 @@ pub fn rule_base(alloc: Global, texts: &[Text], application: &[u8]) -> Result<Ru
     ordered_base(alloc, symbols, base)
 }
 
-/// The rules of the application, over the cells of what is declared.
+// The rules of the application, over the cells of what is declared.
 fn base_over(
     alloc: Global,
     items: &[Item],
@@ -73,7 +73,7 @@ fn base_over(
     Ok(base)
 }
 
-/// The base in an order, or a cycle by the names of its cells.
+// The base in an order, or a cycle by the names of its cells.
 fn ordered_base(alloc: Global, symbols: Symbols, base: Base) -> Result<RuleBase, RuleFault>
     requires valid { IsValidBase base }
     requires cells { base.cells ≡ length (owners_from 0 symbols.variables) }
@@ -89,7 +89,7 @@ fn ordered_base(alloc: Global, symbols: Symbols, base: Base) -> Result<RuleBase,
     }
 }
 
-/// The fault of a cycle: the names of its cells, or want of memory for them.
+// The fault of a cycle: the names of its cells, or want of memory for them.
 fn cycle_of(alloc: Global, symbols: &Symbols, cells: &[u32]) -> RuleFault
     requires { All (λ c. c < length (owners_from 0 symbols.now.variables)) cells.now }
     ensures { result ≢ Memory → result ≡ Cycle (map (cell_name symbols.now) cells.now) }

@@ -32,7 +32,7 @@ pub(crate) fn items_of(alloc: Global, texts: &[Text]) -> Result<Vec<Item>, RuleF
     Ok(items)
 }
 
-/// The number of the next file. There is no room for more files than a `u32` counts.
+// The number of the next file. There is no room for more files than a `u32` counts.
 fn number_behind(number: u32) -> Result<u32, RuleFault>
     ensures { Outcome Memory result (λ next. next ≡ number + 1) (λ _. ⊥) }
 {
@@ -42,7 +42,7 @@ fn number_behind(number: u32) -> Result<u32, RuleFault>
     }
 }
 
-/// The items of the file with this number, or its fault.
+// The items of the file with this number, or its fault.
 fn file_items(alloc: Global, text: &Text, number: u32) -> Result<Vec<Item>, RuleFault>
     requires { length text.now.bytes ≤ FILE_BYTES }
     ensures outcome { Outcome Memory result (λ items. SaysItems number text.now items.items) (IsFileFault number text.now) }
