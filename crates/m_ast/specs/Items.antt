@@ -31,12 +31,6 @@ variables_of = filter_map variable_in
 abbrev pub errors_of : List Item → List ErrorItem
 errors_of = filter_map error_in
 
-abbrev pub variable_name : VariableItem → List ℕ
-variable_name v = v.name
-
-abbrev pub error_name : ErrorItem → List ℕ
-error_name e = e.name
-
 -- the code of an input, as 1AJ
 abbrev pub code_in : Role → Option (List ℕ)
 code_in (Input code) = Some code
