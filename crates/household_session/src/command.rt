@@ -3,8 +3,9 @@ ghost use Rattle.std.specs.Prelude.{◌≡◌, ◌∷◌};
 ghost use Rattle.household_session.specs.Commands.{session_command, words_command, line_words};
 ghost use Rattle.household_session.specs.inner.Ready.{command_in};
 
-use crate::words::{next_word, without_return};
+use crate::words::next_word;
 use m_places::limits::SESSION_LINE_BYTES;
+use m_text::without_return;
 
 /// What a line asks for, with the words that it takes.
 #[derive(Clone, Copy)]

@@ -1,7 +1,6 @@
 //! The words of a line.
 ghost use Rattle.std.specs.Prelude.{◌≡◌, ◌≢◌, ◌⊎◌, [], ◌∷◌, MatchOption, IsTrue};
 ghost use Rattle.m_text.specs.Bytes.{RunsTo, space};
-ghost use Rattle.m_text.specs.Lines.{without_return};
 ghost use Rattle.household_session.specs.Commands.{starts_word, line_words};
 
 /// The first word of a line and what stands behind it; `None` where the line has no words.
@@ -39,19 +38,4 @@ fn word_end(line: &[u8]) -> usize
         }
     }
     line.len()
-}
-
-/// A line without the carriage return at its end, if it has one.
-pub(crate) fn without_return(line: &[u8]) -> &[u8]
-    ensures { result.now ≡ without_return line.now }
-{
-    if line.is_empty() {
-        return line;
-    }
-    let last = line.len() - 1;
-    if line[last] == b'\r' {
-        &line[..last]
-    } else {
-        line
-    }
 }

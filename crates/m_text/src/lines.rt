@@ -24,8 +24,8 @@ pub fn first_line(bytes: &[u8]) -> Option<(&[u8], &[u8])>
     Some((without_return(&bytes[..end]), &bytes[end + 1..]))
 }
 
-// A line without the carriage return at its end, if it has one.
-fn without_return(line: &[u8]) -> &[u8]
+/// A line without the carriage return at its end, if it has one. Takes no memory.
+pub fn without_return(line: &[u8]) -> &[u8]
     ensures { result.now ≡ without_return line.now }
 {
     if line.is_empty() {
