@@ -5,9 +5,11 @@
 #![tactic(auto)]
 
 mod lines;
+mod numbers;
 mod runs;
 mod words;
 
 pub use lines::{first_line, is_text, without_return};
+pub use numbers::whole_number;
 pub use runs::{digits_end, is_digit, is_word_byte, line_end, line_feeds, quote_end, word_end};
 pub use words::{WordOrNumber, is_word, word_or_number};

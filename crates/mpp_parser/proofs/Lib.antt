@@ -1,4 +1,3 @@
-pub mod Digits
 pub mod Chains
 pub mod Exits
 pub mod Sound

@@ -2,14 +2,13 @@
 --
 -- In each relation the last two arguments are tokens. `SpellsSum E t ts rest` says that the tokens ts begin with a
 -- spelling of the sum t, and that rest are the tokens behind it. E says how terms inside of brackets are spelled.
-use Rattle.std.specs.Prelude.{◌≡◌, ℕ, zero, suc, ◌&&◌, ℤ, pos, cond, nat_le, List, [], ◌∷◌, length, Option, Some, None, option_map, codes}
-use Rattle.std.specs.Str.Parse.{digits_value}
+use Rattle.std.specs.Prelude.{◌≡◌, ℕ, zero, suc, ℤ, pos, cond, List, [], ◌∷◌, Option, Some, None, option_map, codes}
 use denote.Enum.Bare.{sameb}
 use Rattle.m_places.specs.declared.limits.TheConstants.{BRACKET_DEPTH}
-use Rattle.m_fixed.specs.Text.{is_digits}
 use Rattle.m_fixed.specs.declared.amount.Value.TheVariants.{Num}
 use Rattle.m_fixed.specs.declared.operator.Op.{Op}
 use Rattle.m_fixed.specs.declared.operator.Op.TheVariants as ops
+use Rattle.m_text.specs.Numbers.{whole_number}
 use Rattle.mpp_lexer.specs.declared.piece.DriverPiece.{DriverPiece}
 use Rattle.mpp_lexer.specs.declared.piece.DriverPiece.TheVariants.{Word, Number, Sign}
 use Rattle.mpp_lexer.specs.declared.piece.DriverSign.{DriverSign}
@@ -102,15 +101,11 @@ binary op a b = apply op (a_term a (a_term b no_terms))
 
 -- Names of cells, and kinds.
 
--- The number that one to nine digits spell: `010` is 10, and `1.0` and `1234567890` are none.
-unfoldable pub whole_of : List ℕ → Option ℕ
-whole_of text = cond (is_digits text && nat_le (length text) 9) (Some (digits_value 10 text)) None
-
 -- cell := WORD [ "[" WHOLE "]" ], where WORD is no reserved word
 pub data SpellsCell : CellName → List DriverPiece → List DriverPiece → Type 0 where
   plain : {w : List ℕ} {rest : List DriverPiece} → keyword_of w ≡ None → SpellsCell (record { name = w; index = None }) (Word w ∷ rest) rest
   indexed : {w t : List ℕ} {z : ℤ} {n : ℕ} {rest : List DriverPiece}
-      → keyword_of w ≡ None → whole_of t ≡ Some n →
+      → keyword_of w ≡ None → whole_number t ≡ Some n →
       SpellsCell (record { name = w; index = Some n }) (Word w ∷ Sign OpenBracket ∷ Number z t ∷ Sign CloseBracket ∷ rest) rest
 
 -- NUMBER

@@ -1,14 +1,14 @@
 //! A place in the tokens of a line, and the readers of single tokens. It knows nothing of trees.
 ghost use Rattle.std.specs.Prelude.{◌≡◌, ◌<◌, ◌∷◌, [], length, Some, None, MatchBool, MatchOption, OnSome};
 ghost use Rattle.std.specs.Bool.{OnTrue};
-ghost use Rattle.mpp_parser.specs.Grammar.{comparison, addition, multiplication, keyed, whole_of};
+ghost use Rattle.mpp_parser.specs.Grammar.{comparison, addition, multiplication, keyed};
 ghost use Rattle.mpp_parser.specs.inner.Reading.{open_at, sign_at, key_at, number_at, index_at, word_at, operator_of};
 
 use crate::expression::Level;
 use crate::keyword::{Keyword, keyword_of};
-use crate::whole::whole_of;
 use m_fixed::{Amount, Op};
 use m_places::Name;
+use m_text::whole_number;
 use mpp_lexer::{DriverPiece, DriverSign};
 use std::marker::Model;
 
@@ -172,7 +172,7 @@ impl<'a> Cursor<'a> {
         ensures shorter { OnSome result (length self.new < length self.old) }
     {
         match self.next() {
-            Some(DriverPiece::Number(_, spelling)) => whole_of(spelling.bytes()),
+            Some(DriverPiece::Number(_, spelling)) => whole_number(spelling.bytes()),
             _ => None,
         }
     }

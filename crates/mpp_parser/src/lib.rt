@@ -15,7 +15,6 @@ mod parse;
 mod sentence;
 mod term;
 mod unread;
-mod whole;
 
 pub use command::{Command, CommandNode, Driver, Function, command_made};
 pub use laws::{no_driver_and_fault, one_driver, one_fault, one_longest_driver};

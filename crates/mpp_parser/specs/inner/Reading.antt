@@ -5,6 +5,7 @@ use Rattle.m_places.specs.declared.limits.TheConstants.{BRACKET_DEPTH}
 use Rattle.m_fixed.specs.declared.amount.Value.TheVariants.{Num}
 use Rattle.m_fixed.specs.declared.operator.Op.{Op}
 use Rattle.m_fixed.specs.declared.operator.Op.TheVariants as ops
+use Rattle.m_text.specs.Numbers.{whole_number}
 use Rattle.mpp_lexer.specs.declared.piece.DriverPiece.{DriverPiece}
 use Rattle.mpp_lexer.specs.declared.piece.DriverPiece.TheVariants.{Word, Number, Sign}
 use Rattle.mpp_lexer.specs.declared.piece.DriverSign.{DriverSign}
@@ -23,7 +24,7 @@ use Rattle.mpp_parser.specs.declared.sentence.Sentence.{Sentence}
 use Rattle.mpp_parser.specs.declared.sentence.Sentence.TheVariants as sentences
 use Rattle.mpp_parser.specs.Keywords.{keyword_of}
 use Rattle.mpp_parser.specs.Trees.{Term, lit, named, exists}
-use Rattle.mpp_parser.specs.Grammar.{is, key, disjunction, conjunction, comparison, addition, multiplication, link, gathered, unary, binary, whole_of, cast_of, tax_benefit}
+use Rattle.mpp_parser.specs.Grammar.{is, key, disjunction, conjunction, comparison, addition, multiplication, link, gathered, unary, binary, cast_of, tax_benefit}
 
 infixl 10 ◌>>=◌
 abbrev pub ◌>>=◌ : {A B : Type 0} → Option A → (A → Option B) → Option B
@@ -65,7 +66,7 @@ abbrev pub number_at : List DriverPiece → Option (ℤ × List DriverPiece)
 number_at = open_at number_of
 
 abbrev pub index_of : DriverPiece → Option ℕ
-index_of (Number z t) = whole_of t
+index_of (Number z t) = whole_number t
 index_of _ = None
 
 abbrev pub index_at : List DriverPiece → Option (ℕ × List DriverPiece)

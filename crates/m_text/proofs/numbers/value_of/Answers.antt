@@ -1,6 +1,6 @@
 use Rattle.std.proofs.Common.{◌+◌, arith}
-use Rattle.mpp_parser.proofs.Digits.{value_more, value_below}
-use Rattle.mpp_parser.proofs.whole.value_of.Goals as goal
+use Rattle.m_text.proofs.Digits.{value_more, value_below}
+use Rattle.m_text.proofs.numbers.value_of.Goals as goal
 
 pub loop-byte-preserved : goal.loop-byte-preserved
 loop-byte-preserved c =
