@@ -1,10 +1,10 @@
 -- What the words of the command line ask for, and the plan of each command.
-use Rattle.std.specs.Prelude.{ℕ, ◌+◌, ◌-◌, ◌*◌, ◌≤◌, nat_le, Bool, true, false, ◌&&◌, List, [], ◌∷◌, length, Option, Some, None, if◌then◌else◌, codes}
+use Rattle.std.specs.Prelude.{ℕ, ◌≤◌, nat_le, Bool, true, false, ◌&&◌, List, [], ◌∷◌, length, Option, Some, None, if◌then◌else◌, codes}
 use Rattle.std.specs.List.{list_all}
 use Rattle.std.specs.Option.{option_map, option_map_or, option_or}
 use Rattle.std.specs.Str.{bytes_eq, is_utf8}
 use Rattle.m_places.specs.declared.limits.TheConstants.{FILE_BYTES, LARGE}
-use Rattle.m_text.specs.Bytes.{is_digit}
+use Rattle.m_text.specs.Numbers.{whole_number}
 use Rattle.m_plan.specs.Plan.{Plan, done, file_plan, and_then}
 use Rattle.m_source.specs.Source.{source_plan}
 use Rattle.m_source.specs.declared.source.SourceNames.{SourceNames}
@@ -18,11 +18,6 @@ use Rattle.m_commands.specs.declared.work.Work.TheVariants as work
 
 -- ---- words
 
--- The number of digits behind those of a number so far. One that is past the greatest of `large N` already has no further digits.
-abbrev pub digits_behind : ℕ → List ℕ → Option ℕ
-digits_behind so_far [] = Some so_far
-digits_behind so_far (b ∷ bs) = if is_digit b && nat_le so_far LARGE then digits_behind (10 * so_far + (b - 48)) bs else None
-
 -- a number from 1 to the greatest of `large N`
 abbrev pub reached : Option ℕ → Option ℕ
 reached None = None
@@ -30,7 +25,7 @@ reached (Some n) = if nat_le 1 n && nat_le n LARGE then Some n else None
 
 -- The number of a word of one to six digits that is one of `large N`: of `007` it is 7, and `0` and `100001` have none.
 abbrev pub large_number : List ℕ → Option ℕ
-large_number word = if nat_le 1 (length word) && nat_le (length word) 6 then reached (digits_behind 0 word) else None
+large_number word = if nat_le (length word) 6 then reached (whole_number word) else None
 
 -- the command `large N` that the words are, if they are one
 abbrev pub large_command : List (List ℕ) → Option Command

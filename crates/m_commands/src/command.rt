@@ -1,11 +1,11 @@
 //! The words of the command line.
 ghost use Rattle.std.specs.Prelude.{◌≡◌, IfOk, IfSome};
-ghost use Rattle.m_commands.specs.Command.{IsInReach, command_of, digits_behind, form_of, large_command, large_number, of_form, source_command};
+ghost use Rattle.m_commands.specs.Command.{IsInReach, command_of, form_of, large_command, large_number, of_form, source_command};
 
 use m_places::limits::LARGE;
 use m_places::{Name, Word};
 use m_source::SourceNames;
-use m_text::{is_digit, is_text};
+use m_text::{is_text, whole_number};
 use std::alloc::{AllocError, Global};
 
 /// A command, with the names of its files.
@@ -60,27 +60,11 @@ fn large_number(word: &[u8]) -> Option<u32>
     ensures number { result ≡ large_number word.now }
     ensures in_reach { IfSome result (λ n. IsInReach (Command.Large n)) }
 {
-    if word.is_empty() || word.len() > 6 {
+    if word.len() > 6 {
         return None;
     }
-    let n = digits_of(word)?;
+    let n = whole_number(word)?;
     if 1 <= n && n <= LARGE { Some(n) } else { None }
-}
-
-// The number of digits.
-fn digits_of(word: &[u8]) -> Option<u32>
-    ensures { result ≡ digits_behind 0 word.now }
-{
-    let mut number = 0;
-    let mut left = word;
-    while let [first, rest @ ..] = left {
-        if !is_digit(*first) || number > LARGE {
-            return None;
-        }
-        number = 10 * number + (*first - b'0') as u32;
-        left = rest;
-    }
-    Some(number)
 }
 
 // The command over a source that the words are, if they are one. Its only error is want of memory.
