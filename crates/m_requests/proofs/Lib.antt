@@ -1,3 +1,4 @@
+pub mod Closing
 pub mod Placing
 pub mod Splitting
 pub mod Outcomes

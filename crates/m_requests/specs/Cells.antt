@@ -1,9 +1,8 @@
 -- The printed names of cells, and the cells that names name.
-use Rattle.std.specs.Prelude.{ℕ, ◌+◌, ◌-◌, ◌*◌, ◌==◌, ◌&&◌, ◌||◌, nat_lt, nat_le, Bool, false, List, [], ◌∷◌, ◌++◌, length, codes, decimal, map, Option, Some, None, if◌then◌else◌, slice_get, slice_index_or}
-use Rattle.std.specs.Option.{option_map_or, option_and_then}
+use Rattle.std.specs.Prelude.{ℕ, ◌+◌, ◌-◌, ◌==◌, ◌&&◌, ◌||◌, nat_lt, nat_le, Bool, false, List, [], ◌∷◌, ◌++◌, length, codes, decimal, map, Option, Some, None, if◌then◌else◌, slice_get, slice_index_or}
+use Rattle.std.specs.Option.{option_map, option_map_or, option_and_then}
 use Rattle.std.specs.List.{flat_map, range_with_len}
-use Rattle.m_places.specs.declared.limits.TheConstants.{TABLE_CELLS}
-use Rattle.m_text.specs.Bytes.{is_digit}
+use Rattle.m_text.specs.Numbers.{whole_number}
 use Rattle.m_names.specs.Names.{has, index_of}
 use Rattle.m_ast.specs.Items.{variable_size}
 use Rattle.m_symbols.specs.declared.variable.Variable.{Variable}
@@ -43,20 +42,24 @@ abbrev pub split_at_bracket : List ℕ → List ℕ × Option (List ℕ)
 split_at_bracket [] = ([], None)
 split_at_bracket (b ∷ bs) = if b == 91 then ([], Some bs) else with_first b (split_at_bracket bs)
 
--- A number so far, whose further digits and `]` these bytes are. One that is past the most cells of a table already has no further digits.
-abbrev pub closed_number : ℕ → List ℕ → Option ℕ
-closed_number so_far [] = None
-closed_number so_far (b ∷ []) = if b == 93 then Some so_far else None
-closed_number so_far (b ∷ c ∷ bs) = if is_digit b && nat_le so_far TABLE_CELLS then closed_number (10 * so_far + (b - 48)) (c ∷ bs) else None
+-- what stands before the `]` at the end, if that is the end
+abbrev pub before_closing : List ℕ → Option (List ℕ)
+before_closing [] = None
+before_closing (b ∷ []) = if b == 93 then Some [] else None
+before_closing (b ∷ c ∷ bs) = option_map (λ front. b ∷ front) (before_closing (c ∷ bs))
 
--- whether one to four digits without needless zeros, and one more byte, may be these
-abbrev pub has_plain_digits : List ℕ → Bool
-has_plain_digits [] = false
-has_plain_digits (b ∷ bs) = nat_le 1 (length bs) && (nat_le (length bs) 4 && (nat_lt 48 b || length bs == 1))
+-- whether one to four digits without needless zeros may be these: `0` and `12`, and not `00` or `012`
+abbrev pub may_be_plain : List ℕ → Bool
+may_be_plain [] = false
+may_be_plain (b ∷ bs) = nat_le (length bs) 3 && (nat_lt 48 b || length bs == 0)
+
+-- the number of one to four digits without needless zeros
+abbrev pub plain_number : List ℕ → Option ℕ
+plain_number digits = if may_be_plain digits then whole_number digits else None
 
 -- the number of a table's cell behind `[`: of `12]` it is 12, and `012]` and `]` have none
 abbrev pub index_said : List ℕ → Option ℕ
-index_said text = if has_plain_digits text then closed_number 0 text else None
+index_said text = option_and_then plain_number (before_closing text)
 
 -- the cell with this number of a table of this size
 abbrev pub cell_within : ℕ → ℕ → ℕ → Option ℕ

@@ -5,14 +5,13 @@ ghost use Rattle.std.specs.List.{range_with_len};
 ghost use Rattle.m_ast.specs.Items.{variable_size};
 ghost use Rattle.m_symbols.specs.Declarations.{owners_from};
 ghost use Rattle.m_requests.specs.Placed.{IsPlaced};
-ghost use Rattle.m_requests.specs.Cells.{request_cell, named_cell, split_at_bracket, cell_by, cell_within, index_said, has_plain_digits, closed_number, returned_cells, returned_by};
+ghost use Rattle.m_requests.specs.Cells.{request_cell, named_cell, split_at_bracket, cell_by, cell_within, index_said, before_closing, plain_number, may_be_plain, returned_cells, returned_by};
 
 use m_ast::Role;
 use m_names::has_name;
 use m_places::Seq;
-use m_places::limits::TABLE_CELLS;
 use m_symbols::{Symbols, Variable};
-use m_text::is_digit;
+use m_text::whole_number;
 use std::alloc::{AllocError, Global};
 
 /// The cell that a request names, if it names one: a variable that is no table by its name, a table's cell as `T[2]`. Takes no
@@ -82,40 +81,45 @@ fn cell_within(first: u32, size: u32, k: u32) -> Option<u32>
 fn index_said(text: &[u8]) -> Option<u32>
     ensures { result ≡ index_said text.now }
 {
-    if has_plain_digits(text) {
-        closed_number(text)
+    match before_closing(text) {
+        Some(digits) => plain_number(digits),
+        None => None,
+    }
+}
+
+// What stands before the `]` at the end, if that is the end.
+fn before_closing(text: &[u8]) -> Option<&[u8]>
+    ensures { MatchOption result (before_closing text.now ≡ None) (λ digits. before_closing text.now ≡ Some digits.now) }
+{
+    if text.is_empty() {
+        return None;
+    }
+    let last = text.len() - 1;
+    if text[last] == b']' {
+        Some(&text[..last])
     } else {
         None
     }
 }
 
-fn has_plain_digits(text: &[u8]) -> bool
-    ensures { result ≡ has_plain_digits text.now }
+// The number of one to four digits without needless zeros.
+fn plain_number(digits: &[u8]) -> Option<u32>
+    ensures { result ≡ plain_number digits.now }
 {
-    match text {
-        [] => false,
-        [first, rest @ ..] => {
-            1 <= rest.len() && (rest.len() <= 4 && (b'0' < *first || rest.len() == 1))
-        }
+    if may_be_plain(digits) {
+        whole_number(digits)
+    } else {
+        None
     }
 }
 
-fn closed_number(text: &[u8]) -> Option<u32>
-    ensures { result ≡ closed_number 0 text.now }
+fn may_be_plain(digits: &[u8]) -> bool
+    ensures { result ≡ may_be_plain digits.now }
 {
-    let mut number = 0;
-    let mut left = text;
-    while let [first, rest @ ..] = left {
-        if rest.is_empty() {
-            return if *first == b']' { Some(number) } else { None };
-        }
-        if !is_digit(*first) || number > TABLE_CELLS {
-            return None;
-        }
-        number = 10 * number + (*first - b'0') as u32;
-        left = rest;
+    match digits {
+        [] => false,
+        [first, rest @ ..] => rest.len() <= 3 && (b'0' < *first || rest.len() == 0),
     }
-    None
 }
 
 /// The cells that rules give back: those of all variables among whose words is `restituee`, in order of declaration, a table by all
