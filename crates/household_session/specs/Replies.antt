@@ -69,11 +69,6 @@ abbrev pub replies_to : Sitting → List (List ℕ) → List ℕ
 replies_to sitting [] = []
 replies_to sitting (first ∷ lines) = reply_of sitting first ++ replies_to (after_line sitting first) lines
 
--- the session after lines
-abbrev pub after_lines : Sitting → List (List ℕ) → Sitting
-after_lines sitting [] = sitting
-after_lines sitting (first ∷ lines) = after_lines (after_line sitting first) lines
-
 -- The replies to a whole input.
 abbrev pub replies_of : Sitting → List ℕ → List ℕ
 replies_of sitting bytes = replies_to sitting (input_lines bytes)
