@@ -26,7 +26,7 @@ fn command(
     alloc: Global,
     command: &Command,
     names: &Names,
-    scope: &Scope,
+    scope: &Scope<'_>,
 ) -> Result<CCommand, CoreFault>
     requires { IsPlaced scope.now }
     ensures { Outcome Memory result (λ c. act_said scope.now names.now command.now ≡ Ok c) (λ fault. act_said scope.now names.now command.now ≡ Err fault) }
@@ -53,7 +53,7 @@ fn assigned(
     line: u32,
     cell: &CellName,
     value: &DTerm,
-    scope: &Scope,
+    scope: &Scope<'_>,
 ) -> Result<CCommand, CoreFault>
     requires { IsPlaced scope.now }
     ensures { Outcome Memory result
@@ -66,7 +66,12 @@ fn assigned(
 }
 
 // A cell that becomes undefined.
-fn cleared(alloc: Global, line: u32, cell: &CellName, scope: &Scope) -> Result<CCommand, CoreFault>
+fn cleared(
+    alloc: Global,
+    line: u32,
+    cell: &CellName,
+    scope: &Scope<'_>,
+) -> Result<CCommand, CoreFault>
     requires { IsPlaced scope.now }
     ensures { Outcome Memory result
         (λ c. if_said (λ cell. Ok (clear line cell)) (target_said scope.now line cell.now) ≡ Ok c)
@@ -85,7 +90,7 @@ fn branched(
     first: &[Command],
     second: &[Command],
     names: &Names,
-    scope: &Scope,
+    scope: &Scope<'_>,
 ) -> Result<CCommand, CoreFault>
     requires { IsPlaced scope.now }
     ensures { Outcome Memory result
@@ -106,7 +111,7 @@ fn partitioned(
     kind: &Kind,
     block: &[Command],
     names: &Names,
-    scope: &Scope,
+    scope: &Scope<'_>,
 ) -> Result<CCommand, CoreFault>
     requires { IsPlaced scope.now }
     ensures { Outcome Memory result
@@ -145,7 +150,7 @@ pub(crate) fn commands(
     alloc: Global,
     all: &[Command],
     names: &Names,
-    scope: &Scope,
+    scope: &Scope<'_>,
 ) -> Result<Vec<CCommand>, CoreFault>
     requires { IsPlaced scope.now }
     ensures { Outcome Memory result (λ said. acts_said scope.now names.now [] (acts_of all.now) ≡ Ok said.items) (λ fault. acts_said scope.now names.now [] (acts_of all.now) ≡ Err fault) }

@@ -86,7 +86,7 @@ pub(crate) fn bodies(
     alloc: Global,
     functions: &[Function],
     names: &Names,
-    scope: &Scope,
+    scope: &Scope<'_>,
 ) -> Result<Seq<Seq<CCommand>>, CoreFault>
     requires { IsPlaced scope.now }
     ensures { Outcome Memory result (λ bodies. bodies_said scope.now names.now [] functions.now ≡ Ok bodies) (λ fault. bodies_said scope.now names.now [] functions.now ≡ Err fault) }

@@ -2,9 +2,12 @@
 
 ghost use Rattle.std.specs.Prelude.{◌≡◌, IfOk};
 ghost use Rattle.m_requests.specs.Placed.{IsPlaced};
+ghost use Rattle.mpp_parser.specs.declared.term.Kind.TheVariants.{Attribute};
 ghost use Rattle.mpp_core.specs.Names.{kind_cells};
 
 use input_kinds::{KindCells, KindIndex};
+use m_fixed::Amount;
+use m_places::{Name, Seq};
 use m_symbols::Symbols;
 use mpp_parser::Kind;
 use std::alloc::{AllocError, Global};
@@ -52,10 +55,20 @@ impl<'a> Scope<'a> {
         ensures { IfOk result (λ cells. cells ≡ kind_cells self.now kind.now) }
     {
         match kind {
-            Kind::Attribute(attribute, values) => {
-                let values = values.as_slice();
-                KindCells::new(alloc, &self.kinds, attribute.bytes(), values)
-            }
+            Kind::Attribute(attribute, values) => self.cells_with(alloc, attribute, values),
         }
+    }
+
+    // The cells of the inputs whose attribute has one of these values.
+    fn cells_with(
+        &self,
+        alloc: Global,
+        attribute: &Name,
+        values: &Seq<Amount>,
+    ) -> Result<KindCells, AllocError>
+        requires { IsPlaced self.now }
+        ensures { IfOk result (λ cells. cells ≡ kind_cells self.now (Attribute attribute.now values.now)) }
+    {
+        KindCells::new(alloc, &self.kinds, attribute.bytes(), values.as_slice())
     }
 }

@@ -24,7 +24,7 @@ pub(crate) fn term(
     alloc: Global,
     term: &DTerm,
     line: u32,
-    scope: &Scope,
+    scope: &Scope<'_>,
 ) -> Result<Box<CTerm>, CoreFault>
     requires { IsPlaced scope.now }
     ensures { Outcome Memory result (λ t. term_said scope.now line term.now ≡ Ok t.value) (λ fault. term_said scope.now line term.now ≡ Err fault) }
@@ -49,7 +49,12 @@ fn boxed(alloc: Global, node: CNode) -> Result<Box<CTerm>, AllocError>
 }
 
 // A name.
-fn named(alloc: Global, name: &CellName, line: u32, scope: &Scope) -> Result<Box<CTerm>, CoreFault>
+fn named(
+    alloc: Global,
+    name: &CellName,
+    line: u32,
+    scope: &Scope<'_>,
+) -> Result<Box<CTerm>, CoreFault>
     requires { IsPlaced scope.now }
     ensures { Outcome Memory result (λ t. if_said (λ c. Ok (cell_formula c)) (cell_said scope.now line name.now) ≡ Ok t.value) (λ fault. if_said (λ c. Ok (cell_formula c)) (cell_said scope.now line name.now) ≡ Err fault) }
 {
@@ -64,7 +69,7 @@ fn applied(
     op: Op,
     arguments: &[DTerm],
     line: u32,
-    scope: &Scope,
+    scope: &Scope<'_>,
 ) -> Result<Box<CTerm>, CoreFault>
     requires { IsPlaced scope.now }
     ensures { Outcome Memory result
@@ -77,7 +82,12 @@ fn applied(
 
 // Terms one after the other.
 #[cycle(term)]
-fn terms(alloc: Global, all: &[DTerm], line: u32, scope: &Scope) -> Result<Vec<CTerm>, CoreFault>
+fn terms(
+    alloc: Global,
+    all: &[DTerm],
+    line: u32,
+    scope: &Scope<'_>,
+) -> Result<Vec<CTerm>, CoreFault>
     requires { IsPlaced scope.now }
     ensures { Outcome Memory result (λ said. terms_said scope.now line [] (terms_of all.now) ≡ Ok said.items) (λ fault. terms_said scope.now line [] (terms_of all.now) ≡ Err fault) }
 {
@@ -96,7 +106,7 @@ fn chained(
     first: &DTerm,
     links: &[DLink],
     line: u32,
-    scope: &Scope,
+    scope: &Scope<'_>,
 ) -> Result<Box<CTerm>, CoreFault>
     requires { IsPlaced scope.now }
     ensures { Outcome Memory result
