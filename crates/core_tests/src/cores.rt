@@ -52,7 +52,7 @@ const CORES: [(&[u8], &[u8]); 16] = [
         b"*main{2: 0 = one of 5 6}",
     ),
     (
-        b"main():\n  A = exists(avfisc = 3, 1)\n",
+        b"main():\n  A = exists(avfisc = 3, 4, 1, 3)\n",
         b"*main{2: 0 = one of 5 7}",
     ),
     (
