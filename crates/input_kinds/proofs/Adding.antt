@@ -104,7 +104,6 @@ module _ (names later : List (List ℕ)) (groups after : BTreeMap (ℕ × ℤ) (
     (here : cells_of (get key_order after (n, value)) ≡ cells_of (get key_order groups (n, value)) ++ cell ∷ [])
     (others : (m : ℕ) (v : ℤ) → is_eq (key_order (n, value) (m, v)) ≡ false → get key_order after (m, v) ≡ get key_order groups (m, v))
     (numbered : (m : ℕ) (v : ℤ) → length names ≤ m → get key_order groups (m, v) ≡ None) where
-
   abbrev before : KindIndex
   before = record { attributes = names; groups = groups }
 

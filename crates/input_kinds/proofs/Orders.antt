@@ -8,7 +8,6 @@ use Rattle.std.proofs.lemmas.List.Sorted.{sum_by-IsPermutation, IsNonDecreasingB
 use Rattle.std.proofs.lemmas.Bool.{eqb-true, eq-eqb, leb-true, leb-false, ltb-true, ltb-false}
 use Rattle.input_kinds.specs.Ascending.{placed, ascending, times, Ascends}
 
-
 -- once where a test holds
 abbrev once : Bool → ℕ
 once b = cond b 1 0

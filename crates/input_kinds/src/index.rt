@@ -137,11 +137,7 @@ fn key_of(symbols: &Symbols) -> Key {
 }
 
 // The number of an attribute, which is added if it is new.
-fn number_of(
-    alloc: Global,
-    attribute: &[u8],
-    attributes: &mut Names,
-) -> Result<u32, AllocError>
+fn number_of(alloc: Global, attribute: &[u8], attributes: &mut Names) -> Result<u32, AllocError>
     ensures { IfOk result (λ n. HasNumber attributes.old attribute.now n attributes.new) }
 {
     if let Some(number) = attributes.find(attribute) {
