@@ -4,31 +4,33 @@ use m_fixed::{Amount, AmountFault, read_amount, write_amount};
 /// The greatest amount, in millionths.
 const TOP: i128 = 10_000_000_000_000_000_000;
 
+/// Texts, the millionths that they are read as, and what is printed of these.
+const READ_AND_WRITTEN: [(&[u8], i128, &[u8]); 12] = [
+    (b"0.1234565", 123_457, b"0.123457"),
+    (b"-0.1234565", -123_457, b"-0.123457"),
+    (b"0.12345649", 123_456, b"0.123456"),
+    (b"10000000000000.0000004", TOP, b"10000000000000"),
+    (
+        b"-10000000000000",
+        -10_000_000_000_000_000_000,
+        b"-10000000000000",
+    ),
+    (
+        b"-9999999999999.999999",
+        -9_999_999_999_999_999_999,
+        b"-9999999999999.999999",
+    ),
+    (b"-0", 0, b"0"),
+    (b"-1.5005", -1_500_500, b"-1.5005"),
+    (b"08.10", 8_100_000, b"8.1"),
+    (b"0.000001", 1, b"0.000001"),
+    (b"0.0000005", 1, b"0.000001"),
+    (b"2.9999995", 3_000_000, b"3"),
+];
+
 #[test]
 fn amounts_are_read_and_written(rt: HostRuntime) {
-    let rows: [(&[u8], i128, &[u8]); 12] = [
-        (b"0.1234565", 123_457, b"0.123457"),
-        (b"-0.1234565", -123_457, b"-0.123457"),
-        (b"0.12345649", 123_456, b"0.123456"),
-        (b"10000000000000.0000004", TOP, b"10000000000000"),
-        (
-            b"-10000000000000",
-            -10_000_000_000_000_000_000,
-            b"-10000000000000",
-        ),
-        (
-            b"-9999999999999.999999",
-            -9_999_999_999_999_999_999,
-            b"-9999999999999.999999",
-        ),
-        (b"-0", 0, b"0"),
-        (b"-1.5005", -1_500_500, b"-1.5005"),
-        (b"08.10", 8_100_000, b"8.1"),
-        (b"0.000001", 1, b"0.000001"),
-        (b"0.0000005", 1, b"0.000001"),
-        (b"2.9999995", 3_000_000, b"3"),
-    ];
-    for (text, millionths, printed) in rows {
+    for (text, millionths, printed) in READ_AND_WRITTEN {
         let read = read_amount(text);
         assert!(rt; read.is_ok(), "{millionths}");
         if let Ok(a) = read {
@@ -41,30 +43,32 @@ fn amounts_are_read_and_written(rt: HostRuntime) {
     }
 }
 
+/// Texts that are no amounts.
+const REFUSED: [(&[u8], AmountFault); 16] = [
+    (b"10000000000000.0000005", AmountFault::TooGreat),
+    (b"-10000000000000.0000005", AmountFault::TooGreat),
+    (b"10000000000001", AmountFault::TooGreat),
+    (
+        b"99999999999999999999999999999999999999999",
+        AmountFault::TooGreat,
+    ),
+    (b".5", AmountFault::NotAnAmount),
+    (b"1.", AmountFault::NotAnAmount),
+    (b"+1", AmountFault::NotAnAmount),
+    (b"", AmountFault::NotAnAmount),
+    (b"-", AmountFault::NotAnAmount),
+    (b"--1", AmountFault::NotAnAmount),
+    (b".", AmountFault::NotAnAmount),
+    (b"1e3", AmountFault::NotAnAmount),
+    (b"1.2.3", AmountFault::NotAnAmount),
+    (b"1.-2", AmountFault::NotAnAmount),
+    (b" 1", AmountFault::NotAnAmount),
+    (b"99999999999999999999x", AmountFault::NotAnAmount),
+];
+
 #[test]
 fn other_texts_are_refused(rt: HostRuntime) {
-    let faults: [(&[u8], AmountFault); 16] = [
-        (b"10000000000000.0000005", AmountFault::TooGreat),
-        (b"-10000000000000.0000005", AmountFault::TooGreat),
-        (b"10000000000001", AmountFault::TooGreat),
-        (
-            b"99999999999999999999999999999999999999999",
-            AmountFault::TooGreat,
-        ),
-        (b".5", AmountFault::NotAnAmount),
-        (b"1.", AmountFault::NotAnAmount),
-        (b"+1", AmountFault::NotAnAmount),
-        (b"", AmountFault::NotAnAmount),
-        (b"-", AmountFault::NotAnAmount),
-        (b"--1", AmountFault::NotAnAmount),
-        (b".", AmountFault::NotAnAmount),
-        (b"1e3", AmountFault::NotAnAmount),
-        (b"1.2.3", AmountFault::NotAnAmount),
-        (b"1.-2", AmountFault::NotAnAmount),
-        (b" 1", AmountFault::NotAnAmount),
-        (b"99999999999999999999x", AmountFault::NotAnAmount),
-    ];
-    for (text, fault) in faults {
+    for (text, fault) in REFUSED {
         assert_eq!(rt; read_amount(text), Err(fault));
     }
 }

@@ -21,17 +21,19 @@ fn many_files(alloc: Global, count: u32) -> Result<Vec<u8>, AllocError> {
     Ok(bytes)
 }
 
+/// Lists, their application and their names.
+const LISTS: [(&[u8], &[u8], &[&[u8]]); 6] = [
+    (b"iliad\r\na.m\r\n", b"iliad", &[b"a.m"]),
+    (b"iliad", b"iliad", &[]),
+    (b"iliad\n\n\na.m\n\r\nb.m", b"iliad", &[b"a.m", b"b.m"]),
+    (b"1AJ\na.m\r", b"1AJ", &[b"a.m\r"]),
+    (b"regle\na.m\na.m\n", b"regle", &[b"a.m", b"a.m"]),
+    (b"_\n a.m ", b"_", &[b" a.m "]),
+];
+
 #[test]
 fn lists(rt: HostRuntime) -> Result<(), Fail> {
-    let rows: [(&[u8], &[u8], &[&[u8]]); 6] = [
-        (b"iliad\r\na.m\r\n", b"iliad", &[b"a.m"]),
-        (b"iliad", b"iliad", &[]),
-        (b"iliad\n\n\na.m\n\r\nb.m", b"iliad", &[b"a.m", b"b.m"]),
-        (b"1AJ\na.m\r", b"1AJ", &[b"a.m\r"]),
-        (b"regle\na.m\na.m\n", b"regle", &[b"a.m", b"a.m"]),
-        (b"_\n a.m ", b"_", &[b" a.m "]),
-    ];
-    for (bytes, application, names) in rows {
+    for (bytes, application, names) in LISTS {
         let listing = read_list(rt.alloc(), bytes)?;
         assert!(rt; listing.application.bytes() == application, "{bytes:?}");
         let files = listing.files.as_slice();
@@ -43,20 +45,22 @@ fn lists(rt: HostRuntime) -> Result<(), Fail> {
     Ok(())
 }
 
+/// Lists that are refused, and at which line.
+const FAULTS: [(&[u8], u32); 9] = [
+    (b"", 1),
+    (b"\na.m\n", 1),
+    (b"iliad\r", 1),
+    (b"2020\na.m\n", 1),
+    (b"iliad 2\na.m\n", 1),
+    (b"d\xe9\n", 1),
+    (b"iliad\n\nd\xe9.m\n", 3),
+    (b"iliad\na.m\n\xff\n\xfe\n", 3),
+    (b"iliad-\n\xff\n", 1),
+];
+
 #[test]
 fn faults(rt: HostRuntime) {
-    let rows: [(&[u8], u32); 9] = [
-        (b"", 1),
-        (b"\na.m\n", 1),
-        (b"iliad\r", 1),
-        (b"2020\na.m\n", 1),
-        (b"iliad 2\na.m\n", 1),
-        (b"d\xe9\n", 1),
-        (b"iliad\n\nd\xe9.m\n", 3),
-        (b"iliad\na.m\n\xff\n\xfe\n", 3),
-        (b"iliad-\n\xff\n", 1),
-    ];
-    for (bytes, line) in rows {
+    for (bytes, line) in FAULTS {
         assert_eq!(rt;
             fault_of(rt.alloc(), bytes),
             Some(ListFault::BadLine(line)),

@@ -5,6 +5,14 @@ use m_places::Name;
 use std::alloc::Global;
 use std::test::Fail;
 
+/// What is looked for, and its number.
+const FOUND: [(&str, Option<u32>); 4] = [
+    ("REV", Some(0)),
+    ("SEUIL", Some(1)),
+    ("", Some(2)),
+    ("RE", None),
+];
+
 #[test]
 fn finds_names_by_their_bytes(rt: HostRuntime) -> Result<(), Fail> {
     let alloc = rt.alloc();
@@ -13,12 +21,7 @@ fn finds_names_by_their_bytes(rt: HostRuntime) -> Result<(), Fail> {
         assert_eq!(rt; names.add(alloc, name.as_bytes())?, fresh, "{name}");
     }
     assert_eq!(rt; names.len(), 3);
-    for (name, number) in [
-        ("REV", Some(0)),
-        ("SEUIL", Some(1)),
-        ("", Some(2)),
-        ("RE", None),
-    ] {
+    for (name, number) in FOUND {
         assert_eq!(rt; names.find(name.as_bytes()), number, "{name}");
     }
     Ok(())
@@ -42,15 +45,18 @@ fn told(alloc: Global, line: &[u8]) -> Result<(u32, Option<NamesFault>), Fail> {
     }
 }
 
+/// Names in a line, how many they are, and the first that stands again.
+const AGAIN: [(&str, u32, Option<NamesFault>); 5] = [
+    ("A", 1, None),
+    ("REV SEUIL R REVE", 4, None),
+    ("A B A B", 0, Some(NamesFault::Repeated(0, 2))),
+    ("A B C B A", 0, Some(NamesFault::Repeated(1, 3))),
+    ("A A", 0, Some(NamesFault::Repeated(0, 1))),
+];
+
 #[test]
 fn tells_the_first_name_that_stands_again(rt: HostRuntime) -> Result<(), Fail> {
-    for (line, count, fault) in [
-        ("A", 1, None),
-        ("REV SEUIL R REVE", 4, None),
-        ("A B A B", 0, Some(NamesFault::Repeated(0, 2))),
-        ("A B C B A", 0, Some(NamesFault::Repeated(1, 3))),
-        ("A A", 0, Some(NamesFault::Repeated(0, 1))),
-    ] {
+    for (line, count, fault) in AGAIN {
         assert_eq!(rt;
             told(rt.alloc(), line.as_bytes())?,
             (count, fault),

@@ -45,6 +45,14 @@ fn files_of(alloc: Global, failing: &[u64]) -> Result<MemFiles, AllocError> {
     Ok(MemFiles::new(alloc, files, Vec::from_slice(alloc, failing)?))
 }
 
+/// A name, a limit, and how many bytes are fetched.
+const FETCHES: [(&str, u64, Result<usize, FetchFault>); 4] = [
+    ("a.m", 3, Err(FetchFault::TooLong)),
+    ("c.m", 9, Err(FetchFault::Failed)),
+    ("a.m", 9, Err(FetchFault::Failed)),
+    ("b.m", 0, Ok(0)),
+];
+
 #[test]
 fn files_in_memory(rt: HostRuntime) -> Result<(), Fail> {
     let alloc = rt.alloc();
@@ -55,12 +63,7 @@ fn files_in_memory(rt: HostRuntime) -> Result<(), Fail> {
         b"abcd".as_slice(),
         "the first of its name"
     );
-    for (name, limit, want) in [
-        ("a.m", 3, Err(FetchFault::TooLong)),
-        ("c.m", 9, Err(FetchFault::Failed)),
-        ("a.m", 9, Err(FetchFault::Failed)),
-        ("b.m", 0, Ok(0)),
-    ] {
+    for (name, limit, want) in FETCHES {
         let got = fetched(&mut files, alloc, name.as_bytes(), limit).map(|bytes| bytes.len());
         assert_eq!(rt; got, want, "at {name}, {limit}");
     }
@@ -92,16 +95,19 @@ fn input_in_memory(rt: HostRuntime) -> Result<(), Fail> {
     Ok(())
 }
 
+/// How long a piece is, the write that fails, whether all is given, and what is written.
+const OUTPUTS: [(usize, u64, bool, &str); 4] = [
+    (1, 3, false, "IR"),
+    (5, 9, true, "IRN = 1500.5\n"),
+    (5, 3, false, "IRN = 1500"),
+    (13, 1, false, ""),
+];
+
 #[test]
 fn output_in_memory(rt: HostRuntime) -> Result<(), Fail> {
     let alloc = rt.alloc();
     let text = b"IRN = 1500.5\n";
-    for (piece, failing, given, want) in [
-        (1, 3, false, "IR"),
-        (5, 9, true, "IRN = 1500.5\n"),
-        (5, 3, false, "IRN = 1500"),
-        (13, 1, false, ""),
-    ] {
+    for (piece, failing, given, want) in OUTPUTS {
         let mut out = MemSink::new(alloc, piece, vec![in alloc; failing]?)?;
         assert_eq!(rt; out.give(&[]), Ok(0), "an empty piece is not counted");
         assert_eq!(rt;

@@ -2,19 +2,21 @@
 use m_text::{WordOrNumber, first_line, is_text, is_word, is_word_byte, word_or_number};
 use std::test::Fail;
 
+/// Texts, their first line and the rest.
+const FIRST_LINES: [(&[u8], &[u8], &[u8]); 8] = [
+    (b"a\nb", b"a", b"b"),
+    (b"\nb", b"", b"b"),
+    (b"\n", b"", b""),
+    (b"a\r\nb", b"a", b"b"),
+    (b"a\r\r\n", b"a\r", b""),
+    (b"\r\n", b"", b""),
+    (b"a\r", b"a\r", b""),
+    (b"a\rb\n", b"a\rb", b""),
+];
+
 #[test]
 fn first_lines(rt: HostRuntime) -> Result<(), Fail> {
-    let rows: [(&[u8], &[u8], &[u8]); 8] = [
-        (b"a\nb", b"a", b"b"),
-        (b"\nb", b"", b"b"),
-        (b"\n", b"", b""),
-        (b"a\r\nb", b"a", b"b"),
-        (b"a\r\r\n", b"a\r", b""),
-        (b"\r\n", b"", b""),
-        (b"a\r", b"a\r", b""),
-        (b"a\rb\n", b"a\rb", b""),
-    ];
-    for (text, line, rest) in rows {
+    for (text, line, rest) in FIRST_LINES {
         let (first, behind) = first_line(text).ok_or("no line")?;
         assert!(rt; first == line, "the line of {text:?} is {first:?}");
         assert!(rt; behind == rest, "the rest of {text:?} is {behind:?}");
@@ -30,19 +32,21 @@ fn texts(rt: HostRuntime) {
     assert!(rt; !is_text(b"d\xe9clar\xe9s"));
 }
 
+/// Texts, and whether they are words.
+const WORDS: [(&[u8], bool); 8] = [
+    (b"iliad", true),
+    (b"regle", true),
+    (b"1AJ", true),
+    (b"_", true),
+    (b"", false),
+    (b"2020", false),
+    (b"a-b", false),
+    (b"d\xe9ja", false),
+];
+
 #[test]
 fn words(rt: HostRuntime) {
-    let rows: [(&[u8], bool); 8] = [
-        (b"iliad", true),
-        (b"regle", true),
-        (b"1AJ", true),
-        (b"_", true),
-        (b"", false),
-        (b"2020", false),
-        (b"a-b", false),
-        (b"d\xe9ja", false),
-    ];
-    for (text, word) in rows {
+    for (text, word) in WORDS {
         assert!(rt; is_word(text) == word, "{text:?}");
     }
 }
@@ -55,20 +59,22 @@ fn begun(text: &[u8]) -> Option<WordOrNumber> {
     Some(word_or_number(text, 0))
 }
 
+/// Texts, and what begins at their front.
+const BEGUN: [(&[u8], Option<WordOrNumber>); 9] = [
+    (b"1AJ+2", Some(WordOrNumber::Word(3))),
+    (b"sinon 1", Some(WordOrNumber::Word(5))),
+    (b"2.50..3", Some(WordOrNumber::Number(4))),
+    (b"08..10", Some(WordOrNumber::Number(2))),
+    (b"1.", Some(WordOrNumber::Number(1))),
+    (b"1.a", Some(WordOrNumber::Number(1))),
+    (b"1.5a", Some(WordOrNumber::Number(3))),
+    (b".5", None),
+    (b"", None),
+];
+
 #[test]
 fn words_and_numbers(rt: HostRuntime) {
-    let rows: [(&[u8], Option<WordOrNumber>); 9] = [
-        (b"1AJ+2", Some(WordOrNumber::Word(3))),
-        (b"sinon 1", Some(WordOrNumber::Word(5))),
-        (b"2.50..3", Some(WordOrNumber::Number(4))),
-        (b"08..10", Some(WordOrNumber::Number(2))),
-        (b"1.", Some(WordOrNumber::Number(1))),
-        (b"1.a", Some(WordOrNumber::Number(1))),
-        (b"1.5a", Some(WordOrNumber::Number(3))),
-        (b".5", None),
-        (b"", None),
-    ];
-    for (text, found) in rows {
+    for (text, found) in BEGUN {
         assert!(rt; begun(text) == found, "{text:?}");
     }
 }

@@ -133,76 +133,77 @@ const LIST: &str = "iliad\na.m\n";
 const USAGE: &str =
     "usage: m_tax run|serve LIST DRIVER REQUESTS HOUSEHOLD, batch LIST DRIVER REQUESTS TABLE, compile LIST DRIVER REQUESTS, exec CODEFILE HOUSEHOLD, large N\n";
 
+/// The words, the list, the number of the fetch that fails, the text, the names that were tried.
+const FETCHES: [(&str, &str, u64, &str, &str); 15] = [
+    (RUN, LIST, 1, "unreadable l.txt\n", "l.txt! "),
+    (RUN, LIST, 2, "unreadable a.m\n", "l.txt a.m! "),
+    (RUN, LIST, 3, "unreadable h.csv\n", "l.txt a.m h.csv! "),
+    (RUN, LIST, 4, "IRN = 1500.5\n", "l.txt a.m h.csv "),
+    (
+        "run x.txt - - h.csv",
+        LIST,
+        0,
+        "unreadable x.txt\n",
+        "x.txt! ",
+    ),
+    (RUN, "iliad\nx.m\n", 0, "unreadable x.m\n", "l.txt x.m! "),
+    (
+        "run l.txt - - x.csv",
+        LIST,
+        0,
+        "unreadable x.csv\n",
+        "l.txt a.m x.csv! ",
+    ),
+    ("run - - - -", LIST, 0, "unreadable -\n", "-! "),
+    (
+        "run l.txt d.txt r.txt h.csv",
+        LIST,
+        0,
+        "unreadable d.txt\n",
+        "l.txt a.m d.txt! ",
+    ),
+    (
+        "run l.txt - r.txt h.csv",
+        LIST,
+        0,
+        "unreadable r.txt\n",
+        "l.txt a.m r.txt! ",
+    ),
+    (RUN, "", 0, "refused list line 1\n", "l.txt "),
+    (
+        RUN,
+        "iliad\na.m\na.m\n",
+        0,
+        "refused a.m line 1 byte 0: declared twice REV\n",
+        "l.txt a.m a.m h.csv ",
+    ),
+    (
+        RUN,
+        "iliad\na.m\nx.m\n",
+        0,
+        "unreadable x.m\n",
+        "l.txt a.m x.m! ",
+    ),
+    (
+        RUN,
+        "iliad\na.m\na.m\n",
+        3,
+        "unreadable a.m\n",
+        "l.txt a.m a.m! ",
+    ),
+    (
+        RUN,
+        "iliad\nl.txt\n",
+        0,
+        "refused l.txt line 2 byte 7: bad byte\n",
+        "l.txt l.txt h.csv ",
+    ),
+];
+
 #[test]
 fn fetches(rt: HostRuntime) -> Result<(), Fail> {
     let alloc = rt.alloc();
-    // the words, the list, the number of the fetch that fails, the text, the names that were tried
-    let table = [
-        (RUN, LIST, 1, "unreadable l.txt\n", "l.txt! "),
-        (RUN, LIST, 2, "unreadable a.m\n", "l.txt a.m! "),
-        (RUN, LIST, 3, "unreadable h.csv\n", "l.txt a.m h.csv! "),
-        (RUN, LIST, 4, "IRN = 1500.5\n", "l.txt a.m h.csv "),
-        (
-            "run x.txt - - h.csv",
-            LIST,
-            0,
-            "unreadable x.txt\n",
-            "x.txt! ",
-        ),
-        (RUN, "iliad\nx.m\n", 0, "unreadable x.m\n", "l.txt x.m! "),
-        (
-            "run l.txt - - x.csv",
-            LIST,
-            0,
-            "unreadable x.csv\n",
-            "l.txt a.m x.csv! ",
-        ),
-        ("run - - - -", LIST, 0, "unreadable -\n", "-! "),
-        (
-            "run l.txt d.txt r.txt h.csv",
-            LIST,
-            0,
-            "unreadable d.txt\n",
-            "l.txt a.m d.txt! ",
-        ),
-        (
-            "run l.txt - r.txt h.csv",
-            LIST,
-            0,
-            "unreadable r.txt\n",
-            "l.txt a.m r.txt! ",
-        ),
-        (RUN, "", 0, "refused list line 1\n", "l.txt "),
-        (
-            RUN,
-            "iliad\na.m\na.m\n",
-            0,
-            "refused a.m line 1 byte 0: declared twice REV\n",
-            "l.txt a.m a.m h.csv ",
-        ),
-        (
-            RUN,
-            "iliad\na.m\nx.m\n",
-            0,
-            "unreadable x.m\n",
-            "l.txt a.m x.m! ",
-        ),
-        (
-            RUN,
-            "iliad\na.m\na.m\n",
-            3,
-            "unreadable a.m\n",
-            "l.txt a.m a.m! ",
-        ),
-        (
-            RUN,
-            "iliad\nl.txt\n",
-            0,
-            "refused l.txt line 2 byte 7: bad byte\n",
-            "l.txt l.txt h.csv ",
-        ),
-    ];
-    for (line, list, failing, text, tried) in table {
+    for (line, list, failing, text, tried) in FETCHES {
         let mut files = files_with(alloc, "l.txt", Vec::from_slice(alloc, list.as_bytes())?)?;
         files.failing.push(failing)?;
         let status = match text.as_bytes() {
@@ -220,15 +221,17 @@ fn fetches(rt: HostRuntime) -> Result<(), Fail> {
     Ok(())
 }
 
+/// The file that is too long, the text, the names that were tried.
+const LIMITS: [(&str, &str, &str); 3] = [
+    ("l.txt", "refused file too long l.txt\n", "l.txt "),
+    ("a.m", "refused file too long a.m\n", "l.txt a.m "),
+    ("h.csv", "refused file too long h.csv\n", "l.txt a.m h.csv "),
+];
+
 #[test]
 fn limits(rt: HostRuntime) -> Result<(), Fail> {
     let alloc = rt.alloc();
-    let table = [
-        ("l.txt", "refused file too long l.txt\n", "l.txt "),
-        ("a.m", "refused file too long a.m\n", "l.txt a.m "),
-        ("h.csv", "refused file too long h.csv\n", "l.txt a.m h.csv "),
-    ];
-    for (name, text, tried) in table {
+    for (name, text, tried) in LIMITS {
         let bytes = vec![in alloc; b' '; FILE_BYTES as usize + 1]?;
         let mut files = files_with(alloc, name, bytes)?;
         let want = Wanted {
@@ -241,20 +244,22 @@ fn limits(rt: HostRuntime) -> Result<(), Fail> {
     Ok(())
 }
 
+/// The words, the text, and the status where all of it is written.
+const WRITES: [(&str, &str, Status); 4] = [
+    (RUN, "IRN = 1500.5\n", Status::Done),
+    ("run x - - h.csv", "unreadable x\n", Status::ReadFault),
+    (
+        "run d.txt - - h.csv",
+        "refused list line 1\n",
+        Status::Refused,
+    ),
+    ("run", USAGE, Status::Usage),
+];
+
 #[test]
 fn fails_to_write(rt: HostRuntime) -> Result<(), Fail> {
     let alloc = rt.alloc();
-    let table = [
-        (RUN, "IRN = 1500.5\n", Status::Done),
-        ("run x - - h.csv", "unreadable x\n", Status::ReadFault),
-        (
-            "run d.txt - - h.csv",
-            "refused list line 1\n",
-            Status::Refused,
-        ),
-        ("run", USAGE, Status::Usage),
-    ];
-    for (line, text, want) in table {
+    for (line, text, want) in WRITES {
         for before in 0..text.len() as u64 + 1 {
             let mut files = files_with(alloc, "d.txt", Vec::new(alloc))?;
             let mut out = MemSink::new(alloc, 1, vec![in alloc; before + 1]?)?;

@@ -26,81 +26,85 @@ fn place(byte: u32, line: u32) -> Place {
     }
 }
 
+/// Faults of words and files, and their lines.
+const WORDS_AND_FILES: [(Fault<'static>, &str); 8] = [
+    (
+        Fault::Usage,
+        "usage: m_tax run|serve LIST DRIVER REQUESTS HOUSEHOLD, batch LIST DRIVER REQUESTS TABLE, compile LIST DRIVER REQUESTS, exec CODEFILE HOUSEHOLD, large N\n",
+    ),
+    (Fault::ListLine(1), "refused list line 1\n"),
+    (
+        Fault::ListLine(4_294_967_295),
+        "refused list line 4294967295\n",
+    ),
+    (Fault::TooManyFiles, "refused too many files\n"),
+    (
+        Fault::FileTooLong(b"/dev/zero"),
+        "refused file too long /dev/zero\n",
+    ),
+    (Fault::InputTooLong, "refused input too long\n"),
+    (Fault::Unreadable(b"c.m"), "unreadable c.m\n"),
+    (Fault::UnreadableInput, "unreadable input\n"),
+];
+
 #[test]
 fn faults_of_words_and_files(rt: HostRuntime) -> Result<(), Fail> {
     let alloc = rt.alloc();
-    let rows = [
-        (
-            Fault::Usage,
-            "usage: m_tax run|serve LIST DRIVER REQUESTS HOUSEHOLD, batch LIST DRIVER REQUESTS TABLE, compile LIST DRIVER REQUESTS, exec CODEFILE HOUSEHOLD, large N\n",
-        ),
-        (Fault::ListLine(1), "refused list line 1\n"),
-        (
-            Fault::ListLine(4_294_967_295),
-            "refused list line 4294967295\n",
-        ),
-        (Fault::TooManyFiles, "refused too many files\n"),
-        (
-            Fault::FileTooLong(b"/dev/zero"),
-            "refused file too long /dev/zero\n",
-        ),
-        (Fault::InputTooLong, "refused input too long\n"),
-        (Fault::Unreadable(b"c.m"), "unreadable c.m\n"),
-        (Fault::UnreadableInput, "unreadable input\n"),
-    ];
-    for (fault, line) in rows {
+    for (fault, line) in WORDS_AND_FILES {
         check(alloc, fault, line)?;
     }
     Ok(())
 }
 
+/// Faults of line 1, byte 43 of `a.m`, and their lines.
+const AT_PLACES: [(PlaceFault, &str); 11] = [
+    (
+        PlaceFault::BadByte,
+        "refused a.m line 1 byte 43: bad byte\n",
+    ),
+    (
+        PlaceFault::OpenString,
+        "refused a.m line 1 byte 43: open string\n",
+    ),
+    (
+        PlaceFault::NumberTooGreat,
+        "refused a.m line 1 byte 43: number too great\n",
+    ),
+    (
+        PlaceFault::TooDeep,
+        "refused a.m line 1 byte 43: too deep\n",
+    ),
+    (PlaceFault::Syntax, "refused a.m line 1 byte 43: syntax\n"),
+    (
+        PlaceFault::TableSize,
+        "refused a.m line 1 byte 43: table size\n",
+    ),
+    (
+        PlaceFault::TooManyCells,
+        "refused a.m line 1 byte 43: too many cells\n",
+    ),
+    (
+        PlaceFault::BadRange,
+        "refused a.m line 1 byte 43: bad range\n",
+    ),
+    (
+        PlaceFault::LoopTooLarge,
+        "refused a.m line 1 byte 43: loop too large\n",
+    ),
+    (
+        PlaceFault::UnboundIndex,
+        "refused a.m line 1 byte 43: unbound index\n",
+    ),
+    (
+        PlaceFault::TooManyParts,
+        "refused a.m line 1 byte 43: too many parts\n",
+    ),
+];
+
 #[test]
 fn faults_at_places(rt: HostRuntime) -> Result<(), Fail> {
     let alloc = rt.alloc();
-    let rows = [
-        (
-            PlaceFault::BadByte,
-            "refused a.m line 1 byte 43: bad byte\n",
-        ),
-        (
-            PlaceFault::OpenString,
-            "refused a.m line 1 byte 43: open string\n",
-        ),
-        (
-            PlaceFault::NumberTooGreat,
-            "refused a.m line 1 byte 43: number too great\n",
-        ),
-        (
-            PlaceFault::TooDeep,
-            "refused a.m line 1 byte 43: too deep\n",
-        ),
-        (PlaceFault::Syntax, "refused a.m line 1 byte 43: syntax\n"),
-        (
-            PlaceFault::TableSize,
-            "refused a.m line 1 byte 43: table size\n",
-        ),
-        (
-            PlaceFault::TooManyCells,
-            "refused a.m line 1 byte 43: too many cells\n",
-        ),
-        (
-            PlaceFault::BadRange,
-            "refused a.m line 1 byte 43: bad range\n",
-        ),
-        (
-            PlaceFault::LoopTooLarge,
-            "refused a.m line 1 byte 43: loop too large\n",
-        ),
-        (
-            PlaceFault::UnboundIndex,
-            "refused a.m line 1 byte 43: unbound index\n",
-        ),
-        (
-            PlaceFault::TooManyParts,
-            "refused a.m line 1 byte 43: too many parts\n",
-        ),
-    ];
-    for (fault, line) in rows {
+    for (fault, line) in AT_PLACES {
         check(alloc, Fault::AtPlace(b"a.m", place(43, 1), fault), line)?;
     }
     check(
@@ -110,44 +114,46 @@ fn faults_at_places(rt: HostRuntime) -> Result<(), Fail> {
     )
 }
 
+/// Faults about `REVC` at line 5, byte 154 of `b.m`, and their lines.
+const ABOUT_NAMES: [(NameFault, &str); 8] = [
+    (
+        NameFault::DeclaredTwice,
+        "refused b.m line 5 byte 154: declared twice REVC\n",
+    ),
+    (
+        NameFault::AliasTwice,
+        "refused b.m line 5 byte 154: alias twice REVC\n",
+    ),
+    (
+        NameFault::UnknownName,
+        "refused b.m line 5 byte 154: unknown name REVC\n",
+    ),
+    (
+        NameFault::NotATable,
+        "refused b.m line 5 byte 154: not a table REVC\n",
+    ),
+    (
+        NameFault::IsATable,
+        "refused b.m line 5 byte 154: is a table REVC\n",
+    ),
+    (
+        NameFault::BadTarget,
+        "refused b.m line 5 byte 154: bad target REVC\n",
+    ),
+    (
+        NameFault::DefinedTwice,
+        "refused b.m line 5 byte 154: defined twice REVC\n",
+    ),
+    (
+        NameFault::UnknownError,
+        "refused b.m line 5 byte 154: unknown error REVC\n",
+    ),
+];
+
 #[test]
 fn faults_about_names(rt: HostRuntime) -> Result<(), Fail> {
     let alloc = rt.alloc();
-    let rows = [
-        (
-            NameFault::DeclaredTwice,
-            "refused b.m line 5 byte 154: declared twice REVC\n",
-        ),
-        (
-            NameFault::AliasTwice,
-            "refused b.m line 5 byte 154: alias twice REVC\n",
-        ),
-        (
-            NameFault::UnknownName,
-            "refused b.m line 5 byte 154: unknown name REVC\n",
-        ),
-        (
-            NameFault::NotATable,
-            "refused b.m line 5 byte 154: not a table REVC\n",
-        ),
-        (
-            NameFault::IsATable,
-            "refused b.m line 5 byte 154: is a table REVC\n",
-        ),
-        (
-            NameFault::BadTarget,
-            "refused b.m line 5 byte 154: bad target REVC\n",
-        ),
-        (
-            NameFault::DefinedTwice,
-            "refused b.m line 5 byte 154: defined twice REVC\n",
-        ),
-        (
-            NameFault::UnknownError,
-            "refused b.m line 5 byte 154: unknown error REVC\n",
-        ),
-    ];
-    for (fault, line) in rows {
+    for (fault, line) in ABOUT_NAMES {
         check(
             alloc,
             Fault::AtName(b"b.m", place(154, 5), fault, b"REVC"),
@@ -161,47 +167,49 @@ fn faults_about_names(rt: HostRuntime) -> Result<(), Fail> {
     )
 }
 
+/// Faults of drivers and requests, and their lines.
+const OF_DRIVERS: [(Fault<'static>, &str); 11] = [
+    (
+        Fault::DriverLine(3, DriverFault::BadToken),
+        "refused driver line 3: bad token\n",
+    ),
+    (
+        Fault::DriverLine(65, DriverFault::TooDeep),
+        "refused driver line 65: too deep\n",
+    ),
+    (
+        Fault::DriverLine(1, DriverFault::Syntax),
+        "refused driver line 1: syntax\n",
+    ),
+    (
+        Fault::DriverName(4, DriverNameFault::FunctionTwice, b"f"),
+        "refused driver line 4: function twice f\n",
+    ),
+    (
+        Fault::DriverName(2, DriverNameFault::Unknown, b"REVC"),
+        "refused driver line 2: unknown REVC\n",
+    ),
+    (
+        Fault::DriverName(2, DriverNameFault::BadTarget, b"SEUIL"),
+        "refused driver line 2: bad target SEUIL\n",
+    ),
+    (Fault::NoMain, "refused driver: no main\n"),
+    (
+        Fault::DriverTooLarge(4_000_001),
+        "refused driver too large 4000001\n",
+    ),
+    (
+        Fault::DriverTooLarge(18_446_744_073_709_551_615),
+        "refused driver too large 18446744073709551615\n",
+    ),
+    (Fault::RequestLine(1), "refused requests line 1\n"),
+    (Fault::TooManyRequests, "refused too many requests\n"),
+];
+
 #[test]
 fn faults_of_drivers(rt: HostRuntime) -> Result<(), Fail> {
     let alloc = rt.alloc();
-    let rows = [
-        (
-            Fault::DriverLine(3, DriverFault::BadToken),
-            "refused driver line 3: bad token\n",
-        ),
-        (
-            Fault::DriverLine(65, DriverFault::TooDeep),
-            "refused driver line 65: too deep\n",
-        ),
-        (
-            Fault::DriverLine(1, DriverFault::Syntax),
-            "refused driver line 1: syntax\n",
-        ),
-        (
-            Fault::DriverName(4, DriverNameFault::FunctionTwice, b"f"),
-            "refused driver line 4: function twice f\n",
-        ),
-        (
-            Fault::DriverName(2, DriverNameFault::Unknown, b"REVC"),
-            "refused driver line 2: unknown REVC\n",
-        ),
-        (
-            Fault::DriverName(2, DriverNameFault::BadTarget, b"SEUIL"),
-            "refused driver line 2: bad target SEUIL\n",
-        ),
-        (Fault::NoMain, "refused driver: no main\n"),
-        (
-            Fault::DriverTooLarge(4_000_001),
-            "refused driver too large 4000001\n",
-        ),
-        (
-            Fault::DriverTooLarge(18_446_744_073_709_551_615),
-            "refused driver too large 18446744073709551615\n",
-        ),
-        (Fault::RequestLine(1), "refused requests line 1\n"),
-        (Fault::TooManyRequests, "refused too many requests\n"),
-    ];
-    for (fault, line) in rows {
+    for (fault, line) in OF_DRIVERS {
         check(alloc, fault, line)?;
     }
     Ok(())
@@ -227,39 +235,41 @@ fn faults_in_rings(rt: HostRuntime) -> Result<(), Fail> {
     )
 }
 
+/// Faults of households and code files, and their lines.
+const OF_HOUSEHOLDS_AND_CODE: [(Fault<'static>, &str); 9] = [
+    (Fault::HouseholdHeader, "refused household: bad header\n"),
+    (Fault::TooManyRows, "refused household: too many rows\n"),
+    (
+        Fault::HouseholdLine(2, RowFault::BadRow),
+        "refused household line 2: bad row\n",
+    ),
+    (
+        Fault::HouseholdLine(2, RowFault::UnknownCode),
+        "refused household line 2: unknown code\n",
+    ),
+    (
+        Fault::HouseholdLine(2, RowFault::BadAmount),
+        "refused household line 2: bad amount\n",
+    ),
+    (
+        Fault::HouseholdLine(3, RowFault::CodeTwice),
+        "refused household line 3: code twice\n",
+    ),
+    (Fault::CodeHeader, "refused code: bad header\n"),
+    (
+        Fault::CodeLine(6, CodeFault::BadLine),
+        "refused code line 6: bad line\n",
+    ),
+    (
+        Fault::CodeLine(7, CodeFault::ReadBeforeWrite),
+        "refused code line 7: read before write\n",
+    ),
+];
+
 #[test]
 fn faults_of_households_and_code(rt: HostRuntime) -> Result<(), Fail> {
     let alloc = rt.alloc();
-    let rows = [
-        (Fault::HouseholdHeader, "refused household: bad header\n"),
-        (Fault::TooManyRows, "refused household: too many rows\n"),
-        (
-            Fault::HouseholdLine(2, RowFault::BadRow),
-            "refused household line 2: bad row\n",
-        ),
-        (
-            Fault::HouseholdLine(2, RowFault::UnknownCode),
-            "refused household line 2: unknown code\n",
-        ),
-        (
-            Fault::HouseholdLine(2, RowFault::BadAmount),
-            "refused household line 2: bad amount\n",
-        ),
-        (
-            Fault::HouseholdLine(3, RowFault::CodeTwice),
-            "refused household line 3: code twice\n",
-        ),
-        (Fault::CodeHeader, "refused code: bad header\n"),
-        (
-            Fault::CodeLine(6, CodeFault::BadLine),
-            "refused code line 6: bad line\n",
-        ),
-        (
-            Fault::CodeLine(7, CodeFault::ReadBeforeWrite),
-            "refused code line 7: read before write\n",
-        ),
-    ];
-    for (fault, line) in rows {
+    for (fault, line) in OF_HOUSEHOLDS_AND_CODE {
         check(alloc, fault, line)?;
     }
     Ok(())

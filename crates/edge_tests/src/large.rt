@@ -52,18 +52,21 @@ fn bases(rt: HostRuntime) -> Result<(), Fail> {
     Ok(())
 }
 
+/// Households of so many codes.
+const HOUSEHOLDS: [(u32, &str); 4] = [
+    (1, "code,amount\nC0,0\n"),
+    (2, "code,amount\nC0,0\nC1,997\n"),
+    (3, "code,amount\nC0,0\nC1,997\nC2,1994\n"),
+    (
+        7,
+        "code,amount\nC0,0\nC1,997\nC2,1994\nC3,2991\nC4,3988\nC5,4985\nC6,982\n",
+    ),
+];
+
 #[test]
 fn households(rt: HostRuntime) -> Result<(), Fail> {
     let alloc = rt.alloc();
-    for (n, text) in [
-        (1, "code,amount\nC0,0\n"),
-        (2, "code,amount\nC0,0\nC1,997\n"),
-        (3, "code,amount\nC0,0\nC1,997\nC2,1994\n"),
-        (
-            7,
-            "code,amount\nC0,0\nC1,997\nC2,1994\nC3,2991\nC4,3988\nC5,4985\nC6,982\n",
-        ),
-    ] {
+    for (n, text) in HOUSEHOLDS {
         let household = large_household(alloc, n)?;
         assert_eq!(rt; household.as_slice(), text.as_bytes(), "of {n}");
     }

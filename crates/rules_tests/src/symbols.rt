@@ -118,20 +118,24 @@ fn check_cells(rt: &impl Abort, symbols: &Symbols) {
     }
 }
 
+/// Names, and the numbers of their variables.
+const NAMES: [(&[u8], Option<u32>); 6] = [
+    (b"REV", Some(0)),
+    (b"T", Some(1)),
+    (b"REW", Some(4)),
+    (b"RE", None),
+    (b"A20", None),
+    (b"1AJ", None),
+];
+
+/// Codes, and the numbers of their inputs.
+const CODES: [(&[u8], Option<u32>); 3] = [(b"1AJ", Some(0)), (b"1BJ", Some(1)), (b"REV", None)];
+
 fn check_names(rt: &impl Abort, symbols: &Symbols) {
-    let names: [(&[u8], Option<u32>); 6] = [
-        (b"REV", Some(0)),
-        (b"T", Some(1)),
-        (b"REW", Some(4)),
-        (b"RE", None),
-        (b"A20", None),
-        (b"1AJ", None),
-    ];
-    for (name, number) in names {
+    for (name, number) in NAMES {
         assert_eq!(rt; symbols.find(name), number);
     }
-    let codes: [(&[u8], Option<u32>); 3] = [(b"1AJ", Some(0)), (b"1BJ", Some(1)), (b"REV", None)];
-    for (code, number) in codes {
+    for (code, number) in CODES {
         assert_eq!(rt; symbols.by_alias(code), number);
     }
     assert_eq!(rt; symbols.find_error(b"A20".as_slice()), Some(0));
