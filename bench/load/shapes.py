@@ -834,6 +834,12 @@ def _(n):
     return case(rules, "A = 0\n", driver=["main():\n", *many(" A=exists(b=1)\n", n)])
 
 
+@shape("driver: 100,000 kinds of 100,000 inputs, in a function that isn't called", 100_000)
+def _(n):
+    rules = [ONE, *(f'I{k}:saisie a=2 alias C{k}:"";' for k in range(n))]
+    return case(rules, "A = 1\n", driver=["main():\n A=1\nf():\n", *many(" A=exists(a=2)\n", n)])
+
+
 @shape("driver: a partition of 1,000,000 inputs", 1_000_000)
 def _(n):
     rules = [ONE, *(f'I{k}:saisie a=1 alias C{k}:"";' for k in range(n - 1))]

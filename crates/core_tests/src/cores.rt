@@ -7,6 +7,7 @@ use crate::declared::{
     add, add_number, no_pairs, no_words, one_pair, other_at, refused, symbols_of, variable,
 };
 use driver_core::{CCommand, CCommandNode, CNode, CStep, CTerm, Core};
+use input_kinds::KindCells;
 use m_ast::{Item, Role};
 use m_fixed::{Amount, Op, Value, write_amount};
 use m_places::limits::FILE_BYTES;
@@ -51,7 +52,7 @@ const CORES: [(&[u8], &[u8]); 16] = [
         b"*main{2: 0 = one of 5 6}",
     ),
     (
-        b"main():\n  A = exists(avfisc = 3, 1)\n",
+        b"main():\n  A = exists(avfisc = 3, 4, 1, 3)\n",
         b"*main{2: 0 = one of 5 7}",
     ),
     (
@@ -211,14 +212,20 @@ fn add_value(out: &mut Vec<u8>, value: Value) {
     }
 }
 
+fn add_kind(alloc: Global, out: &mut Vec<u8>, kind: &KindCells) {
+    if let Ok(cells) = kind.cells(alloc) {
+        add_cells(alloc, out, &cells);
+    }
+}
+
 // A number, a cell, or those of a kind; any other term is shown by a point.
 fn add_leaf(alloc: Global, out: &mut Vec<u8>, term: &CTerm) {
     match &term.node {
         CNode::Lit(value) => add_value(out, *value),
         CNode::Cell(cell) => add_number(alloc, out, *cell),
-        CNode::Exists(cells) => {
+        CNode::Exists(kind) => {
             add(out, b"one of");
-            add_cells(alloc, out, cells.as_slice());
+            add_kind(alloc, out, kind);
         }
         CNode::Apply(_, _) => add(out, b"."),
         CNode::Chain(_, _) => add(out, b"."),
@@ -330,10 +337,10 @@ fn add_command(alloc: Global, out: &mut Vec<u8>, command: &CCommand) {
             add(out, b" else ");
             add_simples(alloc, out, other);
         }
-        CCommandNode::Partition(line, cells, block) => {
+        CCommandNode::Partition(line, kind, block) => {
             add_number(alloc, out, *line);
             add(out, b": without");
-            add_cells(alloc, out, cells.as_slice());
+            add_kind(alloc, out, kind);
             add(out, b" ");
             add_simples(alloc, out, block);
         }

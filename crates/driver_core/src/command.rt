@@ -4,6 +4,7 @@ ghost use Rattle.std.specs.Prelude.{◌≡◌};
 ghost use Rattle.driver_core.specs.ActionView.{action_of};
 
 use crate::CTerm;
+use input_kinds::KindCells;
 use m_places::Seq;
 use std::marker::Model;
 
@@ -26,7 +27,7 @@ pub enum CCommandNode {
     /// or undefined.
     If(u32, CTerm, Vec<CCommand>, Vec<CCommand>),
     /// Does the block with these cells undefined, and gives them their values back.
-    Partition(u32, Seq<u32>, Vec<CCommand>),
+    Partition(u32, KindCells, Vec<CCommand>),
     /// Does the body of the function of this number on a copy, of which these cells come back. So many names stand left of `<-`.
     Call(u32, u64, Seq<u32>, u32),
     /// Computes and checks the rules, and these cells get their values. So many names stand left of `<-`.

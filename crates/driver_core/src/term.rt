@@ -3,8 +3,8 @@
 ghost use Rattle.std.specs.Prelude.{◌≡◌};
 ghost use Rattle.driver_core.specs.FormulaView.{formula_of};
 
+use input_kinds::KindCells;
 use m_fixed::{Op, Value};
-use m_places::Seq;
 use std::marker::Model;
 
 /// A term of a driver. Contracts see it as a `Formula` of specs/.
@@ -27,7 +27,7 @@ pub enum CNode {
     /// A left fold: `A - B + C` begins with `A` and goes on by `- B` and by `+ C`. `cast(A)` is `A + 0`.
     Chain(Box<CTerm>, Vec<CStep>),
     /// Whether one of these cells is defined: those of the inputs of a kind, in order of declaration.
-    Exists(Seq<u32>),
+    Exists(KindCells),
 }
 
 /// How a left fold goes on: an operator and its right operand.

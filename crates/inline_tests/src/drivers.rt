@@ -5,6 +5,7 @@ ghost use Rattle.micro_m.specs.Bases.{IsValidBase};
 use driver_core::{CCommand, CCommandNode, CNode, CTerm, Core};
 use driver_weight::weight;
 use flat_code::{Answer, run_flat};
+use input_kinds::{KindCells, KindIndex};
 use m_ast::{Item, Role, VariableItem};
 use m_fixed::{Amount, Op, Value};
 use m_places::{Name, Place, Seq};
@@ -14,6 +15,7 @@ use mpp_inline::inline;
 use rule_order::order;
 use std::alloc::{AllocError, Global};
 use std::process::Abort;
+use std::rc::Rc;
 use std::test::Fail;
 
 // So many whole units.
@@ -24,7 +26,12 @@ fn units(n: i64) -> Value {
     }
 }
 
-fn variable(alloc: Global, name: &[u8], role: Role) -> Result<Item, AllocError> {
+fn variable(
+    alloc: Global,
+    name: &[u8],
+    role: Role,
+    pairs: Vec<(Name, Amount)>,
+) -> Result<Item, AllocError> {
     Ok(Item::Variable(VariableItem {
         name: Name::new(alloc, name)?,
         place: Place {
@@ -34,18 +41,29 @@ fn variable(alloc: Global, name: &[u8], role: Role) -> Result<Item, AllocError> 
         },
         role,
         words: Seq::from_vec(Vec::new(alloc)),
-        pairs: Seq::from_vec(Vec::new(alloc)),
+        pairs: Seq::from_vec(pairs),
         value_word: None,
     }))
 }
 
-// The input A, and B and C.
+// The input A, whose attribute `k` is 0, and B and C.
 fn items(alloc: Global) -> Result<Vec<Item>, AllocError> {
+    let mut pairs = Vec::new(alloc);
+    pairs.push((Name::new(alloc, b"k")?, Amount::zero()))?;
     let mut all = Vec::new(alloc);
-    all.push(variable(alloc, b"A", Role::Input(Name::new(alloc, b"1AJ")?))?)?;
-    all.push(variable(alloc, b"B", Role::Computed(None))?)?;
-    all.push(variable(alloc, b"C", Role::Computed(None))?)?;
+    all.push(variable(alloc, b"A", Role::Input(Name::new(alloc, b"1AJ")?), pairs)?)?;
+    all.push(variable(alloc, b"B", Role::Computed(None), Vec::new(alloc))?)?;
+    all.push(variable(alloc, b"C", Role::Computed(None), Vec::new(alloc))?)?;
     Ok(all)
+}
+
+// The inputs whose attribute `k` is 0.
+fn kind(alloc: Global) -> Result<KindCells, AllocError> {
+    let Ok(symbols) = declare(alloc, &items(alloc)?) else {
+        return Err(AllocError);
+    };
+    let index = Rc::new(alloc, KindIndex::of(alloc, &symbols)?)?;
+    KindCells::new(alloc, &index, b"k", &[Amount::zero()])
 }
 
 // A base without rules.
@@ -137,9 +155,9 @@ fn nested(alloc: Global) -> Result<CCommand, AllocError> {
 
 // `partition` with A: C is 1 where A is defined in it, and else 2.
 fn partition(alloc: Global) -> Result<CCommand, AllocError> {
-    let exists = CTerm::new(CNode::Exists(cells(alloc, &[0])?));
+    let exists = CTerm::new(CNode::Exists(kind(alloc)?));
     let block = one(alloc, choice(alloc, exists)?)?;
-    Ok(CCommand::new(CCommandNode::Partition(3, cells(alloc, &[0])?, block)))
+    Ok(CCommand::new(CCommandNode::Partition(3, kind(alloc)?, block)))
 }
 
 // `.. <- call_m()`, which gives back these cells.

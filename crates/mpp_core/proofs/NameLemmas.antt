@@ -1,16 +1,25 @@
--- The variable of a name, and what a list of variables of a kind begins with.
-use Rattle.std.proofs.Common.{◌≡◌, ◌≤◌, ◌+◌, ℕ, zero, suc, List, [], ◌∷◌, length, drop, Option, None, Some, sym, ap, ◌∙◌, arith, slice_get}
-use Rattle.std.specs.Prelude.{IfSome, option_map}
+-- The variable of a name, and the cells of a kind.
+use Rattle.std.proofs.Common.{◌≡◌, ◌≤◌, ◌+◌, ℕ, ℤ, Bool, true, false, cond, List, [], ◌∷◌, ◌++◌, length, Option, None, Some, refl, sym, subst, ap, ◌∙◌, append_assoc, arith, slice_get}
+use Rattle.std.specs.Prelude.{IfSome}
+use Rattle.std.proofs.lemmas.List.{append-nil}
 use Rattle.std.specs.Option.{option_and_then}
 use Rattle.m_names.specs.Names.{index_of}
-use Rattle.m_ast.specs.Items.{variable_size}
+use Rattle.m_ast.specs.declared.variable.VariableItem.{VariableItem}
+use Rattle.m_ast.specs.Items.{variable_size, variable_cells}
 use Rattle.m_symbols.specs.declared.variable.Variable.{Variable}
-use Rattle.m_symbols.specs.Declarations.{Declared, names_of, owners_from}
+use Rattle.m_symbols.specs.Declarations.{Declared, names_of, owners_from, placed_from}
+use Rattle.m_symbols.specs.Kinds.{is_of_kind}
+use Rattle.input_kinds.specs.declared.index.KindIndex.{KindIndex}
+use Rattle.input_kinds.specs.Ascending.{ascending, Ascends}
+use Rattle.input_kinds.specs.Groups.{groups_in}
+use Rattle.input_kinds.specs.Kinds.{cells_with, IsIndexOf}
+use Rattle.input_kinds.proofs.Orders.{same, ascending-ascends, ascends-from, times-ascending}
+use Rattle.input_kinds.proofs.GroupLemmas.{groups-with}
 use Rattle.m_requests.specs.Cells.{variable_named}
-use Rattle.m_requests.specs.Placed.{IsPlaced}
+use Rattle.m_requests.specs.Placed.{IsPlaced, items_of}
 use Rattle.m_requests.proofs.Placing.{fits, table_sized}
-use Rattle.mpp_parser.specs.declared.term.Kind.{Kind}
-use Rattle.mpp_core.specs.Names.{with_kind, cells_of_kind}
+use Rattle.mpp_parser.specs.declared.term.Kind.TheVariants.{Attribute}
+use Rattle.mpp_core.specs.Names.{with_kind, cells_of_kind, kind_cells}
 
 at_place : (vs : List Variable) (o : Option ℕ) (v : Variable) → option_and_then (slice_get vs) o ≡ Some v → (i : ℕ) × (slice_get vs i ≡ Some v)
 at_place vs None v e = absurd (cc)
@@ -25,12 +34,33 @@ named_fits d name count v p e c = let k = named_at d name v e in fits d k.0 coun
 pub named_sized : (d : Declared) (name : List ℕ) (v : Variable) → IsPlaced d → variable_named d name ≡ Some v → IfSome (variable_size v.item) (λ s. v.cells ≡ s)
 named_sized d name v p e = let k = named_at d name v e in table_sized d k.0 v p k.1
 
-kind_suc : (kind : Kind) (vs : List Variable) (i : ℕ) (before now whole : List ℕ) → cells_of_kind kind before (drop i vs) ≡ whole → option_map (with_kind kind before) (slice_get vs i) ≡ Some now → cells_of_kind kind now (drop (suc i) vs) ≡ whole
-kind_suc kind [] zero before now whole w e = absurd (cc)
-kind_suc kind [] (suc i) before now whole w e = absurd (cc)
-kind_suc kind (v ∷ vs) zero before now whole w e = let s : with_kind kind before v ≡ now = cc in ap (λ b. cells_of_kind kind b vs) (sym s) ∙ w
-kind_suc kind (v ∷ vs) (suc i) before now whole w e = kind_suc kind vs i before now whole w e
+-- the cells of a kind are those of its values, behind what is there
+kind-by : (b : Bool) (cell : ℕ) (before rest : List ℕ) → cond b (before ++ cell ∷ []) before ++ rest ≡ before ++ (cond b (cell ∷ []) [] ++ rest)
+kind-by true cell before rest = append_assoc before (cell ∷ []) rest
+kind-by false cell before rest = refl
 
--- one more variable of a list
-pub kind_next : (kind : Kind) (vs : List Variable) (i : ℕ) (before now whole : List ℕ) → cells_of_kind kind before (drop i vs) ≡ whole → option_map (with_kind kind before) (slice_get vs i) ≡ Some now → cells_of_kind kind now (drop (i + 1) vs) ≡ whole
-kind_next kind vs i before now whole w e = let one : suc i ≡ i + 1 = omega arith in ap (λ n. cells_of_kind kind now (drop n vs)) (sym one) ∙ kind_suc kind vs i before now whole w e
+kind-behind : (a : List ℕ) (values : List ℤ) (before : List ℕ) (vs : List Variable) → cells_of_kind (Attribute a values) before vs ≡ before ++ cells_with a values vs
+kind-behind a values before [] = sym (append-nil before)
+kind-behind a values before (v ∷ vs) =
+    kind-behind a values (with_kind (Attribute a values) before v) vs
+    ∙ kind-by (is_of_kind v a values) v.first_cell before (cells_with a values vs)
+
+-- the cells of a kind ascend, since cells are numbered in order
+ascends-by : (first cell size : ℕ) (b : Bool) (rest : List ℕ) → first ≡ cell → Ascends (first + size) rest → Ascends first (cond b (cell ∷ []) [] ++ rest)
+ascends-by first cell size true rest e h = (omega (arith, e), ascends-from cell (first + size) rest (omega (arith, e)) h)
+ascends-by first cell size false rest e h = ascends-from first (first + size) rest (omega arith) h
+
+kind-ascends : (a : List ℕ) (values : List ℤ) (first : ℕ) (items : List VariableItem) → Ascends first (cells_with a values (placed_from first items))
+kind-ascends a values first [] = tt
+kind-ascends a values first (item ∷ items) =
+    ascends-by first first (variable_cells item) (is_of_kind (record { item = item; first_cell = first; cells = variable_cells item }) a values) (cells_with a values (placed_from (first + variable_cells item) items))
+    refl (kind-ascends a values (first + variable_cells item) items)
+
+-- what an index gives of a kind
+pub kind-is : (d : Declared) (index : KindIndex) (a : List ℕ) (values : List ℤ) → IsPlaced d → IsIndexOf d.variables index → ascending (groups_in index a values) ≡ kind_cells d (Attribute a values)
+kind-is d index a values p h =
+    same 0 0 (ascending (groups_in index a values)) (cells_with a values d.variables)
+    (ascending-ascends (groups_in index a values))
+    (subst (λ (l : List Variable). Ascends 0 (cells_with a values l)) (sym p) (kind-ascends a values 0 (items_of d.variables)))
+    (λ c. times-ascending c (groups_in index a values) ∙ groups-with c d.variables index a values h)
+    ∙ sym (kind-behind a values [] d.variables)

@@ -11,12 +11,12 @@ ghost use Rattle.mpp_core.specs.Bodies.{term_said, act_said, acts_said, call_sai
 ghost use Rattle.mpp_core.specs.declared.fault.CoreFault.TheVariants.{Memory};
 
 use crate::CoreFault;
-use crate::names::{each_once, kind_cells, target_of, targets_of, unknown};
+use crate::names::{each_once, target_of, targets_of, unknown};
+use crate::scope::Scope;
 use crate::terms::term;
 use driver_core::{CCommand, CCommandNode};
 use m_names::Names;
 use m_places::Name;
-use m_symbols::Symbols;
 use mpp_parser::{CellName, Command, CommandNode, DTerm, Kind};
 use std::alloc::{AllocError, Global};
 
@@ -26,22 +26,22 @@ fn command(
     alloc: Global,
     command: &Command,
     names: &Names,
-    symbols: &Symbols,
+    scope: &Scope<'_>,
 ) -> Result<CCommand, CoreFault>
-    requires { IsPlaced symbols.now }
-    ensures { Outcome Memory result (λ c. act_said symbols.now names.now command.now ≡ Ok c) (λ fault. act_said symbols.now names.now command.now ≡ Err fault) }
+    requires { IsPlaced scope.now }
+    ensures { Outcome Memory result (λ c. act_said scope.now names.now command.now ≡ Ok c) (λ fault. act_said scope.now names.now command.now ≡ Err fault) }
 {
     match &command.node {
-        CommandNode::Set(line, cell, value) => assigned(alloc, *line, cell, value, symbols),
-        CommandNode::Del(line, cell) => cleared(alloc, *line, cell, symbols),
+        CommandNode::Set(line, cell, value) => assigned(alloc, *line, cell, value, scope),
+        CommandNode::Del(line, cell) => cleared(alloc, *line, cell, scope),
         CommandNode::If(line, condition, first, second) => {
-            branched(alloc, *line, condition, first, second, names, symbols)
+            branched(alloc, *line, condition, first, second, names, scope)
         }
         CommandNode::Partition(line, kind, block) => {
-            partitioned(alloc, *line, kind, block, names, symbols)
+            partitioned(alloc, *line, kind, block, names, scope)
         }
         CommandNode::Call(line, cells, name) => {
-            let received = targets_of(alloc, symbols, *line, cells.as_slice())?;
+            let received = targets_of(alloc, scope.symbols(), *line, cells.as_slice())?;
             called(alloc, *line, received, name, names)
         }
     }
@@ -53,15 +53,15 @@ fn assigned(
     line: u32,
     cell: &CellName,
     value: &DTerm,
-    symbols: &Symbols,
+    scope: &Scope<'_>,
 ) -> Result<CCommand, CoreFault>
-    requires { IsPlaced symbols.now }
+    requires { IsPlaced scope.now }
     ensures { Outcome Memory result
-        (λ c. if_said (λ cell. if_said (λ t. Ok (assign line cell t)) (term_said symbols.now line value.now)) (target_said symbols.now line cell.now) ≡ Ok c)
-        (λ fault. if_said (λ cell. if_said (λ t. Ok (assign line cell t)) (term_said symbols.now line value.now)) (target_said symbols.now line cell.now) ≡ Err fault) }
+        (λ c. if_said (λ cell. if_said (λ t. Ok (assign line cell t)) (term_said scope.now line value.now)) (target_said scope.now line cell.now) ≡ Ok c)
+        (λ fault. if_said (λ cell. if_said (λ t. Ok (assign line cell t)) (term_said scope.now line value.now)) (target_said scope.now line cell.now) ≡ Err fault) }
 {
-    let cell = target_of(alloc, symbols, line, cell)?;
-    let value = term(alloc, value, line, symbols)?;
+    let cell = target_of(alloc, scope.symbols(), line, cell)?;
+    let value = term(alloc, value, line, scope)?;
     Ok(CCommand::new(CCommandNode::Set(line, cell, Box::into_inner(value))))
 }
 
@@ -70,14 +70,14 @@ fn cleared(
     alloc: Global,
     line: u32,
     cell: &CellName,
-    symbols: &Symbols,
+    scope: &Scope<'_>,
 ) -> Result<CCommand, CoreFault>
-    requires { IsPlaced symbols.now }
+    requires { IsPlaced scope.now }
     ensures { Outcome Memory result
-        (λ c. if_said (λ cell. Ok (clear line cell)) (target_said symbols.now line cell.now) ≡ Ok c)
-        (λ fault. if_said (λ cell. Ok (clear line cell)) (target_said symbols.now line cell.now) ≡ Err fault) }
+        (λ c. if_said (λ cell. Ok (clear line cell)) (target_said scope.now line cell.now) ≡ Ok c)
+        (λ fault. if_said (λ cell. Ok (clear line cell)) (target_said scope.now line cell.now) ≡ Err fault) }
 {
-    let cell = target_of(alloc, symbols, line, cell)?;
+    let cell = target_of(alloc, scope.symbols(), line, cell)?;
     Ok(CCommand::new(CCommandNode::Del(line, cell)))
 }
 
@@ -90,16 +90,16 @@ fn branched(
     first: &[Command],
     second: &[Command],
     names: &Names,
-    symbols: &Symbols,
+    scope: &Scope<'_>,
 ) -> Result<CCommand, CoreFault>
-    requires { IsPlaced symbols.now }
+    requires { IsPlaced scope.now }
     ensures { Outcome Memory result
-        (λ c. if_said (λ t. if_said (λ a. if_said (λ b. Ok (branch line t (block_of a) (block_of b))) (acts_said symbols.now names.now [] (acts_of second.now))) (acts_said symbols.now names.now [] (acts_of first.now))) (term_said symbols.now line condition.now) ≡ Ok c)
-        (λ fault. if_said (λ t. if_said (λ a. if_said (λ b. Ok (branch line t (block_of a) (block_of b))) (acts_said symbols.now names.now [] (acts_of second.now))) (acts_said symbols.now names.now [] (acts_of first.now))) (term_said symbols.now line condition.now) ≡ Err fault) }
+        (λ c. if_said (λ t. if_said (λ a. if_said (λ b. Ok (branch line t (block_of a) (block_of b))) (acts_said scope.now names.now [] (acts_of second.now))) (acts_said scope.now names.now [] (acts_of first.now))) (term_said scope.now line condition.now) ≡ Ok c)
+        (λ fault. if_said (λ t. if_said (λ a. if_said (λ b. Ok (branch line t (block_of a) (block_of b))) (acts_said scope.now names.now [] (acts_of second.now))) (acts_said scope.now names.now [] (acts_of first.now))) (term_said scope.now line condition.now) ≡ Err fault) }
 {
-    let condition = term(alloc, condition, line, symbols)?;
-    let first = commands(alloc, first, names, symbols)?;
-    let second = commands(alloc, second, names, symbols)?;
+    let condition = term(alloc, condition, line, scope)?;
+    let first = commands(alloc, first, names, scope)?;
+    let second = commands(alloc, second, names, scope)?;
     Ok(CCommand::new(CCommandNode::If(line, Box::into_inner(condition), first, second)))
 }
 
@@ -111,15 +111,15 @@ fn partitioned(
     kind: &Kind,
     block: &[Command],
     names: &Names,
-    symbols: &Symbols,
+    scope: &Scope<'_>,
 ) -> Result<CCommand, CoreFault>
-    requires { IsPlaced symbols.now }
+    requires { IsPlaced scope.now }
     ensures { Outcome Memory result
-        (λ c. if_said (λ a. Ok (partition line (kind_cells symbols.now kind.now) (block_of a))) (acts_said symbols.now names.now [] (acts_of block.now)) ≡ Ok c)
-        (λ fault. if_said (λ a. Ok (partition line (kind_cells symbols.now kind.now) (block_of a))) (acts_said symbols.now names.now [] (acts_of block.now)) ≡ Err fault) }
+        (λ c. if_said (λ a. Ok (partition line (kind_cells scope.now kind.now) (block_of a))) (acts_said scope.now names.now [] (acts_of block.now)) ≡ Ok c)
+        (λ fault. if_said (λ a. Ok (partition line (kind_cells scope.now kind.now) (block_of a))) (acts_said scope.now names.now [] (acts_of block.now)) ≡ Err fault) }
 {
-    let cells = kind_cells(alloc, symbols, kind)?;
-    let block = commands(alloc, block, names, symbols)?;
+    let cells = scope.kind_cells(alloc, kind)?;
+    let block = commands(alloc, block, names, scope)?;
     Ok(CCommand::new(CCommandNode::Partition(line, cells, block)))
 }
 
@@ -150,14 +150,14 @@ pub(crate) fn commands(
     alloc: Global,
     all: &[Command],
     names: &Names,
-    symbols: &Symbols,
+    scope: &Scope<'_>,
 ) -> Result<Vec<CCommand>, CoreFault>
-    requires { IsPlaced symbols.now }
-    ensures { Outcome Memory result (λ said. acts_said symbols.now names.now [] (acts_of all.now) ≡ Ok said.items) (λ fault. acts_said symbols.now names.now [] (acts_of all.now) ≡ Err fault) }
+    requires { IsPlaced scope.now }
+    ensures { Outcome Memory result (λ said. acts_said scope.now names.now [] (acts_of all.now) ≡ Ok said.items) (λ fault. acts_said scope.now names.now [] (acts_of all.now) ≡ Err fault) }
 {
     let mut said = Vec::with_capacity(alloc, all.len())?;
     for one in all {
-        let c = command(alloc, one, names, symbols)?;
+        let c = command(alloc, one, names, scope)?;
         said.push(c)?;
     }
     Ok(said)

@@ -9,10 +9,10 @@ ghost use Rattle.mpp_core.specs.declared.fault.CoreFault.TheVariants.{Memory, Fu
 
 use crate::CoreFault;
 use crate::commands::commands;
+use crate::scope::Scope;
 use driver_core::CCommand;
 use m_names::{Key, Names, NamesDigest};
 use m_places::{Name, Seq};
-use m_symbols::Symbols;
 use mpp_parser::Function;
 use std::alloc::{AllocError, Global};
 
@@ -86,14 +86,14 @@ pub(crate) fn bodies(
     alloc: Global,
     functions: &[Function],
     names: &Names,
-    symbols: &Symbols,
+    scope: &Scope<'_>,
 ) -> Result<Seq<Seq<CCommand>>, CoreFault>
-    requires { IsPlaced symbols.now }
-    ensures { Outcome Memory result (λ bodies. bodies_said symbols.now names.now [] functions.now ≡ Ok bodies) (λ fault. bodies_said symbols.now names.now [] functions.now ≡ Err fault) }
+    requires { IsPlaced scope.now }
+    ensures { Outcome Memory result (λ bodies. bodies_said scope.now names.now [] functions.now ≡ Ok bodies) (λ fault. bodies_said scope.now names.now [] functions.now ≡ Err fault) }
 {
     let mut bodies = Vec::with_capacity(alloc, functions.len())?;
     for function in functions {
-        let body = commands(alloc, function.body.as_slice(), names, symbols)?;
+        let body = commands(alloc, function.body.as_slice(), names, scope)?;
         bodies.push(Seq::from_vec(body))?;
     }
     Ok(Seq::from_vec(bodies))

@@ -13,6 +13,7 @@ mod plain;
 mod ranks;
 mod resolving;
 mod rings;
+mod scope;
 mod shown;
 mod terms;
 

@@ -1,20 +1,20 @@
-//! Names to cells, kinds of inputs and functions.
+//! Names to cells.
 
-ghost use Rattle.std.specs.Prelude.{◌≡◌, ◌≢◌, ◌+◌, ◌≤◌, ◌<◌, Ok, Err, Some, IfOk, IfSome, OnOk, [], length, option_map, slice_get};
+ghost use Rattle.std.specs.Prelude.{◌≡◌, ◌≢◌, ◌+◌, ◌≤◌, ◌<◌, Ok, Err, Some, IfSome, []};
 ghost use Rattle.std.specs.Option.{option_copied};
 ghost use Rattle.m_places.specs.Refusals.{Outcome};
 ghost use Rattle.m_ast.specs.Items.{variable_size};
 ghost use Rattle.m_requests.specs.Cells.{variable_named};
 ghost use Rattle.m_requests.specs.Placed.{IsPlaced};
-ghost use Rattle.mpp_core.specs.Names.{cell_said, cell_at, target_said, constant_target, targets_said, each_once, kind_cells, with_kind};
+ghost use Rattle.mpp_core.specs.Names.{cell_said, cell_at, target_said, constant_target, targets_said, each_once};
 ghost use Rattle.mpp_core.specs.declared.fault.CoreFault.TheVariants.{Memory, UnknownInDriver};
 
 use crate::CoreFault;
 use m_ast::Role;
 use m_places::{Name, Seq};
 use m_symbols::{Symbols, Variable};
-use mpp_parser::{CellName, Kind};
-use std::alloc::{AllocError, Global};
+use mpp_parser::CellName;
+use std::alloc::Global;
 
 // The variable of a name.
 fn variable_named<'a>(symbols: &'a Symbols, name: &Name) -> Option<&'a Variable>
@@ -139,40 +139,4 @@ pub(crate) fn each_once(cells: Vec<u32>) -> Seq<u32>
     cells.sort_unstable();
     cells.dedup();
     Seq::from_vec(cells)
-}
-
-/// The cells of the inputs of a kind, in order of declaration.
-pub(crate) fn kind_cells(
-    alloc: Global,
-    symbols: &Symbols,
-    kind: &Kind,
-) -> Result<Seq<u32>, AllocError>
-    ensures { IfOk result (λ cells. cells ≡ kind_cells symbols.now kind.now) }
-{
-    let mut cells = Vec::new(alloc);
-    for v in 0..symbols.count() {
-        add_of_kind(symbols, v, kind, &mut cells)?;
-    }
-    Ok(Seq::from_vec(cells))
-}
-
-// Adds the cell of the variable of this number, if it is of a kind.
-fn add_of_kind(
-    symbols: &Symbols,
-    v: u32,
-    kind: &Kind,
-    cells: &mut Vec<u32>,
-) -> Result<(), AllocError>
-    requires { v < length symbols.now.variables }
-    ensures { OnOk result (option_map (with_kind kind.now cells.old.items) (slice_get symbols.now.variables v) ≡ Some cells.new.items) }
-{
-    let variable = symbols.variable(v);
-    match kind {
-        Kind::Attribute(attribute, values) => {
-            if symbols.in_kind(v, attribute.bytes(), values.as_slice()) {
-                cells.push(variable.first_cell)?;
-            }
-        }
-    }
-    Ok(())
 }

@@ -10,6 +10,7 @@ ghost use Rattle.mpp_core.specs.declared.fault.CoreFault.TheVariants.{Memory};
 use crate::CoreFault;
 use crate::functions::{bodies, copied_names, function_names, main_of};
 use crate::rings::no_ring;
+use crate::scope::Scope;
 use driver_core::Core;
 use m_symbols::Symbols;
 use mpp_parser::Driver;
@@ -37,7 +38,8 @@ fn resolve_names(alloc: Global, driver: &Driver, symbols: &Symbols) -> Result<Co
     let functions = driver.functions.as_slice();
     let names = function_names(alloc, functions)?;
     let main = main_of(&names)?;
-    let bodies = bodies(alloc, functions, &names, symbols)?;
+    let scope = Scope::new(alloc, symbols)?;
+    let bodies = bodies(alloc, functions, &names, &scope)?;
     let names = copied_names(alloc, functions)?;
     Ok(Core {
         cells: symbols.cells(),

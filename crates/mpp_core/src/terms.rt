@@ -11,10 +11,10 @@ ghost use Rattle.mpp_core.specs.Bodies.{term_said, terms_said, links_said};
 ghost use Rattle.mpp_core.specs.declared.fault.CoreFault.TheVariants.{Memory};
 
 use crate::CoreFault;
-use crate::names::{cell_of, kind_cells};
+use crate::names::cell_of;
+use crate::scope::Scope;
 use driver_core::{CNode, CStep, CTerm};
 use m_fixed::Op;
-use m_symbols::Symbols;
 use mpp_parser::{CellName, DLink, DNode, DTerm};
 use std::alloc::{AllocError, Global};
 
@@ -24,18 +24,18 @@ pub(crate) fn term(
     alloc: Global,
     term: &DTerm,
     line: u32,
-    symbols: &Symbols,
+    scope: &Scope<'_>,
 ) -> Result<Box<CTerm>, CoreFault>
-    requires { IsPlaced symbols.now }
-    ensures { Outcome Memory result (λ t. term_said symbols.now line term.now ≡ Ok t.value) (λ fault. term_said symbols.now line term.now ≡ Err fault) }
+    requires { IsPlaced scope.now }
+    ensures { Outcome Memory result (λ t. term_said scope.now line term.now ≡ Ok t.value) (λ fault. term_said scope.now line term.now ≡ Err fault) }
 {
     match &term.node {
         DNode::Lit(value) => Ok(boxed(alloc, CNode::Lit(*value))?),
-        DNode::Named(name) => named(alloc, name, line, symbols),
-        DNode::Apply(op, arguments) => applied(alloc, *op, arguments, line, symbols),
-        DNode::Chain(first, links) => chained(alloc, first, links, line, symbols),
+        DNode::Named(name) => named(alloc, name, line, scope),
+        DNode::Apply(op, arguments) => applied(alloc, *op, arguments, line, scope),
+        DNode::Chain(first, links) => chained(alloc, first, links, line, scope),
         DNode::Exists(kind) => {
-            let cells = kind_cells(alloc, symbols, kind)?;
+            let cells = scope.kind_cells(alloc, kind)?;
             Ok(boxed(alloc, CNode::Exists(cells))?)
         }
     }
@@ -53,12 +53,12 @@ fn named(
     alloc: Global,
     name: &CellName,
     line: u32,
-    symbols: &Symbols,
+    scope: &Scope<'_>,
 ) -> Result<Box<CTerm>, CoreFault>
-    requires { IsPlaced symbols.now }
-    ensures { Outcome Memory result (λ t. if_said (λ c. Ok (cell_formula c)) (cell_said symbols.now line name.now) ≡ Ok t.value) (λ fault. if_said (λ c. Ok (cell_formula c)) (cell_said symbols.now line name.now) ≡ Err fault) }
+    requires { IsPlaced scope.now }
+    ensures { Outcome Memory result (λ t. if_said (λ c. Ok (cell_formula c)) (cell_said scope.now line name.now) ≡ Ok t.value) (λ fault. if_said (λ c. Ok (cell_formula c)) (cell_said scope.now line name.now) ≡ Err fault) }
 {
-    let cell = cell_of(alloc, symbols, line, name)?;
+    let cell = cell_of(alloc, scope.symbols(), line, name)?;
     Ok(boxed(alloc, CNode::Cell(cell))?)
 }
 
@@ -69,14 +69,14 @@ fn applied(
     op: Op,
     arguments: &[DTerm],
     line: u32,
-    symbols: &Symbols,
+    scope: &Scope<'_>,
 ) -> Result<Box<CTerm>, CoreFault>
-    requires { IsPlaced symbols.now }
+    requires { IsPlaced scope.now }
     ensures { Outcome Memory result
-        (λ t. if_said (λ all. Ok (apply op (formulas_of all))) (terms_said symbols.now line [] (terms_of arguments.now)) ≡ Ok t.value)
-        (λ fault. if_said (λ all. Ok (apply op (formulas_of all))) (terms_said symbols.now line [] (terms_of arguments.now)) ≡ Err fault) }
+        (λ t. if_said (λ all. Ok (apply op (formulas_of all))) (terms_said scope.now line [] (terms_of arguments.now)) ≡ Ok t.value)
+        (λ fault. if_said (λ all. Ok (apply op (formulas_of all))) (terms_said scope.now line [] (terms_of arguments.now)) ≡ Err fault) }
 {
-    let arguments = terms(alloc, arguments, line, symbols)?;
+    let arguments = terms(alloc, arguments, line, scope)?;
     Ok(boxed(alloc, CNode::Apply(op, arguments))?)
 }
 
@@ -86,14 +86,14 @@ fn terms(
     alloc: Global,
     all: &[DTerm],
     line: u32,
-    symbols: &Symbols,
+    scope: &Scope<'_>,
 ) -> Result<Vec<CTerm>, CoreFault>
-    requires { IsPlaced symbols.now }
-    ensures { Outcome Memory result (λ said. terms_said symbols.now line [] (terms_of all.now) ≡ Ok said.items) (λ fault. terms_said symbols.now line [] (terms_of all.now) ≡ Err fault) }
+    requires { IsPlaced scope.now }
+    ensures { Outcome Memory result (λ said. terms_said scope.now line [] (terms_of all.now) ≡ Ok said.items) (λ fault. terms_said scope.now line [] (terms_of all.now) ≡ Err fault) }
 {
     let mut said = Vec::with_capacity(alloc, all.len())?;
     for one in all {
-        let t = term(alloc, one, line, symbols)?;
+        let t = term(alloc, one, line, scope)?;
         said.push(Box::into_inner(t))?;
     }
     Ok(said)
@@ -106,17 +106,17 @@ fn chained(
     first: &DTerm,
     links: &[DLink],
     line: u32,
-    symbols: &Symbols,
+    scope: &Scope<'_>,
 ) -> Result<Box<CTerm>, CoreFault>
-    requires { IsPlaced symbols.now }
+    requires { IsPlaced scope.now }
     ensures { Outcome Memory result
-        (λ t. if_said (λ f. if_said (λ steps. Ok (chain f (steps_of steps))) (links_said symbols.now line [] (links_of links.now))) (term_said symbols.now line first.now) ≡ Ok t.value)
-        (λ fault. if_said (λ f. if_said (λ steps. Ok (chain f (steps_of steps))) (links_said symbols.now line [] (links_of links.now))) (term_said symbols.now line first.now) ≡ Err fault) }
+        (λ t. if_said (λ f. if_said (λ steps. Ok (chain f (steps_of steps))) (links_said scope.now line [] (links_of links.now))) (term_said scope.now line first.now) ≡ Ok t.value)
+        (λ fault. if_said (λ f. if_said (λ steps. Ok (chain f (steps_of steps))) (links_said scope.now line [] (links_of links.now))) (term_said scope.now line first.now) ≡ Err fault) }
 {
-    let first = term(alloc, first, line, symbols)?;
+    let first = term(alloc, first, line, scope)?;
     let mut steps = Vec::with_capacity(alloc, links.len())?;
     for link in links {
-        let t = term(alloc, &link.term, line, symbols)?;
+        let t = term(alloc, &link.term, line, scope)?;
         steps.push(CStep {
             op: link.op,
             term: Box::into_inner(t),

@@ -19,6 +19,7 @@ use crate::rules::emit_rules;
 use crate::work::Work;
 use crate::writes::assign_under;
 use driver_core::{CCommand, CCommandNode, CTerm, Core};
+use input_kinds::KindCells;
 use rule_order::Ordered;
 use std::alloc::{AllocError, Global};
 
@@ -41,6 +42,7 @@ fn body_at(core: &Core, depth: usize, function: u32) -> &[CCommand]
 
 /// A choice: its blocks are left, each under a guard of its own. The result is the guard from here on.
 fn begin_if<'a>(
+    alloc: Global,
     b: &mut Builder,
     env: &[u32],
     guard: u32,
@@ -56,7 +58,7 @@ fn begin_if<'a>(
         (λ inputs. ahead whole b.old inputs env.now guard depth
         (branch line condition.now (block_of first.now) (block_of second.now)))) }
 {
-    let branches = open_branches(b, env, guard, line, condition)?;
+    let branches = open_branches(alloc, b, env, guard, line, condition)?;
     left.push(Work::Under(guard))?;
     left.push(Work::Run(depth, second))?;
     left.push(Work::Under(branches.second))?;
@@ -83,6 +85,24 @@ fn begin_partition<'a>(
     left.push(Work::Restore(before))?;
     left.push(Work::Run(depth, block))?;
     Ok(())
+}
+
+/// A block with the cells of a kind undefined, which get their values back.
+fn begin_kind<'a>(
+    alloc: Global,
+    env: &mut [u32],
+    left: &mut Vec<Work<'a>>,
+    depth: usize,
+    line: u32,
+    kind: &KindCells,
+    block: &'a [CCommand],
+) -> Result<(), AllocError>
+    ensures { OnOk result ((whole : Whole) (b : Builder) (guard : ℕ) → Standing whole b env.old guard left.old.items
+        → Moves whole b b env.new guard left.old.items left.new.items
+        (λ inputs. ahead whole b inputs env.old guard depth (partition line kind.now (block_of block.now)))) }
+{
+    let cells = kind.cells(alloc)?;
+    begin_partition(alloc, env, left, depth, line, &cells, block)
 }
 
 /// A function on a copy of the environment, of which these cells come back.
@@ -129,7 +149,7 @@ fn begin_command<'a>(
 {
     match &command.node {
         CCommandNode::Set(_, cell, term) => {
-            let number = emit_formula(b, env, term)?;
+            let number = emit_formula(alloc, b, env, term)?;
             assign_under(b, env, guard, *cell, number)?;
             Ok(guard)
         }
@@ -138,10 +158,12 @@ fn begin_command<'a>(
             Ok(guard)
         }
         CCommandNode::If(line, condition, first, second) => {
-            begin_if(b, env, guard, left, depth, *line, condition, first, second)
+            begin_if(
+                alloc, b, env, guard, left, depth, *line, condition, first, second,
+            )
         }
         CCommandNode::Partition(line, cells, block) => {
-            begin_partition(alloc, env, left, depth, *line, cells.as_slice(), block)?;
+            begin_kind(alloc, env, left, depth, *line, cells, block)?;
             Ok(guard)
         }
         CCommandNode::Call(line, names, cells, function) => {

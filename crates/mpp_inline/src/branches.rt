@@ -9,7 +9,7 @@ use crate::formulas::emit_formula;
 use driver_core::CTerm;
 use flat_code::Node;
 use m_fixed::Op;
-use std::alloc::AllocError;
+use std::alloc::{AllocError, Global};
 
 /// The truth of a condition, and the guards of both blocks.
 #[derive(Clone, Copy)]
@@ -21,6 +21,7 @@ pub struct Branches {
 
 /// The condition of a choice, with a stop where it is over.
 pub fn open_branches(
+    alloc: Global,
     b: &mut Builder,
     env: &[u32],
     guard: u32,
@@ -30,7 +31,7 @@ pub fn open_branches(
     ensures { IfOk result (λ r. Placed b.old env.now guard
         → Opened b.old b.new env.now guard line (λ e. formula_value e condition.now) r) }
 {
-    let value = emit_formula(b, env, condition)?;
+    let value = emit_formula(alloc, b, env, condition)?;
     b.check_line(guard, value, line)?;
     let truth = b.push(Node::Do(Op::Truth, value, value, value))?;
     let first = b.push(Node::Do(Op::Choose, truth, guard, ZERO))?;

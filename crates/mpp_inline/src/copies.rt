@@ -53,7 +53,7 @@ pub fn copied(alloc: Global, term: &CTerm) -> Result<Box<CTerm>, AllocError>
             boxed(alloc, CNode::Chain(first, copied_steps(alloc, steps)?))
         }
         CNode::Exists(cells) => {
-            let cells = copied_cells(alloc, cells.as_slice())?;
+            let cells = cells.copy(alloc)?;
             boxed(alloc, CNode::Exists(cells))
         }
     }

@@ -11,30 +11,37 @@ use crate::builder::{Builder, UNDEF, ZERO};
 use crate::cells::look;
 use driver_core::{CNode, CStep, CTerm};
 use flat_code::Node;
+use input_kinds::KindCells;
 use m_fixed::Op;
-use std::alloc::AllocError;
+use std::alloc::{AllocError, Global};
 
 /// The node with the value of a term.
 #[cycle(formulas)]
-pub fn emit_formula(b: &mut Builder, env: &[u32], term: &CTerm) -> Result<u32, AllocError>
+pub fn emit_formula(
+    alloc: Global,
+    b: &mut Builder,
+    env: &[u32],
+    term: &CTerm,
+) -> Result<u32, AllocError>
     ensures { IfOk result (λ k. Sane b.old → Known b.old env.now
         → TermStep b.old b.new env.now (λ e. formula_value e term.now) k) }
 {
     match &term.node {
         CNode::Lit(value) => b.push(Node::Lit(*value)),
         CNode::Cell(cell) => Ok(look(env, *cell as usize)),
-        CNode::Apply(op, arguments) => emit_applied(b, env, *op, arguments),
+        CNode::Apply(op, arguments) => emit_applied(alloc, b, env, *op, arguments),
         CNode::Chain(first, steps) => {
-            let so_far = emit_formula(b, env, first)?;
-            emit_steps(b, env, so_far, steps)
+            let so_far = emit_formula(alloc, b, env, first)?;
+            emit_steps(alloc, b, env, so_far, steps)
         }
-        CNode::Exists(cells) => emit_exists(b, env, cells.as_slice()),
+        CNode::Exists(cells) => emit_exists(alloc, b, env, cells),
     }
 }
 
 /// An operator on its arguments. One that is missing is undefined.
 #[cycle(formulas)]
 fn emit_applied(
+    alloc: Global,
     b: &mut Builder,
     env: &[u32],
     op: Op,
@@ -43,15 +50,16 @@ fn emit_applied(
     ensures { IfOk result (λ k. Sane b.old → Known b.old env.now
         → TermStep b.old b.new env.now (λ e. applied op (formula_values e (formulas_of arguments.now))) k) }
 {
-    let first = emit_argument(b, env, arguments, 0)?;
-    let second = emit_argument(b, env, arguments, 1)?;
-    let third = emit_argument(b, env, arguments, 2)?;
+    let first = emit_argument(alloc, b, env, arguments, 0)?;
+    let second = emit_argument(alloc, b, env, arguments, 1)?;
+    let third = emit_argument(alloc, b, env, arguments, 2)?;
     b.push(Node::Do(op, first, second, third))
 }
 
 /// The argument at a place, and undefined where there is none.
 #[cycle(formulas)]
 fn emit_argument(
+    alloc: Global,
     b: &mut Builder,
     env: &[u32],
     arguments: &[CTerm],
@@ -61,28 +69,48 @@ fn emit_argument(
         → TermStep b.old b.new env.now (λ e. slice_index_or (formula_values e (formulas_of arguments.now)) place Undef) k) }
 {
     match arguments.get(place) {
-        Some(argument) => emit_formula(b, env, argument),
+        Some(argument) => emit_formula(alloc, b, env, argument),
         None => Ok(UNDEF),
     }
 }
 
 /// A left fold, gone on with from a node so far.
 #[cycle(formulas)]
-fn emit_steps(b: &mut Builder, env: &[u32], so_far: u32, steps: &[CStep]) -> Result<u32, AllocError>
+fn emit_steps(
+    alloc: Global,
+    b: &mut Builder,
+    env: &[u32],
+    so_far: u32,
+    steps: &[CStep],
+) -> Result<u32, AllocError>
     ensures { IfOk result (λ k. Sane b.old → Known b.old env.now → so_far < count b.old
         → Gives b.old b.new
         (λ inputs. steps_value (environment (denoted b.old inputs env.now)) (at b.old inputs so_far) (steps_of steps.now)) k) }
 {
     let mut number = so_far;
     for step in steps {
-        let operand = emit_formula(b, env, &step.term)?;
+        let operand = emit_formula(alloc, b, env, &step.term)?;
         number = b.push(Node::Do(step.op, number, operand, UNDEF))?;
     }
     Ok(number)
 }
 
+/// Whether one of the cells of a kind is defined, and 0 where there are none.
+fn emit_exists(
+    alloc: Global,
+    b: &mut Builder,
+    env: &[u32],
+    kind: &KindCells,
+) -> Result<u32, AllocError>
+    ensures { IfOk result (λ k. Sane b.old → Known b.old env.now
+        → TermStep b.old b.new env.now (λ e. any_present e kind.now) k) }
+{
+    let cells = kind.cells(alloc)?;
+    emit_any(b, env, &cells)
+}
+
 /// Whether one of these cells is defined, and 0 where there are none.
-fn emit_exists(b: &mut Builder, env: &[u32], cells: &[u32]) -> Result<u32, AllocError>
+fn emit_any(b: &mut Builder, env: &[u32], cells: &[u32]) -> Result<u32, AllocError>
     ensures { IfOk result (λ k. Sane b.old → Known b.old env.now
         → TermStep b.old b.new env.now (λ e. any_present e cells.now) k) }
 {

@@ -77,7 +77,7 @@ fn add_left(alloc: Global, command: &CCommand, made: &mut Vec<CCommand>) -> Resu
             Ok(())
         }
         CCommandNode::Partition(line, cells, block) => {
-            let cells = copied_cells(alloc, cells.as_slice())?;
+            let cells = cells.copy(alloc)?;
             let block = block_left(alloc, block)?;
             made.push(CCommand::new(CCommandNode::Partition(*line, cells, block)))?;
             Ok(())

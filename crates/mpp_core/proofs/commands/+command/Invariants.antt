@@ -17,4 +17,4 @@ abbrev pub decreases-commands : goal.decreases-commands
 decreases-commands l = 3 * nodes_of_acts (acts_of l.all.now) + 1
 
 abbrev pub invariant-commands-loop-one : goal.invariant-commands-loop-one
-invariant-commands-loop-one l = acts_said l.symbols l.names l.said.items (acts_of (drop l.one-index l.all)) ≡ acts_said l.symbols l.names [] (acts_of l.all)
+invariant-commands-loop-one l = acts_said l.scope l.names l.said.items (acts_of (drop l.one-index l.all)) ≡ acts_said l.scope l.names [] (acts_of l.all)

@@ -17,7 +17,7 @@ abbrev pub decreases-chained : goal.decreases-chained
 decreases-chained l = 3 * (term_nodes l.first.now + nodes_of_links (links_of l.links.now)) + 1
 
 abbrev pub invariant-terms-loop-one : goal.invariant-terms-loop-one
-invariant-terms-loop-one l = terms_said l.symbols l.line l.said.items (terms_of (drop l.one-index l.all)) ≡ terms_said l.symbols l.line [] (terms_of l.all)
+invariant-terms-loop-one l = terms_said l.scope l.line l.said.items (terms_of (drop l.one-index l.all)) ≡ terms_said l.scope l.line [] (terms_of l.all)
 
 abbrev pub invariant-chained-loop-link : goal.invariant-chained-loop-link
-invariant-chained-loop-link l = links_said l.symbols l.line l.steps.items (links_of (drop l.link-index l.links)) ≡ links_said l.symbols l.line [] (links_of l.links)
+invariant-chained-loop-link l = links_said l.scope l.line l.steps.items (links_of (drop l.link-index l.links)) ≡ links_said l.scope l.line [] (links_of l.links)

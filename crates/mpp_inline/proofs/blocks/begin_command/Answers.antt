@@ -37,24 +37,24 @@ returns-in-If c =
     λ s. subst (λ a. Moves whole b c.begin_if.new.b e k ws c.begin_if.new.left.items (λ inputs. ahead whole b inputs e g c.args.depth a)) is (m whole s))
     c.begin_if.ensures
 
-pub returns-in_ok-begin_partition-in-Partition : goal.returns-in_ok-begin_partition-in-Partition
-returns-in_ok-begin_partition-in-Partition c =
+pub returns-in_ok-begin_kind-in-Partition : goal.returns-in_ok-begin_kind-in-Partition
+returns-in_ok-begin_kind-in-Partition c =
     let whole = whole_of c.args.core.now c.args.ordered.now in
     let b = c.args.b.now in
     let e = c.args.env.now in
-    let is : partition c.in-Partition.line c.as_slice.result.now (block_of c.deref-in-Partition.result.now) ≡ c.args.command.now =
-    (λ i. partition c.in-Partition.line (c.as_slice.ensures i) (block_of (c.deref-in-Partition.ensures.value i)))
+    let is : partition c.in-Partition.line c.in-Partition.cells (block_of c.deref-in-Partition.result.now) ≡ c.args.command.now =
+    ap (λ l. partition c.in-Partition.line c.in-Partition.cells (block_of l)) c.deref-in-Partition.ensures.value
     ∙ sym (ap action_of c.in-Partition.is) ∙ c.command.view_is in
-    λ s. subst (λ a. Moves whole b b c.begin_partition.new.env c.args.guard c.args.left.now.items c.begin_partition.new.left.items (λ inputs. ahead whole b inputs e c.args.guard c.args.depth a)) is
-    (c.in_ok-begin_partition-in-Partition.ensures whole b c.args.guard s)
+    λ s. subst (λ a. Moves whole b b c.begin_kind.new.env c.args.guard c.args.left.now.items c.begin_kind.new.left.items (λ inputs. ahead whole b inputs e c.args.guard c.args.depth a)) is
+    (c.in_ok-begin_kind-in-Partition.ensures whole b c.args.guard s)
 
 pub returns-in_ok-begin_call-in-Call : goal.returns-in_ok-begin_call-in-Call
 returns-in_ok-begin_call-in-Call c =
     let whole = whole_of c.args.core.now c.args.ordered.now in
     let b = c.args.b.now in
     let e = c.args.env.now in
-    let is : call c.in-Call.line c.in-Call.names c.as_slice-in-Call.result.now c.in-Call.function ≡ c.args.command.now =
-    ap (λ xs. call c.in-Call.line c.in-Call.names xs c.in-Call.function) c.as_slice-in-Call.ensures ∙ sym (ap action_of c.in-Call.is) ∙ c.command.view_is in
+    let is : call c.in-Call.line c.in-Call.names c.as_slice.result.now c.in-Call.function ≡ c.args.command.now =
+    ap (λ xs. call c.in-Call.line c.in-Call.names xs c.in-Call.function) c.as_slice.ensures ∙ sym (ap action_of c.in-Call.is) ∙ c.command.view_is in
     λ s. subst (λ a. Moves whole b b e c.args.guard c.args.left.now.items c.begin_call.new.left.items (λ inputs. ahead whole b inputs e c.args.guard c.args.depth a)) is
     (c.in_ok-begin_call-in-Call.ensures c.args.ordered.now b c.args.guard s)
 
