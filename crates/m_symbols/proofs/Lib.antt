@@ -4,4 +4,3 @@ pub mod Found
 pub mod Indexed
 pub mod Numbered
 pub mod Turns
-pub mod Values

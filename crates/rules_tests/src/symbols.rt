@@ -142,21 +142,6 @@ fn check_names(rt: &impl Abort, symbols: &Symbols) {
     assert_eq!(rt; symbols.find_error(b"REV".as_slice()), None);
 }
 
-// Inputs whose last `avfisc` is 2 are of the kind `avfisc = 2`, and not of `avfisc = 1`; a table is of none.
-fn check_kinds(rt: &impl Abort, symbols: &Symbols) {
-    let (Some(one), Some(two)) = (Amount::new(1_000_000), Amount::new(2_000_000)) else {
-        return;
-    };
-    if symbols.count() < 2 {
-        return;
-    }
-    let avfisc: &[u8] = b"avfisc";
-    assert_eq!(rt; symbols.in_kind(0, avfisc, &[one, two]), true);
-    assert_eq!(rt; symbols.in_kind(0, avfisc, &[one]), false);
-    assert_eq!(rt; symbols.in_kind(0, b"cotsoc".as_slice(), &[two]), false);
-    assert_eq!(rt; symbols.in_kind(1, avfisc, &[two]), false);
-}
-
 #[test]
 fn declarations_are_numbered_and_found(rt: HostRuntime) -> Result<(), Fail> {
     let alloc = rt.alloc();
@@ -171,7 +156,6 @@ fn declarations_are_numbered_and_found(rt: HostRuntime) -> Result<(), Fail> {
     check_numbers(&rt, &symbols);
     check_cells(&rt, &symbols);
     check_names(&rt, &symbols);
-    check_kinds(&rt, &symbols);
     Ok(())
 }
 
