@@ -3,12 +3,13 @@
 
 Starts `rt ci` at the top of the repository, hands on what it prints, and looks at its processes five times a second. FIGURES
 (out/figures.txt, if it isn't named) gets a line for each crate: its name, and the seconds of CPU of its check, of its tests and
-of its must-fail edits; then come the seconds that the whole took, the processors it ran on, and its last line. tests/budget.sh
-FIGURES compares them with the budget. `taskset -c 0,1` in front measures a machine of two processors.
+of its must-fail edits; then come the seconds that the whole took, the processors it ran on, and its last line. A run that is
+stopped (SIGTERM, SIGINT) writes what it saw, with no verdict. tests/budget.sh FIGURES compares them with the budget. `taskset -c 0,1` in front measures a machine of two processors.
 """
 import collections
 import os
 import re
+import signal
 import subprocess
 import sys
 import threading
@@ -58,6 +59,8 @@ def main():
     figures = sys.argv[1] if len(sys.argv) > 1 else "out/figures.txt"
     began = time.time()
     gate = subprocess.Popen(["rt", "ci"], stdout=subprocess.PIPE, text=True, errors="replace")
+    for stop in (signal.SIGTERM, signal.SIGINT):
+        signal.signal(stop, lambda *_: gate.terminate())
     said = []
 
     def hand_on():
