@@ -1,0 +1,11 @@
+use Rattle.std.proofs.Common.{sym, ap, ◌∙◌}
+use Rattle.input_kinds.specs.Ascending.{ascending}
+use Rattle.input_kinds.specs.Groups.{joined}
+use Rattle.input_kinds.proofs.Orders.{sorted-ascending}
+use Rattle.input_kinds.proofs.cells.KindCells.cells.Goals as goal
+
+pub returns : goal.returns
+returns c =
+    sorted-ascending c.in_ok-cells.cells.items c.sort.new.self.items c.in_ok-sort.ensures.permutation c.in_ok-sort.ensures.sorted
+    ∙ ap ascending (c.in_ok-cells.ensures ∙ (λ i. joined (c.as_ref.ensures i) c.self.inside.attribute (c.deref.ensures.value i)))
+    ∙ c.self.view_is

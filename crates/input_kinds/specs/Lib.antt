@@ -1,0 +1,4 @@
+pub mod Ascending
+pub mod Groups
+pub mod Kinds
+pub mod inner
