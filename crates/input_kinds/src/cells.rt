@@ -70,6 +70,18 @@ impl KindCells {
         cells.sort()?;
         Ok(cells)
     }
+
+    /// An equal kind, over the same index.
+    pub fn copy(&self, alloc: Global) -> Result<KindCells, AllocError>
+        ensures { IfOk result (λ copy. copy ≡ self.now) }
+    {
+        Ok(KindCells {
+            index: self.index.clone()?,
+            attribute: self.attribute,
+            values: Vec::from_slice(alloc, &self.values)?,
+            count: self.count,
+        })
+    }
 }
 
 // No cells.
