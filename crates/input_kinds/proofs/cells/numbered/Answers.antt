@@ -12,6 +12,6 @@ returns c =
     let values = c.args.values.now in
     let kept = c.in_ok-values.values.items in
     let same = c.as_ref.ensures in
-    ap (λ (x : KindIndex). ascending (joined x a kept)) c.in_ok-clone.ensures
+    ap (λ (x : KindIndex). ascending (joined x a kept)) c.in_ok-clone.ensures.cases
     ∙ one-order (joined index a kept) (groups_at index a values)
     (λ cell. (λ i. times cell (joined (sym same i) a kept)) ∙ c.in_ok-values.ensures.values cell ∙ (λ i. times cell (groups_at (same i) a values)))
