@@ -1,5 +1,5 @@
 -- Groups of cells, one value after the other.
-use Rattle.std.proofs.Common.{◌≡◌, ◌+◌, ◌<◌, ◌≤◌, ℕ, ℤ, zero, suc, Bool, true, false, cond, List, [], ◌∷◌, ◌++◌, length, refl, sym, ap, ◌∙◌, append_assoc, not, ◌^◌, hbits, lit<, arith}
+use Rattle.std.proofs.Common.{◌≡◌, ◌+◌, ◌<◌, ◌≤◌, ℕ, ℤ, zero, suc, Bool, true, false, cond, List, [], ◌∷◌, ◌++◌, length, refl, sym, ap, ◌∙◌, append_assoc, not, ◌^◌, lit<, arith}
 use mathlib.Core.Bool.{◌||◌, ◌&&◌}
 use Rattle.std.proofs.lemmas.List.{append-nil}
 use Rattle.std.proofs.lemmas.Bool.{false≢true}
@@ -53,11 +53,11 @@ kept-more seen index a value w fresh old new e f t g =
     g ∙ ap (λ b. old ++ cond b [] (group_at index a value)) (sym (ap (contains int_cmp seen) (sym e) ∙ not-true (contains int_cmp seen w) (sym f ∙ t)))
 
 -- an amount in 128 bits is the same
+below_half : (n : ℕ) → n ≤ most → n < 2 ^ 127
+below_half n h = let l : most < 2 ^ 127 = lit< tt in omega (arith, h, l)
+
 pub amount-kept : (z : ℤ) → IsAmount z → cast_signed w128 (cast_unsigned w128 z) ≡ z
-amount-kept z h =
-    let s = size_of_amount z h in
-    let l : most < 2 ^ hbits w128 = lit< tt in
-    to_z-of_z w128 z (fits_signed_from_abs w128 z (omega (arith, s, l)))
+amount-kept z h = to_z-of_z w128 z (fits_signed_from_abs w128 z (below_half _ (size_of_amount z h)))
 
 -- a value that stands again adds nothing
 again : (y v : ℤ) (vs : List ℤ) (b : Bool) → int_eq y v ≡ b → has_amount v vs ≡ true → (b || has_amount y vs) ≡ has_amount y vs
