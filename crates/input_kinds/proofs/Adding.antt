@@ -1,5 +1,5 @@
 -- What an index has behind one more cell.
-use Rattle.std.proofs.Common.{◌≡◌, ◌≤◌, ◌<◌, ◌+◌, ◌-◌, ℕ, ℤ, zero, suc, Bool, true, false, cond, not, eqb, ltb, List, [], ◌∷◌, ◌++◌, length, drop, get_or, inl, inr, refl, sym, ap, ◌∙◌, subst, append_assoc, length-append, add-one, arith}
+use Rattle.std.proofs.Common.{◌≡◌, ◌≤◌, ◌<◌, ◌+◌, ◌-◌, ℕ, ℤ, zero, suc, Bool, true, false, cond, not, ltb, List, [], ◌∷◌, ◌++◌, length, drop, get_or, inl, inr, refl, sym, ap, ◌∙◌, subst, append_assoc, length-append, add-one, arith}
 use mathlib.Core.Bool.{◌||◌, ◌&&◌}
 use Rattle.std.specs.Prelude.{Option, Some, None, slice_get}
 use Rattle.std.specs.declared.cmp.Ordering.{Ordering}
@@ -14,13 +14,13 @@ use Rattle.std.proofs.lemmas.Bool.{eq-eqb, ltb-true, false≢true}
 use Rattle.std.proofs.lemmas.List.{append-nil, drop_more}
 use Rattle.std.proofs.lemmas.Map.Lookups.{exact_unsigned}
 use Rattle.m_names.specs.Names.{has, index_of}
-use Rattle.m_names.proofs.NameLemmas.{same, itself, cases, or-false, has-append, shifted-some, index_of-none, index_of-some}
+use Rattle.m_names.proofs.NameLemmas.{same, itself, or-false, shifted-some, index_of-some}
 use Rattle.m_symbols.specs.declared.variable.Variable.{Variable}
 use Rattle.m_symbols.specs.Kinds.{last_value, is_one_of}
 use Rattle.input_kinds.specs.declared.index.KindIndex.{KindIndex}
 use Rattle.input_kinds.specs.Groups.{key_order, cells_of, group_at, group_of, group_in}
 use Rattle.input_kinds.specs.Kinds.{of_kind, cells_with}
-use Rattle.input_kinds.specs.inner.Numbers.{IsNumbered, HasNumber}
+use Rattle.input_kinds.specs.inner.Numbers.{HasNumber}
 use Rattle.input_kinds.proofs.GroupLemmas.{same-int}
 
 -- ---- keys

@@ -1,5 +1,5 @@
 -- Groups of cells, one value after the other.
-use Rattle.std.proofs.Common.{◌≡◌, ◌+◌, ◌<◌, ◌≤◌, ℕ, ℤ, zero, suc, Bool, true, false, cond, List, [], ◌∷◌, ◌++◌, length, refl, sym, ap, ◌∙◌, append_assoc, not, ◌^◌, lit<, arith}
+use Rattle.std.proofs.Common.{◌≡◌, ◌+◌, ◌<◌, ◌≤◌, ℕ, ℤ, Bool, true, false, cond, List, [], ◌∷◌, ◌++◌, refl, sym, ap, ◌∙◌, append_assoc, not, ◌^◌, lit<, arith}
 use mathlib.Core.Bool.{◌||◌, ◌&&◌}
 use Rattle.std.proofs.lemmas.List.{append-nil}
 use Rattle.std.proofs.lemmas.Bool.{false≢true}
@@ -14,11 +14,11 @@ use Rattle.m_names.proofs.NameLemmas.{not-true}
 use Rattle.std.specs.Prelude.{Option, Some, None}
 use Rattle.m_names.specs.Names.{index_of}
 use Rattle.m_symbols.specs.declared.variable.Variable.{Variable}
-use Rattle.m_symbols.specs.Kinds.{has_amount, is_one_of, is_of_kind, last_value}
+use Rattle.m_symbols.specs.Kinds.{has_amount, is_one_of, last_value}
 use Rattle.m_ast.specs.Items.{is_input}
 use Rattle.input_kinds.specs.declared.index.KindIndex.{KindIndex}
 use Rattle.input_kinds.specs.Ascending.{times}
-use Rattle.input_kinds.specs.Groups.{group_at, group_of, group_in, joined, groups_at, groups_of, groups_in}
+use Rattle.input_kinds.specs.Groups.{group_at, group_of, joined, groups_at, groups_of, groups_in}
 use Rattle.input_kinds.specs.Kinds.{of_kind, cells_with, IsIndexOf}
 use Rattle.input_kinds.proofs.Orders.{times-append}
 

@@ -151,7 +151,7 @@ fn result_of(op: Op, x: Amount, y: Amount) -> i128
         Op::Not | Op::Null => truth(a == 0),
         Op::Present => UNIT as i128,
         Op::Abs => a.abs(),
-        Op::Positive => truth(a > 0),
+        Op::Positive => truth(-a < 0),
         Op::PositiveOrNull => truth(a >= 0),
         Op::Arr => nearest_units(x),
         Op::Inf => units_not_above(x),

@@ -1,6 +1,6 @@
 //! A driver without its calls of the rules, for a base of which such a call changes nothing.
 
-ghost use Rattle.std.specs.Prelude.{◌≡◌, ◌++◌, [], true, IfOk, OnOk};
+ghost use Rattle.std.specs.Prelude.{◌≡◌, ◌↔◌, ◌++◌, [], IsTrue, IfOk, OnOk};
 ghost use Rattle.driver_core.specs.Actions.{branch};
 ghost use Rattle.driver_core.specs.ActionView.{action_of, block_of};
 ghost use Rattle.mpp_inline.specs.inner.Ruleless.{IsRuleless, left, left_behind, left_in, core_left};
@@ -13,7 +13,7 @@ use std::alloc::{AllocError, Global};
 
 /// Whether a base has neither definitions nor checks.
 pub fn is_ruleless(base: &Base) -> bool
-    ensures { result ≡ true → IsRuleless base.now }
+    ensures { IsTrue result ↔ IsRuleless base.now }
 {
     base.definitions.as_slice().is_empty() && base.checks.as_slice().is_empty()
 }

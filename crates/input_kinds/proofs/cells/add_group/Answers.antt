@@ -1,8 +1,8 @@
-use Rattle.std.proofs.Common.{◌≡◌, ◌++◌, ◌∷◌, [], ℤ, length, sym, ap, ◌∙◌, length-append, arith}
+use Rattle.std.proofs.Common.{◌++◌, ℤ, sym, ap, ◌∙◌}
 use Rattle.std.proofs.lemmas.List.{append-nil}
 use Rattle.std.specs.BTreeMap.{get}
-use Rattle.input_kinds.specs.Groups.{key_order, cells_of, group_at, joined}
-use Rattle.input_kinds.proofs.GroupLemmas.{joined-push, amount-kept}
+use Rattle.input_kinds.specs.Groups.{key_order, cells_of}
+use Rattle.input_kinds.proofs.GroupLemmas.{amount-kept}
 use Rattle.input_kinds.proofs.cells.add_group.Goals as goal
 
 pub returns-in_ok-extend_from_slice : goal.returns-in_ok-extend_from_slice

@@ -1,7 +1,7 @@
-use Rattle.std.proofs.Common.{◌≡◌, ◌++◌, ◌∷◌, [], ℤ, length, sym, ap, ◌∙◌, length-append, arith}
+use Rattle.std.proofs.Common.{◌++◌, ℤ, length, sym, ap, ◌∙◌, length-append, arith}
 use Rattle.std.proofs.lemmas.List.{append-nil}
 use Rattle.std.specs.BTreeMap.{get}
-use Rattle.input_kinds.specs.Groups.{key_order, cells_of, group_at, joined}
+use Rattle.input_kinds.specs.Groups.{key_order, cells_of, joined}
 use Rattle.input_kinds.proofs.GroupLemmas.{joined-push, amount-kept}
 use Rattle.input_kinds.proofs.cells.keep.Goals as goal
 

@@ -1,4 +1,4 @@
-use Rattle.std.proofs.Common.{◌≡◌, ◌∙◌}
+use Rattle.std.proofs.Common.{◌∙◌}
 use Rattle.input_kinds.specs.Groups.{joined}
 use Rattle.input_kinds.proofs.GroupLemmas.{amount-kept, seen-more, kept-more}
 use Rattle.input_kinds.proofs.cells.keep_once.Goals as goal

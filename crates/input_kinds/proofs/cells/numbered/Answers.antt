@@ -1,4 +1,4 @@
-use Rattle.std.proofs.Common.{◌≡◌, sym, ap, ◌∙◌}
+use Rattle.std.proofs.Common.{sym, ap, ◌∙◌}
 use Rattle.input_kinds.specs.declared.index.KindIndex.{KindIndex}
 use Rattle.input_kinds.specs.Ascending.{ascending, times}
 use Rattle.input_kinds.specs.Groups.{joined, groups_at}

@@ -1,4 +1,4 @@
-use Rattle.std.proofs.Common.{sym, ap, ◌∙◌}
+use Rattle.std.proofs.Common.{ap, ◌∙◌}
 use Rattle.input_kinds.specs.Ascending.{ascending}
 use Rattle.input_kinds.specs.Groups.{joined}
 use Rattle.input_kinds.proofs.Orders.{sorted-ascending}
