@@ -1,11 +1,12 @@
 #!/usr/bin/env python3
-"""Runs the gate and writes what each crate takes: bench/gate/measure.py [FIGURES]
+"""Runs the gate and writes what each crate takes: bench/gate/measure.py [--anew] [FIGURES]
 
 Starts `rt ci` at the top of the repository, hands on what it prints, and looks at its processes five times a second. FIGURES
 (out/figures.txt, if it isn't named) gets a line for each crate: its name, and the seconds of CPU of its check, of its tests and
 of its must-fail edits; then come the seconds that the whole took, the processors it ran on, and its last line. A run that is
 stopped (SIGTERM, SIGINT) writes what it saw, with no verdict. tests/budget.sh FIGURES compares them with the budget.
-`taskset -c 0,1` in front measures a machine of two processors.
+With --anew, which is for `rt ci`, all is proved and tried though an earlier run on this machine passed it. `taskset -c 0,1`
+in front measures a machine of two processors.
 """
 import collections
 import os
@@ -57,9 +58,11 @@ def below(found, root):
 
 
 def main():
-    figures = sys.argv[1] if len(sys.argv) > 1 else "out/figures.txt"
+    words = [word for word in sys.argv[1:] if word != "--anew"]
+    anew = ["--anew"] if "--anew" in sys.argv else []
+    figures = words[0] if words else "out/figures.txt"
     began = time.time()
-    gate = subprocess.Popen(["rt", "ci"], stdout=subprocess.PIPE, text=True, errors="replace")
+    gate = subprocess.Popen(["rt", "ci", *anew], stdout=subprocess.PIPE, text=True, errors="replace")
     for stop in (signal.SIGTERM, signal.SIGINT):
         signal.signal(stop, lambda *_: gate.terminate())
     said = []
