@@ -2,15 +2,17 @@
 # The budget of the gate. Edits that must be refused are most of its time: at most 10 in a crate, at most 5 in one that stands
 # on eight or more others, 240 in all. Prints a line for each crate that is over, and a count; the status is 0 where none is.
 #
-# tests/budget.sh FIGURES also looks at the figures that bench/gate/measure.py wrote: the check of a crate takes at most
-# 150 s of CPU for 1,000 lines of code (one of fewer than 200 lines counts as 200), and its tests no more than the crates
-# that they test.
+# tests/budget.sh FIGURES also looks at the figures that bench/gate/measure.py wrote: the check of a library takes at most
+# 20 s of CPU, for those that it stands on, and 90 s for 1,000 lines of its code, definitions and proofs, and its tests no
+# more than the crates that they test. What a program takes is the linking of all of them and its two builds.
 cd "$(dirname "$0")/.." || exit 1
 figures=${1-/dev/null}
 for crate in $(sed -n 's/^\([a-z][a-z0-9_]*\)[^:#]*:.*/\1/p' crates.txt); do
     edits=$(find "crates/$crate/must-fail" -name '*.edit' 2>/dev/null | wc -l)
-    lines=$(find "crates/$crate/src" -name '*.rt' ! -name tests.rt -exec cat {} + | wc -l)
-    echo "$crate $edits $lines"
+    lines=$(find "crates/$crate" \( -name '*.rt' ! -name tests.rt -o -name '*.antt' \) -exec cat {} + | wc -l)
+    kind=library
+    [ ! -f "crates/$crate/src/main.rt" ] || kind=program
+    echo "$crate $edits $lines $kind"
 done | awk -v figures="$figures" '
     # whether the crates that this one stands on, and theirs, are marked in below
     function stands_on(crate,    k, n, names) {
@@ -28,8 +30,8 @@ done | awk -v figures="$figures" '
         most = count >= 8 ? 5 : 10
         if ($2 > most) over($1 " has " $2 " must-fail edits, and may have " most)
         all += $2
-        lines = $3 < 200 ? 200 : $3
-        if ($1 in check && check[$1] > lines * 0.15) over($1 " takes " check[$1] " s of CPU for its check, and may take " lines * 0.15)
+        may = 20 + $3 * 0.09
+        if ($4 == "library" && $1 in check && check[$1] > may) over($1 " takes " check[$1] " s of CPU for its check, and may take " may)
         tested = 0
         for (name in below) tested += check[name]
         if ($1 in tests && tests[$1] > tested + check[$1]) over($1 " takes " tests[$1] " s of CPU for its tests, more than what they test: " tested)

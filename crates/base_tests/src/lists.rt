@@ -1,5 +1,6 @@
 //! List files that are read and refused.
 use m_list::{ListFault, read_list};
+use m_places::Name;
 use m_places::limits::FILE_BYTES;
 use std::alloc::{AllocError, Global};
 use std::test::Fail;
@@ -31,18 +32,37 @@ const LISTS: [(&[u8], &[u8], &[&[u8]]); 6] = [
     (b"_\n a.m ", b"_", &[b" a.m "]),
 ];
 
-#[test]
-fn lists(rt: HostRuntime) -> Result<(), Fail> {
-    for (bytes, application, names) in LISTS {
-        let listing = read_list(rt.alloc(), bytes)?;
-        assert!(rt; listing.application.bytes() == application, "{bytes:?}");
-        let files = listing.files.as_slice();
-        assert_eq!(rt; files.len(), names.len(), "{bytes:?}");
-        for (file, name) in files.iter().zip(names) {
-            assert!(rt; file.bytes() == *name, "{bytes:?}");
+/// Whether these files have these names.
+fn are_named(files: &[Name], names: &[&[u8]]) -> bool {
+    if files.len() != names.len() {
+        return false;
+    }
+    for (file, name) in files.iter().zip(names) {
+        if file.bytes() != *name {
+            return false;
         }
     }
-    Ok(())
+    true
+}
+
+/// Whether a list is read as this application and these names.
+fn is_read_as(alloc: Global, bytes: &[u8], application: &[u8], names: &[&[u8]]) -> bool {
+    match read_list(alloc, bytes) {
+        Ok(listing) => {
+            listing.application.bytes() == application && are_named(listing.files.as_slice(), names)
+        }
+        Err(_) => false,
+    }
+}
+
+#[test]
+fn lists(rt: HostRuntime) {
+    for (bytes, application, names) in LISTS {
+        assert!(rt;
+            is_read_as(rt.alloc(), bytes, application, names),
+            "{bytes:?}"
+        );
+    }
 }
 
 /// Lists that are refused, and at which line.

@@ -3,6 +3,7 @@
 use m_names::{Names, NamesFault, has_name};
 use m_places::Name;
 use std::alloc::Global;
+use std::process::Abort;
 use std::test::Fail;
 
 /// What is looked for, and its number.
@@ -13,18 +14,29 @@ const FOUND: [(&str, Option<u32>); 4] = [
     ("RE", None),
 ];
 
-#[test]
-fn finds_names_by_their_bytes(rt: HostRuntime) -> Result<(), Fail> {
-    let alloc = rt.alloc();
-    let mut names = Names::new(alloc);
-    for (name, fresh) in [("REV", true), ("SEUIL", true), ("REV", false), ("", true)] {
-        assert_eq!(rt; names.add(alloc, name.as_bytes())?, fresh, "{name}");
-    }
-    assert_eq!(rt; names.len(), 3);
-    for (name, number) in FOUND {
-        assert_eq!(rt; names.find(name.as_bytes()), number, "{name}");
+/// Names that are added, and whether they weren't there.
+const ADDED: [(&str, bool); 4] = [("REV", true), ("SEUIL", true), ("REV", false), ("", true)];
+
+fn add_each(rt: &impl Abort, alloc: Global, names: &mut Names) -> Result<(), Fail> {
+    for (name, fresh) in ADDED {
+        assert!(rt; names.add(alloc, name.as_bytes())? == fresh, "{name}");
     }
     Ok(())
+}
+
+fn find_each(rt: &impl Abort, names: &Names) -> Result<(), Fail> {
+    for (name, number) in FOUND {
+        assert!(rt; names.find(name.as_bytes()) == number, "{name}");
+    }
+    Ok(())
+}
+
+#[test]
+fn finds_names_by_their_bytes(rt: HostRuntime) -> Result<(), Fail> {
+    let mut names = Names::new(rt.alloc());
+    add_each(&rt, rt.alloc(), &mut names)?;
+    assert_eq!(rt; names.len(), 3);
+    find_each(&rt, &names)
 }
 
 /// The words of a line as names.
@@ -83,17 +95,29 @@ static LENGTHS: [(&[u8], u32); 4] = [
     (b"ABCDEFGHIJKLMNOPQRSTUVWXYZ01234567890123", 3),
 ];
 
-#[test]
-fn names_of_each_length_keep_their_bytes(rt: HostRuntime) -> Result<(), Fail> {
-    let alloc = rt.alloc();
-    let mut names = Names::new(alloc);
+/// Whether a copy of a name has its bytes, and is added as new.
+fn copy_is_new(alloc: Global, names: &mut Names, bytes: &[u8]) -> Result<bool, Fail> {
+    let copy = Name::new(alloc, bytes)?.copy(alloc)?;
+    Ok(copy.bytes() == bytes && names.add(alloc, copy.bytes())?)
+}
+
+fn add_lengths(rt: &impl Abort, alloc: Global, names: &mut Names) -> Result<(), Fail> {
     for (bytes, _) in LENGTHS {
-        let copy = Name::new(alloc, bytes)?.copy(alloc)?;
-        assert!(rt; copy.bytes() == bytes);
-        assert!(rt; names.add(alloc, copy.bytes())?);
-    }
-    for (bytes, number) in LENGTHS {
-        assert_eq!(rt; names.find(bytes), Some(number));
+        assert!(rt; copy_is_new(alloc, names, bytes)?);
     }
     Ok(())
+}
+
+fn find_lengths(rt: &impl Abort, names: &Names) -> Result<(), Fail> {
+    for (bytes, number) in LENGTHS {
+        assert!(rt; names.find(bytes) == Some(number));
+    }
+    Ok(())
+}
+
+#[test]
+fn names_of_each_length_keep_their_bytes(rt: HostRuntime) -> Result<(), Fail> {
+    let mut names = Names::new(rt.alloc());
+    add_lengths(&rt, rt.alloc(), &mut names)?;
+    find_lengths(&rt, &names)
 }

@@ -1,5 +1,5 @@
 -- What a step's fault says of the source, and what the program of its rules is.
-use Rattle.std.proofs.Common.{◌≡◌, ◌≢◌, ◌≤◌, ◌<◌, ◌^◌, ℕ, Bool, true, false, List, [], All, map, length, Option, None, Some, min, Result, Ok, Err, nat_lt, cond, refl, sym, ap, ◌∙◌, subst, arith}
+use Rattle.std.proofs.Common.{◌≡◌, ◌≢◌, ◌≤◌, ◌<◌, ◌^◌, ℕ, Bool, true, false, List, [], All, map, length, Option, None, Some, Result, Ok, Err, nat_lt, cond, refl, sym, ap, ◌∙◌, subst, arith}
 use Rattle.std.proofs.lemmas.Bool.{ltb-false}
 use Rattle.std.proofs.lemmas.List.{length-map}
 use Rattle.std.specs.Prelude.{IfOk, take}
@@ -38,10 +38,10 @@ use Rattle.rule_base.specs.declared.fault.RuleFault.TheVariants as rules
 use Rattle.m_compile.specs.declared.compiling.Compiled.{Compiled}
 use Rattle.m_compile.specs.declared.fault.SourceFault.{SourceFault}
 use Rattle.m_compile.specs.declared.fault.SourceFault.TheVariants.{Memory}
-use Rattle.m_compile.specs.Sources.{HasRules, IsWritten, IsValid, running}
-use Rattle.m_compile.specs.Faults.{IsSourceFault, of_rules, of_driver, of_core, of_requests, of_weight, told_weight}
+use Rattle.m_compile.specs.Sources.{HasRules, IsWritten, running}
+use Rattle.m_compile.specs.Faults.{IsSourceFault, of_rules, of_driver, of_core, of_requests, of_weight}
 use Rattle.m_compile.specs.Compiled.{IsCompiled, IsRunnable}
-use Rattle.m_compile.specs.inner.Parts.{IsProgram, IsHeavy, heavy, of_lines, of_names, IsDriverFault}
+use Rattle.m_compile.specs.inner.Parts.{IsAsked, IsAskedFault, in_driver, in_requests, IsProgram, IsHeavy, heavy, of_lines, of_names, IsDriverFault}
 use Rattle.m_compile.specs.inner.Steps.{rule_step, driver_step, core_step, request_step, inline_step}
 
 -- the fault of the rule files
@@ -78,16 +78,21 @@ names_told declared bytes driver (core.BadTargetInDriver name line) d h k = of_n
 names_told declared bytes driver (core.DriverRecursion names) d h k = of_names driver d (h (λ e. cc))
 
 -- the fault of a driver is one of the source
-pub driver_told : (source : Source) (declared : Declared) (base : Base) (given : Option (List ℕ)) (fault : SourceFault) → HasRules source declared base → source.driver ≡ given → IsDriverFault declared given fault → IsSourceFault source fault
+driver_told : (source : Source) (declared : Declared) (base : Base) (given : Option (List ℕ)) (fault : SourceFault) → HasRules source declared base → source.driver ≡ given → IsDriverFault declared given fault → IsSourceFault source fault
 driver_told source declared base _ fault r e (of_lines f) = of_driver r e f
 driver_told source declared base _ fault r e (of_names driver d f) = of_core driver r e d f
 
 -- the fault of the requests
-pub requests_told : (source : Source) (declared : Declared) (base : Base) (written : Option Core) (fault : RequestFault) → HasRules source declared base → IsWritten declared source.driver written
-    → (fault ≢ requests.Memory → requests_said source.requests declared ≡ Err fault) → request_step fault ≢ Memory → IsSourceFault source (request_step fault)
-requests_told source declared base written requests.Memory r d h k = absurd (k refl)
-requests_told source declared base written (requests.BadRequest line) r d h k = of_requests r d (h (λ e. cc))
-requests_told source declared base written requests.TooManyRequests r d h k = of_requests r d (h (λ e. cc))
+pub requests_told : (source : Source) (declared : Declared) (written : Option Core) (fault : RequestFault) → IsWritten declared source.driver written
+    → (fault ≢ requests.Memory → requests_said source.requests declared ≡ Err fault) → request_step fault ≢ Memory → IsAskedFault declared source (request_step fault)
+requests_told source declared written requests.Memory d h k = absurd (k refl)
+requests_told source declared written (requests.BadRequest line) d h k = in_requests d (h (λ e. cc))
+requests_told source declared written requests.TooManyRequests d h k = in_requests d (h (λ e. cc))
+
+-- both are faults of the source
+pub asked_told : (source : Source) (declared : Declared) (base : Base) (fault : SourceFault) → HasRules source declared base → IsAskedFault declared source fault → IsSourceFault source fault
+asked_told source declared base fault r (in_driver f) = driver_told source declared base source.driver fault r refl f
+asked_told source declared base _ r (in_requests d e) = of_requests r d e
 
 -- no more is asked for than there may be
 few_when : (all cells : List ℕ) (many : Bool) → nat_lt REQUESTS (length all) ≡ many → cond many (Err TooManyRequests) (Ok all) ≡ Ok cells → length cells ≤ REQUESTS
@@ -114,23 +119,22 @@ heavy_told : (source : Source) (declared : Declared) (base : Base) (written : Op
 heavy_told source declared base written asked fault r d q (heavy w) = of_weight r d q w
 
 -- the whole
-pub finished : (source : Source) (declared : Declared) (base : Base) (written : Option Core) (asked : List ℕ) (core : Core) (result : Result Compiled SourceFault) → HasRules source declared base
-    → IsWritten declared source.driver written → requests_said source.requests declared ≡ Ok asked → core ≡ running written asked declared
+pub finished : (source : Source) (declared : Declared) (base : Base) (asked : List ℕ) (core : Core) (result : Result Compiled SourceFault) → HasRules source declared base → IsAsked declared source core asked
     → Outcome Memory result (IsProgram declared base core asked) (IsHeavy core base) → Outcome Memory result (IsCompiled source) (IsSourceFault source)
-finished source declared base written asked core (Ok compiled) r d q e p = record {
+finished source declared base asked core (Ok compiled) r a p = record {
   declared = declared;
   base = base;
-  written = written;
+  written = a.written;
   requests = asked;
-  valid = record { rules = r; driven = d; requested = q; light = subst (λ c. weight_of c base ≤ DRIVER_WEIGHT) e p.light };
+  valid = record { rules = r; driven = a.driven; requested = a.requested; light = subst (λ c. weight_of c base ≤ DRIVER_WEIGHT) a.runs p.light };
   runnable = p.runnable;
   codes = p.codes;
   outputs = p.outputs;
   first_labels = p.first_labels;
   nodes_fit = p.nodes_fit;
-  answers = λ inputs. rw (sym e) (p.answers inputs);
+  answers = λ inputs. rw (sym a.runs) (p.answers inputs);
 }
-finished source declared base written asked core (Err fault) r d q e p = λ m. heavy_told source declared base written asked fault r d q (subst (λ c. IsHeavy c base fault) e (p m))
+finished source declared base asked core (Err fault) r a p = λ m. heavy_told source declared base a.written asked fault r a.driven a.requested (subst (λ c. IsHeavy c base fault) a.runs (p m))
 
 -- ---- the program of a driver
 

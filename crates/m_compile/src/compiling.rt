@@ -11,7 +11,7 @@ ghost use Rattle.rule_order.specs.Orders.{IsOrder};
 ghost use Rattle.m_compile.specs.Sources.{IsWritten, running};
 ghost use Rattle.m_compile.specs.Faults.{IsSourceFault};
 ghost use Rattle.m_compile.specs.Compiled.{IsCompiled, IsRunnable};
-ghost use Rattle.m_compile.specs.inner.Parts.{IsProgram, IsHeavy, IsDriverFault};
+ghost use Rattle.m_compile.specs.inner.Parts.{IsAsked, IsAskedFault, IsProgram, IsHeavy, IsDriverFault, faced};
 ghost use Rattle.m_compile.specs.declared.fault.SourceFault.TheVariants.{Memory};
 
 use crate::SourceFault;
@@ -50,10 +50,21 @@ pub fn compile(alloc: Global, source: &Source) -> Result<Compiled, SourceFault>
     ensures runnable { IfOk result IsRunnable }
 {
     let made = rule_base(alloc, source.texts.as_slice(), source.application.bytes())?;
-    let written = written(alloc, &source.driver, &made.symbols)?;
-    let requests = read_requests(alloc, &source.requests, &made.symbols)?;
-    let core = running(alloc, written, requests.as_slice(), &made.symbols)?;
+    let (core, requests) = asked(alloc, source, &made.symbols)?;
     program(alloc, made, &core, requests.as_slice())
+}
+
+// What a source asks for, over what its rules declare: the driver that runs, and the cells of the requests.
+fn asked(alloc: Global, source: &Source, symbols: &Symbols) -> Result<(Core, Seq<u32>), SourceFault>
+    requires limits { SourceKeepsLimits source.now }
+    requires placed { IsPlaced symbols.now }
+    ensures outcome { Outcome Memory result (λ given. IsAsked symbols.now source.now given.0 given.1) (IsAskedFault symbols.now source.now) }
+    ensures known { IfOk result (λ given. All (λ c. c < length (owners_from 0 symbols.now.variables)) given.1) }
+{
+    let written = written(alloc, &source.driver, symbols)?;
+    let requests = read_requests(alloc, &source.requests, symbols)?;
+    let core = running(alloc, written, requests.as_slice(), symbols)?;
+    Ok((core, requests))
 }
 
 // The driver over the cells of what is declared, if there is one.
@@ -114,12 +125,29 @@ fn program(
     ensures outcome { Outcome Memory result (IsProgram made.symbols made.ordered.base core.now requests.now) (IsHeavy core.now made.ordered.base) }
     ensures runnable { IfOk result IsRunnable }
 {
-    let RuleBase { symbols, ordered } = made;
-    let (flat, labels) = inline(alloc, core, &ordered, &symbols, requests)?;
-    let face = face_of(alloc, &symbols, labels, requests)?;
+    let (flat, face) = faced(alloc, &made, core, requests)?;
     Ok(Compiled {
         face,
         flat,
-        codes: Codes::new(symbols.into_codes()),
+        codes: Codes::new(made.symbols.into_codes()),
     })
+}
+
+// The flat program of a driver over rules in an order, and its face.
+fn faced(
+    alloc: Global,
+    made: &RuleBase,
+    core: &Core,
+    requests: &[u32],
+) -> Result<(Flat, Face), SourceFault>
+    requires base { IsValidBase made.now.ordered.base }
+    requires order { IsOrder made.now.ordered.base made.now.ordered.sequence }
+    requires cells { made.now.ordered.base.cells ≡ length (owners_from 0 made.now.symbols.variables) }
+    requires known { All (λ c. c < length (owners_from 0 made.now.symbols.variables)) requests.now }
+    requires few { length requests.now ≤ REQUESTS }
+    ensures { Outcome Memory result (λ given. IsProgram made.now.symbols made.now.ordered.base core.now requests.now (faced made.now.symbols given.0 given.1)) (IsHeavy core.now made.now.ordered.base) }
+{
+    let (flat, labels) = inline(alloc, core, &made.ordered, &made.symbols, requests)?;
+    let face = face_of(alloc, &made.symbols, labels, requests)?;
+    Ok((flat, face))
 }

@@ -1,16 +1,21 @@
 -- The last steps by themselves: from rules in an order and what is asked for to a program with its face.
-use Rattle.std.specs.Prelude.{◌≡◌, ℕ, ◌<◌, ◌≤◌, List, Option, length, map, take, Some}
+use Rattle.std.specs.Prelude.{◌≡◌, ℕ, ◌<◌, ◌≤◌, List, Option, length, map, take, Some, Ok, Err}
 use Rattle.m_places.specs.declared.limits.TheConstants.{DRIVER_WEIGHT}
 use Rattle.m_fixed.specs.declared.amount.Value.{Value}
+use Rattle.rule_text.specs.declared.Source.{Source}
 use Rattle.m_symbols.specs.Declarations.{Declared, codes_of}
 use Rattle.micro_m.specs.declared.base.Base.{Base}
+use Rattle.flat_code.specs.declared.face.Face.{Face}
 use Rattle.flat_code.specs.declared.face.FaceLabel.TheVariants.{Verif}
+use Rattle.flat_code.specs.declared.program.Flat.{Flat}
 use Rattle.flat_code.specs.Runs.{flat_run}
 use Rattle.flat_code.specs.Answers.{told_of}
 use Rattle.driver_core.specs.declared.program.Core.{Core}
 use Rattle.driver_core.specs.Answers.{answer_of}
 use Rattle.driver_core.specs.Weights.{weight_of}
 use Rattle.m_requests.specs.Cells.{cell_name}
+use Rattle.m_requests.specs.declared.fault.RequestFault.{RequestFault}
+use Rattle.m_requests.specs.Requests.{requests_said}
 use Rattle.mpp_inline.specs.Inlined.{most_nodes}
 use Rattle.mpp_lexer.specs.declared.fault.DriverFault.{DriverFault}
 use Rattle.mpp_parser.specs.declared.command.Driver.{Driver}
@@ -19,7 +24,8 @@ use Rattle.mpp_core.specs.declared.fault.CoreFault.{CoreFault}
 use Rattle.mpp_core.specs.Cores.{IsCoreFault}
 use Rattle.m_compile.specs.declared.compiling.Compiled.{Compiled}
 use Rattle.m_compile.specs.declared.fault.SourceFault.{SourceFault}
-use Rattle.m_compile.specs.declared.fault.SourceFault.TheVariants.{Driver as DriverIs, Core as CoreIs, DriverTooLarge}
+use Rattle.m_compile.specs.declared.fault.SourceFault.TheVariants.{Driver as DriverIs, Core as CoreIs, Requests, DriverTooLarge}
+use Rattle.m_compile.specs.Sources.{IsWritten, running}
 use Rattle.m_compile.specs.Faults.{told_weight}
 use Rattle.m_compile.specs.Compiled.{IsRunnable}
 
@@ -28,6 +34,18 @@ pub data IsDriverFault (declared : Declared) : Option (List ℕ) → SourceFault
   of_lines : {bytes : List ℕ} {fault : DriverFault} → IsFault bytes fault → IsDriverFault declared (Some bytes) (DriverIs fault)
   of_names : {bytes : List ℕ} {fault : CoreFault} (driver : Driver) → IsDriver bytes driver → IsCoreFault driver declared fault
       → IsDriverFault declared (Some bytes) (CoreIs fault)
+
+-- what a source asks for, over what its rules declare: this driver runs, and these cells are asked for
+pub record IsAsked (declared : Declared) (source : Source) (core : Core) (requests : List ℕ) : Type 0 where
+  pub written : Option Core
+  pub driven : IsWritten declared source.driver written
+  pub requested : requests_said source.requests declared ≡ Ok requests
+  pub runs : core ≡ running written requests declared
+
+-- Why that can't be told: the fault of the driver, or else that of the requests.
+pub data IsAskedFault (declared : Declared) (source : Source) : SourceFault → Type 0 where
+  in_driver : {fault : SourceFault} → IsDriverFault declared source.driver fault → IsAskedFault declared source fault
+  in_requests : {written : Option Core} {fault : RequestFault} → IsWritten declared source.driver written → requests_said source.requests declared ≡ Err fault → IsAskedFault declared source (Requests fault)
 
 -- what a driver over rules in an order is compiled to, where these cells are asked for
 pub record IsProgram (declared : Declared) (base : Base) (core : Core) (requests : List ℕ) (compiled : Compiled) : Type 0 where
@@ -38,6 +56,10 @@ pub record IsProgram (declared : Declared) (base : Base) (core : Core) (requests
   pub first_labels : take (length base.labels) compiled.face.labels ≡ map Verif base.labels
   pub nodes_fit : length compiled.flat.nodes ≤ most_nodes
   pub answers : (inputs : List Value) → told_of compiled.face.labels (flat_run compiled.flat inputs) ≡ Some (answer_of core base declared requests inputs)
+
+-- a program and its face, with the codes of what is declared
+abbrev pub faced : Declared → Flat → Face → Compiled
+faced declared flat face = record { face = face; flat = flat; codes = codes_of declared.variables }
 
 -- a driver that weighs too much
 pub data IsHeavy (core : Core) (base : Base) : SourceFault → Type 0 where
