@@ -16,6 +16,10 @@ fn check(alloc: Global, given: bool, out: &MemSink, lines: &str) -> Result<(), F
     Err(Fail::from(format!(in alloc; "{lines} is printed as {text}")?))
 }
 
+fn shared(alloc: Global, bytes: &[u8]) -> Result<SharedName, Fail> {
+    Ok(SharedName::new(alloc, Name::new(alloc, bytes)?)?)
+}
+
 fn label(
     alloc: Global,
     verif: &[u8],
@@ -23,9 +27,9 @@ fn label(
     kind: ErrorKind,
     text: &[u8],
 ) -> Result<FaceLabel, Fail> {
-    let verif = SharedName::new(alloc, Name::new(alloc, verif)?)?;
-    let error = SharedName::new(alloc, Name::new(alloc, error)?)?;
-    let text = SharedName::new(alloc, Name::new(alloc, text)?)?;
+    let verif = shared(alloc, verif)?;
+    let error = shared(alloc, error)?;
+    let text = shared(alloc, text)?;
     Ok(FaceLabel::Verif(Label {
         verif,
         error,
@@ -34,18 +38,24 @@ fn label(
     }))
 }
 
-/// Three verifications and a line of the driver.
-fn labels(alloc: Global) -> Result<Seq<FaceLabel>, Fail> {
-    let mut labels = Vec::new(alloc);
-    labels.push(label(
-        alloc,
+/// Three verifications: each with its error, its kind and its text.
+const VERIFICATIONS: [(&[u8], &[u8], ErrorKind, &[u8]); 3] = [
+    (
         b"2000",
         b"A20",
         ErrorKind::Anomalie,
         b"A:20:00:revenu nul:N",
-    )?)?;
-    labels.push(label(alloc, b"010", b"D1", ErrorKind::Discordance, b"")?)?;
-    labels.push(label(alloc, b"7", b"I7", ErrorKind::Informative, b"I:7:\xE9")?)?;
+    ),
+    (b"010", b"D1", ErrorKind::Discordance, b""),
+    (b"7", b"I7", ErrorKind::Informative, b"I:7:\xE9"),
+];
+
+/// These and a line of the driver.
+fn labels(alloc: Global) -> Result<Seq<FaceLabel>, Fail> {
+    let mut labels = Vec::new(alloc);
+    for (verif, error, kind, text) in VERIFICATIONS {
+        labels.push(label(alloc, verif, error, kind, text)?)?;
+    }
     labels.push(FaceLabel::DriverLine(2))?;
     Ok(Seq::from_vec(labels))
 }

@@ -1,5 +1,6 @@
 //! The rule base and the household of `large N`, whole, for 1, 2 and 3.
 use m_large::{large_base, large_household};
+use std::alloc::Global;
 use std::test::Fail;
 
 const BASE_1: &str = "R0 : saisie revenu classe = 0 alias C0 : \"r\" ;
@@ -41,15 +42,20 @@ verif 1 : application : iliad ;
 si T2 < 0 alors erreur E1 ;
 ";
 
-#[test]
-fn bases(rt: HostRuntime) -> Result<(), Fail> {
-    let alloc = rt.alloc();
-    for (n, text) in [(1, BASE_1), (2, BASE_2), (3, BASE_3)] {
-        let base = large_base(alloc, n)?;
-        assert_eq!(rt; base.name.bytes(), b"large.m".as_slice());
-        assert_eq!(rt; base.bytes.as_slice(), text.as_bytes(), "of {n}");
+/// Whether the base of so many rules has this text.
+fn is_base(alloc: Global, n: u32, text: &str) -> bool {
+    match large_base(alloc, n) {
+        Ok(base) => base.name.bytes() == b"large.m".as_slice()
+            && base.bytes.as_slice() == text.as_bytes(),
+        Err(_) => false,
     }
-    Ok(())
+}
+
+#[test]
+fn bases(rt: HostRuntime) {
+    assert!(rt; is_base(rt.alloc(), 1, BASE_1));
+    assert!(rt; is_base(rt.alloc(), 2, BASE_2));
+    assert!(rt; is_base(rt.alloc(), 3, BASE_3));
 }
 
 /// Households of so many codes.

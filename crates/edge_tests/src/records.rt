@@ -10,14 +10,19 @@ fn shown_records(alloc: Global, bytes: &[u8]) -> Result<Vec<u8>, Fail> {
     let mut row = ByteRecord::new(alloc);
     let mut text = Vec::new(alloc);
     while next_record(&mut records, &mut row)? {
-        for place in 0..row.len() {
-            text.push(b'[')?;
-            text.extend_from_slice(field_at(&row, place))?;
-            text.push(b']')?;
-        }
-        text.push(b';')?;
+        add_record(&row, &mut text)?;
     }
     Ok(text)
+}
+
+fn add_record(row: &ByteRecord, text: &mut Vec<u8>) -> Result<(), Fail> {
+    for place in 0..row.len() {
+        text.push(b'[')?;
+        text.extend_from_slice(field_at(row, place))?;
+        text.push(b']')?;
+    }
+    text.push(b';')?;
+    Ok(())
 }
 
 /// A name, the bytes of a file, and the records that they say.
