@@ -28,6 +28,7 @@ fn folded(total: u64, result: Option<i128>) -> u64 {
     }
 }
 
+#[inline(never)]
 fn timed(name: &str, xs: &[i128], ys: &[i128], operation: impl Fn(i128, i128) -> Option<i128>) {
     let mut best = u128::MAX;
     for _ in 0..50 {

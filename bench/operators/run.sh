@@ -5,8 +5,7 @@
 #
 #   run.sh [OLDER_CLONE]
 #
-# Where a loop comes to lie in a program changes its time by up to half a nanosecond. So each program is built in four
-# layouts, with its operators in other orders (the plain one with its loops aligned otherwise), and the least time counts.
+# Each operator is in a function of its own that is called by a pointer, so that it isn't inlined and none changes the code of another.
 # With WORK set to a folder it builds there and keeps what it built.
 set -eu
 here=$(cd "$(dirname "$0")" && pwd)
@@ -15,17 +14,14 @@ older=$(cd "${1:-$top}" && pwd)
 work=${WORK:-$(mktemp -d)}
 [ -n "${WORK:-}" ] || trap 'rm -rf "$work"' EXIT
 
-# timers NAME TOP: builds the timing programs over the m_fixed of a clone, one for each layout.
-timers() {
+# timer NAME TOP: builds the timing program over the m_fixed of a clone.
+timer() {
     mkdir -p "$work/$1/crates/timer/src" "$work/$1/crates/m_fixed"
     printf 'm_fixed:\ntimer: m_fixed\n' >"$work/$1/crates.txt"
     (cd "$work/$1/crates/m_fixed" && rm -rf src specs proofs)
     cp -r "$2/crates/m_fixed/src" "$2/crates/m_fixed/specs" "$2/crates/m_fixed/proofs" "$work/$1/crates/m_fixed/"
-    for layout in 0 1 2 3; do
-        cp "$work/main.$layout.rt" "$work/$1/crates/timer/src/main.rt"
-        (cd "$work/$1/crates/timer" && rt run) >"$work/$1.first" 2>"$work/rt.log" || { tail -20 "$work/rt.log"; exit 1; }
-        cp "$work/$1/crates/timer/out/timer" "$work/$1.timer.$layout"
-    done
+    cp "$work/main.rt" "$work/$1/crates/timer/src/main.rt"
+    (cd "$work/$1/crates/timer" && rt run) >"$work/$1.first" 2>"$work/rt.log" || { tail -20 "$work/rt.log"; exit 1; }
 }
 
 cat >"$work/main.rt" <<'PROGRAM'
@@ -94,11 +90,12 @@ fn run_any(op: Op, xs: &[Value], ys: &[Value]) -> u64 {
 
 /// The least time of fifty, in nanoseconds. The operator is known in the function that is timed, or is data.
 fn timed(rt: &HostRuntime, op: Op, known: bool, xs: &[Value], ys: &[Value]) -> io::Result<()> {
+    let run = run_of(op);
     let mut best = u128::MAX;
     let mut total = 0;
     for _ in 0..50 {
         let start = Instant::now(rt)?;
-        total ^= if known { run_known(op, xs, ys) } else { run_any(op, xs, ys) };
+        total ^= if known { run(xs, ys) } else { run_any(op, xs, ys) };
         best = best.min(start.elapsed(rt)?.as_nanos());
     }
     println!(rt; "{op:?} {best} {total}")?;
@@ -202,13 +199,10 @@ fn main(rt: HostRuntime) -> io::Result<()> {
 }
 PROGRAM
 
-# The operators, as functions that know theirs, in an order for each layout.
+# The operators, as functions that know theirs.
 operators=$(sed -n 's/^    \([A-Z][A-Za-z]*\),$/\1/p' "$top/crates/m_fixed/src/operator.rt")
-for layout in 0 1 2 3; do
-    ordered=$(echo "$operators" | awk -v from=$((layout * 7)) '{ all[NR - 1] = $0 } END { for (k = 0; k < NR; k++) print all[(k + from) % NR] }')
-    {
-        for op in $ordered; do
-            cat <<RUN
+for op in $operators; do
+    cat <<RUN
 fn run_$(echo "$op" | tr A-Z a-z)(xs: &[Value], ys: &[Value]) -> u64 {
     let mut total = 0;
     for _ in 0..100 {
@@ -220,24 +214,22 @@ fn run_$(echo "$op" | tr A-Z a-z)(xs: &[Value], ys: &[Value]) -> u64 {
 }
 
 RUN
-        done
-        echo 'fn run_known(op: Op, xs: &[Value], ys: &[Value]) -> u64 {'
-        echo '    match op {'
-        for op in $ordered; do echo "        Op::$op => run_$(echo "$op" | tr A-Z a-z)(xs, ys),"; done
-        echo '    }'
-        echo '}'
-    } >"$work/own_runs"
-    sed -e "/^OWN_RUNS$/{r $work/own_runs" -e 'd}' "$work/main.rt" >"$work/main.$layout.rt"
-done
-timers new "$top"
-if [ "$older" = "$top" ]; then for layout in 0 1 2 3; do cp "$work/new.timer.$layout" "$work/old.timer.$layout"; done; else timers old "$older"; fi
-for layout in 0 1 2 3; do
-    case $layout in 0) aligned=1 ;; 1) aligned=16 ;; 2) aligned=32 ;; 3) aligned=64 ;; esac
-    rustc -O -C llvm-args=-align-loops=$aligned -o "$work/plain.timer.$layout" "$here/plain.rs"
-done
-for turn in 1 2 3; do
-    for layout in 0 1 2 3; do
-        for who in plain old new; do "$work/$who.timer.$layout" >"$work/$who.$layout.$turn"; done
-    done
+done >"$work/runs"
+{
+    cat "$work/runs"
+    echo 'fn run_of(op: Op) -> fn(&[Value], &[Value]) -> u64 {'
+    echo '    match op {'
+    for op in $operators; do echo "        Op::$op => run_$(echo "$op" | tr A-Z a-z),"; done
+    echo '    }'
+    echo '}'
+} >"$work/own_runs"
+sed -i -e "/^OWN_RUNS$/{r $work/own_runs" -e 'd}' "$work/main.rt"
+timer new "$top"
+if [ "$older" = "$top" ]; then cp -r "$work/new" "$work/old"; else timer old "$older"; fi
+rustc -O -o "$work/plain" "$here/plain.rs"
+for turn in 1 2 3 4 5; do
+    "$work/plain" >"$work/plain.$turn"
+    "$work/old/crates/timer/out/timer" >"$work/old.$turn"
+    "$work/new/crates/timer/out/timer" >"$work/new.$turn"
 done
 python3 "$here/table.py" "$work"

@@ -1,4 +1,4 @@
-"""Prints the tables of run.sh: the least time of each operation over the turns and layouts, in nanoseconds."""
+"""Prints the tables of run.sh: the least time of each operation over the turns, in nanoseconds."""
 import sys
 from pathlib import Path
 
@@ -8,7 +8,7 @@ OPERATORS = 26
 def least(folder, who):
     """The least times of one program, in the order of its lines: (name, nanoseconds for one)."""
     runs = []
-    for path in sorted(Path(folder).glob(who + ".[0-9].[0-9]")):
+    for path in sorted(Path(folder).glob(who + ".[0-9]")):
         runs.append([line.split()[:2] for line in path.read_text().splitlines()])
     return [(lines[0][0], min(int(time) for _, time in lines) / 1e5) for lines in zip(*runs)]
 
