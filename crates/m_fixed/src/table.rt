@@ -1,5 +1,6 @@
 //! What each operator gives.
 ghost use Rattle.std.specs.Prelude.{◌≡◌, if◌then◌else◌};
+ghost use Rattle.std.specs.Int.{int_max, int_min};
 ghost use Rattle.m_fixed.specs.Operators.{op_value, of_one, of_two, chosen, truth_of, bounded, counts_undefined_as_zero, result_of, truth};
 
 use crate::amount::UNIT;
@@ -80,10 +81,15 @@ fn apply_one(op: Op, a: Value) -> Value
     }
 }
 
-/// What an operator of two arguments gives.
+/// What an operator of two arguments gives. Two numbers come first: they are the rule.
 fn apply_two(op: Op, a: Value, b: Value) -> Value
     ensures { result ≡ of_two op a b }
 {
+    if let Value::Num(x) = a
+        && let Value::Num(y) = b
+    {
+        return of_numbers(op, x, y);
+    }
     match a {
         Value::Over => Value::Over,
         Value::Undef => match b {
@@ -94,8 +100,41 @@ fn apply_two(op: Op, a: Value, b: Value) -> Value
         Value::Num(x) => match b {
             Value::Over => Value::Over,
             Value::Undef => with_one_undefined(op, x, Amount::zero()),
-            Value::Num(y) => bounded(result_of(op, x, y)),
+            Value::Num(y) => of_numbers(op, x, y),
         },
+    }
+}
+
+/// What an operator of two arguments gives of two numbers. The greater and the lesser of them are amounts as they are.
+fn of_numbers(op: Op, x: Amount, y: Amount) -> Value
+    ensures { result ≡ bounded (result_of op x y) }
+{
+    if op == Op::Max {
+        return Value::Num(greater(x, y));
+    }
+    if op == Op::Min {
+        return Value::Num(lesser(x, y));
+    }
+    bounded(result_of(op, x, y))
+}
+
+fn greater(x: Amount, y: Amount) -> Amount
+    ensures { result ≡ int_max x y }
+{
+    if y.millionths() < x.millionths() {
+        x
+    } else {
+        y
+    }
+}
+
+fn lesser(x: Amount, y: Amount) -> Amount
+    ensures { result ≡ int_min x y }
+{
+    if y.millionths() < x.millionths() {
+        y
+    } else {
+        x
     }
 }
 
@@ -147,7 +186,7 @@ fn result_of(op: Op, x: Amount, y: Amount) -> i128
         Op::Gt => truth(a > b),
         Op::Ge => truth(a >= b),
         Op::And => truth(a != 0 && b != 0),
-        Op::Or => truth(a != 0 || b != 0),
+        Op::Or => UNIT as i128 - truth(a == 0 && b == 0),
         Op::Not | Op::Null => truth(a == 0),
         Op::Present => UNIT as i128,
         Op::Abs => a.abs(),
