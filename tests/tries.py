@@ -1,0 +1,181 @@
+#!/usr/bin/env python3
+"""Tries wrong bodies: tests/tries.py [--stands] [CRATE ..]
+
+tests/tries/CRATE.txt has wrong bodies of a crate's functions. This script copies the repository, puts them into the copy, as many
+functions at a time as it can, checks the crate there, and says of each whether the check refused it. What can't be judged since
+another function is wrong too is tried again alone. Without a name it goes through all crates, which takes hours: `rt check`
+proves the crates below first. It is no part of the gate.
+
+Of an entry the first line is `@ FUNCTION FILE`, the second `# ` and what is wrong; in brackets stands what is right, or free, and
+may be proved. Then come the lines that stand in the file, each behind `-`, and the lines in their place, each behind `+`. The
+first and the last may be parts of lines.
+
+The verdicts are `refused`; `PROVED`, which is a clause to strengthen; `allowed`, for those in brackets that are proved; and
+`not judged`, with the reason. --stands says which entries no longer stand in their files, and checks nothing. The status is 1
+where one is proved or doesn't stand.
+"""
+import re
+import shutil
+import subprocess
+import sys
+import tempfile
+from pathlib import Path
+from typing import NamedTuple
+
+TOP = Path(__file__).resolve().parent.parent
+
+
+class Body(NamedTuple):
+    """A wrong body: the function, its file, what is wrong with it, and the text that stands in the place of another."""
+
+    function: str
+    file: str
+    what: str
+    old: str
+    new: str
+
+    @property
+    def is_allowed(self):
+        return self.what.startswith("(")
+
+
+def bodies_of(crate):
+    """Returns the wrong bodies of a crate."""
+    found = []
+    for entry in (TOP / "tests/tries" / f"{crate}.txt").read_text(encoding="utf-8").split("\n\n@ "):
+        lines = entry.removeprefix("@ ").rstrip("\n").split("\n")
+        function, file = lines[0].split(" ")
+        old = "\n".join(line[1:] for line in lines[2:] if line.startswith("-"))
+        new = "\n".join(line[1:] for line in lines[2:] if line.startswith("+"))
+        found.append(Body(function, file, lines[1].removeprefix("# "), old, new))
+    return found
+
+
+def put(texts, body):
+    """Puts a body into the texts of its crate's files, and returns whether its old text stands there once."""
+    text = texts.get(body.file, "")
+    if text.count(body.old) != 1:
+        return False
+    texts[body.file] = text.replace(body.old, body.new)
+    return True
+
+
+def rounds_of(bodies, texts):
+    """Returns bodies that can be tried at once, in rounds: one for each function, where the texts don't meet."""
+    left = bodies
+    while left:
+        now, later, changed = [], [], dict(texts)
+        for body in left:
+            is_free = all(body.function != other.function or body.file != other.file for other in now)
+            (now if is_free and put(changed, body) else later).append(body)
+        yield now
+        left = later
+
+
+def texts_of(crate_folder):
+    """Returns the texts of a crate's files in src/, by their paths."""
+    return {str(path.relative_to(crate_folder)): path.read_text(encoding="utf-8") for path in crate_folder.glob("src/**/*.rt")}
+
+
+def check(crate_folder, texts, bodies):
+    """Checks the crate with these bodies, and returns the lines that the check prints, and where it found errors."""
+    changed = dict(texts)
+    for body in bodies:
+        put(changed, body)
+    try:
+        for path, text in changed.items():
+            (crate_folder / path).write_text(text, encoding="utf-8")
+        told = subprocess.run(["rt", "check", "--allow-holes"], cwd=crate_folder, capture_output=True, text=True, errors="replace")
+    finally:
+        for path, text in texts.items():
+            (crate_folder / path).write_text(text, encoding="utf-8")
+    lines = (told.stdout + told.stderr).split("\n")
+    errors = [(match[1], int(match[2])) for match in (re.match(r"(?:.*/)?(src/[\w/]+\.rt):(\d+):\d+: error", line) for line in lines) if match]
+    return lines, errors, changed
+
+
+def nearest(bodies, changed, path, line):
+    """Returns the body whose text in its file is nearest to a line."""
+
+    def distance(body):
+        first = changed[path].count("\n", 0, max(changed[path].find(body.new), 0)) + 1
+        last = first + body.new.count("\n")
+        return 0 if first <= line <= last else min(abs(line - first), abs(line - last))
+
+    return min((body for body in bodies if body.file == path), key=distance, default=None)
+
+
+def verdict(crate, body, lines):
+    """Returns what the lines of a check say of a body."""
+    module = body.file.removeprefix("src/").removesuffix(".rt").replace("/", "::")
+    module = "" if module == "lib" else module + "::"
+    owner, _, name = body.function.rpartition("::")
+    path = rf"fn {crate}::(?:\w+::)*(?:\w+(?=From))?{owner}::{name}: " if owner else rf"fn {crate}::{module}(?:\w+::)?{name}: "
+    found = [line for line in lines if re.match(path, line)]
+    if len(found) != 1:
+        return f"not judged: {len(found)} functions have this name"
+    line = found[0]
+    if ": no holes" in line:
+        return "allowed" if body.is_allowed else "PROVED"
+    if "one proof of its cycle" in line or "of this cycle" in line or "/+" in line or ".+" in line:
+        # functions that call one another have one proof: only a goal with the function's own name speaks of it
+        goals = re.findall(r"[`.]([\w.+-]+)`", line)
+        return "refused" if any(goal.split(".")[-1].startswith(name + "-") for goal in goals) else "not judged: another of its cycle is refused"
+    if "did not prove" in line or "antt refuses" in line:
+        return "refused"
+    return "not judged: " + line.partition(": ")[2]
+
+
+def tried(crate_folder, crate):
+    """Returns the wrong bodies of a crate, each with its verdict."""
+    texts = texts_of(crate_folder)
+    standing = [body for body in bodies_of(crate) if put(dict(texts), body)]
+    alone = []
+    for bodies in rounds_of(standing, texts):
+        lines, errors, changed = check(crate_folder, texts, bodies)
+        while errors:
+            wrong = {nearest(bodies, changed, *error) for error in errors} - {None}
+            if not wrong:
+                yield from ((body, "not judged: an error that is in none of them") for body in bodies)
+                bodies = []
+                break
+            yield from ((body, "not judged: it doesn't compile") for body in bodies if body in wrong)
+            bodies = [body for body in bodies if body not in wrong]
+            lines, errors, changed = check(crate_folder, texts, bodies)
+        for body in bodies:
+            told = verdict(crate, body, lines)
+            if told.startswith("not judged") and len(bodies) > 1:
+                alone.append(body)
+            else:
+                yield body, told
+    for body in alone:
+        yield body, verdict(crate, body, check(crate_folder, texts, [body])[0])
+
+
+def main():
+    words = sys.argv[1:]
+    crates = [word for word in words if not word.startswith("-")] or sorted(path.stem for path in (TOP / "tests/tries").glob("*.txt"))
+    failed = 0
+    for crate in crates:
+        texts = texts_of(TOP / "crates" / crate)
+        for body in bodies_of(crate):
+            if not put(dict(texts), body):
+                failed += 1
+                print(f"{crate} {body.function}: its text doesn't stand once in {body.file}: {body.what}")
+    if "--stands" not in words:
+        counts = {}
+        with tempfile.TemporaryDirectory() as folder:
+            copy = Path(folder) / "copy"
+            shutil.copytree(TOP, copy, ignore=shutil.ignore_patterns("out", ".git", "unlanded"))
+            for crate in crates:
+                for body, told in tried(copy / "crates" / crate, crate):
+                    kind = told.partition(":")[0]
+                    counts[kind] = counts.get(kind, 0) + 1
+                    failed += told == "PROVED"
+                    print(f"{crate} {body.function}: {told}: {body.what}", flush=True)
+        print("tries: " + ", ".join(f"{count} {kind}" for kind, count in sorted(counts.items())))
+    sys.exit(failed > 0)
+
+
+if __name__ == "__main__":
+    main()
