@@ -10,7 +10,8 @@ Of an entry the first line is `@ FUNCTION FILE`, the second `# ` and what is wro
 may be proved. Then come the lines that stand in the file, each behind `-`, and the lines in their place, each behind `+`. The
 first and the last may be parts of lines.
 
-The verdicts are `refused`; `PROVED`, which is a clause to strengthen; `allowed`, for those in brackets that are proved; and
+The verdicts are `refused`: a goal of the function isn't proved, by the search or by the answer that stands in proofs/, which may
+be an answer that no longer fits; `PROVED`, which is a clause to strengthen; `allowed`, for those in brackets that are proved; and
 `not judged`, with the reason. --stands says which entries no longer stand in their files, and checks nothing. The status is 1
 where one is proved or doesn't stand.
 """
@@ -134,14 +135,11 @@ def tried(crate_folder, crate):
     for bodies in rounds_of(standing, texts):
         lines, errors, changed = check(crate_folder, texts, bodies)
         while errors:
-            wrong = {nearest(bodies, changed, *error) for error in errors} - {None}
-            if not wrong:
-                yield from ((body, "not judged: an error that is in none of them") for body in bodies)
-                bodies = []
-                break
-            yield from ((body, "not judged: it doesn't compile") for body in bodies if body in wrong)
+            # what seems to stand where the error is is tried again alone, and all where nothing does
+            wrong = {nearest(bodies, changed, *error) for error in errors} - {None} or set(bodies)
+            alone += [body for body in bodies if body in wrong]
             bodies = [body for body in bodies if body not in wrong]
-            lines, errors, changed = check(crate_folder, texts, bodies)
+            lines, errors, changed = check(crate_folder, texts, bodies) if bodies else ([], [], {})
         for body in bodies:
             told = verdict(crate, body, lines)
             if told.startswith("not judged") and len(bodies) > 1:
@@ -149,7 +147,8 @@ def tried(crate_folder, crate):
             else:
                 yield body, told
     for body in alone:
-        yield body, verdict(crate, body, check(crate_folder, texts, [body])[0])
+        lines, errors, _ = check(crate_folder, texts, [body])
+        yield body, "not judged: it doesn't compile" if errors else verdict(crate, body, lines)
 
 
 def main():
