@@ -47,6 +47,9 @@ fn are_named(files: &[Name], names: &[&[u8]]) -> bool {
 
 /// Whether a list is read as this application and these names.
 fn is_read_as(alloc: Global, bytes: &[u8], application: &[u8], names: &[&[u8]]) -> bool {
+    if bytes.len() as u64 > FILE_BYTES {
+        return false;
+    }
     match read_list(alloc, bytes) {
         Ok(listing) => {
             listing.application.bytes() == application && are_named(listing.files.as_slice(), names)
