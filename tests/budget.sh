@@ -3,7 +3,7 @@
 # on eight or more others, 240 in all. Prints a line for each crate that is over, and a count; the status is 0 where none is.
 #
 # tests/budget.sh FIGURES also looks at the figures that bench/gate/measure.py wrote: the check of a library takes at most
-# 20 s of CPU, for those that it stands on, and 90 s for 1,000 lines of its code, definitions and proofs, and its tests no
+# 20 s of CPU, for those that it stands on, and 100 s for 1,000 lines of its code, definitions and proofs, and its tests no
 # more than the crates that they test. What a program takes is the linking of all of them and its two builds.
 cd "$(dirname "$0")/.." || exit 1
 figures=${1-/dev/null}
@@ -30,7 +30,7 @@ done | awk -v figures="$figures" '
         most = count >= 8 ? 5 : 10
         if ($2 > most) over($1 " has " $2 " must-fail edits, and may have " most)
         all += $2
-        may = 20 + $3 * 0.09
+        may = 20 + $3 * 0.1
         if ($4 == "library" && $1 in check && check[$1] > may) over($1 " takes " check[$1] " s of CPU for its check, and may take " may)
         tested = 0
         for (name in below) tested += check[name]
