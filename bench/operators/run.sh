@@ -6,6 +6,8 @@
 #   run.sh [OLDER_CLONE]
 #
 # Each operator is in a function of its own that is called by a pointer, so that it isn't inlined and none changes the code of another.
+# Each program is built twice, the second time with an empty function in front of these, by which each lies 16 bytes farther: a processor of
+# this kind takes longer over a jump that lies across a line of 32 bytes. The less counts. plain.rs is built with no such jump.
 # With WORK set to a folder it builds there and keeps what it built.
 set -eu
 here=$(cd "$(dirname "$0")" && pwd)
@@ -14,14 +16,16 @@ older=$(cd "${1:-$top}" && pwd)
 work=${WORK:-$(mktemp -d)}
 [ -n "${WORK:-}" ] || trap 'rm -rf "$work"' EXIT
 
-# timer NAME TOP: builds the timing program over the m_fixed of a clone.
+# timer NAME TOP: builds the timing program over the m_fixed of a clone, in both places.
 timer() {
-    mkdir -p "$work/$1/crates/timer/src" "$work/$1/crates/m_fixed"
-    printf 'm_fixed:\ntimer: m_fixed\n' >"$work/$1/crates.txt"
-    (cd "$work/$1/crates/m_fixed" && rm -rf src specs proofs)
-    cp -r "$2/crates/m_fixed/src" "$2/crates/m_fixed/specs" "$2/crates/m_fixed/proofs" "$work/$1/crates/m_fixed/"
-    cp "$work/main.rt" "$work/$1/crates/timer/src/main.rt"
-    (cd "$work/$1/crates/timer" && rt run) >"$work/$1.first" 2>"$work/rt.log" || { tail -20 "$work/rt.log"; exit 1; }
+    for place in near far; do
+        mkdir -p "$work/$1.$place/crates/timer/src" "$work/$1.$place/crates/m_fixed"
+        printf 'm_fixed:\ntimer: m_fixed\n' >"$work/$1.$place/crates.txt"
+        (cd "$work/$1.$place/crates/m_fixed" && rm -rf src specs proofs)
+        cp -r "$2/crates/m_fixed/src" "$2/crates/m_fixed/specs" "$2/crates/m_fixed/proofs" "$work/$1.$place/crates/m_fixed/"
+        cat "$work/main.rt" "$work/$place.rt" >"$work/$1.$place/crates/timer/src/main.rt"
+        (cd "$work/$1.$place/crates/timer" && rt run) >"$work/$1.$place.first" 2>"$work/rt.log" || { tail -20 "$work/rt.log"; exit 1; }
+    done
 }
 
 cat >"$work/main.rt" <<'PROGRAM'
@@ -57,11 +61,11 @@ fn usual(alloc: Global, seed: u64) -> Result<Vec<Value>, AllocError> {
     Ok(all)
 }
 
-/// Amounts of up to the greatest one.
+/// Amounts of up to the greatest one, so many that the processor can't learn by heart which sums are over.
 fn great(alloc: Global, seed: u64) -> Result<Vec<Value>, AllocError> {
     let mut all = Vec::new(alloc);
     let mut state = seed;
-    for _ in 0..1_000 {
+    for _ in 0..10_000 {
         state = next(state);
         let size = (state >> 1) as i128;
         all.push(value(if size % 2 == 0 { size } else { -size }))?;
@@ -88,19 +92,42 @@ fn run_any(op: Op, xs: &[Value], ys: &[Value]) -> u64 {
     total
 }
 
-/// The least time of fifty, in nanoseconds. The operator is known in the function that is timed, or is data.
-fn timed(rt: &HostRuntime, op: Op, known: bool, xs: &[Value], ys: &[Value]) -> io::Result<()> {
+/// The least time of so many runs, in nanoseconds. The operator is known in the function that is timed; of none nothing is told.
+fn time_known(rt: &HostRuntime, op: Option<Op>, runs: u32, xs: &[Value], ys: &[Value]) -> io::Result<()> {
     let run = run_of(op);
     let mut best = u128::MAX;
     let mut total = 0;
-    for _ in 0..50 {
+    for _ in 0..runs {
         let start = Instant::now(rt)?;
-        total ^= if known { run(xs, ys) } else { run_any(op, xs, ys) };
+        total ^= run(xs, ys);
+        best = best.min(start.elapsed(rt)?.as_nanos());
+    }
+    if let Some(own) = op {
+        println!(rt; "{own:?} {best} {total}")?;
+    }
+    Ok(())
+}
+
+/// The same where the operator is data.
+fn time_data(rt: &HostRuntime, op: Op, runs: u32, xs: &[Value], ys: &[Value]) -> io::Result<()> {
+    let mut best = u128::MAX;
+    let mut total = 0;
+    for _ in 0..runs {
+        let start = Instant::now(rt)?;
+        total ^= run_any(op, xs, ys);
         best = best.min(start.elapsed(rt)?.as_nanos());
     }
     println!(rt; "{op:?} {best} {total}")?;
     Ok(())
 }
+
+/// All operators, and none.
+static KNOWN: [Option<Op>; 27] = [
+    None, Some(Op::Add), Some(Op::Sub), Some(Op::Mul), Some(Op::Div), Some(Op::Neg), Some(Op::Eq), Some(Op::Ne), Some(Op::Lt), Some(Op::Le),
+    Some(Op::Gt), Some(Op::Ge), Some(Op::And), Some(Op::Or), Some(Op::Not), Some(Op::Present), Some(Op::Abs), Some(Op::Positive),
+    Some(Op::PositiveOrNull), Some(Op::Null), Some(Op::Arr), Some(Op::Inf), Some(Op::Max), Some(Op::Min), Some(Op::Truth), Some(Op::Choose),
+    Some(Op::At),
+];
 
 static OPERATORS: [Op; 26] = [
     Op::Add, Op::Sub, Op::Mul, Op::Div, Op::Neg, Op::Eq, Op::Ne, Op::Lt, Op::Le, Op::Gt, Op::Ge, Op::And, Op::Or,
@@ -108,9 +135,16 @@ static OPERATORS: [Op; 26] = [
     Op::Truth, Op::Choose, Op::At,
 ];
 
-fn all(rt: &HostRuntime, known: bool, xs: &[Value], ys: &[Value]) -> io::Result<()> {
+fn all_known(rt: &HostRuntime, runs: u32, xs: &[Value], ys: &[Value]) -> io::Result<()> {
+    for op in &KNOWN {
+        time_known(rt, *op, runs, xs, ys)?;
+    }
+    Ok(())
+}
+
+fn all_data(rt: &HostRuntime, runs: u32, xs: &[Value], ys: &[Value]) -> io::Result<()> {
     for op in &OPERATORS {
-        timed(rt, *op, known, xs, ys)?;
+        time_data(rt, *op, runs, xs, ys)?;
     }
     Ok(())
 }
@@ -187,23 +221,24 @@ fn time_read(rt: &HostRuntime, xs: &[Value]) -> io::Result<()> {
 fn main(rt: HostRuntime) -> io::Result<()> {
     let xs = usual(rt.alloc(), 1)?;
     let ys = usual(rt.alloc(), 2)?;
-    all(&rt, true, xs.as_slice(), ys.as_slice())?;
-    all(&rt, false, xs.as_slice(), ys.as_slice())?;
+    all_known(&rt, 50, xs.as_slice(), ys.as_slice())?;
+    all_data(&rt, 50, xs.as_slice(), ys.as_slice())?;
     time_written(&rt, xs.as_slice())?;
     time_read(&rt, xs.as_slice())?;
     println!(rt; "great 0 0")?;
     let xs = great(rt.alloc(), 1)?;
     let ys = great(rt.alloc(), 2)?;
-    all(&rt, true, xs.as_slice(), ys.as_slice())?;
+    all_known(&rt, 5, xs.as_slice(), ys.as_slice())?;
     Ok(())
 }
 PROGRAM
 
 # The operators, as functions that know theirs.
 operators=$(sed -n 's/^    \([A-Z][A-Za-z]*\),$/\1/p' "$top/crates/m_fixed/src/operator.rt")
+lower() { echo "$1" | tr A-Z a-z; }
 for op in $operators; do
     cat <<RUN
-fn run_$(echo "$op" | tr A-Z a-z)(xs: &[Value], ys: &[Value]) -> u64 {
+fn run_$(lower "$op")(xs: &[Value], ys: &[Value]) -> u64 {
     let mut total = 0;
     for _ in 0..100 {
         for (x, y) in xs.iter().zip(ys) {
@@ -214,22 +249,49 @@ fn run_$(echo "$op" | tr A-Z a-z)(xs: &[Value], ys: &[Value]) -> u64 {
 }
 
 RUN
-done >"$work/runs"
+done >"$work/own_runs"
 {
-    cat "$work/runs"
-    echo 'fn run_of(op: Op) -> fn(&[Value], &[Value]) -> u64 {'
+    echo 'fn run_own(op: Op) -> fn(&[Value], &[Value]) -> u64 {'
     echo '    match op {'
-    for op in $operators; do echo "        Op::$op => run_$(echo "$op" | tr A-Z a-z),"; done
+    for op in $operators; do echo "        Op::$op => run_$(lower "$op"),"; done
     echo '    }'
     echo '}'
-} >"$work/own_runs"
+} >>"$work/own_runs"
 sed -i -e "/^OWN_RUNS$/{r $work/own_runs" -e 'd}' "$work/main.rt"
+cat >"$work/near.rt" <<'RUN'
+
+fn run_of(op: Option<Op>) -> fn(&[Value], &[Value]) -> u64 {
+    match op {
+        Some(own) => run_own(own),
+        None => run_add,
+    }
+}
+RUN
+cat >"$work/far.rt" <<'RUN'
+
+fn run_nothing(_xs: &[Value], _ys: &[Value]) -> u64 {
+    0
+}
+
+fn run_of(op: Option<Op>) -> fn(&[Value], &[Value]) -> u64 {
+    match op {
+        Some(own) => run_own(own),
+        None => run_nothing,
+    }
+}
+RUN
 timer new "$top"
-if [ "$older" = "$top" ]; then cp -r "$work/new" "$work/old"; else timer old "$older"; fi
-rustc -O -o "$work/plain" "$here/plain.rs"
+if [ "$older" = "$top" ]; then
+    for place in near far; do cp -r "$work/new.$place" "$work/old.$place"; done
+else
+    timer old "$older"
+fi
+rustc -O -C llvm-args=-x86-branches-within-32B-boundaries -o "$work/plain" "$here/plain.rs"
 for turn in 1 2 3 4 5; do
-    "$work/plain" >"$work/plain.$turn"
-    "$work/old/crates/timer/out/timer" >"$work/old.$turn"
-    "$work/new/crates/timer/out/timer" >"$work/new.$turn"
+    "$work/plain" >"$work/plain.near.$turn"
+    for place in near far; do
+        "$work/old.$place/crates/timer/out/timer" >"$work/old.$place.$turn"
+        "$work/new.$place/crates/timer/out/timer" >"$work/new.$place.$turn"
+    done
 done
 python3 "$here/table.py" "$work"

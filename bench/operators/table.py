@@ -3,12 +3,13 @@ import sys
 from pathlib import Path
 
 OPERATORS = 26
+GREAT = 10  # times as many operations are timed near the bound
 
 
 def least(folder, who):
     """The least times of one program, in the order of its lines: (name, nanoseconds for one)."""
     runs = []
-    for path in sorted(Path(folder).glob(who + ".[0-9]")):
+    for path in sorted(Path(folder).glob(who + ".*.[0-9]")):
         runs.append([line.split()[:2] for line in path.read_text().splitlines()])
     return [(lines[0][0], min(int(time) for _, time in lines) / 1e5) for lines in zip(*runs)]
 
@@ -29,7 +30,7 @@ def main():
     print("\n| Operator near the bound | before, ns | now, ns | of before |\n|---|---|---|---|")
     great = slice(2 * OPERATORS + 3, None)
     for (name, was), (_, now) in zip(old[great], new[great]):
-        print(f"| {name} | {was:.2f} | {now:.2f} | {now / was:.2f} |")
+        print(f"| {name} | {was / GREAT:.2f} | {now / GREAT:.2f} | {now / was:.2f} |")
 
 
 main()

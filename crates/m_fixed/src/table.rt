@@ -97,11 +97,13 @@ fn apply_two(op: Op, a: Value, b: Value) -> Value
             Value::Undef => Value::Undef,
             Value::Num(y) => with_one_undefined(op, Amount::zero(), y),
         },
-        Value::Num(x) => match b {
-            Value::Over => Value::Over,
-            Value::Undef => with_one_undefined(op, x, Amount::zero()),
-            Value::Num(y) => of_numbers(op, x, y),
-        },
+        Value::Num(x) => {
+            if b == Value::Over {
+                Value::Over
+            } else {
+                with_one_undefined(op, x, Amount::zero())
+            }
+        }
     }
 }
 
