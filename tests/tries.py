@@ -2,9 +2,9 @@
 """Tries wrong bodies: tests/tries.py [--stands] [CRATE ..]
 
 tests/tries/CRATE.txt has wrong bodies of a crate's functions. This script copies the repository, puts them into the copy, as many
-functions at a time as it can, checks the crate there, and says of each whether the check refused it. What can't be judged since
-another function is wrong too is tried again alone. Without a name it goes through all crates, which takes hours: `rt check`
-proves the crates below first. It is no part of the gate.
+functions at a time as it can, checks these functions there, and says of each whether the check refused it. What can't be judged since
+another function is wrong too is tried again alone. Without a name it goes through all crates. `rt check` proves the crates below first, and
+takes what a check in this clone proved already: begin with `./build`, and it is an hour for all. It is no part of the gate.
 
 Of an entry the first line is `@ FUNCTION FILE`, the second `# ` and what is wrong; in brackets stands what is right, or free, and
 may be proved. Then come the lines that stand in the file, each behind `-`, and the lines in their place, each behind `+`. The
@@ -78,15 +78,25 @@ def texts_of(crate_folder):
     return {str(path.relative_to(crate_folder)): path.read_text(encoding="utf-8") for path in crate_folder.glob("src/**/*.rt")}
 
 
+def path_of(body):
+    """Returns the path of a body's function, as a check prints it below its crate."""
+    module = body.file.removeprefix("src/").removesuffix(".rt").replace("/", "::")
+    return body.function if module == "lib" else f"{module}::{body.function}"
+
+
 def check(crate_folder, texts, bodies):
-    """Checks the crate with these bodies, and returns the lines that the check prints, and where it found errors."""
+    """Checks the functions of these bodies, and returns the lines that the check prints, and where it found errors."""
     changed = dict(texts)
     for body in bodies:
         put(changed, body)
+    only = [word for body in bodies for word in ("--only", path_of(body))]
     try:
         for path, text in changed.items():
             (crate_folder / path).write_text(text, encoding="utf-8")
-        told = subprocess.run(["rt", "check", "--allow-holes"], cwd=crate_folder, capture_output=True, text=True, errors="replace")
+        told = subprocess.run(["rt", "check", "--allow-holes", *only], cwd=crate_folder, capture_output=True, text=True, errors="replace")
+        if told.returncode == 2:
+            # a path that fits no function, or several
+            told = subprocess.run(["rt", "check", "--allow-holes"], cwd=crate_folder, capture_output=True, text=True, errors="replace")
     finally:
         for path, text in texts.items():
             (crate_folder / path).write_text(text, encoding="utf-8")
@@ -106,8 +116,8 @@ def nearest(bodies, changed, path, line):
     return min((body for body in bodies if body.file == path), key=distance, default=None)
 
 
-def verdict(crate, body, lines):
-    """Returns what the lines of a check say of a body."""
+def verdict(crate, body, lines, is_alone):
+    """Returns what the lines of a check say of a body. Where it was the only one, nothing else can keep its function from a proof."""
     module = body.file.removeprefix("src/").removesuffix(".rt").replace("/", "::")
     module = "" if module == "lib" else module + "::"
     owner, _, name = body.function.rpartition("::")
@@ -118,6 +128,8 @@ def verdict(crate, body, lines):
     line = found[0]
     if ": no holes" in line:
         return "allowed" if body.is_allowed else "PROVED"
+    if is_alone and ": not proved" in line:
+        return "refused"
     if "one proof of its cycle" in line or "of this cycle" in line or "/+" in line or ".+" in line:
         # functions that call one another have one proof: only a goal with the function's own name speaks of it
         goals = re.findall(r"[`.]([\w.+-]+)`", line)
@@ -141,14 +153,14 @@ def tried(crate_folder, crate):
             bodies = [body for body in bodies if body not in wrong]
             lines, errors, changed = check(crate_folder, texts, bodies) if bodies else ([], [], {})
         for body in bodies:
-            told = verdict(crate, body, lines)
+            told = verdict(crate, body, lines, len(bodies) == 1)
             if told.startswith("not judged") and len(bodies) > 1:
                 alone.append(body)
             else:
                 yield body, told
     for body in alone:
         lines, errors, _ = check(crate_folder, texts, [body])
-        yield body, "not judged: it doesn't compile" if errors else verdict(crate, body, lines)
+        yield body, "not judged: it doesn't compile" if errors else verdict(crate, body, lines, True)
 
 
 def main():
@@ -165,7 +177,7 @@ def main():
         counts = {}
         with tempfile.TemporaryDirectory() as folder:
             copy = Path(folder) / "copy"
-            shutil.copytree(TOP, copy, ignore=shutil.ignore_patterns("out", ".git", "unlanded"))
+            shutil.copytree(TOP, copy, ignore=shutil.ignore_patterns(".git", "unlanded"))
             for crate in crates:
                 for body, told in tried(copy / "crates" / crate, crate):
                     kind = told.partition(":")[0]

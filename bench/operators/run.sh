@@ -29,7 +29,7 @@ timer() {
 }
 
 cat >"$work/main.rt" <<'PROGRAM'
-//! Times a hundred thousand of each operator, fifty times. Prints `NAME NANOSECONDS`, the least time.
+//! Times a hundred thousand of each operator. Prints `NAME NANOSECONDS`, the least time.
 #![tactic(auto)]
 
 ghost use Rattle.std.specs.Prelude.{ℕ};
