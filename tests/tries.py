@@ -12,8 +12,8 @@ first and the last may be parts of lines.
 
 The verdicts are `refused`: a goal of the function isn't proved, by the search or by the answer that stands in proofs/, which may
 be an answer that no longer fits; `PROVED`, which is a clause to strengthen; `allowed`, for those in brackets that are proved; and
-`not judged`, with the reason. --stands says which entries no longer stand in their files, and checks nothing. The status is 1
-where one is proved or doesn't stand.
+`not judged`, with the reason. --stands says which entries no longer stand in their files, and how many do, and checks nothing. The
+status is 1 where one is proved or doesn't stand.
 """
 import re
 import shutil
@@ -166,14 +166,18 @@ def tried(crate_folder, crate):
 def main():
     words = sys.argv[1:]
     crates = [word for word in words if not word.startswith("-")] or sorted(path.stem for path in (TOP / "tests/tries").glob("*.txt"))
-    failed = 0
+    failed = stands = 0
     for crate in crates:
         texts = texts_of(TOP / "crates" / crate)
         for body in bodies_of(crate):
-            if not put(dict(texts), body):
+            if put(dict(texts), body):
+                stands += 1
+            else:
                 failed += 1
                 print(f"{crate} {body.function}: its text doesn't stand once in {body.file}: {body.what}")
-    if "--stands" not in words:
+    if "--stands" in words:
+        print(f"tries: {stands} stand, {failed} don't")
+    else:
         counts = {}
         with tempfile.TemporaryDirectory() as folder:
             copy = Path(folder) / "copy"
