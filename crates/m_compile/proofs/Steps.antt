@@ -2,7 +2,7 @@
 use Rattle.std.proofs.Common.{◌≡◌, ◌≢◌, ◌≤◌, ◌<◌, ◌^◌, ℕ, Bool, true, false, List, [], All, map, length, Option, None, Some, Result, Ok, Err, nat_lt, cond, refl, sym, ap, ◌∙◌, subst, arith}
 use Rattle.std.proofs.lemmas.Bool.{ltb-false}
 use Rattle.std.proofs.lemmas.List.{length-map}
-use Rattle.std.specs.Prelude.{IfOk, take}
+use Rattle.std.specs.Prelude.{take}
 use Rattle.m_places.specs.Refusals.{Outcome}
 use Rattle.m_places.specs.declared.limits.TheConstants.{DRIVER_WEIGHT, REQUESTS}
 use Rattle.rule_text.specs.declared.Source.{Source}
@@ -10,8 +10,10 @@ use Rattle.rule_text.specs.declared.Text.{Text}
 use Rattle.m_symbols.specs.Declarations.{Declared, codes_of, inputs_from}
 use Rattle.m_symbols.proofs.Numbered.{as_many_codes}
 use Rattle.m_requests.specs.Cells.{cell_name, returned_cells}
+use Rattle.flat_code.specs.declared.face.Face.{Face}
 use Rattle.flat_code.specs.declared.face.FaceLabel.{FaceLabel}
 use Rattle.flat_code.specs.declared.face.FaceLabel.TheVariants.{Verif}
+use Rattle.flat_code.specs.declared.program.Flat.{Flat}
 use Rattle.micro_m.specs.declared.base.Base.{Base}
 use Rattle.micro_m.specs.Reads.{HasNoCycle}
 use Rattle.driver_core.specs.declared.program.Core.{Core}
@@ -41,7 +43,7 @@ use Rattle.m_compile.specs.declared.fault.SourceFault.TheVariants.{Memory}
 use Rattle.m_compile.specs.Sources.{HasRules, IsWritten, running}
 use Rattle.m_compile.specs.Faults.{IsSourceFault, of_rules, of_driver, of_core, of_requests, of_weight}
 use Rattle.m_compile.specs.Compiled.{IsCompiled, IsRunnable}
-use Rattle.m_compile.specs.inner.Parts.{IsAsked, IsAskedFault, in_driver, in_requests, IsProgram, IsHeavy, heavy, of_lines, of_names, IsDriverFault}
+use Rattle.m_compile.specs.inner.Parts.{IsAsked, IsAskedFault, in_driver, in_requests, IsProgram, IsHeavy, heavy, of_lines, of_names, IsDriverFault, faced}
 use Rattle.m_compile.specs.inner.Steps.{rule_step, driver_step, core_step, request_step, inline_step}
 
 -- the fault of the rule files
@@ -119,9 +121,9 @@ heavy_told : (source : Source) (declared : Declared) (base : Base) (written : Op
 heavy_told source declared base written asked fault r d q (heavy w) = of_weight r d q w
 
 -- the whole
-pub finished : (source : Source) (declared : Declared) (base : Base) (asked : List ℕ) (core : Core) (result : Result Compiled SourceFault) → HasRules source declared base → IsAsked declared source core asked
-    → Outcome Memory result (IsProgram declared base core asked) (IsHeavy core base) → Outcome Memory result (IsCompiled source) (IsSourceFault source)
-finished source declared base asked core (Ok compiled) r a p = record {
+compiled_when : (source : Source) (declared : Declared) (base : Base) (asked : List ℕ) (core : Core) (compiled : Compiled) → HasRules source declared base → IsAsked declared source core asked
+    → IsProgram declared base core asked compiled → IsCompiled source compiled
+compiled_when source declared base asked core compiled r a p = record {
   declared = declared;
   base = base;
   written = a.written;
@@ -134,6 +136,11 @@ finished source declared base asked core (Ok compiled) r a p = record {
   nodes_fit = p.nodes_fit;
   answers = λ inputs. rw (sym a.runs) (p.answers inputs);
 }
+
+pub finished : (source : Source) (declared : Declared) (base : Base) (asked : List ℕ) (core : Core) (result : Result (Flat × Face) SourceFault) → HasRules source declared base
+    → IsAsked declared source core asked → Outcome Memory result (λ given. IsProgram declared base core asked (faced declared given.0 given.1)) (IsHeavy core base)
+    → Outcome Memory result (λ given. IsCompiled source (faced declared given.0 given.1)) (IsSourceFault source)
+finished source declared base asked core (Ok given) r a p = compiled_when source declared base asked core (faced declared given.0 given.1) r a p
 finished source declared base asked core (Err fault) r a p = λ m. heavy_told source declared base a.written asked fault r a.driven a.requested (subst (λ c. IsHeavy c base fault) a.runs (p m))
 
 -- ---- the program of a driver
@@ -169,8 +176,3 @@ program_made declared base core asked compiled labels w i l f o d h = record {
   nodes_fit = i.nodes_fit;
   answers = λ inputs. rw l (i.answer inputs);
 }
-
--- it can be run
-pub program_runs : (declared : Declared) (base : Base) (core : Core) (asked : List ℕ) (result : Result Compiled SourceFault) → Outcome Memory result (IsProgram declared base core asked) (IsHeavy core base) → IfOk result IsRunnable
-program_runs declared base core asked (Ok compiled) h = h.runnable
-program_runs declared base core asked (Err fault) h = tt

@@ -8,7 +8,7 @@ ghost use Rattle.m_symbols.specs.Declarations.{owners_from};
 ghost use Rattle.m_requests.specs.Placed.{IsPlaced};
 ghost use Rattle.micro_m.specs.Bases.{IsValidBase};
 ghost use Rattle.rule_order.specs.Orders.{IsOrder};
-ghost use Rattle.m_compile.specs.Sources.{IsWritten, running};
+ghost use Rattle.m_compile.specs.Sources.{HasRules, IsWritten, running};
 ghost use Rattle.m_compile.specs.Faults.{IsSourceFault};
 ghost use Rattle.m_compile.specs.Compiled.{IsCompiled, IsRunnable};
 ghost use Rattle.m_compile.specs.inner.Parts.{IsAsked, IsAskedFault, IsProgram, IsHeavy, IsDriverFault, faced};
@@ -50,8 +50,26 @@ pub fn compile(alloc: Global, source: &Source) -> Result<Compiled, SourceFault>
     ensures runnable { IfOk result IsRunnable }
 {
     let made = rule_base(alloc, source.texts.as_slice(), source.application.bytes())?;
+    let (flat, face) = program(alloc, source, &made)?;
+    Ok(Compiled {
+        face,
+        flat,
+        codes: Codes::new(made.symbols.into_codes()),
+    })
+}
+
+// The program of what a source asks for over its rules in an order, with its face.
+fn program(alloc: Global, source: &Source, made: &RuleBase) -> Result<(Flat, Face), SourceFault>
+    requires limits { SourceKeepsLimits source.now }
+    requires rules { HasRules source.now made.now.symbols made.now.ordered.base }
+    requires base { IsValidBase made.now.ordered.base }
+    requires order { IsOrder made.now.ordered.base made.now.ordered.sequence }
+    requires cells { made.now.ordered.base.cells ≡ length (owners_from 0 made.now.symbols.variables) }
+    requires placed { IsPlaced made.now.symbols }
+    ensures { Outcome Memory result (λ given. IsCompiled source.now (faced made.now.symbols given.0 given.1)) (IsSourceFault source.now) }
+{
     let (core, requests) = asked(alloc, source, &made.symbols)?;
-    program(alloc, made, &core, requests.as_slice())
+    faced(alloc, made, &core, requests.as_slice())
 }
 
 // What a source asks for, over what its rules declare: the driver that runs, and the cells of the requests.
@@ -108,29 +126,6 @@ fn running(
         Some(core) => Ok(core),
         None => plain_driver(alloc, requests, symbols),
     }
-}
-
-// The program of a driver over rules in an order, with its face.
-fn program(
-    alloc: Global,
-    made: RuleBase,
-    core: &Core,
-    requests: &[u32],
-) -> Result<Compiled, SourceFault>
-    requires base { IsValidBase made.ordered.base }
-    requires order { IsOrder made.ordered.base made.ordered.sequence }
-    requires cells { made.ordered.base.cells ≡ length (owners_from 0 made.symbols.variables) }
-    requires known { All (λ c. c < length (owners_from 0 made.symbols.variables)) requests.now }
-    requires few { length requests.now ≤ REQUESTS }
-    ensures outcome { Outcome Memory result (IsProgram made.symbols made.ordered.base core.now requests.now) (IsHeavy core.now made.ordered.base) }
-    ensures runnable { IfOk result IsRunnable }
-{
-    let (flat, face) = faced(alloc, &made, core, requests)?;
-    Ok(Compiled {
-        face,
-        flat,
-        codes: Codes::new(made.symbols.into_codes()),
-    })
 }
 
 // The flat program of a driver over rules in an order, and its face.

@@ -1,8 +1,13 @@
-use Rattle.std.proofs.Common.{◌∙◌}
+use Rattle.m_requests.proofs.Outcomes.{told}
+use Rattle.m_compile.proofs.Steps.{asked_told, few_asked, finished}
 use Rattle.m_compile.proofs.compiling.program.Goals as goal
 
-pub returns-clause-outcome : goal.returns-clause-outcome
-returns-clause-outcome c = rw (c.new.ensures ∙ c.into_codes.ensures) c.in_ok-flat.ensures
+pub returns-in_err-core : goal.returns-in_err-core
+returns-in_err-core c = told _ _ _ _ _ c.from_residual.ensures.1 (λ n. asked_told c.args.source.now _ _ _ c.requires.rules (c.in_err-core.ensures.outcome n))
 
-pub returns-clause-runnable : goal.returns-clause-runnable
-returns-clause-runnable c = rw (c.new.ensures ∙ c.into_codes.ensures) c.in_ok-flat.ensures.runnable
+pub faced-requires-clause-few : goal.faced-requires-clause-few
+faced-requires-clause-few c = rw c.as_slice.ensures (few_asked c.args.source.now.requests c.args.made.now.symbols _ c.in_ok-core.ensures.outcome.requested)
+
+pub returns : goal.returns
+returns c =
+    finished c.args.source.now c.args.made.now.symbols c.args.made.now.ordered.base _ _ _ c.requires.rules c.in_ok-core.ensures.outcome (rw c.as_slice.ensures at c.faced.ensures)
