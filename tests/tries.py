@@ -166,6 +166,9 @@ def tried(crate_folder, crate):
 def main():
     words = sys.argv[1:]
     crates = [word for word in words if not word.startswith("-")] or sorted(path.stem for path in (TOP / "tests/tries").glob("*.txt"))
+    for crate in crates:
+        if not (TOP / "tests/tries" / f"{crate}.txt").exists():
+            sys.exit(f"tries: there are no wrong bodies of {crate}")
     failed = stands = 0
     for crate in crates:
         texts = texts_of(TOP / "crates" / crate)
