@@ -78,10 +78,10 @@ def texts_of(crate_folder):
     return {str(path.relative_to(crate_folder)): path.read_text(encoding="utf-8") for path in crate_folder.glob("src/**/*.rt")}
 
 
-def path_of(body):
-    """Returns the path of a body's function, as a check prints it below its crate."""
+def module_of(body):
+    """Returns the module of a body's file, as it stands in front of a name that a check prints: "" for the root."""
     module = body.file.removeprefix("src/").removesuffix(".rt").replace("/", "::")
-    return body.function if module == "lib" else f"{module}::{body.function}"
+    return "" if module == "lib" else module + "::"
 
 
 def check(crate_folder, texts, bodies):
@@ -89,14 +89,15 @@ def check(crate_folder, texts, bodies):
     changed = dict(texts)
     for body in bodies:
         put(changed, body)
-    only = [word for body in bodies for word in ("--only", path_of(body))]
+    only = [word for body in bodies for word in ("--only", module_of(body) + body.function)]
     try:
         for path, text in changed.items():
             (crate_folder / path).write_text(text, encoding="utf-8")
-        told = subprocess.run(["rt", "check", "--allow-holes", *only], cwd=crate_folder, capture_output=True, text=True, errors="replace")
-        if told.returncode == 2:
-            # a path that fits no function, or several
-            told = subprocess.run(["rt", "check", "--allow-holes"], cwd=crate_folder, capture_output=True, text=True, errors="replace")
+        # status 2 is a path that fits no function, or several: then the whole crate is checked
+        for words in (only, []):
+            told = subprocess.run(["rt", "check", "--allow-holes", *words], cwd=crate_folder, capture_output=True, text=True, errors="replace")
+            if told.returncode != 2:
+                break
     finally:
         for path, text in texts.items():
             (crate_folder / path).write_text(text, encoding="utf-8")
@@ -118,8 +119,7 @@ def nearest(bodies, changed, path, line):
 
 def verdict(crate, body, lines, is_alone):
     """Returns what the lines of a check say of a body. Where it was the only one, nothing else can keep its function from a proof."""
-    module = body.file.removeprefix("src/").removesuffix(".rt").replace("/", "::")
-    module = "" if module == "lib" else module + "::"
+    module = module_of(body)
     owner, _, name = body.function.rpartition("::")
     path = rf"fn {crate}::(?:\w+::)*(?:\w+(?=From))?{owner}::{name}: " if owner else rf"fn {crate}::{module}(?:\w+::)?{name}: "
     found = [line for line in lines if re.match(path, line)]
