@@ -13,6 +13,11 @@ GAP_OR_TOKEN = re.compile(
 )
 
 
+FILE_BYTES = 16_777_216
+MARK = b"\xef\xbb\xbf"
+MARKED = "; it begins with a byte order mark: save it as UTF-8 without one"
+
+
 class Refused(Exception):
     """A file that can't be read, or that the program would refuse; the text says where and why."""
 
@@ -48,20 +53,33 @@ class Rule:
     place: str
 
 
-def fetch(name):
+def fetch(name, longest=FILE_BYTES):
+    """The bytes of a file, which has at most so many."""
     try:
         with open(name, "rb") as file:
-            return file.read()
-    except OSError as fault:
+            content = b""
+            while len(content) <= longest and (piece := file.read(1_048_576)):
+                content += piece
+    except (OSError, ValueError) as fault:
         raise Refused(f"unreadable {name}") from fault
+    if len(content) > longest:
+        raise Refused(f"file too long {name}")
+    return content
 
 
 def read_list(name):
-    """The application of a list, and the names of its rule files."""
+    """The application of a list, and the names of its rule files. What the program refuses is refused."""
     lines = [line.removesuffix(b"\r") for line in fetch(name).split(b"\n")]
     application = lines[0].decode("latin-1")
     if not re.fullmatch("[A-Za-z0-9_]+", application) or application.isdigit():
-        raise Refused(f"{name} line 1: no application")
+        raise Refused(f"{name} line 1: no application{MARKED if lines[0].startswith(MARK) else ''}")
+    for number, line in enumerate(lines, 1):
+        try:
+            line.decode("utf-8")
+        except UnicodeDecodeError as fault:
+            raise Refused(f"{name} line {number}: the name isn't UTF-8") from fault
+        if len(line) > 4096:
+            raise Refused(f"{name} line {number}: the name has more than 4,096 bytes")
     return application, [os.fsdecode(line) for line in lines[1:] if line]
 
 
@@ -159,3 +177,20 @@ def begin():
     """Names and lines are written as the bytes that they are, whatever the machine's language is."""
     for stream in (sys.stdin, sys.stdout, sys.stderr):
         stream.reconfigure(encoding="utf-8", errors="surrogateescape")
+
+
+def end(main):
+    """Runs the tool and ends with its status: 4 where the output was closed or is full, and 130 where it was interrupted."""
+    try:
+        status = main()
+        sys.stdout.flush()
+    except BrokenPipeError:
+        status = 4
+    except KeyboardInterrupt:
+        status = 130
+    except OSError as fault:
+        status = 4
+        print(f"{os.path.basename(sys.argv[0])}: {fault.filename or 'the output'}: {fault.strerror}", file=sys.stderr)
+    if status in (4, 130):
+        os.dup2(os.open(os.devnull, os.O_WRONLY), sys.stdout.fileno())
+    sys.exit(status)

@@ -16,7 +16,9 @@ printf 'Code;1AJ\r\n75;3\r\n' | "$in" --table -
 printf 'case;montant;\r\n1AJ;3;\r\n' | "$in" --household -
 # Only the codes of a list.
 printf 'Foyer;1AJ;Commune\r\nd;5;Lyon\r\n' >more.csv
-(cd "$ROOT" && tools/table-in --list examples/first/rules.list "$OLDPWD/more.csv")
+(cd "$ROOT" && tools/table-in --list examples/first/rules.list --leave Commune "$OLDPWD/more.csv")
+(cd "$ROOT" && tools/table-in --list examples/first/rules.list - <"$OLDPWD/more.csv")
+echo "status $?"
 # Refused, with nothing printed.
 for cell in '12 34' '1,5E+05' '1.234,5' '#VALEUR!' '1 2345' '12 %' ',5'; do
     printf 'n;1AJ\nd;1\ne;%s\n' "$cell" | "$in" -
@@ -32,3 +34,15 @@ echo "status $?"
 echo "status $?"
 "$in"
 echo "status $?"
+# Nothing is dropped in silence: heads that are no codes, no labels, what may mean two amounts, nothing below the heads, quotes and ends.
+for text in 'Foyer;1aj\nd;5\n' 'Foyer;salaire\nd;5\n' '1AJ;1BJ\n5;6\n' 'n;1AJ\nd;45.000\n' 'n\t1AJ\nd\t45.000\n' 'name,1AJ\nd,"1,234"\n' 'Foyer;1AJ\n' 'Code;Montant\n' 'n|1AJ\nd|5\n' \
+    'n;1AJ\n"d;5\ne;6\n' 'n;1AJ\n"d"e;5\n' 'n;1AJ;1BJ\nd;5;6\ne;12' 'Code;Montant\n1aj;5\n' 'Code;Montant\n;5\n' 'Code;Montant\n1AJ;5\n1AJ;6\n' 'n;1AJ\nd;\0005\n' '\377\376N\000\t'; do
+    printf "$text" | "$in" -
+    echo "status $?"
+done
+(cd "$ROOT" && printf 'Foyer;1aj\nd;5\n' | tools/table-in --list examples/first/rules.list - ; printf '1aj;n\n5;6\n' | tools/table-in --list examples/first/rules.list -)
+printf 'name,1AJ\nd,45.000\n' | "$in" -
+printf 'Foyer;1AJ\rd, e, f;5\rg;6\r' | "$in" -
+"$in" --leave 2>/dev/null
+echo "status $?"
+awk 'BEGIN {print "n;1AJ"; for (k = 0; k < 9999; k++) print "d;1"}' | "$in" - | head -n 1

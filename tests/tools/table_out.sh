@@ -20,7 +20,8 @@ END
 "$out" <answers
 "$out" --french <answers | od -An -c | head -n 1
 "$out" --french <answers | tail -n 5 | tr '\r' '|'
-printf 'household h\nfailed 1 E01 anomalie\n\351t\351, oui\n' | "$out"
+printf 'IRN\n' >one
+printf 'household h\nfailed 1 E01 anomalie\n\351t\351, oui\n' | "$out" --requests one
 printf 'household h\nhousehold i\n' | "$out"
 : | "$out"
 printf 'refused household line 3: bad row\n' | "$out"
@@ -32,4 +33,26 @@ echo "status $?"
 printf 'household a\nfailed 1 E01 anomalie\n' | "$out"
 echo "status $?"
 "$out" answers
+echo "status $?"
+# Columns where all households stop, of the requests or of a list; labels that look like formulas; a reader that stops early.
+printf 'household a\nfailed 1 E01 anomalie\nA:1\n' >stops
+"$out" <stops
+echo "status $?"
+printf 'IRN\r\nTMI[3]\n\nREV\n' >requests
+"$out" --requests requests <stops
+printf 'iliad\na.m\n' >a.list
+printf 'IRN : calculee restituee : "" ;\nT : tableau[2] calculee restituee : "" ;\nR : calculee : "" ;\nS : calculee restituee = 1 : "" ;\n' >a.m
+"$out" --list a.list <stops
+"$out" --requests requests <answers | tail -n 5
+printf 'household a\nIRM = 1\n' | "$out" --requests requests
+echo "status $?"
+printf 'household =1+1\nIRN = -1\nhousehold @x\nIRN = 2\nhousehold -3\nfailed 1 E01 anomalie\n+A\nhousehold a=b\nIRN undefined\n' >signs
+"$out" <signs
+"$out" --bare <signs | head -n 2
+"$out" --french <signs | tail -n 2 | tr '\r' '|'
+awk 'BEGIN {for (k = 0; k < 20000; k++) print "household h" k "\nIRN = 1"}' >many
+{ "$out" <many; echo "status $?" >&2; } | head -n 2
+"$out" <many >/dev/full
+echo "status $?"
+"$out" --requests nowhere <stops
 echo "status $?"

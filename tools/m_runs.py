@@ -1,0 +1,148 @@
+"""Batches that `scale` starts: the source, which is read once and copied, the program, and the children, which end with their parent."""
+import contextlib
+import hashlib
+import os
+import re
+import shutil
+import subprocess
+import threading
+
+import m_source
+
+PIECE = 1_048_576
+TOP = os.path.dirname(os.path.dirname(os.path.realpath(__file__)))
+
+
+class Failed(Exception):
+    """A check that fails, or a batch that does not do its part; `goes_on` where the same words may mend it."""
+
+    def __init__(self, why, goes_on=True):
+        super().__init__(why)
+        self.goes_on = goes_on
+
+
+def digest(*pieces):
+    made = hashlib.sha256()
+    for piece in pieces:
+        made.update(len(piece).to_bytes(8, "big") + piece)
+    return made.hexdigest()
+
+
+def file_digest(path, out=None):
+    """The digest of a file's bytes, which also go to an output."""
+    made = hashlib.sha256()
+    with open(path, "rb") as file:
+        while piece := file.read(PIECE):
+            made.update(piece)
+            if out is not None:
+                out.write(piece)
+    return made.hexdigest()
+
+
+# ---- the program
+
+
+def program_path():
+    program = os.environ.get("M_TAX") or os.path.join(TOP, "m_tax")
+    return os.path.abspath(shutil.which(program) or program)
+
+
+def digest_of_program(program):
+    """The digest of the program: of a script beside out/m_tax that one, and without it the sources that a trial compiles."""
+    folder = os.path.dirname(os.path.realpath(program))
+    built = os.path.join(folder, "out", "m_tax")
+    if os.path.exists(built) or not os.path.isdir(os.path.join(folder, "crates")):
+        return file_digest(built if os.path.exists(built) else program)
+    files = sorted(os.path.join(at, name) for at, _, names in os.walk(os.path.join(folder, "crates")) for name in names if name.endswith(".rt"))
+    return digest(*(file_digest(name).encode() for name in [program, *files]))
+
+
+# ---- children
+
+
+class Children:
+    """The batches that run. They are ended where this program is."""
+
+    def __init__(self):
+        self.running, self.lock, self.is_over = set(), threading.Lock(), False
+
+    @contextlib.contextmanager
+    def started(self, words, **options):
+        with self.lock:
+            if self.is_over:
+                raise Failed("stopped")
+            child = subprocess.Popen(words, **options)
+            self.running.add(child)
+        try:
+            with child:
+                yield child
+        finally:
+            with self.lock:
+                self.running.discard(child)
+
+    def end(self):
+        with self.lock:
+            self.is_over = True
+            for child in self.running:
+                child.kill()
+
+
+CHILDREN = Children()
+
+
+# ---- the source
+
+
+class Source:
+    """A source that was read once: a copy of its files in a folder, in which every batch runs, and the digest of all that an answer depends on."""
+
+    def __init__(self, words, room):
+        self.program = program_path()
+        self.room = room
+        first, again = self.read(words), self.read(words)
+        if first != again:
+            raise Failed("the rules were changed while they were read: the same words read them again")
+        application, rules, driver, requests = first
+        names = [f"rules-{k:06}.m" for k in range(1, len(rules) + 1)]
+        self.original = dict(zip(names, (name for name, _ in rules)))
+        for name, (_, content) in zip(names, rules):
+            self.put(name, content)
+        self.put("list", "\n".join([application, *names, ""]).encode("latin-1"))
+        self.words = ["list", self.put("driver", driver), self.put("requests", requests)]
+        self.names = None if requests is None else [line for line in re.split(rb"\r?\n", requests) if line]
+        self.program_digest = digest_of_program(self.program)
+        pieces = [application.encode("latin-1")]
+        for name, content in rules:
+            pieces += [os.fsencode(name), content]
+        for content in (driver, requests):
+            pieces += [b"none"] if content is None else [b"some", content]
+        self.digest = digest(self.program_digest.encode(), *pieces)
+
+    @staticmethod
+    def read(words):
+        application, names = m_source.read_list(words[0])
+        if len(names) > 1024:
+            raise m_source.Refused(f"{words[0]}: too many files")
+        rules = [(name, m_source.fetch(name)) for name in names]
+        return application, rules, *(None if word == "-" else m_source.fetch(word) for word in words[1:])
+
+    def put(self, name, content):
+        if content is None:
+            return "-"
+        with open(os.path.join(self.room, name), "wb") as out:
+            out.write(content)
+        return name
+
+    def told(self, line):
+        """A line of the program, with the names of the files as they are."""
+        return re.sub(r"\brules-[0-9]{6}\.m\b", lambda match: self.original.get(match[0], match[0]), line)
+
+    def batch(self, table, out):
+        """The answer of one batch, through a pipe, so that a program whose parent was killed can't go on writing."""
+        words = [self.program, "batch", *self.words, os.path.abspath(table)]
+        with CHILDREN.started(words, cwd=self.room, stdin=subprocess.DEVNULL, stdout=subprocess.PIPE) as child:
+            shutil.copyfileobj(child.stdout, out, PIECE)
+        out.flush()
+        if digest_of_program(self.program) != self.program_digest:
+            raise Failed(f"{self.program} was changed meanwhile: the same words begin with the new one")
+        return child.returncode

@@ -1,0 +1,111 @@
+"""What the tools know of tables of households and of the answers to them: the records of a table, as the program reads them, and the lines of `batch`."""
+import mmap
+import os
+import re
+
+PIECE = 1_048_576
+MARK = b"\xef\xbb\xbf"
+
+# A field is bytes without a comma and a line end; one that begins with a quote goes on to the next quote that isn't doubled, and then as others do.
+FIELD = rb'(?:"[^"]*(?:""[^"]*)*"(?!")[^,\r\n]*|[^",\r\n][^,\r\n]*|)'
+RECORD = re.compile(rb"((" + FIELD + rb")(?:," + FIELD + rb")*)(?:\r\n|\r|\n)")
+QUOTED = re.compile(rb'"((?:[^"]|"")*)"(?!")')
+
+AMOUNT = rb"-?[0-9]+(?:\.[0-9]{1,6})?"
+VALUE = rb"(?: = " + AMOUNT + rb"| undefined| over)\n"
+NAMED = re.compile(rb"([A-Z0-9_]+(?:\[[0-9]{1,4}\])?)" + VALUE)
+HEAD = re.compile(rb"household ([^\n]*)\n")
+STOP = re.compile(
+    rb"failed [^ \n]+ [^ \n]+ (?:anomalie|discordance|informative)\n[^\n]*\n|over (?:verification [^ \n]+ [^ \n]+|driver line [0-9]+)\n"
+)
+AT_ONCE = 200
+
+
+class Strange(Exception):
+    """A line of an answer that `batch` doesn't print there, as where a piece of an answer is lost, or a table without whole records."""
+
+
+def unquoted(field):
+    """What a field of a record says."""
+    match = QUOTED.match(field)
+    return match[1].replace(b'""', b'"') + field[match.end() :] if match else field
+
+
+def records(source, longest):
+    """The records of a table, each without its end and with what its first field says; blank lines are none. A record has at most so many bytes."""
+    buffer, at, count, is_first, ended = b"", 0, 0, True, False
+    while True:
+        match = RECORD.match(buffer, at)
+        if match:
+            at = match.end()
+            if match[1]:
+                count += 1
+                yield match[1], unquoted(match[2])
+            continue
+        if ended:
+            if at < len(buffer):
+                raise Strange(f"record {count + 1} has a quote that is never closed")
+            return
+        if len(buffer) - at > longest:
+            raise Strange(f"record {count + 1} has more than {longest:,} bytes, or a quote that is never closed")
+        more = source.read(PIECE)
+        buffer, at = buffer[at:] + more, 0
+        if is_first and len(buffer) >= len(MARK) or not more:
+            at = len(MARK) if is_first and buffer.startswith(MARK) else 0
+            is_first = False
+        if not more:
+            ended = True
+            if at < len(buffer) and not buffer.endswith((b"\r", b"\n")):
+                buffer += b"\n"
+
+
+def values_of(names):
+    """The forms that the lines of these values have, a few hundred lines to a form."""
+    lines = [re.escape(name) + VALUE for name in names]
+    return [re.compile(b"".join(lines[k : k + AT_ONCE])) for k in range(0, len(lines), AT_ONCE)]
+
+
+def strange(text, at):
+    """Says at which line an answer is none: the first one at or behind this byte."""
+    number = text[:at].count(b"\n") + 1
+    line = text[at : at + 80].split(b"\n")[0].decode("utf-8", "replace")
+    return Strange(f"line {number} or one of the same household isn't what batch prints there: {line}")
+
+
+def read_answer(path, names=None):
+    """The labels of an answer of `batch`, and the names of its values, where they aren't given. Each household has a line for each name, in one order,
+    or a stop and nothing else."""
+    labels = []
+    with open(path, "rb") as file:
+        if os.fstat(file.fileno()).st_size == 0:
+            return labels, names
+        with mmap.mmap(file.fileno(), 0, access=mmap.ACCESS_READ) as text:
+            at, forms = 0, None if names is None else values_of(names)
+            while at < len(text):
+                head = HEAD.match(text, at)
+                if head is None:
+                    raise strange(text, at)
+                labels.append(head[1])
+                at = head.end()
+                stop = STOP.match(text, at)
+                if stop:
+                    at = stop.end()
+                    continue
+                if forms is None:
+                    names = names_at(text, at)
+                    forms = values_of(names)
+                for form in forms:
+                    found = form.match(text, at)
+                    if found is None:
+                        raise strange(text, at)
+                    at = found.end()
+    return labels, names
+
+
+def names_at(text, at):
+    """The names of the lines of values that stand here."""
+    names = []
+    while found := NAMED.match(text, at):
+        names.append(found[1])
+        at = found.end()
+    return names
