@@ -22,7 +22,10 @@ TAUX[4] = 0.45 ;   SEUIL[4] = 177106 ;
 regle 420 : application : iliad , batch ;    # ce que chaque taux ajoute à celui d'avant, au-dessus de son seuil
 pour i = A,S : DROITi = somme(k=1..4: (TAUX[k] - TAUX[k - 1]) * max(0, RNI - SEUIL[k] * PARTi)) ;
 IDROIT = max(DROITA, DROITS - PLAFQF) ;
-TMI = TAUX[somme(k=1..4: (RNI > SEUIL[k] * PARTA))] ;
+TMI = si DROITS - PLAFQF > DROITA
+    alors TAUX[somme(k=1..4: (RNI > SEUIL[k] * PARTS))]
+    sinon TAUX[somme(k=1..4: (RNI > SEUIL[k] * PARTA))]
+    finsi ;    # où l'avantage est plafonné, la tranche est celle des parts sans les enfants
 
 regle 430 : application : iliad , batch ;
 DECOTE = max(0, (si COUPLE alors DEC_COUPLE sinon DEC_SEUL finsi) - TX_DEC * IDROIT) ;

@@ -2,7 +2,7 @@
 
 It knows nothing of the rule files: the scale is applied to the income for one part, as article 197 words it.
 """
-from dataclasses import dataclass
+from dataclasses import dataclass, replace
 from fractions import Fraction
 from math import floor
 
@@ -111,8 +111,48 @@ def income_tax(household):
     return 0 if tax < 61 else tax
 
 
+def rate_of_bracket(household):
+    """The rate of the bracket of the income for one part: of all parts, or where their advantage is bounded of those without the children."""
+    income, count = taxable_income(household), parts(household)
+    if by_parts(income, base_parts(household)) - greatest_advantage(household) > by_parts(income, count):
+        count = base_parts(household)
+    return max([Fraction(0), *(rate for threshold, rate in SCALE if Fraction(income) / count > threshold)])
+
+
+def total(household):
+    return income_tax(household) + contribution(household, taxable_income(household))
+
+
+def impossible(household):
+    """The number of the first verification that a declaration fails, in the order of their numbers, if any."""
+    first, second = household.wages[0], household.pensions[0]
+    of_second = (household.wages[1], household.pensions[1])
+    amounts = (first, second, *of_second, household.gifts_to_aid, household.other_gifts)
+    tests = [
+        (101, household.couple == 1 and household.box_t == 1),
+        (102, not 0 <= household.children <= 30 or household.children != floor(household.children)),
+        (103, household.couple not in (0, 1) or household.box_t not in (0, 1)),
+        (104, min(amounts) < 0),
+        (105, household.couple == 0 and max(of_second) > 0),
+    ]
+    return next((number for number, fails in tests if fails), None)
+
+
 def answer(household):
-    """What the rules return of the same names."""
-    income = taxable_income(household)
-    tax, more = income_tax(household), contribution(household, income)
-    return {"RNI": income, "IINET": tax, "CHR": more, "TOTAL": tax + more}
+    """What the rules and the driver return of the same names, or the verification that stops them. The driver first computes without the gifts."""
+    without = replace(household, gifts_to_aid=0, other_gifts=0)
+    stop = impossible(without) or impossible(household)
+    if stop is not None:
+        return stop
+    income, tax, before = taxable_income(household), income_tax(household), total(without)
+    more = contribution(household, income)
+    return {
+        "RNI": income,
+        "NBPT": parts(household),
+        "TMI": rate_of_bracket(household),
+        "IINET": tax,
+        "CHR": more,
+        "TOTAL": tax + more,
+        "AVANT": before,
+        "GAIN": before - tax - more,
+    }

@@ -1,24 +1,36 @@
 #!/usr/bin/env python3
 """Compares the rules with the second calculation on random households: python3 examples/impot2023/check.py
 
-At the top of the repository, after ./build. It computes --count households at once by the command `batch`. The households come from the
-seed alone. The status is 0 where none differs.
+At the top of the repository, after ./build. It computes --count households at once by the command `batch`, and compares all that is returned, and of
+a declaration that a verification stops the verification. The households come from the seed alone. The status is 0 where none differs, 1 where one
+does, and 2 where the program is missing or doesn't answer.
 
 With --picture FILE it also draws the marginal rate over the income of a single person, from a table of its own.
 """
 import argparse
 import os
 import random
+import re
 import subprocess
 import sys
 import tempfile
+from dataclasses import replace
+from fractions import Fraction
 
 from calculation import Household, answer
 
 HERE = "examples/impot2023"
 PROGRAM = os.environ.get("M_TAX", "out/m_tax")
 CODES = ["0AM", "0BT", "0CF", "1AJ", "1BJ", "1AS", "1BS", "7UD", "7UF"]
-NAMES = ["RNI", "IINET", "CHR", "TOTAL"]
+WRONG = {
+    "couple": lambda chance: 2,
+    "box_t": lambda chance: chance.choice([-1, Fraction(1, 2)]),
+    "children": lambda chance: chance.choice([-1, 31, Fraction(3, 2)]),
+    "wages": lambda chance: chance.choice([(-1, 0), (100, -50), (100, 5000)]),
+    "pensions": lambda chance: chance.choice([(0, -7), (0, 300)]),
+    "gifts_to_aid": lambda chance: -10,
+    "other_gifts": lambda chance: Fraction(-1, 100),
+}
 
 
 def random_amount(chance):
@@ -41,20 +53,35 @@ def random_household(chance):
     )
 
 
+def mistaken(household, chance):
+    """One household in ten has one or two entries that are drawn anew, most of them wrong."""
+    if chance.random() < 0.9:
+        return household
+    return replace(household, **{name: WRONG[name](chance) for name in chance.sample(sorted(WRONG), chance.choice([1, 1, 2]))})
+
+
 def fields(household):
     """The amount of each code, nothing for 0."""
-    amounts = [int(household.couple), int(household.box_t), household.children, *household.wages, *household.pensions]
+    amounts = [int(household.couple), household.box_t + 0, household.children, *household.wages, *household.pensions]
     amounts += [household.gifts_to_aid, household.other_gifts]
-    return ["" if amount == 0 else str(amount) for amount in amounts]
+    return ["" if amount == 0 else f"{float(amount):.6f}" if isinstance(amount, Fraction) else str(amount) for amount in amounts]
 
 
 def started(*words):
-    run = subprocess.run([PROGRAM, *words], capture_output=True, check=False)
+    try:
+        run = subprocess.run([PROGRAM, *words], capture_output=True, check=False)
+    except OSError as fault:
+        print(f"check: {PROGRAM} can't be started ({fault.strerror}): ./build makes it, at the top of the repository; or name a program by M_TAX", file=sys.stderr)
+        sys.exit(2)
     return run.stdout.decode("latin-1"), run.returncode
 
 
-def read_lines(lines):
-    return {line.split(" = ")[0]: int(line.split(" = ")[1]) for line in lines if " = " in line}
+def read_answer(lines):
+    """The values by their names, or the number of the verification that failed."""
+    stop = re.fullmatch("failed ([0-9]+) .*", lines[0])
+    if stop:
+        return int(stop[1])
+    return {line.split(" = ")[0]: Fraction(line.split(" = ")[1]) if " = " in line else line for line in lines if line}
 
 
 def answers(households, room):
@@ -64,10 +91,12 @@ def answers(households, room):
         file.write("name," + ",".join(CODES) + "\n")
         for number, household in enumerate(households):
             file.write(f"h{number}," + ",".join(fields(household)) + "\n")
-    text, status = started("batch", f"{HERE}/rules.list", "-", f"{HERE}/tax.txt", table)
-    if status != 0:
-        sys.exit(f"batch: {text.strip()} (status {status})")
-    return [read_lines(block.split("\n")[1:]) for block in text.split("household ")[1:]]
+    text, status = started("batch", f"{HERE}/rules.list", f"{HERE}/driver.mpp", "-", table)
+    blocks = re.split("^household h[0-9]+\n", text, flags=re.MULTILINE)[1:]
+    if status != 0 or len(blocks) != len(households):
+        print(f"check: batch: {text[:200].strip()} (status {status}, {len(blocks)} of {len(households)} households)", file=sys.stderr)
+        sys.exit(2)
+    return [read_answer(block.split("\n")) for block in blocks]
 
 
 def draw(file_name, points):
@@ -110,7 +139,7 @@ def main():
     parser.add_argument("--picture")
     told = parser.parse_args()
     chance = random.Random(told.seed)
-    households = [random_household(chance) for _ in range(told.count)]
+    households = [mistaken(random_household(chance), chance) for _ in range(told.count)]
     with tempfile.TemporaryDirectory() as room:
         results = answers(households, room)
         if told.picture:
@@ -118,11 +147,12 @@ def main():
     differ = 0
     for household, result in zip(households, results):
         wanted = answer(household)
-        if any(result.get(name) != wanted[name] for name in NAMES):
+        if result != wanted:
             differ += 1
             if differ <= 5:
                 print(f"{household}: the rules say {result}, the calculation {wanted}")
-    print(f"{len(results)} households, seed {told.seed}: {differ} differ")
+    stopped = sum(isinstance(result, int) for result in results)
+    print(f"{len(results)} households, seed {told.seed}, of which {stopped} are stopped by a verification: {differ} differ")
     sys.exit(0 if differ == 0 and len(results) == told.count > 0 else 1)
 
 
