@@ -1,6 +1,7 @@
 """What the tools know of lists and of rule files: names, applications and places. The grammar stands in docs/LANGUAGE.md.
 
-The tools read files that the program accepts, and look at the heads of items alone: what a formula says is passed over.
+These tools read files that the program accepts, and look at the heads of items alone: what a formula says is passed over. A byte order mark is passed over
+too; `slips` and `explain` tell it. m_grammar.py reads formulas.
 """
 import dataclasses
 import os
@@ -32,7 +33,7 @@ class Token:
 @dataclasses.dataclass
 class Variable:
     """A declaration. `size` is the number of cells of a table, and None of another variable; `words` are the attributes without a number, `numbered`
-    those with one, each with the byte of its word."""
+    those with one, each with the place of its word, and `numbers` the number of each, the last where one stands twice."""
 
     name: str
     kind: str
@@ -41,6 +42,7 @@ class Variable:
     numbered: list
     code: str | None
     place: str
+    numbers: dict
 
 
 @dataclasses.dataclass
@@ -67,9 +69,18 @@ def fetch(name, longest=FILE_BYTES):
     return content
 
 
+def lines_of(content):
+    """The lines of a list, a driver or requests: a carriage return right before a line feed is dropped."""
+    return content.replace(b"\r\n", b"\n").split(b"\n")
+
+
 def read_list(name):
     """The application of a list, and the names of its rule files. What the program refuses is refused."""
-    lines = [line.removesuffix(b"\r") for line in fetch(name).split(b"\n")]
+    return read_list_text(name, fetch(name))
+
+
+def read_list_text(name, content):
+    lines = lines_of(content)
     application = lines[0].decode("latin-1")
     if not re.fullmatch("[A-Za-z0-9_]+", application) or application.isdigit():
         raise Refused(f"{name} line 1: no application{MARKED if lines[0].startswith(MARK) else ''}")
@@ -97,7 +108,7 @@ class RuleFile:
         return f"{self.name} line {self.bytes.count(10, 0, byte) + 1} byte {byte}"
 
     def read_tokens(self):
-        tokens, byte = [], 0
+        tokens, byte = [], len(MARK) if self.bytes.startswith(MARK) else 0
         while byte < len(self.bytes):
             piece = GAP_OR_TOKEN.match(self.bytes, byte)
             if piece is None:
@@ -149,17 +160,19 @@ class RuleFile:
         kind = self.text(at)
         if kind not in ("saisie", "calculee", "const"):
             return end
-        words, numbered, code, at = [], [], None, at + 1
+        words, numbered, numbers, code, at = [], [], {}, None, at + 1
         while kind != "const" and at < end and self.text(at) != ":":
             if self.text(at) == "alias":
                 code, at = self.text(at + 1), at + 2
             elif self.text(at + 1) == "=":
                 numbered.append((self.text(at), self.place(self.tokens[at].byte)))
-                at += 4 if self.text(at + 2) == "-" else 3
+                behind = at + 4 if self.text(at + 2) == "-" else at + 3
+                numbers[self.text(at)] = "".join(self.text(k) for k in range(at + 2, behind))
+                at = behind
             else:
                 words.append(self.text(at))
                 at += 1
-        self.variables.append(Variable(name.text, kind, size, words, numbered, code, self.place(name.byte)))
+        self.variables.append(Variable(name.text, kind, size, words, numbered, code, self.place(name.byte), numbers))
         return end
 
 
@@ -167,7 +180,7 @@ class RuleBase:
     """A list with all its rule files."""
 
     def __init__(self, list_name):
-        self.application, names = read_list(list_name)
+        self.application, names = read_list_text(list_name, fetch(list_name).removeprefix(MARK))
         self.files = [RuleFile(name) for name in names]
         self.variables = [variable for file in self.files for variable in file.variables]
         self.rules = [rule for file in self.files for rule in file.rules]

@@ -29,4 +29,4 @@ echo "status $?"
 cd "$ROOT" || exit 1
 tools/slips examples/first/rules.list examples/loops/rules.list
 echo "status $?"
-tools/slips examples/impot2023/rules.list
+tools/slips --driver examples/impot2023/driver.mpp examples/impot2023/rules.list
