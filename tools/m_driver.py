@@ -9,6 +9,7 @@ import sys
 from typing import NamedTuple
 
 import m_grammar
+import m_items
 import m_source
 
 RESERVED = set(m_source.fetch(os.path.join(os.path.dirname(os.path.realpath(__file__)), "editors", "mpp.words")).decode().split())
@@ -38,12 +39,12 @@ class Line(NamedTuple):
 
 
 class LineReader(m_grammar.Reader):
-    """What one line says: (`function`, name), (`if`,), (`else`,), (`partition`, kind), (`set`, cell), (`del`, cell) or (`call`, cells, name). `cells` and
+    """What one line says: (`function`, name), (`if`,), (`else`,), (`partition`,), (`set`, cell), (`del`, cell) or (`call`, cells, name). `cells` and
     `kinds` are those that stand anywhere in it."""
 
     def __init__(self, tokens):
         super().__init__(tokens)
-        self.kinds, self.calls = [], []
+        self.kinds, self.cells = [], []
 
     def is_word(self, ahead=0):
         token = self.peek(ahead)
@@ -97,7 +98,7 @@ class LineReader(m_grammar.Reader):
         self.take("(")
         if not self.next_is(")"):
             self.want(")")
-            self.stuck("functions have no arguments")
+            self.stuck("functions have no arguments" if self.at < len(self.tokens) else "")
         self.take(")")
 
     def cell(self, what="a name"):
@@ -105,6 +106,7 @@ class LineReader(m_grammar.Reader):
         if self.take_if("["):
             index = int(self.whole("the number of a cell"))
             self.take("]")
+        self.cells.append((name, index))
         return name, index
 
     def kind_of_inputs(self):
@@ -174,7 +176,7 @@ class Driver:
     """The lines of a driver, what each says, and its faults in the order of the lines."""
 
     def __init__(self, content):
-        self.faults, self.said, self.kinds, self.functions, self.set = [], [], [], [], []
+        self.faults, self.said, self.kinds, self.functions, self.set, self.cells = [], [], [], [], [], []
         lines = [line for line in (self.line(number, line) for number, line in enumerate(m_source.lines_of(content), 1)) if line]
         self.look_for_depth(lines)
         sys.setrecursionlimit(max(sys.getrecursionlimit(), 20_000))
@@ -204,8 +206,8 @@ class Driver:
                 other = "accented letters stand in comments only" if shown[0] > 127 else ""
                 self.fault("bad token", number, at, shown.decode("utf-8", "replace"), (), hints.get(shown, other))
                 return Line(number, len(content) - len(content.lstrip(b" ")), [])
-            if piece.lastgroup == "number" and float(piece[0]) > m_grammar.GREATEST:
-                self.fault("bad token", number, at, piece[0].decode(), (), f"numbers end at {m_grammar.GREATEST}")
+            if piece.lastgroup == "number" and float(piece[0]) > m_items.GREATEST:
+                self.fault("bad token", number, at, piece[0].decode(), (), f"numbers end at {m_items.GREATEST}")
             tokens.append(m_source.Token(piece.lastgroup, piece[0].decode("latin-1"), at))
             at = piece.end()
         return Line(number, len(content) - len(content.lstrip(b" ")), tokens) if tokens else None
@@ -240,6 +242,7 @@ class Driver:
             self.fault("syntax", line.number, token.byte, token.text or "the end of the line", reader.wanted, hint)
             return None
         self.kinds += [(attribute, values, line.number, byte) for attribute, values, byte in reader.kinds]
+        self.cells += [(*cell, line.number) for cell in reader.cells]
         if said[0] == "set":
             self.set.append(said[1])
         return said
@@ -254,23 +257,23 @@ class Driver:
                 opened.pop()
             if before and before[0].indent < line.indent:
                 if before[1] is not None and before[1][0] in ("function", "if", "else", "partition"):
-                    opened.append((line.indent, None))
+                    opened.append((line.indent, ("none",)))
                 else:
-                    self.fault("syntax", line.number, line.indent, "more indentation", (), "only a function's first line, if, else: and partition have a block under them")
+                    self.fault("syntax", line.number, line.indent, "a line with more indentation", (), "only a function's first line, if, else: and partition have a block under them")
             elif line.indent and not (opened and opened[-1][0] == line.indent):
-                self.fault("syntax", line.number, line.indent, "this indentation", (), "it is that of no block round it")
+                self.fault("syntax", line.number, line.indent, "an indentation of no block round it", (), "lines of one block have one indentation")
             if before and before[0].indent >= line.indent and before[1] and before[1][0] in ("function", "if", "else", "partition"):
-                self.fault("syntax", before[0].number, None, "no block", (), "a block of one command or more stands under it, with more indentation")
+                self.fault("syntax", before[0].number, None, "a line that begins a block, and none is under it", (), "a block of one command or more stands under it, with more indentation")
             if said is not None and said[0] != "function" and line.indent == 0:
-                self.fault("syntax", line.number, 0, "no indentation", (), "a command stands in a function, with indentation; a function begins with NAME():")
+                self.fault("syntax", line.number, 0, "a command without indentation", (), "a command stands in a function, with indentation; a function begins with NAME():")
             if said is not None and said[0] == "function" and line.indent:
-                self.fault("syntax", line.number, line.indent, "a function", (), "the first line of a function has no indentation")
+                self.fault("syntax", line.number, line.indent, "a function with indentation", (), "the first line of a function has no indentation")
             if said is not None and said[0] == "else" and not self.has_if(opened, line):
                 self.fault("syntax", line.number, line.indent, "else", (), "no if stands right above it at the same indentation")
             if opened and opened[-1][0] == line.indent:
                 opened[-1] = (line.indent, said)
             if begins and k + 1 == len(self.said):
-                self.fault("syntax", line.number, None, "no block", (), "a block of one command or more stands under it, with more indentation")
+                self.fault("syntax", line.number, None, "a line that begins a block, and none is under it", (), "a block of one command or more stands under it, with more indentation")
             if said is not None and said[0] == "function":
                 self.functions.append((said[1], line.number))
 

@@ -1,0 +1,275 @@
+"""The grammar of rule files, as docs/LANGUAGE.md has it, for tools: the items of a file, and all its faults, each at the token that can't stand there.
+
+The program names the place behind the longest front that is whole items. This reading goes on to the farthest token that no rule can take, says what could
+stand there, and then goes on behind the next `;`, so that it finds the faults behind the first one too.
+"""
+import re
+import sys
+from typing import Any, NamedTuple
+
+import m_source
+from m_grammar import VALUE, Stuck, Terms
+
+DEEPEST = 256
+GREATEST = 10_000_000_000_000
+KINDS_OF_ERRORS = ("anomalie", "discordance", "informative")
+
+
+class Fault(NamedTuple):
+    """A fault of a file: what the program calls it, the byte, what stands there, what could, and what may help."""
+
+    what: str
+    byte: int
+    found: str
+    wanted: tuple
+    hint: str
+
+
+class Formula(NamedTuple):
+    """A formula: applications and whether its rule is chained, its loops, its target with an index (`X`, a number, or none), its term, the
+    byte of its target."""
+
+    applications: list
+    is_chained: bool
+    loops: list
+    target: str
+    slot: str | None
+    term: Any
+    byte: int
+
+
+class Check(NamedTuple):
+    """A check: the applications of its verification, its condition, the error with its byte, and the byte of `si`."""
+
+    applications: list
+    condition: Any
+    error: str
+    error_byte: int
+    byte: int
+
+
+class RuleReader(Terms):
+    """The items of a file, one piece after the other: a head, a formula, a check, a declaration. After a fault it goes on behind the next `;`."""
+
+    def __init__(self, tokens):
+        super().__init__(tokens)
+        self.formulas, self.checks, self.errors, self.faults = [], [], [], []
+        self.inside, self.applications, self.is_chained, self.due = None, [], False, False
+
+    def read_all(self):
+        while self.at < len(self.tokens) or self.due:
+            self.wanted, self.hint = [], ""
+            try:
+                self.piece()
+            except Stuck:
+                self.note()
+                self.recover()
+        return self
+
+    def note(self):
+        token = self.peek()
+        found = "the end of the file" if token.kind == "end" else token.text if len(token.text) < 40 else token.text[:40] + ".."
+        self.faults.append(Fault("syntax", token.byte, found, tuple(self.wanted), self.hint or self.guess()))
+
+    def guess(self):
+        """What may help, by what stands round the place."""
+        token, before, behind = self.peek(), self.peek(-1) if self.at else self.end, self.peek(1)
+        if token.text == "," and before.kind == "number" and behind.kind == "number":
+            return f"a decimal sign is a point: {before.text}.{behind.text}"
+        begins = token.kind == "end" or token.text in ("regle", "verif", "si", "pour") or self.is_word() and behind.text in ("=", ":", "[")
+        if ";" in self.wanted and begins:
+            return "a ; is missing before it"
+        if ")" in self.wanted and token.text in (";", "alors", "sinon", "finsi"):
+            return "a ) is missing before it"
+        if "finsi" in self.wanted and token.text in (";", ")"):
+            return "a finsi is missing before it"
+        return ""
+
+    def recover(self):
+        self.due = False
+        while self.at < len(self.tokens) and not self.next_is("regle", "verif"):
+            if self.step().text == ";":
+                return
+
+    def piece(self):
+        if self.due or self.inside and not self.begins_item():
+            self.due = False
+            (self.formula if self.inside == "regle" else self.check)()
+        elif self.take_if("regle", "verif"):
+            self.head(self.peek(-1).text)
+        elif self.take_if("application"):
+            self.inside = None
+            self.word("a word")
+            self.take(";")
+        elif self.take_if("enchaineur"):
+            self.inside = None
+            self.word("a word")
+            self.apps()
+            self.take(";")
+        else:
+            self.inside = None
+            self.declaration()
+
+    def begins_item(self):
+        if self.inside == "regle" and self.next_is("pour") or self.inside == "verif" and self.next_is("si"):
+            return False
+        if self.is_word():
+            return self.peek(1).text == ":" or self.inside == "verif" and self.peek(1).text not in ("=", "[")
+        return self.next_is("regle", "verif", "application", "enchaineur")
+
+    def head(self, inside):
+        self.inside, self.applications, self.is_chained = inside, [], False
+        while self.is_word():
+            self.step()
+        self.want("a word")
+        self.whole("the number of the rule")
+        self.take(":")
+        self.applications = self.apps()
+        self.take(";")
+        if inside == "regle" and self.take_if("enchaineur"):
+            self.is_chained = True
+            self.take(":")
+            self.word("a word")
+            self.take(";")
+        self.due = True
+
+    def apps(self):
+        self.take("application")
+        self.take(":")
+        return self.separated(lambda: self.word("the name of an application").text, ",")
+
+    def formula(self):
+        loops = []
+        while self.take_if("pour"):
+            loops.append(self.header())
+            self.take(":")
+        byte = self.peek().byte
+        target, slot = self.word("a name, whose formula follows").text, None
+        if self.take_if("["):
+            self.want("X")
+            slot = self.step().text if self.next_is("X") else self.whole()
+            self.take("]")
+        self.take("=")
+        if self.next_is("="):
+            self.want(VALUE)
+            self.stuck("a formula has one =")
+        term = self.term()
+        self.take(";")
+        self.formulas.append(Formula(self.applications, self.is_chained, loops, target, slot, term, byte))
+
+    def check(self):
+        byte = self.peek().byte
+        self.take("si")
+        condition = self.term()
+        self.take("alors")
+        self.take("erreur")
+        error = self.word("the name of an error")
+        while self.is_word():
+            self.step()
+        self.take(";")
+        self.checks.append(Check(self.applications, condition, error.text, error.byte, byte))
+
+    def declaration(self):
+        byte, name = self.peek().byte, self.name("a declaration (NAME :)")
+        if self.next_is("=", "["):
+            self.want(":")
+            self.stuck("a formula stands in a rule: regle 10 : application : iliad ; before it")
+        self.take(":")
+        if self.take_if("saisie"):
+            self.attributes()
+            self.take("alias")
+            self.word("a code")
+            self.description()
+        elif self.take_if("const"):
+            self.take("=")
+            self.signed()
+            self.take(";")
+        elif self.take_if(*KINDS_OF_ERRORS):
+            self.take(":")
+            texts = self.separated(lambda: self.kind("text", 'a text in " "'), ":")
+            if len(texts) < 4:
+                self.stuck("an error has four texts or five")
+            if len(texts) > 5:
+                self.at -= 2
+                self.stuck("an error has four texts or five")
+            self.take(";")
+            self.errors.append((name, byte))
+        else:
+            if self.take_if("tableau"):
+                self.take("[")
+                self.whole()
+                self.take("]")
+            self.take("calculee")
+            self.attributes()
+            self.description()
+
+    def attributes(self):
+        while self.is_word():
+            self.step()
+            if self.take_if("="):
+                self.signed()
+            self.want("an attribute")
+
+    def description(self):
+        self.take(":")
+        self.kind("text", 'a text in " "')
+        if self.take_if("type"):
+            self.word("a word")
+        self.take(";")
+
+
+def tokens_of(content):
+    """The tokens of a file, and the faults of its bytes. Behind a byte that begins none the reading goes on."""
+    tokens, faults, byte = [], [], 0
+    if content.startswith(m_source.MARK):
+        faults.append(Fault("bad byte", 0, "a byte order mark", (), "save the file without a byte order mark; a household may have one, a rule file not"))
+        byte = len(m_source.MARK)
+    while byte < len(content):
+        piece = m_source.GAP_OR_TOKEN.match(content, byte)
+        if piece is None and content[byte : byte + 1] == b'"':
+            faults.append(Fault("open string", byte, '"', (), "the text is never closed; all behind it is text"))
+            return tokens, faults
+        if piece is None:
+            end = re.compile(rb"[\x80-\xff]+|.", re.DOTALL).match(content, byte).end()
+            shown = content[byte:end]
+            what = "accented letters stand in texts and comments only" if shown[0] > 127 else "a point stands between digits" if shown == b"." else ""
+            faults.append(Fault("bad byte", byte, shown.decode("utf-8", "replace"), (), what))
+            byte = end
+            continue
+        if piece.lastgroup != "gap":
+            token = m_source.Token(piece.lastgroup, piece[0].decode("latin-1"), byte)
+            if token.kind == "number" and float(token.text) > GREATEST:
+                faults.append(Fault("number too great", byte, token.text, (), f"numbers end at {GREATEST}"))
+            tokens.append(token)
+        byte = piece.end()
+    return tokens, faults
+
+
+def too_deep(tokens):
+    """The first token at which brackets and conditionals stand too deep."""
+    depth = 0
+    for token in tokens:
+        if token.kind == "text":
+            continue
+        if token.text in ("(", "[", "si"):
+            depth += 1
+        elif token.text in (")", "]", "finsi", "erreur"):
+            depth = max(0, depth - 1)
+        elif token.text in ("regle", "verif"):
+            depth = 0
+        if depth > DEEPEST:
+            return [Fault("too deep", token.byte, token.text, (), "give a part of the formula a variable of its own")]
+    return []
+
+
+def read(content):
+    """The formulas and checks of a file, and all its faults in their order."""
+    sys.setrecursionlimit(max(sys.getrecursionlimit(), 20_000))
+    tokens, faults = tokens_of(content)
+    deep = too_deep(tokens)
+    reader = RuleReader(tokens)
+    if not deep and not any(fault.what == "open string" for fault in faults):
+        reader.read_all()
+    bad = {fault.byte for fault in faults}
+    faults += deep + [fault for fault in reader.faults if not any(0 <= fault.byte - byte < 40 for byte in bad)]
+    return reader, sorted(faults, key=lambda fault: fault.byte)

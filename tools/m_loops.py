@@ -1,0 +1,45 @@
+"""Loops of rule files, for tools: the values of their letters, words with letters replaced, and what a term reads. Terms are those of m_grammar.py."""
+import itertools
+
+MOST = 10_000
+
+
+def values_of(pairs):
+    """The values of an index of a loop, as they are spelled."""
+    found = []
+    for low, high in pairs:
+        if low.isdigit() and high.isdigit():
+            found += [f"{k:0{len(low)}}" for k in range(int(low), min(int(high), int(low) + MOST) + 1)]
+        elif low == high:
+            found.append(low)
+        else:
+            found += [chr(k) for k in range(ord(low[0]), ord(high[0]) + 1)]
+    return found
+
+
+def instances(headers, words):
+    """The letters that these words have, at each of their values: of many instances the first."""
+    bound = {letter: values for header in headers for letter, values in header}
+    letters = [letter for letter in bound if any(letter in word for word in words)]
+    products = itertools.product(*(values_of(bound[letter]) for letter in letters))
+    return [dict(zip(letters, values)) for values in itertools.islice(products, MOST)]
+
+
+def replaced(word, letters):
+    return "".join(letters.get(letter, letter) for letter in word)
+
+
+def reads_of(term, headers):
+    """The names and tables that a term reads: the word, the index or nothing, the byte, and the loops round it."""
+    stack = [(term, headers)]
+    while stack:
+        (kind, *parts), round_it = stack.pop()
+        if kind == "name":
+            yield parts[0], None, parts[1], round_it
+        elif kind == "read":
+            yield parts[0], parts[1], parts[2], round_it
+            stack.append((parts[1], round_it))
+        elif kind == "op":
+            stack += [(part, round_it) for part in reversed(parts[1])]
+        elif kind == "sum":
+            stack.append((parts[1], [*round_it, parts[0]]))
