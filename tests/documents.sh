@@ -1,7 +1,8 @@
 #!/bin/sh
-# Compares what the documents say with what the repository has, where a text can be compared: the crates with
-# ARCHITECTURE's table, the limits with FORMATS, the usage line's copies, and the reserved words with LANGUAGE, DRIVER and the
-# files for editors. Prints a line for each difference, and a count. The status is 0 where there is none.
+# Compares what the documents say with what the repository has, where a text can be compared: the crates with the tables of
+# ARCHITECTURE and PROVED, the calls that PROVED names with their crates, the limits with FORMATS, the usage line's copies, the reserved
+# words with LANGUAGE, DRIVER and the files for editors, MUTANTS with the files it is made of, links with files, words with ARCHITECTURE's
+# table of English, and the size of the front page. Prints a line for each difference, and a count. The status is 0 where there is none.
 cd "$(dirname "$0")/.." || exit 1
 room=$(mktemp -d) || exit 1
 trap 'rm -rf "$room"' EXIT
@@ -23,6 +24,17 @@ git ls-files crates | cut -d/ -f2 | sort -u >"$room/folders"
 awk '/^## /{in_table = /^## The crates/} in_table && /^\| [a-z][a-z0-9_]* \|/{print $2}' docs/ARCHITECTURE.md | sort >"$room/table"
 same "crates.txt and the folders of crates" "$room/index" "$room/folders"
 same "crates.txt and the table of crates in ARCHITECTURE" "$room/index" "$room/table"
+
+# PROVED has a row for each crate that isn't of tests alone, in the order of crates.txt; and each call that a row names stands in its crate.
+sed -n 's/^\([a-z][a-z0-9_]*\)[^:#]*:.*/\1/p' crates.txt | grep -v '_tests$' | grep -vx rows | sort >"$room/proved"
+awk '/^## /{in_table = /^## Crate by crate/} in_table && /^\| [a-z][a-z0-9_]* \|/{print $2}' docs/PROVED.md | sort >"$room/rows"
+same "crates.txt, without tests, and the table of PROVED" "$room/proved" "$room/rows"
+awk -F'|' '/^## /{in_table = /^## Crate by crate/} in_table && /^\| [a-z]/{gsub(/ /, "", $2); n = split($3, part, "`"); for (k = 2; k <= n; k += 2) print $2, part[k]}' docs/PROVED.md |
+    sed -n 's/^\([a-z0-9_]*\) \(.*::\)\{0,1\}\([A-Za-z_][A-Za-z0-9_][A-Za-z0-9_]*\)$/\1 \3/p' | sort -u >"$room/named"
+while read -r crate word; do
+    if [ -d "crates/$crate" ] && grep -rqw -- "$word" "crates/$crate/src" "crates/$crate/specs" "crates/$crate/proofs" 2>/dev/null; then echo "$crate $word"; fi
+done <"$room/named" >"$room/standing"
+same "the calls and clauses that PROVED names and those of the crates" "$room/named" "$room/standing"
 
 # Limits: FORMATS names each by its constant, with its number; commas and underscores are for the eye.
 sed -n 's/^pub const \([A-Z_]*\): [a-z0-9]* = \([0-9_]*\);.*/\1 \2/p' crates/m_places/src/limits.rt | sed 's/_\([0-9]\)/\1/g' | sort >"$room/constants"
@@ -60,6 +72,26 @@ for pair in m.tmLanguage.json:listed mpp.tmLanguage.json:driver_listed; do
     sed -n 's/.*"\\\\b(\([A-Za-z_|]*\))\\\\b".*/\1/p' "$editors/vscode/${pair%:*}" | tr '|' '\n' | sort >"$room/coloured"
     same "the words of ${pair%:*} and their list" "$room/coloured" "$room/${pair#*:}"
 done
+
+# MUTANTS is made by a script.
+if command -v python3 >/dev/null 2>&1; then
+    python3 -B tests/tries.py --page >"$room/mutants"
+    same "MUTANTS and what tests/tries.py --page prints" docs/MUTANTS.md "$room/mutants"
+fi
+
+# Links: each names a file that is there.
+git ls-files '*.md' | while read -r page; do
+    sed 's/`[^`]*`//g' "$page" | grep -oE '\]\([^):]+\)' | sed 's/^](//; s/)$//; s/#.*//' | while read -r link; do
+        [ -z "$link" ] || echo "$page $(dirname "$page")/$link"
+    done
+done | sort -u >"$room/links"
+while read -r page link; do if [ -e "$link" ]; then echo "$page $link"; fi; done <"$room/links" >"$room/there"
+same "the links of the pages and the files" "$room/links" "$room/there"
+
+# The front page is short.
+if [ "$(wc -c <README.md)" -lt 10240 ]; then echo short; else echo long; fi >"$room/size"
+echo short >"$room/short"
+same "the size of README and 10 KB" "$room/short" "$room/size"
 
 echo "documents: $((compared - failed)) passed, $failed failed"
 [ "$failed" -eq 0 ]

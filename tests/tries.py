@@ -1,5 +1,5 @@
 #!/usr/bin/env python3
-"""Tries wrong bodies: tests/tries.py [--stands] [CRATE ..]
+"""Tries mutants, which are wrong bodies: tests/tries.py [--stands | --page] [CRATE ..]
 
 tests/tries/CRATE.txt has wrong bodies of a crate's functions. This script copies the repository, puts them into the copy, as many
 functions at a time as it can, checks these functions there, and says of each whether the check refused it. What can't be judged since
@@ -12,8 +12,8 @@ first and the last may be parts of lines.
 
 The verdicts are `refused`: a goal of the function isn't proved, by the search or by the answer that stands in proofs/, which may
 be an answer that no longer fits; `PROVED`, which is a clause to strengthen; `allowed`, for those in brackets that are proved; and
-`not judged`, with the reason. --stands says which entries no longer stand in their files, and how many do, and checks nothing. The
-status is 1 where one is proved or doesn't stand.
+`not judged`, with the reason. --stands says which entries no longer stand in their files, and how many do, and checks nothing. --page
+prints docs/MUTANTS.md, which lists all entries and the edits of crates/*/must-fail. The status is 1 where one is proved or doesn't stand.
 """
 import re
 import shutil
@@ -163,8 +163,46 @@ def tried(crate_folder, crate):
         yield body, "not judged: it doesn't compile" if errors else verdict(crate, body, lines, True)
 
 
+HEAD = """# All mutants
+
+Made by `tests/tries.py --page > docs/MUTANTS.md` from `tests/tries` and `crates/*/must-fail`; `tests/documents.sh` compares it. What they say of the
+contracts stands in [STRENGTH.md](STRENGTH.md). "Edits" are the mutants that the gate tries each time; the rows are tried by `tests/tries.py`. In brackets
+stands what is right or free, and may be proved.
+"""
+
+
+def cell(text):
+    """Returns a text as the cell of a table."""
+    return text.replace("|", "\\|")
+
+
+def page():
+    """Returns the page that lists all mutants."""
+    edits = {path.name: sorted(edit.stem.replace("_", " ") for edit in path.glob("must-fail/*.edit")) for path in (TOP / "crates").iterdir()}
+    rows = {path.stem: bodies_of(path.stem) for path in (TOP / "tests/tries").glob("*.txt")}
+    crates = [line.split(":")[0] for line in (TOP / "crates.txt").read_text(encoding="utf-8").split("\n") if line and not line.startswith("#")]
+    lines = [HEAD, "| Crate | Edits | Mutants | Right or free |", "|---|---:|---:|---:|"]
+    counts = [(crate, len(edits.get(crate, [])), rows.get(crate, [])) for crate in crates if edits.get(crate) or rows.get(crate)]
+    for crate, count, bodies in counts:
+        free = sum(body.is_allowed for body in bodies)
+        lines.append(f"| {crate} | {count} | {len(bodies) - free} | {free} |")
+    all_free = sum(body.is_allowed for _, _, bodies in counts for body in bodies)
+    lines.append(f"| all | {sum(count for _, count, _ in counts)} | {sum(len(bodies) for _, _, bodies in counts) - all_free} | {all_free} |")
+    for crate, count, bodies in counts:
+        lines += ["", f"## {crate}", ""]
+        if count:
+            lines += ["Edits: " + "; ".join(edits[crate]) + ".", ""]
+        if bodies:
+            lines += ["| Function | File | What is wrong |", "|---|---|---|"]
+            lines += [f"| `{body.function}` | `{body.file}` | {cell(body.what)} |" for body in bodies]
+    return "\n".join(lines).replace("\n\n\n", "\n\n").rstrip("\n") + "\n"
+
+
 def main():
     words = sys.argv[1:]
+    if "--page" in words:
+        sys.stdout.write(page())
+        return
     crates = [word for word in words if not word.startswith("-")] or sorted(path.stem for path in (TOP / "tests/tries").glob("*.txt"))
     for crate in crates:
         if not (TOP / "tests/tries" / f"{crate}.txt").exists():

@@ -109,6 +109,8 @@ printf 'name,1AJ\r\n"a\r\nhousehold x",1\r\nb,2' >quotes.csv
 rm -r parts && "$scale" cut quotes.csv parts --rows 1 && tr '\r' '|' <parts/part-000001.csv
 printf 'b,2\rc,3\r' | "$scale" pipe name,1AJ a.list - - | tr '\n' ' '
 echo
+printf 'b,2\n' | "$scale" pipe --of "$("$scale" source a.list - -)" name,1AJ a.list - - | tr '\n' ' '
+printf 'b,2\n' | "$scale" pipe --of 0123 name,1AJ a.list - -
 echo "-- refused"
 for table in 'name;1AJ\na;1\n' 'code,amount\n1AJ,1\n' '' 'name,1AJ\n' 'name,1AJ\na,1\n"b,2\nc,3\n'; do
     rm -r parts
