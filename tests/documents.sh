@@ -79,6 +79,15 @@ if command -v python3 >/dev/null 2>&1; then
     same "MUTANTS and what tests/tries.py --page prints" docs/MUTANTS.md "$room/mutants"
 fi
 
+# English: no page has a word that ARCHITECTURE's table replaces, outside of code; MUTANTS, which is made of the files, has them.
+for page in $(git ls-files '*.md' | grep -v '^crates/\|^bench/\|^docs/MUTANTS.md'); do
+    awk '/^```/{code = !code; next} !code && !/looks that no page has/' "$page" | sed 's/`[^`]*`//g; s/REFUSALS.md//g; s/front page//g; s/leave it behind//g' |
+        grep -niwE "front|fronts|behind|want of|wrong body|wrong bodies|second reading|refusal|refusals|weighs" | sed "s|^|$page: |"
+done >"$room/words"
+echo none >"$room/none"
+[ -s "$room/words" ] || echo none >"$room/words"
+same "the words of the pages and ARCHITECTURE's table" "$room/none" "$room/words"
+
 # Links: each names a file that is there.
 git ls-files '*.md' | while read -r page; do
     sed 's/`[^`]*`//g' "$page" | grep -oE '\]\([^):]+\)' | sed 's/^](//; s/)$//; s/#.*//' | while read -r link; do
