@@ -12,10 +12,16 @@ abbrev pub InSome : Option (ℤ × ℤ) → ℤ → Type 0
 InSome None x = ⊥
 InSome (Some r) x = InRange r x
 
--- the interval, if there is one, has a number, and its ends are amounts
+-- the interval has a number, and its ends are amounts
+pub record IsInterval (r : ℤ × ℤ) : Type 0 where
+  pub low : IsAmount r.0
+  pub ordered : r.0 ≤ℤ r.1
+  pub high : IsAmount r.1
+
+-- the same of an interval, if there is one
 abbrev pub IsWithin : Option (ℤ × ℤ) → Type 0
 IsWithin None = Unit {0}
-IsWithin (Some r) = IsAmount r.0 × (r.0 ≤ℤ r.1) × IsAmount r.1
+IsWithin (Some r) = IsInterval r
 
 -- the interval of one number
 abbrev pub alone : ℤ → ℤ × ℤ

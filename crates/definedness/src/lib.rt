@@ -5,6 +5,9 @@
 #![tactic(auto)]
 
 mod fact;
+mod operator;
 mod range;
+mod results;
 
 pub use fact::{Fact, fact_of_input, fact_of_value};
+pub use operator::fact_of;
