@@ -45,7 +45,7 @@ limited_grows x y h = omega (arith, ints, clamps)
 
 -- ---- sizes
 
-size_of_signed : (b : Bool) (n : ℕ) → unsigned_abs (signed b n) ≡ n
+pub size_of_signed : (b : Bool) (n : ℕ) → unsigned_abs (signed b n) ≡ n
 size_of_signed true zero = refl
 size_of_signed true (suc n) = refl
 size_of_signed false n = refl

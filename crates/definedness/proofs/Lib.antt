@@ -1,2 +1,7 @@
+pub mod Between
 pub mod Beyond
+pub mod Cuts
+pub mod Holding
+pub mod Quotients
+pub mod Rounded
 pub mod Wholes

@@ -7,7 +7,7 @@ ghost use Rattle.definedness.specs.inner.Limits.{limited};
 
 use crate::fact::{Fact, over_alone};
 use crate::range::{
-    LEAST, MOST, Range, alone, amount, cut_to_amounts, has_other, has_zero, join, may_be_other,
+    Range, alone, amount, cut_to_amounts, has_other, has_zero, join, leaves_amounts, may_be_other,
     may_be_zero,
 };
 use crate::results::{results_of, truths};
@@ -73,7 +73,7 @@ fn bounded_fact(undef: bool, over: bool, low: i128, high: i128) -> Fact
     requires { limited low ≤ℤ limited high }
     ensures { result ≡ bounded_fact undef over (low, high) }
 {
-    let leaves = low < LEAST || MOST < high;
+    let leaves = leaves_amounts(low, high);
     Fact::new(undef, over || leaves, cut_to_amounts(low, high))
 }
 
@@ -85,6 +85,8 @@ fn of_ranges(op: Op, undef: bool, over: bool, a: Option<Range>, b: Option<Range>
     if let Some(a) = a
         && let Some(b) = b
     {
+        a.shows_order();
+        b.shows_order();
         let (low, high) = results_of(op, a, b);
         bounded_fact(undef, over, low, high)
     } else {

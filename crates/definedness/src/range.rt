@@ -2,7 +2,7 @@
 ghost use Rattle.std.specs.Prelude.{◌≡◌, ◌≤ℤ◌};
 ghost use Rattle.std.specs.Int.{int_max, int_min};
 ghost use Rattle.m_fixed.specs.Amounts.{IsAmount};
-ghost use Rattle.definedness.specs.Ranges.{alone, has_zero, has_other, may_be_zero, may_be_other, hull, join, cut_to_amounts};
+ghost use Rattle.definedness.specs.Ranges.{alone, has_zero, has_other, may_be_zero, may_be_other, hull, join, cut_to_amounts, leaves_amounts};
 ghost use Rattle.definedness.specs.inner.Limits.{limited};
 
 use m_fixed::Amount;
@@ -32,6 +32,15 @@ impl Model for Range {
     ghost invariant = { λ r. IsInterval (r.low, r.high) };
 
     ghost inverse = { λ r. record { low = r.0; high = r.1 } };
+}
+
+impl Range {
+    /// What each interval is.
+    pub(crate) fn shows_order(self)
+        ensures { self.0 ≤ℤ self.1 }
+    {
+        let _ = &self.low;
+    }
 }
 
 /// The amount of so many millionths.
@@ -147,4 +156,11 @@ pub(crate) fn cut_to_amounts(low: i128, high: i128) -> Option<Range>
         low: amount(LEAST.max(low)),
         high: amount(high.min(MOST)),
     })
+}
+
+/// Whether numbers from `low` to `high` are beyond the amounts.
+pub(crate) fn leaves_amounts(low: i128, high: i128) -> bool
+    ensures { result ≡ leaves_amounts (low, high) }
+{
+    low < LEAST || MOST < high
 }
