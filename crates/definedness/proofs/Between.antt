@@ -1,17 +1,14 @@
 -- What lies between what the ends give: products and quotients of numbers of two intervals.
-use Rattle.std.proofs.Common.{◌≡◌, ℕ, zero, suc, ◌+◌, ◌*◌, ◌<◌, ◌≤◌, Bool, true, false, ℤ, pos, negsuc, ◌+ℤ◌, neg_ℤ, ◌≤ℤ◌, ◌*ℤ◌, ◌⊎◌, refl, ap, sym, ◌∙◌, subst, inl, inr, ⊎_elim, arith}
+use Rattle.std.proofs.Common.{◌≡◌, ℕ, zero, suc, ◌<◌, ℤ, pos, negsuc, ◌+ℤ◌, neg_ℤ, ◌≤ℤ◌, ◌*ℤ◌, ◌⊎◌, ap, ◌∙◌, subst, inl, inr, ⊎_elim, arith}
 use Rattle.std.proofs.lemmas.Int.{ints, clamps}
-use Rattle.std.proofs.lemmas.Nat.{mul-le}
-use Rattle.std.specs.Int.{int_min, int_max}
 use lib.IntN.{zero-*ℤ, suc_ℤ-*ℤ, *ℤ_comm, *ℤ-negsuc}
-use Rattle.m_fixed.specs.declared.operator.Op.{Op}
-use Rattle.m_fixed.specs.declared.operator.Op.TheVariants.{Mul, Div}
+use Rattle.m_fixed.specs.declared.operator.Op.TheVariants.{Mul}
 use Rattle.m_fixed.specs.Amounts.{unit}
-use Rattle.m_fixed.specs.Rounding.{rounded, nearest}
+use Rattle.m_fixed.specs.Rounding.{rounded}
 use Rattle.m_fixed.specs.Operators.{result_of}
 use Rattle.definedness.specs.Ranges.{InRange}
 use Rattle.definedness.specs.Results.{least_of, greatest_of, corners}
-use Rattle.definedness.proofs.Rounded.{rounded_grows, rounded_opposite}
+use Rattle.definedness.proofs.Rounded.{rounded_grows}
 
 abbrev pub Between : ℤ → ℤ → ℤ → Type 0
 Between p q z = ((p ≤ℤ z) × (z ≤ℤ q)) ⊎ ((q ≤ℤ z) × (z ≤ℤ p))

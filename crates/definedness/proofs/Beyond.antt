@@ -1,19 +1,19 @@
 -- What is known of numbers beyond the amounts.
-use Rattle.std.proofs.Common.{◌≡◌, ◌≢◌, ℕ, zero, suc, ◌+◌, ◌*◌, ◌<◌, ◌≤◌, Bool, true, false, ℤ, pos, negsuc, neg_ℤ, ◌+ℤ◌, ◌-ℤ◌, ◌*ℤ◌, ◌≤ℤ◌, ◌⊎◌, unsigned_abs, refl, ap, sym, ◌∙◌, subst, inl, inr, ⊎_elim, arith}
-use Rattle.std.proofs.lemmas.Bool.{le-leb, lt-leb, cases_lt, cases_Bool}
+use Rattle.std.proofs.Common.{◌≡◌, ℕ, zero, suc, ◌+◌, ◌*◌, ◌<◌, ◌≤◌, Bool, true, false, ℤ, pos, negsuc, neg_ℤ, ◌-ℤ◌, ◌*ℤ◌, ◌≤ℤ◌, ◌<ℤ◌, ◌⊎◌, unsigned_abs, refl, ap, sym, ◌∙◌, inl, inr, ⊎_elim, arith}
+use Rattle.std.proofs.lemmas.Bool.{le-leb, lt-leb, cases_lt}
 use Rattle.std.proofs.lemmas.Int.{ints, clamps, to_z-of_z}
 use Rattle.std.specs.Int.{is_negative, int_min, int_max, w128, cast_unsigned, cast_signed}
-use Rattle.std.specs.Prelude.{if◌then◌else◌, FitsSigned}
+use Rattle.std.specs.Prelude.{FitsSigned}
 use Rattle.m_fixed.specs.declared.amount.Value.{Value}
 use Rattle.m_fixed.specs.declared.amount.Value.TheVariants.{Undef, Num, Over}
 use Rattle.m_fixed.specs.declared.operator.Op.{Op}
-use Rattle.m_fixed.specs.declared.operator.Op.TheVariants.{Mul, Div, Arr, Inf}
+use Rattle.m_fixed.specs.declared.operator.Op.TheVariants.{Mul, Div}
 use Rattle.m_fixed.specs.Amounts.{IsAmount, unit, most}
-use Rattle.m_fixed.specs.Rounding.{signed, differ, rounded, nearest}
-use Rattle.m_fixed.specs.Operators.{op_value, bounded, result_of, quotient, is_zero}
+use Rattle.m_fixed.specs.Rounding.{signed, differ, nearest}
+use Rattle.m_fixed.specs.Operators.{op_value, bounded, result_of, is_zero}
 use Rattle.definedness.specs.Ranges.{has_zero, has_other}
 use Rattle.definedness.specs.Results.{least_of, greatest_of, corners, quotients, greatest_size}
-use Rattle.definedness.specs.inner.Limits.{beyond, limited, limited_range, signed_beyond}
+use Rattle.definedness.specs.inner.Limits.{limited, limited_range, signed_beyond}
 
 limited_min : (x y : ℤ) → int_min (limited x) (limited y) ≡ limited (int_min x y)
 unfolding limited
@@ -223,3 +223,13 @@ quotients_by_zero r s h k = rw (h, k) refl
 pub quotients_by_both : (r s : ℤ × ℤ) → has_zero s ≡ true → has_other s ≡ true → quotients r s ≡ (neg_ℤ (greatest_size r *ℤ pos unit), greatest_size r *ℤ pos unit)
 unfolding quotients
 quotients_by_both r s h k = rw (h, k) refl
+
+-- ---- numbers that are Over
+
+pub is_over_below : (z : ℤ) → z <ℤ neg_ℤ (pos most) → bounded z ≡ Over
+is_over_below (pos n) h = absurd (omega (arith, ints))
+is_over_below (negsuc n) h = bounded_great (negsuc n) (omega (arith, ints))
+
+pub is_over_above : (z : ℤ) → pos most <ℤ z → bounded z ≡ Over
+is_over_above (pos n) h = bounded_great (pos n) (omega (arith, ints))
+is_over_above (negsuc n) h = absurd (omega (arith, ints))

@@ -1,12 +1,10 @@
 -- Intervals that are cut to the amounts.
-use Rattle.std.proofs.Common.{◌≡◌, Bool, true, false, ℤ, pos, neg_ℤ, ◌≤ℤ◌, ◌<ℤ◌, is_some, refl, ap, sym, ◌∙◌, subst, arith, ◌⊎◌, inl, inr, ⊎_elim}
+use Rattle.std.proofs.Common.{◌≡◌, Bool, true, false, ℤ, ◌≤ℤ◌, ◌<ℤ◌, is_some, refl, ap, sym, ◌∙◌, subst, arith, ◌⊎◌, inl, inr, ⊎_elim}
 use mathlib.Core.Bool.{◌||◌}
-use Rattle.std.proofs.lemmas.Bool.{or_left, or_right, cases_Bool}
+use Rattle.std.proofs.lemmas.Bool.{or_left, or_right}
 use Rattle.std.proofs.lemmas.Int.{ints, clamps, by_lt_z, to_z-of_z}
 use Rattle.std.specs.Int.{int_min, int_max, w128, cast_unsigned, cast_signed}
-use Rattle.std.specs.Prelude.{int_lt, IsTrue, FitsSigned, if◌then◌else◌, Option, Some, None}
-use Rattle.m_fixed.specs.declared.operator.Op.{Op}
-use Rattle.m_fixed.specs.Amounts.{IsAmount, most}
+use Rattle.std.specs.Prelude.{int_lt, IsTrue, FitsSigned}
 use Rattle.definedness.specs.Ranges.{IsInterval, lowest_amount, highest_amount, cut_to_amounts, leaves_amounts}
 use Rattle.definedness.specs.Facts.{bounded_fact}
 use Rattle.definedness.specs.inner.Limits.{limited, limited_range}

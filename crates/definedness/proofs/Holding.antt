@@ -1,11 +1,11 @@
 -- What an operator gives of numbers of two intervals lies where the ends of the intervals say.
-use Rattle.std.proofs.Common.{◌≡◌, ℕ, zero, suc, eqb, ◌≤◌, Bool, true, false, not, ℤ, pos, negsuc, ◌+ℤ◌, ◌-ℤ◌, neg_ℤ, ◌≤ℤ◌, ◌<ℤ◌, ◌⊎◌, unsigned_abs, refl, ap, sym, ◌∙◌, subst, inl, inr, ⊎_elim, arith}
+use Rattle.std.proofs.Common.{◌≡◌, ℕ, zero, suc, eqb, Bool, true, false, not, ℤ, pos, negsuc, ◌+ℤ◌, ◌-ℤ◌, neg_ℤ, ◌≤ℤ◌, unsigned_abs, refl, sym, ⊎_elim, arith}
 use mathlib.Core.Bool.{◌&&◌, ◌||◌}
 use Rattle.std.proofs.lemmas.Bool.{true≢false, or_left, or_right, eqb-true, cases_Bool}
 use Rattle.std.proofs.lemmas.Int.{ints, clamps}
 use Rattle.std.specs.Int.{int_min, int_max}
 use Rattle.std.specs.Ordering.{int_eq}
-use Rattle.std.specs.Prelude.{int_lt, int_le, if◌then◌else◌}
+use Rattle.std.specs.Prelude.{int_lt, int_le}
 use Rattle.m_fixed.specs.declared.operator.Op.{Op}
 use Rattle.m_fixed.specs.declared.operator.Op.TheVariants.{Add, Sub, Mul, Div, Neg, Eq, Ne, Lt, Le, Gt, Ge, And, Or, Not, Present, Abs, Positive, PositiveOrNull, Null, Arr, Inf, Max, Min, Truth, Choose, At}
 use Rattle.m_fixed.specs.Amounts.{unit}
@@ -117,7 +117,7 @@ equal_holds r s x y h i = in_truths (may_be_equal r s) (may_differ r s) (int_eq 
 cut_in : (r : ℤ × ℤ) (x : ℤ) → InRange r x → InRange (cut_range r) (cut x)
 cut_in r x h = (cut_grows r.0 x h.0, cut_grows x r.1 h.1)
 
-in_alone : (z : ℤ) → InRange (alone z) z
+pub in_alone : (z : ℤ) → InRange (alone z) z
 in_alone z = (omega (arith, ints), omega (arith, ints))
 
 -- ---- numbers

@@ -1,14 +1,13 @@
 -- Quotients of numbers of two intervals.
-use Rattle.std.proofs.Common.{◌≡◌, ℕ, zero, suc, ◌+◌, ◌*◌, ◌<◌, ◌≤◌, Bool, true, false, ℤ, pos, negsuc, ◌+ℤ◌, ◌-ℤ◌, neg_ℤ, ◌≤ℤ◌, ◌<ℤ◌, ◌*ℤ◌, ◌⊎◌, unsigned_abs, refl, ap, sym, ◌∙◌, subst, inl, inr, ⊎_elim, arith}
+use Rattle.std.proofs.Common.{◌≡◌, ℕ, zero, suc, ◌*◌, ◌<◌, ◌≤◌, Bool, true, false, ℤ, pos, negsuc, neg_ℤ, ◌≤ℤ◌, ◌<ℤ◌, ◌*ℤ◌, ◌⊎◌, unsigned_abs, refl, ap, sym, ◌∙◌, subst, inl, inr, ⊎_elim, arith}
 use mathlib.Core.Bool.{◌&&◌}
 use Rattle.std.proofs.Math.Dec.{eqb-suc-zero}
 use Rattle.std.proofs.lemmas.Int.{ints, clamps, by_lt_z}
-use Rattle.std.proofs.lemmas.Bool.{true≢false, eqb-true}
-use Rattle.std.specs.Int.{int_min, int_max}
-use Rattle.std.specs.Prelude.{int_le, int_lt, ◌||◌}
+use Rattle.std.proofs.lemmas.Bool.{true≢false}
+use Rattle.std.specs.Prelude.{int_le}
 use Rattle.m_fixed.specs.declared.operator.Op.TheVariants.{Div}
 use Rattle.m_fixed.specs.Amounts.{unit}
-use Rattle.m_fixed.specs.Rounding.{rounded, nearest, signed, differ}
+use Rattle.m_fixed.specs.Rounding.{rounded, nearest}
 use Rattle.m_fixed.specs.Operators.{result_of, quotient, is_zero}
 use Rattle.definedness.specs.Ranges.{InRange, has_zero, has_other}
 use Rattle.definedness.specs.Results.{corners, quotients, greatest_size}

@@ -1,11 +1,10 @@
 -- Rounded quotients grow with the number that is divided, and come nearer to zero as the divisor grows.
-use Rattle.std.proofs.Common.{◌≡◌, ℕ, zero, suc, ◌+◌, ◌*◌, ◌/◌, ◌<◌, ◌≤◌, Bool, true, false, ℤ, pos, negsuc, neg_ℤ, ◌*ℤ◌, ◌≤ℤ◌, unsigned_abs, refl, ap, sym, ◌∙◌, subst, arith}
+use Rattle.std.proofs.Common.{◌≡◌, ℕ, zero, suc, ◌+◌, ◌*◌, ◌/◌, ◌<◌, ◌≤◌, false, ℤ, pos, negsuc, neg_ℤ, ◌≤ℤ◌, refl, sym, arith}
 use Rattle.std.proofs.Math.Nat.{div-mul-le_self, zero-mul}
 use Rattle.std.proofs.lemmas.Int.{ints}
 use Rattle.std.proofs.lemmas.Nat.{mul-le, le-div}
 use Rattle.std.specs.Int.{is_negative}
-use Rattle.m_fixed.specs.Amounts.{unit}
-use Rattle.m_fixed.specs.Rounding.{nearest, signed, differ, rounded}
+use Rattle.m_fixed.specs.Rounding.{nearest, rounded}
 
 pub not_negative : (n : ℕ) → is_negative (pos n) ≡ false
 not_negative n = grind (arith, ints)

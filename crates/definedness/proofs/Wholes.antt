@@ -1,14 +1,13 @@
 -- Whole units grow with the number, and those of an amount are an amount.
-use Rattle.std.proofs.Common.{◌≡◌, ◌⊎◌, ℕ, zero, suc, ◌+◌, ◌/◌, ◌*◌, ◌≤◌, ℤ, pos, negsuc, neg_ℤ, ◌+ℤ◌, ◌-ℤ◌, ◌*ℤ◌, ◌≤ℤ◌, true, false, refl, ap, sym, ◌∙◌, subst, arith, ⊎_elim}
-use Rattle.std.proofs.lemmas.Int.{ints, clamps}
-
-use Rattle.std.specs.Int.{is_negative, int_div_euclid}
-use Rattle.std.specs.Prelude.{int_div, if◌then◌else◌}
+use Rattle.std.proofs.Common.{◌≡◌, ◌⊎◌, ℤ, pos, negsuc, neg_ℤ, ◌+ℤ◌, ◌-ℤ◌, ◌≤ℤ◌, sym, ◌∙◌, arith, ⊎_elim}
+use Rattle.std.proofs.lemmas.Int.{ints}
+use Rattle.std.specs.Int.{is_negative}
+use Rattle.std.specs.Prelude.{if◌then◌else◌}
 use Rattle.m_fixed.specs.declared.amount.Value.{Value}
 use Rattle.m_fixed.specs.declared.amount.Value.TheVariants.{Undef, Num, Over}
 use Rattle.m_fixed.specs.declared.operator.Op.{Op}
 use Rattle.m_fixed.specs.declared.operator.Op.TheVariants.{Arr, Inf}
-use Rattle.m_fixed.specs.Amounts.{IsAmount, unit, most}
+use Rattle.m_fixed.specs.Amounts.{IsAmount, most}
 use Rattle.m_fixed.specs.Operators.{op_value, result_of, cut, floor, units, arr_shift}
 use Rattle.definedness.proofs.Beyond.{bounded_amount, num_same, num_undef, num_over}
 

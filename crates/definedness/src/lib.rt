@@ -5,6 +5,7 @@
 #![tactic(auto)]
 
 mod fact;
+pub mod laws;
 mod operator;
 mod range;
 mod results;

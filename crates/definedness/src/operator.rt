@@ -1,6 +1,6 @@
 //! What is known of an operator's value.
 ghost use Rattle.std.specs.Prelude.{◌≡◌, ◌||◌, ◌&&◌, ◌≤ℤ◌, pos, IsTrue, is_some};
-ghost use Rattle.definedness.specs.Facts.{fact_of, is_over_alone, bounded_fact, of_ranges, presence, of_one, widened, of_two_widened, of_two, truths_of, truth_fact, either, branches, choice};
+ghost use Rattle.definedness.specs.Facts.{fact_of, is_over_alone, bounded_fact, fact_of_ranges, presence, fact_of_one, widened, fact_of_two_widened, fact_of_two, truths_of, truth_fact, either, branches, choice};
 ghost use Rattle.definedness.specs.Ranges.{alone};
 ghost use Rattle.definedness.specs.Results.{truths};
 ghost use Rattle.definedness.specs.inner.Limits.{limited};
@@ -34,7 +34,7 @@ pub fn fact_of(op: Op, a: Fact, b: Fact, c: Fact) -> Fact
             if is_over_alone(a) {
                 over_alone()
             } else {
-                of_one(op, a)
+                fact_of_one(op, a)
             }
         }
         Op::Add
@@ -55,7 +55,7 @@ pub fn fact_of(op: Op, a: Fact, b: Fact, c: Fact) -> Fact
             if is_over_alone(a) || is_over_alone(b) {
                 over_alone()
             } else {
-                of_two(op, a, b)
+                fact_of_two(op, a, b)
             }
         }
     }
@@ -78,9 +78,9 @@ fn bounded_fact(undef: bool, over: bool, low: i128, high: i128) -> Fact
 }
 
 /// What the operator gives of numbers of two intervals, beside undefined and Over.
-fn of_ranges(op: Op, undef: bool, over: bool, a: Option<Range>, b: Option<Range>) -> Fact
+fn fact_of_ranges(op: Op, undef: bool, over: bool, a: Option<Range>, b: Option<Range>) -> Fact
     requires { IsTrue (undef || over || is_some a && is_some b) }
-    ensures { result ≡ of_ranges op undef over a b }
+    ensures { result ≡ fact_of_ranges op undef over a b }
 {
     if let Some(a) = a
         && let Some(b) = b
@@ -97,14 +97,14 @@ fn of_ranges(op: Op, undef: bool, over: bool, a: Option<Range>, b: Option<Range>
 // ---- one argument
 
 /// What an operator of one argument gives.
-fn of_one(op: Op, a: Fact) -> Fact
-    ensures { result ≡ of_one op a }
+fn fact_of_one(op: Op, a: Fact) -> Fact
+    ensures { result ≡ fact_of_one op a }
 {
     if op == Op::Present {
         let presence = presence(a.undef, a.numbers());
         Fact::new(false, a.over, Some(presence))
     } else {
-        of_ranges(op, a.undef, a.over, a.numbers(), Some(zero_alone()))
+        fact_of_ranges(op, a.undef, a.over, a.numbers(), Some(zero_alone()))
     }
 }
 
@@ -140,12 +140,12 @@ fn truth_range(passes: bool, fails: bool) -> Range
 // ---- two arguments
 
 /// What an operator of two arguments gives.
-fn of_two(op: Op, a: Fact, b: Fact) -> Fact
-    ensures { result ≡ of_two op a b }
+fn fact_of_two(op: Op, a: Fact, b: Fact) -> Fact
+    ensures { result ≡ fact_of_two op a b }
 {
     match op {
-        Op::Add | Op::Sub | Op::Or | Op::Max | Op::Min => of_two_widened(op, a, b),
-        _ => of_ranges(
+        Op::Add | Op::Sub | Op::Or | Op::Max | Op::Min => fact_of_two_widened(op, a, b),
+        _ => fact_of_ranges(
             op,
             a.undef || b.undef,
             a.over || b.over,
@@ -156,13 +156,13 @@ fn of_two(op: Op, a: Fact, b: Fact) -> Fact
 }
 
 /// What an operator gives for which undefined counts as 0 beside a number.
-fn of_two_widened(op: Op, a: Fact, b: Fact) -> Fact
-    ensures { result ≡ of_two_widened op a b }
+fn fact_of_two_widened(op: Op, a: Fact, b: Fact) -> Fact
+    ensures { result ≡ fact_of_two_widened op a b }
 {
     if a.range.is_none() && b.range.is_none() {
         Fact::new(a.undef && b.undef, a.over || b.over, None)
     } else {
-        of_ranges(
+        fact_of_ranges(
             op,
             a.undef && b.undef,
             a.over || b.over,

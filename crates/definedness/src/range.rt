@@ -107,10 +107,7 @@ fn hull(a: Range, b: Range) -> Range
 }
 
 /// The least interval round those that are there.
-pub(crate) fn join(
-    a: Option<Range>,
-    b: Option<Range>,
-) -> Option<Range>
+pub(crate) fn join(a: Option<Range>, b: Option<Range>) -> Option<Range>
     ensures { result ≡ join a b }
 {
     match a {

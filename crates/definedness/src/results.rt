@@ -25,8 +25,14 @@ pub(crate) fn results_of(op: Op, a: Range, b: Range) -> (i128, i128)
         Op::Neg => opposites(a),
         Op::Abs => sizes(a),
         Op::Arr | Op::Inf => (whole(op, a.low), whole(op, a.high)),
-        Op::Max => (greater(a.low, b.low).millionths(), greater(a.high, b.high).millionths()),
-        Op::Min => (lesser(a.low, b.low).millionths(), lesser(a.high, b.high).millionths()),
+        Op::Max => (
+            greater(a.low, b.low).millionths(),
+            greater(a.high, b.high).millionths(),
+        ),
+        Op::Min => (
+            lesser(a.low, b.low).millionths(),
+            lesser(a.high, b.high).millionths(),
+        ),
         Op::Eq => meetings(a, b),
         Op::Ne => truths(may_differ(a, b), may_be_equal(a, b)),
         Op::Lt => truths(may_be_less(a, b), may_be_at_most(b, a)),

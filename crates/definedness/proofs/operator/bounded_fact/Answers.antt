@@ -1,4 +1,4 @@
-use Rattle.std.proofs.Common.{rules, ◌≡◌, ◌∙◌, sym, ap}
+use Rattle.std.proofs.Common.{rules, ◌≡◌}
 use mathlib.Core.Bool.{◌||◌}
 use Rattle.definedness.specs.Ranges.{leaves_amounts, cut_to_amounts}
 use Rattle.definedness.proofs.Cuts.{some_value}

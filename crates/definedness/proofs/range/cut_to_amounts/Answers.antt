@@ -1,7 +1,6 @@
-use Rattle.std.proofs.Common.{rules, arith, sym, subst, ◌∙◌, ◌≡◌}
-use Rattle.std.proofs.lemmas.Int.{ints, clamps}
+use Rattle.std.proofs.Common.{rules, ◌≡◌}
 use Rattle.std.specs.Int.{int_max, int_min}
-use Rattle.definedness.specs.Ranges.{IsInterval, lowest_amount, highest_amount}
+use Rattle.definedness.specs.Ranges.{lowest_amount, highest_amount}
 use Rattle.definedness.proofs.Cuts.{cut_is_interval}
 use Rattle.definedness.proofs.range.cut_to_amounts.Goals as goal
 

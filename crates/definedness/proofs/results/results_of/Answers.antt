@@ -1,4 +1,3 @@
-use Rattle.std.proofs.Common.{◌∙◌}
 use Rattle.definedness.proofs.Beyond.{range_limited_twice}
 use Rattle.definedness.proofs.results.results_of.Goals as goal
 

@@ -2,7 +2,7 @@ use Rattle.std.proofs.Common.{rules, ◌∙◌, ap}
 use Rattle.definedness.specs.Facts.{bounded_fact}
 use Rattle.definedness.proofs.Cuts.{bounded_same, kept_ordered, range_is_kept}
 use Rattle.definedness.proofs.Holding.{results_ordered}
-use Rattle.definedness.proofs.operator.of_ranges.Goals as goal
+use Rattle.definedness.proofs.operator.fact_of_ranges.Goals as goal
 
 pub bounded_fact-requires : goal.bounded_fact-requires
 bounded_fact-requires c =
