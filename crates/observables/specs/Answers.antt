@@ -2,12 +2,12 @@
 use Rattle.std.specs.Prelude.{ℕ, List, Option, Some, option_map, slice_get}
 use Rattle.m_fixed.specs.declared.amount.Value.{Value}
 use Rattle.m_places.specs.declared.verification.Label.{Label}
-use Rattle.flat_code.specs.declared.answer.Answer.{Answer}
-use Rattle.flat_code.specs.declared.answer.Answer.TheVariants.{Values, Stopped}
-use Rattle.flat_code.specs.declared.answer.Stop.{Stop}
-use Rattle.flat_code.specs.declared.answer.Stop.TheVariants.{Failed, Over}
-use Rattle.flat_code.specs.declared.face.FaceLabel.{FaceLabel}
-use Rattle.flat_code.specs.declared.face.FaceLabel.TheVariants.{Verif, DriverLine}
+use Rattle.observables.specs.declared.answer.Answer.{Answer}
+use Rattle.observables.specs.declared.answer.Answer.TheVariants.{Values, Stopped}
+use Rattle.observables.specs.declared.answer.Stop.{Stop}
+use Rattle.observables.specs.declared.answer.Stop.TheVariants.{Failed, Over}
+use Rattle.observables.specs.declared.face.FaceLabel.{FaceLabel}
+use Rattle.observables.specs.declared.face.FaceLabel.TheVariants.{Verif, DriverLine}
 
 -- what ended a run: a verification whose condition is a number other than 0, or is over, or a condition
 -- of the driver that is over, with its line
