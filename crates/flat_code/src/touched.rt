@@ -2,16 +2,7 @@
 ghost use Rattle.std.specs.Prelude.{◌≡◌, ◌≤◌, Bool, List, count_by, length};
 ghost use Rattle.m_fixed.specs.declared.amount.Value.{Value};
 ghost use Rattle.flat_code.specs.declared.program.Node.{Node};
-ghost use Rattle.flat_code.specs.Touched.{differs, of_put, touched};
-
-use m_fixed::Value;
-
-/// Whether two values differ: undefined is equal to undefined alone, as 0 is to 0.
-pub fn differ(a: Value, b: Value) -> bool
-    ensures { result ≡ differs a b }
-{
-    a != b
-}
+ghost use Rattle.flat_code.specs.Touched.{of_put, touched};
 
 /// Where the inputs of now are those of the last settled state, only the nodes of inputs that were put are touched, and none
 /// where none was put.
