@@ -1,0 +1,119 @@
+//! A fact, and what it tells.
+ghost use Rattle.std.specs.Prelude.{◌≡◌};
+ghost use Rattle.definedness.specs.Facts.{Possible, IsFact, fact_of_value, fact_of_input, over_alone, one_value, is_number, lacks_zero};
+
+use crate::range::{amount, has_zero, LEAST, MOST};
+use m_fixed::{Amount, Value};
+use std::marker::Model;
+
+/// Which values are possible: `undef` and `over` say whether undefined and Over are, and `range` has the least and
+/// the greatest number, or is `None` where no number is. At least one value is possible. Of a sum of two inputs
+/// undefined, Over and every amount are.
+#[derive(Clone, Copy, Debug)]
+pub struct Fact {
+    /// Undefined is possible.
+    pub undef: bool,
+    /// Over is possible.
+    pub over: bool,
+    /// The least and the greatest possible number, if there is one.
+    pub range: Option<(Amount, Amount)>,
+}
+
+impl Model for Fact {
+    ghost use Rattle.definedness.specs.Facts.{Possible, IsFact};
+
+    ghost Value = { Possible };
+
+    ghost view = { λ f. record { undef = f.undef; over = f.over; range = f.range } };
+
+    ghost invariant = { λ f. IsFact (record { undef = f.undef; over = f.over; range = f.range }) };
+
+    ghost inverse = { λ p. record { undef = p.undef; over = p.over; range = p.range } };
+}
+
+impl Fact {
+    /// The value where one alone is possible: `Value::Undef` of a fact that has nothing but undefined.
+    pub fn one_value(self) -> Option<Value>
+        ensures { result ≡ one_value self }
+    {
+        match self.range {
+            None => {
+                if self.undef == self.over {
+                    None
+                } else if self.undef {
+                    Some(Value::Undef)
+                } else {
+                    Some(Value::Over)
+                }
+            }
+            Some((low, high)) => {
+                if self.undef || self.over || low != high {
+                    None
+                } else {
+                    Some(Value::Num(low))
+                }
+            }
+        }
+    }
+
+    /// Whether nothing but numbers is possible.
+    pub fn is_number(self) -> bool
+        ensures { result ≡ is_number self }
+    {
+        !self.undef && !self.over
+    }
+
+    /// Whether numbers are possible, and none of them is 0.
+    pub fn lacks_zero(self) -> bool
+        ensures { result ≡ lacks_zero self }
+    {
+        match self.range {
+            None => false,
+            Some((low, high)) => !has_zero(low, high),
+        }
+    }
+}
+
+/// What is known of a literal: its value alone is possible.
+pub fn fact_of_value(value: Value) -> Fact
+    ensures { result ≡ fact_of_value value }
+{
+    match value {
+        Value::Undef => Fact {
+            undef: true,
+            over: false,
+            range: None,
+        },
+        Value::Over => over_alone(),
+        Value::Num(x) => {
+            let x = amount(x.millionths());
+            Fact {
+                undef: false,
+                over: false,
+                range: Some((x, x)),
+            }
+        }
+    }
+}
+
+/// What is known of an input: it is undefined, or any amount.
+pub fn fact_of_input() -> Fact
+    ensures { result ≡ fact_of_input }
+{
+    Fact {
+        undef: true,
+        over: false,
+        range: Some((amount(LEAST), amount(MOST))),
+    }
+}
+
+/// Nothing but Over is possible.
+pub(crate) fn over_alone() -> Fact
+    ensures { result ≡ over_alone }
+{
+    Fact {
+        undef: false,
+        over: true,
+        range: None,
+    }
+}
