@@ -1,5 +1,5 @@
 -- Facts of nodes.
-use Rattle.std.proofs.Common.{◌≡◌, ℕ, zero, suc, ◌<◌, List, [], ◌∷◌, length, ap, sym, subst, arith}
+use Rattle.std.proofs.Common.{◌≡◌, ℕ, zero, suc, ◌<◌, List, [], ◌∷◌, length, sym, subst, arith}
 use Rattle.std.specs.Prelude.{slice_index_or}
 use Rattle.m_fixed.specs.declared.amount.Value.{Value}
 use Rattle.m_fixed.specs.declared.amount.Value.TheVariants.{Undef}
@@ -10,7 +10,7 @@ use Rattle.flat_code.specs.declared.program.Flat.{Flat}
 use Rattle.flat_code.specs.declared.program.Node.TheVariants.{Input, Lit, Do}
 use Rattle.flat_code.specs.Runs.{values_for, node_values, value_at, IsNode, IsFlat}
 use Rattle.flat_code.specs.Entries.{node_at, entry_at}
-use Rattle.flat_code.specs.Facts.{facts, IsPlain, ArePlain}
+use Rattle.flat_code.specs.Facts.{facts, ArePlain}
 use Rattle.flat_code.specs.inner.Renumber.{entry_by, AreValid}
 use Rattle.flat_code.proofs.ReadLemmas.{strong, entry-at, are-valid}
 

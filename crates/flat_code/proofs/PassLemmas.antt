@@ -1,5 +1,5 @@
 -- Passes.
-use Rattle.std.proofs.Common.{◌≡◌, ◌≤◌, length, ◌∙◌, arith}
+use Rattle.std.proofs.Common.{◌≤◌, length, ◌∙◌, arith}
 use Rattle.flat_code.specs.declared.program.Flat.{Flat}
 use Rattle.flat_code.specs.Passes.{HaveLabelsOf, Becomes}
 

@@ -3,6 +3,7 @@
 //! This crate knows nothing of rules, drivers or printed lines.
 #![tactic(auto)]
 
+mod hash;
 mod laws;
 mod program;
 mod run;
