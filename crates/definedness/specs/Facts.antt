@@ -76,59 +76,64 @@ abbrev pub bounded_fact : Bool → Bool → ℤ × ℤ → Possible
 bounded_fact undef over r = record { undef = undef; over = over || leaves_amounts r; range = cut_to_amounts r }
 
 -- what the operator gives of numbers of two intervals, beside undefined and Over: no number where one has none
-abbrev pub of_ranges : Op → Bool → Bool → Option (ℤ × ℤ) → Option (ℤ × ℤ) → Possible
-of_ranges op undef over (Some r) (Some s) = bounded_fact undef over (results_of op r s)
-of_ranges op undef over _ _ = record { undef = undef; over = over; range = None }
+abbrev pub fact_of_ranges : Op → Bool → Bool → Option (ℤ × ℤ) → Option (ℤ × ℤ) → Possible
+fact_of_ranges op undef over (Some r) (Some s) = bounded_fact undef over (results_of op r s)
+fact_of_ranges op undef over _ _ = record { undef = undef; over = over; range = None }
 
 -- Present: 0 where it can't be a number, 1 where it can't be undefined
 abbrev pub presence : Bool → Option (ℤ × ℤ) → ℤ × ℤ
 presence undef None = alone (pos 0)
 presence undef (Some r) = truths true undef
 
-abbrev pub of_one : Op → Possible → Possible
-of_one Present a = record { undef = false; over = a.over; range = Some (presence a.undef a.range) }
-of_one op a = of_ranges op a.undef a.over a.range (Some (alone (pos 0)))
+abbrev pub fact_of_one : Op → Possible → Possible
+fact_of_one Present a = record { undef = false; over = a.over; range = Some (presence a.undef a.range) }
+fact_of_one op a = fact_of_ranges op a.undef a.over a.range (Some (alone (pos 0)))
 
 -- the interval, where undefined counts as 0
 abbrev pub widened : Possible → Option (ℤ × ℤ)
 widened f = if f.undef then join (Some (alone (pos 0))) f.range else f.range
 
 -- of two arguments where undefined counts as 0 beside a number: no number where neither has one
-abbrev pub of_two_widened : Op → Possible → Possible → Possible
-of_two_widened op a b =
+abbrev pub fact_of_two_widened : Op → Possible → Possible → Possible
+fact_of_two_widened op a b =
     if is_none a.range && is_none b.range
     then record { undef = a.undef && b.undef; over = a.over || b.over; range = None }
-    else of_ranges op (a.undef && b.undef) (a.over || b.over) (widened a) (widened b)
+    else fact_of_ranges op (a.undef && b.undef) (a.over || b.over) (widened a) (widened b)
 
-abbrev pub of_two : Op → Possible → Possible → Possible
-of_two op a b =
+abbrev pub fact_of_two : Op → Possible → Possible → Possible
+fact_of_two op a b =
     if counts_undefined_as_zero op
-    then of_two_widened op a b
-    else of_ranges op (a.undef || b.undef) (a.over || b.over) a.range b.range
+    then fact_of_two_widened op a b
+    else fact_of_ranges op (a.undef || b.undef) (a.over || b.over) a.range b.range
 
--- a truth: 0 where it can't be a number other than 0, 1 where it can be nothing else
-abbrev pub truths_of : Possible → Option (ℤ × ℤ) → ℤ × ℤ
-truths_of a None = alone (pos 0)
-truths_of a (Some r) = truths (has_other r) (a.undef || a.over || has_zero r)
+-- a truth, of an argument that may be no number: 0 where it can't be a number other than 0, 1 where it can be
+-- nothing else
+abbrev pub truths_of : Bool → Option (ℤ × ℤ) → ℤ × ℤ
+truths_of other None = alone (pos 0)
+truths_of other (Some r) = truths (has_other r) (other || has_zero r)
 
 abbrev pub truth_fact : Possible → Possible
-truth_fact a = record { undef = false; over = false; range = Some (truths_of a a.range) }
+truth_fact a = record { undef = false; over = false; range = Some (truths_of (a.undef || a.over) a.range) }
 
 -- the values of either
 abbrev pub either : Possible → Possible → Possible
 either a b = record { undef = a.undef || b.undef; over = a.over || b.over; range = join a.range b.range }
 
--- undefined and Over as in a condition, and no number
-abbrev pub without_numbers : Possible → Possible
-without_numbers c = record { undef = c.undef; over = c.over; range = None }
+-- the values of the branches that may be taken, if one may be
+abbrev pub branches : Bool → Bool → Possible → Possible → Option Possible
+branches true true a b = Some (either a b)
+branches true false a b = Some a
+branches false true a b = Some b
+branches false false a b = None
 
--- the branch's values too, where it may be taken
-abbrev pub with_branch : Bool → Possible → Possible → Possible
-with_branch is_taken branch f = if is_taken then either f branch else f
+-- undefined and Over where they are possible of the condition, and the values of the branches
+abbrev pub under_condition : Possible → Option Possible → Possible
+under_condition c None = record { undef = c.undef; over = c.over; range = None }
+under_condition c (Some f) = record { undef = c.undef || f.undef; over = c.over || f.over; range = f.range }
 
 -- a choice: the first branch where the condition may be a number other than 0, the second where it may be 0
 abbrev pub choice : Possible → Possible → Possible → Possible
-choice c a b = with_branch (may_be_zero c.range) b (with_branch (may_be_other c.range) a (without_numbers c))
+choice c a b = under_condition c (branches (may_be_other c.range) (may_be_zero c.range) a b)
 
 -- What is known of an operator's value, from what is known of its arguments. Nothing but Over is possible where
 -- that is so of an argument at which it looks, but for the two that select.
@@ -137,5 +142,5 @@ fact_of Choose a b c = choice a b c
 fact_of Truth a b c = truth_fact a
 fact_of op a b c =
     if arity_of op == 1
-    then (if is_over_alone a then over_alone else of_one op a)
-    else (if is_over_alone a || is_over_alone b then over_alone else of_two op a b)
+    then (if is_over_alone a then over_alone else fact_of_one op a)
+    else (if is_over_alone a || is_over_alone b then over_alone else fact_of_two op a b)

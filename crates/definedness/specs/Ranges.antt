@@ -1,5 +1,5 @@
 -- Intervals of whole numbers of millionths. An interval is its least and its greatest number; `None` has no number.
-use Rattle.std.specs.Prelude.{Bool, true, false, ◌&&◌, ◌||◌, ℤ, pos, neg_ℤ, ◌≤ℤ◌, int_lt, int_le, Option, Some, None, if◌then◌else◌}
+use Rattle.std.specs.Prelude.{Bool, false, ◌&&◌, ◌||◌, ℤ, pos, neg_ℤ, ◌≤ℤ◌, int_lt, int_le, Option, Some, None, if◌then◌else◌}
 use Rattle.std.specs.Int.{int_min, int_max}
 use Rattle.m_fixed.specs.Amounts.{IsAmount, most}
 
@@ -12,10 +12,16 @@ abbrev pub InSome : Option (ℤ × ℤ) → ℤ → Type 0
 InSome None x = ⊥
 InSome (Some r) x = InRange r x
 
--- the interval, if there is one, has a number, and its ends are amounts
+-- the interval has a number, and its ends are amounts
+pub record IsInterval (r : ℤ × ℤ) : Type 0 where
+  pub low : IsAmount r.0
+  pub ordered : r.0 ≤ℤ r.1
+  pub high : IsAmount r.1
+
+-- the same of an interval, if there is one
 abbrev pub IsWithin : Option (ℤ × ℤ) → Type 0
 IsWithin None = Unit {0}
-IsWithin (Some r) = IsAmount r.0 × (r.0 ≤ℤ r.1) × IsAmount r.1
+IsWithin (Some r) = IsInterval r
 
 -- the interval of one number
 abbrev pub alone : ℤ → ℤ × ℤ

@@ -1,11 +1,11 @@
 -- Which numbers an operator may give where its arguments are numbers of intervals, by the ends of the intervals.
-use Rattle.std.specs.Prelude.{Bool, not, ◌&&◌, ◌||◌, ℤ, pos, neg_ℤ, ◌*ℤ◌, ◌≤ℤ◌, int_lt, int_le, unsigned_abs, Option, Some, None, if◌then◌else◌}
+use Rattle.std.specs.Prelude.{Bool, not, ◌&&◌, ◌||◌, ℤ, pos, neg_ℤ, ◌*ℤ◌, int_lt, int_le, if◌then◌else◌}
 use Rattle.std.specs.Int.{int_min, int_max}
 use Rattle.m_fixed.specs.declared.operator.Op.{Op}
 use Rattle.m_fixed.specs.declared.operator.Op.TheVariants.{Add, Sub, Mul, Div, Neg, Eq, Ne, Lt, Le, Gt, Ge, And, Or, Not, Present, Abs, Positive, PositiveOrNull, Null, Arr, Inf, Max, Min, Truth, Choose, At}
 use Rattle.m_fixed.specs.Amounts.{unit}
 use Rattle.m_fixed.specs.Operators.{result_of, truth, cut}
-use Rattle.definedness.specs.Ranges.{InRange, alone, has_zero, has_other}
+use Rattle.definedness.specs.Ranges.{alone, has_zero, has_other}
 
 -- ---- tests
 
@@ -35,10 +35,10 @@ cut_range r = (cut r.0, cut r.1)
 
 -- ---- numbers
 
-abbrev pub least_of : ℤ → ℤ → ℤ → ℤ → ℤ
+unfoldable pub least_of : ℤ → ℤ → ℤ → ℤ → ℤ
 least_of p q r s = int_min (int_min p q) (int_min r s)
 
-abbrev pub greatest_of : ℤ → ℤ → ℤ → ℤ → ℤ
+unfoldable pub greatest_of : ℤ → ℤ → ℤ → ℤ → ℤ
 greatest_of p q r s = int_max (int_max p q) (int_max r s)
 
 -- from the least to the greatest of what the operator gives of the ends
@@ -50,13 +50,17 @@ corners op r s =
 abbrev pub greatest_size : ℤ × ℤ → ℤ
 greatest_size r = int_max (neg_ℤ r.0) r.1
 
--- the sizes of its numbers
+-- the least absolute value of its numbers
+abbrev pub least_size : ℤ × ℤ → ℤ
+least_size r = int_max (int_max r.0 (neg_ℤ r.1)) (pos 0)
+
+-- the absolute values of its numbers
 abbrev pub sizes : ℤ × ℤ → ℤ × ℤ
-sizes r = (int_max (int_max r.0 (neg_ℤ r.1)) (pos 0), greatest_size r)
+sizes r = (least_size r, greatest_size r)
 
 -- quotients: of divisors other than 0 the corners, and of 0 alone 0. Where 0 is one of several divisors, no
 -- quotient is greater than that by a millionth
-abbrev pub quotients : ℤ × ℤ → ℤ × ℤ → ℤ × ℤ
+unfoldable pub quotients : ℤ × ℤ → ℤ × ℤ → ℤ × ℤ
 quotients r s =
     if has_zero s
     then (if has_other s then (neg_ℤ (greatest_size r *ℤ pos unit), greatest_size r *ℤ pos unit) else alone (pos 0))

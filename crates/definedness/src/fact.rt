@@ -1,8 +1,8 @@
 //! A fact, and what it tells.
-ghost use Rattle.std.specs.Prelude.{◌≡◌};
+ghost use Rattle.std.specs.Prelude.{◌≡◌, ◌||◌, IsTrue, is_some};
 ghost use Rattle.definedness.specs.Facts.{Possible, IsFact, fact_of_value, fact_of_input, over_alone, one_value, is_number, lacks_zero};
 
-use crate::range::{amount, has_zero, LEAST, MOST};
+use crate::range::{LEAST, MOST, Range, alone, amount, has_zero};
 use m_fixed::{Amount, Value};
 use std::marker::Model;
 
@@ -32,6 +32,25 @@ impl Model for Fact {
 }
 
 impl Fact {
+    /// These values, at least one.
+    pub(crate) fn new(undef: bool, over: bool, range: Option<Range>) -> Fact
+        requires { IsTrue (undef || over || is_some range) }
+        ensures { result ≡ record { undef = undef; over = over; range = range } }
+    {
+        match range {
+            None => Fact {
+                undef,
+                over,
+                range: None,
+            },
+            Some(range) => Fact {
+                undef,
+                over,
+                range: Some((range.low, range.high)),
+            },
+        }
+    }
+
     /// The value where one alone is possible: `Value::Undef` of a fact that has nothing but undefined.
     pub fn one_value(self) -> Option<Value>
         ensures { result ≡ one_value self }
@@ -56,6 +75,16 @@ impl Fact {
         }
     }
 
+    /// The possible numbers.
+    pub(crate) fn numbers(self) -> Option<Range>
+        ensures { result ≡ self.range }
+    {
+        match self.range {
+            None => None,
+            Some((low, high)) => Some(Range { low, high }),
+        }
+    }
+
     /// Whether nothing but numbers is possible.
     pub fn is_number(self) -> bool
         ensures { result ≡ is_number self }
@@ -67,9 +96,9 @@ impl Fact {
     pub fn lacks_zero(self) -> bool
         ensures { result ≡ lacks_zero self }
     {
-        match self.range {
+        match self.numbers() {
             None => false,
-            Some((low, high)) => !has_zero(low, high),
+            Some(range) => !has_zero(range),
         }
     }
 }
@@ -79,20 +108,9 @@ pub fn fact_of_value(value: Value) -> Fact
     ensures { result ≡ fact_of_value value }
 {
     match value {
-        Value::Undef => Fact {
-            undef: true,
-            over: false,
-            range: None,
-        },
+        Value::Undef => Fact::new(true, false, None),
         Value::Over => over_alone(),
-        Value::Num(x) => {
-            let x = amount(x.millionths());
-            Fact {
-                undef: false,
-                over: false,
-                range: Some((x, x)),
-            }
-        }
+        Value::Num(x) => Fact::new(false, false, Some(alone(x))),
     }
 }
 
@@ -100,20 +118,16 @@ pub fn fact_of_value(value: Value) -> Fact
 pub fn fact_of_input() -> Fact
     ensures { result ≡ fact_of_input }
 {
-    Fact {
-        undef: true,
-        over: false,
-        range: Some((amount(LEAST), amount(MOST))),
-    }
+    let all = Range {
+        low: amount(LEAST),
+        high: amount(MOST),
+    };
+    Fact::new(true, false, Some(all))
 }
 
 /// Nothing but Over is possible.
 pub(crate) fn over_alone() -> Fact
     ensures { result ≡ over_alone }
 {
-    Fact {
-        undef: false,
-        over: true,
-        range: None,
-    }
+    Fact::new(false, true, None)
 }

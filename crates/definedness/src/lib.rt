@@ -5,6 +5,10 @@
 #![tactic(auto)]
 
 mod fact;
+pub mod laws;
+mod operator;
 mod range;
+mod results;
 
 pub use fact::{Fact, fact_of_input, fact_of_value};
+pub use operator::fact_of;
