@@ -9,7 +9,7 @@ use Rattle.m_symbols.specs.declared.variable.Variable.{Variable}
 use Rattle.m_symbols.specs.Declarations.{Declared}
 use Rattle.micro_m.specs.declared.base.Base.{Base}
 use Rattle.micro_m.specs.Values.{environment}
-use Rattle.flat_code.specs.Answers.{Told, values, stopped}
+use Rattle.observables.specs.Answers.{Told, values, stopped}
 use Rattle.driver_core.specs.declared.program.Core.{Core}
 use Rattle.driver_core.specs.Meaning.{Env, RunState, goes, stops, run_of}
 

@@ -1,5 +1,5 @@
 //! The lines of answers, as they are printed.
-use flat_code::{Face, FaceLabel, Stop};
+use observables::{Face, FaceLabel, Stop};
 use m_fixed::{Amount, Value};
 use m_places::{ErrorKind, Label, Name, Seq, SharedName};
 use m_ports::{MemSink, Sink};

@@ -8,10 +8,10 @@ use Rattle.std.proofs.lemmas.Option.{slice_get-get_or, get_or_from_slice_get}
 use Rattle.m_fixed.specs.declared.amount.Value.{Value}
 use Rattle.m_fixed.specs.declared.amount.Value.TheVariants.{Undef, Num, Over}
 use Rattle.m_fixed.specs.Operators.{is_zero}
-use Rattle.flat_code.specs.declared.answer.Stop.{Stop}
-use Rattle.flat_code.specs.declared.answer.Stop.TheVariants.{Failed, Over as StopOver}
+use Rattle.observables.specs.declared.answer.Stop.{Stop}
+use Rattle.observables.specs.declared.answer.Stop.TheVariants.{Failed, Over as StopOver}
 use Rattle.flat_code.specs.declared.program.Check.{Check}
-use Rattle.flat_code.specs.Answers.{label_number}
+use Rattle.observables.specs.Answers.{label_number}
 use Rattle.flat_code.specs.Runs.{value_at, is_one, stop_of, check_stop, first_stop}
 use Rattle.flat_code.proofs.RunLemmas.{one_of_all}
 use Rattle.tax_print.specs.Lines.{value_line, values_lines, output_line}

@@ -7,7 +7,7 @@ use Rattle.m_fixed.specs.declared.amount.Value.TheVariants.{Undef, Num}
 use Rattle.m_fixed.specs.declared.read.AmountFault.{AmountFault}
 use Rattle.m_fixed.specs.Text.{text_value, amount_read}
 use Rattle.m_names.specs.Names.{index_of}
-use Rattle.flat_code.specs.declared.face.Face.{Face}
+use Rattle.observables.specs.declared.face.Face.{Face}
 use Rattle.flat_code.specs.declared.program.Flat.{Flat}
 use Rattle.flat_code.specs.Runs.{flat_run}
 use Rattle.household.specs.Household.{values_of}

@@ -7,7 +7,8 @@ ghost use Rattle.tax_print.specs.Lines.{answer_lines, values_lines};
 ghost use Rattle.household_session.specs.Sessions.{IsFaceOf};
 
 use crate::run::fill_nodes;
-use flat_code::{Face, Flat, stop_among};
+use flat_code::{Flat, stop_among};
+use observables::Face;
 use m_fixed::Value;
 use m_ports::{Failed, Sink};
 use tax_print::{print_stop, print_values};

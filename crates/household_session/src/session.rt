@@ -10,7 +10,8 @@ ghost use Rattle.household_session.specs.Replies.{after_line, answer_reply, repl
 use crate::EditFault;
 use crate::command::{Asked, asked_by};
 use crate::outputs::print_fresh;
-use flat_code::{Face, Flat};
+use flat_code::Flat;
+use observables::Face;
 use household::{Codes, Household, values};
 use m_fixed::{Value, read_amount};
 use m_ports::{Failed, Sink};

@@ -4,7 +4,8 @@ ghost use Rattle.micro_m.specs.Bases.{IsValidBase};
 
 use driver_core::{CCommand, CCommandNode, CNode, CTerm, Core};
 use driver_weight::weight;
-use flat_code::{Answer, run_flat};
+use flat_code::run_flat;
+use observables::Answer;
 use input_kinds::{KindCells, KindIndex};
 use m_ast::{Item, Role, VariableItem};
 use m_fixed::{Amount, Op, Value};

@@ -5,7 +5,7 @@ use Rattle.m_ports.specs.Counts.{Rose}
 use Rattle.m_ports.specs.Files.{failed_count}
 use Rattle.m_ports.specs.declared.files.Attempt.{Attempt}
 use Rattle.m_ports.proofs.FileLemmas.{failed_count-append}
-use Rattle.flat_code.specs.Answers.{Told, values, stopped}
+use Rattle.observables.specs.Answers.{Told, values, stopped}
 use Rattle.household.specs.Household.{household_of}
 use Rattle.household.specs.Table.{table_of}
 use Rattle.m_large.specs.Large.{household_text}

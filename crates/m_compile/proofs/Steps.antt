@@ -10,9 +10,9 @@ use Rattle.rule_text.specs.declared.Text.{Text}
 use Rattle.m_symbols.specs.Declarations.{Declared, codes_of, inputs_from}
 use Rattle.m_symbols.proofs.Numbered.{as_many_codes}
 use Rattle.m_requests.specs.Cells.{cell_name, returned_cells}
-use Rattle.flat_code.specs.declared.face.Face.{Face}
-use Rattle.flat_code.specs.declared.face.FaceLabel.{FaceLabel}
-use Rattle.flat_code.specs.declared.face.FaceLabel.TheVariants.{Verif}
+use Rattle.observables.specs.declared.face.Face.{Face}
+use Rattle.observables.specs.declared.face.FaceLabel.{FaceLabel}
+use Rattle.observables.specs.declared.face.FaceLabel.TheVariants.{Verif}
 use Rattle.flat_code.specs.declared.program.Flat.{Flat}
 use Rattle.micro_m.specs.declared.base.Base.{Base}
 use Rattle.micro_m.specs.Reads.{HasNoCycle}

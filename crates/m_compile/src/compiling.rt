@@ -17,7 +17,8 @@ ghost use Rattle.m_compile.specs.declared.fault.SourceFault.TheVariants.{Memory}
 use crate::SourceFault;
 use crate::face::face_of;
 use driver_core::Core;
-use flat_code::{Face, Flat};
+use flat_code::Flat;
+use observables::Face;
 use household::Codes;
 use m_places::Seq;
 use m_requests::read_requests;

@@ -5,7 +5,7 @@ ghost use Rattle.std.specs.List.{cons_option};
 ghost use Rattle.m_requests.specs.Cells.{cell_name};
 ghost use Rattle.m_symbols.specs.Declarations.{code_of, codes_of, owners_from};
 
-use flat_code::{Face, FaceLabel};
+use observables::{Face, FaceLabel};
 use m_ast::Role;
 use m_places::{Name, Seq};
 use m_requests::cell_names;

@@ -3,12 +3,12 @@ use Rattle.std.proofs.Common.{◌≡◌, ℕ, suc, ◌<◌, length, List, [], �
 use Rattle.std.specs.Prelude.{All, option_map, slice_get}
 use Rattle.std.specs.List.{AllByRecursion}
 use Rattle.rule_text.specs.declared.Source.{Source}
-use Rattle.flat_code.specs.Answers.{Told, values, stopped, cause_of, label_number, told_of}
+use Rattle.observables.specs.Answers.{Told, values, stopped, cause_of, label_number, told_of}
 use Rattle.flat_code.specs.Runs.{flat_run}
-use Rattle.flat_code.specs.declared.answer.Answer.{Answer}
-use Rattle.flat_code.specs.declared.answer.Answer.TheVariants.{Values, Stopped}
-use Rattle.flat_code.specs.declared.answer.Stop.{Stop}
-use Rattle.flat_code.specs.declared.face.FaceLabel.{FaceLabel}
+use Rattle.observables.specs.declared.answer.Answer.{Answer}
+use Rattle.observables.specs.declared.answer.Answer.TheVariants.{Values, Stopped}
+use Rattle.observables.specs.declared.answer.Stop.{Stop}
+use Rattle.observables.specs.declared.face.FaceLabel.{FaceLabel}
 use Rattle.household.specs.Household.{values_of}
 use Rattle.household_session.specs.Sessions.{IsFaceOf}
 use Rattle.tax_print.specs.Lines.{answer_lines, told_lines}

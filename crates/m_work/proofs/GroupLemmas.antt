@@ -11,12 +11,12 @@ use Rattle.m_ports.specs.Sink.{AppendsPrefix}
 use Rattle.m_ports.proofs.SinkLemmas.{AppendsPrefix-after, AppendsPrefix-before}
 use Rattle.text_pieces.specs.Pieces.{joined}
 use Rattle.text_pieces.proofs.GivingLemmas.{Given}
-use Rattle.flat_code.specs.Answers.{label_number}
+use Rattle.observables.specs.Answers.{label_number}
 use Rattle.flat_code.specs.Runs.{first_stop, flat_run, node_values, value_at}
-use Rattle.flat_code.specs.declared.answer.Answer.{Answer}
-use Rattle.flat_code.specs.declared.answer.Answer.TheVariants.{Stopped, Values}
-use Rattle.flat_code.specs.declared.answer.Stop.{Stop}
-use Rattle.flat_code.specs.declared.face.Face.{Face}
+use Rattle.observables.specs.declared.answer.Answer.{Answer}
+use Rattle.observables.specs.declared.answer.Answer.TheVariants.{Stopped, Values}
+use Rattle.observables.specs.declared.answer.Stop.{Stop}
+use Rattle.observables.specs.declared.face.Face.{Face}
 use Rattle.flat_code.specs.declared.program.Flat.{Flat}
 use Rattle.household.specs.Household.{values_of}
 use Rattle.household.specs.declared.table.Row.{Row}

@@ -4,7 +4,7 @@ use Rattle.std.specs.Prelude.{codes}
 use Rattle.std.specs.Option.{option_map_or}
 use Rattle.m_fixed.specs.declared.amount.Value.{Value}
 use Rattle.flat_code.specs.Runs.{flat_run}
-use Rattle.flat_code.specs.declared.face.Face.{Face}
+use Rattle.observables.specs.declared.face.Face.{Face}
 use Rattle.flat_code.specs.declared.program.Flat.{Flat}
 use Rattle.household_session.specs.Commands.{SessionCommand, no_words, sets, clears, shows, too_long, bad, session_command}
 use Rattle.household_session.specs.Replies.{after_command, answer_reply, command_reply, replies_to}

@@ -1,9 +1,9 @@
 -- Programs that are to households what a scheme is.
 use Rattle.std.proofs.Common.{◌≡◌, List, length, Some}
 use Rattle.m_fixed.specs.declared.amount.Value.{Value}
-use Rattle.flat_code.specs.Answers.{told_of}
+use Rattle.observables.specs.Answers.{told_of}
 use Rattle.flat_code.specs.Runs.{flat_run}
-use Rattle.flat_code.specs.declared.face.Face.{Face}
+use Rattle.observables.specs.declared.face.Face.{Face}
 use Rattle.flat_code.specs.declared.program.Flat.{Flat}
 use Rattle.m_work.specs.Schemes.{Scheme}
 

@@ -3,8 +3,8 @@ use Rattle.std.proofs.Common.{◌≡◌, ℕ, length, List, ◌++◌, Result, Ok
 use Rattle.std.specs.Prelude.{Option}
 use Rattle.rule_text.specs.declared.Source.{Source}
 use Rattle.fault_lines.specs.Lines.{input_too_long_line, unreadable_input_line}
-use Rattle.flat_code.specs.Answers.{Told, values, stopped}
-use Rattle.flat_code.specs.declared.answer.Answer.{Answer}
+use Rattle.observables.specs.Answers.{Told, values, stopped}
+use Rattle.observables.specs.declared.answer.Answer.{Answer}
 use Rattle.household.specs.Household.{household_of, values_of}
 use Rattle.household.specs.Table.{table_of}
 use Rattle.household_session.specs.Replies.{ended_lines, input_lines, replies_of, replies_to}

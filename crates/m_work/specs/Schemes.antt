@@ -1,7 +1,7 @@
 -- What a valid source is to households.
 use Rattle.std.specs.Prelude.{ℕ, ℤ, List, length}
 use Rattle.m_fixed.specs.declared.amount.Value.{Value}
-use Rattle.flat_code.specs.Answers.{Told}
+use Rattle.observables.specs.Answers.{Told}
 use Rattle.household.specs.Household.{values_of}
 
 -- The codes of the inputs, the names of what is asked for, and what is told to values of the inputs.

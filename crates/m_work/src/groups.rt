@@ -9,7 +9,8 @@ ghost use Rattle.tax_print.specs.Lines.{AnswerIsWithin};
 ghost use Rattle.m_work.specs.inner.Groups.{WritesGroups, answered_lines, program_lines};
 ghost use Rattle.m_work.specs.declared.groups.GroupFault.TheVariants.{Memory as NoMemory, Failed as NotWritten};
 
-use flat_code::{Answer, Face, Flat};
+use flat_code::Flat;
+use observables::{Answer, Face};
 use household::Row;
 use m_batch::run_batch;
 use m_ports::{Failed, Sink};

@@ -13,7 +13,7 @@ ghost use Rattle.m_work.specs.LargeAnswers.{LargeReplies};
 
 use crate::run::answer_of;
 use crate::told::{status_of, tell_refusal, told_household};
-use flat_code::{Answer, Face};
+use observables::{Answer, Face};
 use itoa::Buffer;
 use m_compile::{Compiled, compile, told_fault};
 use m_large::{large_base, large_household};

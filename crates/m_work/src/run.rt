@@ -12,7 +12,8 @@ ghost use Rattle.m_work.specs.Runs.{RunReplies};
 ghost use Rattle.m_work.specs.inner.Answers.{IsAnswerOf};
 
 use crate::told::{status_of, tell_refusal, told_household};
-use flat_code::{Answer, run_flat};
+use flat_code::run_flat;
+use observables::Answer;
 use household::{HouseholdFault, read_household, values};
 use m_compile::{Compiled, compile, told_fault};
 use m_plan::{Status, printed};

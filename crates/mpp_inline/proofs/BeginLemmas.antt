@@ -18,15 +18,15 @@ use Rattle.m_symbols.specs.Declarations.{Declared, inputs_from, owners_from}
 use Rattle.micro_m.specs.declared.base.Base.{Base}
 use Rattle.driver_core.specs.declared.program.Core.{Core}
 use Rattle.micro_m.specs.Values.{environment}
-use Rattle.flat_code.specs.declared.answer.Stop.{Stop}
-use Rattle.flat_code.specs.declared.answer.Stop.TheVariants.{Failed}
-use Rattle.flat_code.specs.declared.answer.Answer.TheVariants.{Values, Stopped}
+use Rattle.observables.specs.declared.answer.Stop.{Stop}
+use Rattle.observables.specs.declared.answer.Stop.TheVariants.{Failed}
+use Rattle.observables.specs.declared.answer.Answer.TheVariants.{Values, Stopped}
 use Rattle.flat_code.specs.declared.program.Node.{Node}
 use Rattle.flat_code.specs.declared.program.Node.TheVariants.{Lit}
 use Rattle.flat_code.specs.declared.program.Check.{Check}
-use Rattle.flat_code.specs.declared.face.FaceLabel.{FaceLabel}
-use Rattle.flat_code.specs.declared.face.FaceLabel.TheVariants.{Verif, DriverLine}
-use Rattle.flat_code.specs.Answers.{Cause, stopped, label_number, cause_of, told_of}
+use Rattle.observables.specs.declared.face.FaceLabel.{FaceLabel}
+use Rattle.observables.specs.declared.face.FaceLabel.TheVariants.{Verif, DriverLine}
+use Rattle.observables.specs.Answers.{Cause, stopped, label_number, cause_of, told_of}
 use Rattle.flat_code.specs.Runs.{IsCheck, AreNodes, node_values, is_one, stop_of as stop_at, check_stop, first_stop}
 use Rattle.driver_core.specs.Answers.{first_value, next_input, start_from, told_by}
 use Rattle.driver_core.specs.Meaning.{Env, RunState, then_do}

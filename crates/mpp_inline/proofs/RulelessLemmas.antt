@@ -10,7 +10,7 @@ use Rattle.micro_m.specs.declared.base.Base.{Base}
 use Rattle.micro_m.specs.Bases.{definition_among}
 use Rattle.micro_m.specs.Values.{Environment, environment, term_value, value_in, value_of}
 use Rattle.micro_m.specs.Failures.{failure_among}
-use Rattle.flat_code.specs.declared.face.FaceLabel.{FaceLabel}
+use Rattle.observables.specs.declared.face.FaceLabel.{FaceLabel}
 use Rattle.flat_code.specs.declared.program.Flat.{Flat}
 use Rattle.driver_core.specs.declared.program.Core.{Core}
 use Rattle.driver_core.specs.Actions.{Action, assign, clear, branch, partition, call, solve, Block, no_actions, an_action}

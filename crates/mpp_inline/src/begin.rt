@@ -2,14 +2,15 @@
 
 ghost use Rattle.std.specs.Prelude.{◌≡◌, ◌++◌, pos, IfOk, OnOk, length, map, replicate, slice_index_or};
 ghost use Rattle.m_fixed.specs.declared.amount.Value.TheVariants.{Num};
-ghost use Rattle.flat_code.specs.declared.face.FaceLabel.TheVariants.{Verif};
+ghost use Rattle.observables.specs.declared.face.FaceLabel.TheVariants.{Verif};
 ghost use Rattle.m_symbols.specs.Declarations.{inputs_from};
 ghost use Rattle.driver_core.specs.Answers.{start_from, first_value, next_input};
 ghost use Rattle.mpp_inline.specs.inner.Growth.{Sane, Gives, Begun, HasLiterals, InputIsThere};
 
 use crate::builder::{Builder, UNDEF};
 use crate::cells::look;
-use flat_code::{FaceLabel, Node};
+use flat_code::Node;
+use observables::FaceLabel;
 use m_ast::Role;
 use m_fixed::{Amount, Value};
 use m_places::Label;

@@ -3,7 +3,8 @@
 ghost use Rattle.std.specs.Prelude.{IfOk, OnOk};
 ghost use Rattle.mpp_inline.specs.inner.Growth.{Pushed, CheckedRule, CheckedLine};
 
-use flat_code::{Check, FaceLabel, Node};
+use flat_code::{Check, Node};
+use observables::FaceLabel;
 use std::alloc::AllocError;
 
 /// The literal undefined, which cells that aren't there name too.

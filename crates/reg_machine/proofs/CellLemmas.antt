@@ -7,7 +7,7 @@ use Rattle.std.proofs.lemmas.List.{length-set, get_or-set_same, get_or-set_other
 use Rattle.m_fixed.specs.declared.amount.Value.{Value}
 use Rattle.m_fixed.specs.declared.amount.Value.TheVariants.{Undef}
 use Rattle.m_fixed.specs.Operators.{op_value}
-use Rattle.flat_code.specs.declared.answer.Stop.{Stop}
+use Rattle.observables.specs.declared.answer.Stop.{Stop}
 use Rattle.flat_code.specs.Runs.{is_one, stop_of}
 use Rattle.reg_machine.specs.declared.instr.Instr.{Instr}
 use Rattle.reg_machine.specs.declared.instr.TheConstants.{REGISTERS}

@@ -3,9 +3,9 @@ use Rattle.std.specs.Prelude.{ℕ, List, replicate, fold, slice_set, slice_index
 use Rattle.m_fixed.specs.declared.amount.Value.{Value}
 use Rattle.m_fixed.specs.declared.amount.Value.TheVariants.{Undef}
 use Rattle.m_fixed.specs.Operators.{op_value}
-use Rattle.flat_code.specs.declared.answer.Stop.{Stop}
-use Rattle.flat_code.specs.declared.answer.Answer.{Answer}
-use Rattle.flat_code.specs.declared.answer.Answer.TheVariants.{Values, Stopped}
+use Rattle.observables.specs.declared.answer.Stop.{Stop}
+use Rattle.observables.specs.declared.answer.Answer.{Answer}
+use Rattle.observables.specs.declared.answer.Answer.TheVariants.{Values, Stopped}
 use Rattle.flat_code.specs.Runs.{is_one, stop_of}
 use Rattle.reg_machine.specs.declared.instr.Instr.{Instr}
 use Rattle.reg_machine.specs.declared.instr.Instr.TheVariants.{Take, Lit, Do, Store, Load, Check, Output}

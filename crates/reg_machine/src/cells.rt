@@ -9,7 +9,7 @@ ghost use Rattle.reg_machine.specs.inner.Cells.{registers_behind, slots_behind, 
 
 use crate::code::Packed;
 use crate::instr::REGISTERS;
-use flat_code::Stop;
+use observables::Stop;
 use m_fixed::{Amount, Value, apply};
 use std::alloc::{AllocError, Global};
 

@@ -5,7 +5,7 @@ ghost use Rattle.reg_machine.specs.Machine.{answer_of, machine_run};
 
 use crate::cells::Cells;
 use crate::code::{Code, Packed};
-use flat_code::Stop;
+use observables::Stop;
 use m_fixed::Value;
 use std::alloc::{AllocError, Global};
 use std::marker::Model;

@@ -7,12 +7,12 @@ use Rattle.m_fixed.specs.declared.amount.Value.TheVariants.{Undef, Num, Over as 
 use Rattle.m_fixed.specs.Text.{printed}
 use Rattle.m_places.specs.declared.verification.ErrorKind.{ErrorKind}
 use Rattle.m_places.specs.declared.verification.ErrorKind.TheVariants.{Anomalie, Discordance, Informative}
-use Rattle.flat_code.specs.declared.answer.Answer.{Answer}
-use Rattle.flat_code.specs.declared.answer.Answer.TheVariants.{Values, Stopped}
-use Rattle.flat_code.specs.declared.answer.Stop.{Stop}
-use Rattle.flat_code.specs.declared.face.Face.{Face}
-use Rattle.flat_code.specs.declared.face.FaceLabel.{FaceLabel}
-use Rattle.flat_code.specs.Answers.{Cause, failed, over, over_driver, Told, values, stopped, label_number, cause_of, told_of}
+use Rattle.observables.specs.declared.answer.Answer.{Answer}
+use Rattle.observables.specs.declared.answer.Answer.TheVariants.{Values, Stopped}
+use Rattle.observables.specs.declared.answer.Stop.{Stop}
+use Rattle.observables.specs.declared.face.Face.{Face}
+use Rattle.observables.specs.declared.face.FaceLabel.{FaceLabel}
+use Rattle.observables.specs.Answers.{Cause, failed, over, over_driver, Told, values, stopped, label_number, cause_of, told_of}
 
 -- the line of a name and its value: `IRN = 1500.5`, `IRN undefined`, `IRN over`
 abbrev pub value_line : List ℕ → Value → List ℕ

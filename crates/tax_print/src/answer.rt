@@ -4,7 +4,7 @@ ghost use Rattle.tax_print.specs.Lines.{AnswerIsWithin, answer_lines, household_
 
 use crate::stop::print_stop;
 use crate::value::print_value;
-use flat_code::{Answer, Face};
+use observables::{Answer, Face};
 use m_fixed::Value;
 use m_places::Name;
 use m_ports::{Failed, Sink};

@@ -1,11 +1,11 @@
 ghost use Rattle.std.specs.Prelude.{◌∷◌, [], ◌<◌, ◌≡◌, length, codes, decimal};
 ghost use Rattle.text_pieces.specs.Giving.{Gives};
 ghost use Rattle.text_pieces.specs.Pieces.{joined};
-ghost use Rattle.flat_code.specs.Answers.{label_number, cause_of, failed, over};
+ghost use Rattle.observables.specs.Answers.{label_number, cause_of, failed, over};
 ghost use Rattle.text_pieces.specs.Pieces.{new_line};
 ghost use Rattle.tax_print.specs.Lines.{kind_text, cause_lines, stop_lines};
 
-use flat_code::{Face, FaceLabel, Stop};
+use observables::{Face, FaceLabel, Stop};
 use itoa::Buffer;
 use m_places::{ErrorKind, Label};
 use m_ports::{Failed, Sink};

@@ -5,7 +5,7 @@ ghost use Rattle.m_fixed.specs.Text.{printed};
 ghost use Rattle.text_pieces.specs.Pieces.{new_line};
 ghost use Rattle.tax_print.specs.Lines.{output_line, value_line};
 
-use flat_code::Face;
+use observables::Face;
 use m_fixed::{Amount, Value, write_amount};
 use m_ports::{Failed, Sink};
 use text_pieces::give_pieces;

@@ -1,6 +1,6 @@
 -- What is true of each session, and how its parts are read.
 use Rattle.std.specs.Prelude.{◌≡◌, ℕ, List, length}
-use Rattle.flat_code.specs.declared.face.Face.{Face}
+use Rattle.observables.specs.declared.face.Face.{Face}
 use Rattle.flat_code.specs.declared.program.Flat.{Flat}
 use Rattle.flat_code.specs.Runs.{IsFlat}
 use Rattle.household_session.specs.Sessions.{IsFaceOf}

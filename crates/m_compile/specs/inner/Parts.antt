@@ -5,11 +5,11 @@ use Rattle.m_fixed.specs.declared.amount.Value.{Value}
 use Rattle.rule_text.specs.declared.Source.{Source}
 use Rattle.m_symbols.specs.Declarations.{Declared, codes_of}
 use Rattle.micro_m.specs.declared.base.Base.{Base}
-use Rattle.flat_code.specs.declared.face.Face.{Face}
-use Rattle.flat_code.specs.declared.face.FaceLabel.TheVariants.{Verif}
+use Rattle.observables.specs.declared.face.Face.{Face}
+use Rattle.observables.specs.declared.face.FaceLabel.TheVariants.{Verif}
 use Rattle.flat_code.specs.declared.program.Flat.{Flat}
 use Rattle.flat_code.specs.Runs.{flat_run}
-use Rattle.flat_code.specs.Answers.{told_of}
+use Rattle.observables.specs.Answers.{told_of}
 use Rattle.driver_core.specs.declared.program.Core.{Core}
 use Rattle.driver_core.specs.Answers.{answer_of}
 use Rattle.driver_core.specs.Weights.{weight_of}

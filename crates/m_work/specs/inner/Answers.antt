@@ -1,7 +1,7 @@
 -- What a compiled source answers to a household, and the session that it begins.
 use Rattle.std.specs.Prelude.{◌≡◌, ℕ, ℤ, List, Ok}
 use Rattle.flat_code.specs.Runs.{flat_run}
-use Rattle.flat_code.specs.declared.answer.Answer.{Answer}
+use Rattle.observables.specs.declared.answer.Answer.{Answer}
 use Rattle.household.specs.Household.{household_of, values_of}
 use Rattle.household_session.specs.Sessions.{Sitting, begun}
 use Rattle.m_compile.specs.declared.compiling.Compiled.{Compiled}

@@ -4,7 +4,7 @@ use Rattle.std.specs.List.{AllByRecursion}
 use Rattle.m_fixed.specs.declared.amount.Value.{Value}
 use Rattle.m_symbols.specs.Declarations.{Declared, inputs_from}
 use Rattle.micro_m.specs.declared.base.Base.{Base}
-use Rattle.flat_code.specs.Answers.{Cause, Told, values, stopped}
+use Rattle.observables.specs.Answers.{Cause, Told, values, stopped}
 use Rattle.driver_core.specs.declared.program.Core.{Core}
 use Rattle.driver_core.specs.Answers.{answer_of}
 use Rattle.mpp_inline.specs.declared.builder.Builder.{Builder}
