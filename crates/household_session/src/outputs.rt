@@ -2,9 +2,9 @@
 ghost use Rattle.std.specs.Prelude.{◌≡◌, ◌<◌, ◌^◌, map, length};
 ghost use Rattle.std.specs.List.{AllByRecursion};
 ghost use Rattle.text_pieces.specs.Giving.{Gives};
+ghost use Rattle.flat_code.specs.Faces.{IsFaceOf};
 ghost use Rattle.flat_code.specs.Runs.{IsFlat, answer_by, flat_run, value_at};
-ghost use Rattle.tax_print.specs.Lines.{answer_lines, values_lines};
-ghost use Rattle.household_session.specs.Sessions.{IsFaceOf};
+ghost use Rattle.tax_print.specs.Lines.{answer_lines, outputs_lines};
 
 use crate::run::fill_nodes;
 use flat_code::{Flat, stop_among};
@@ -55,7 +55,7 @@ fn print_outputs<K: Sink>(
     requires named { length outputs.now ≡ length face.now.outputs }
     requires few { length outputs.now < 2 ^ 32 }
     requires within { AllByRecursion (λ output. output < length nodes.now) outputs.now }
-    ensures { Gives K.written K.faults out.old out.new result (values_lines face.now.outputs (map (value_at nodes.now) outputs.now)) }
+    ensures { Gives K.written K.faults out.old out.new result (outputs_lines face.now.labels face.now.outputs (map (value_at nodes.now) outputs.now)) }
 {
     for k in 0..outputs.len() {
         print_values(face, k as u32, nodes[outputs[k] as usize], out)?;

@@ -2,9 +2,11 @@
 ghost use Rattle.std.specs.Prelude.{◌≡◌, ◌<◌, IfOk};
 ghost use Rattle.std.specs.List.{AllByRecursion};
 ghost use Rattle.text_pieces.specs.Giving.{Gives};
+ghost use Rattle.observables.specs.Inputs.{codes_of};
+ghost use Rattle.flat_code.specs.Faces.{IsFaceOf};
 ghost use Rattle.flat_code.specs.Runs.{IsFlat};
 ghost use Rattle.household.specs.Household.{inputs_of};
-ghost use Rattle.household_session.specs.Sessions.{IsFaceOf, answered, begun, clear_of, edited, set_of, shown};
+ghost use Rattle.household_session.specs.Sessions.{answered, begun, clear_of, edited, set_of, showing_of, shown};
 ghost use Rattle.household_session.specs.Replies.{after_line, answer_reply, reply_of};
 
 use crate::EditFault;
@@ -55,7 +57,7 @@ impl Session {
     ) -> Result<Session, AllocError>
         requires valid { IsFlat flat }
         requires face { IsFaceOf face flat }
-        requires codes { codes ≡ face.inputs }
+        requires codes { codes ≡ codes_of face.inputs }
         requires inputs { AllByRecursion (λ input. input < flat.inputs) (inputs_of household.now.pairs) }
         ensures { IfOk result (λ session. session ≡ begun flat face household.now.pairs) }
     {
@@ -73,8 +75,8 @@ impl Session {
     /// Sets the input with this code to an amount that is spelled as `2500.5`. An unknown code is refused before a bad
     /// amount, and a refused edit changes nothing. It takes no memory.
     pub fn set(&mut self, code: &[u8], amount: &[u8]) -> Result<(), EditFault>
-        ensures answer { result ≡ answered (set_of self.old.face.inputs code.now amount.now) }
-        ensures after { self.new ≡ edited self.old (set_of self.old.face.inputs code.now amount.now) }
+        ensures answer { result ≡ answered (set_of (codes_of self.old.face.inputs) code.now amount.now) }
+        ensures after { self.new ≡ edited self.old (set_of (codes_of self.old.face.inputs) code.now amount.now) }
     {
         let Some(input) = self.codes.find(code) else {
             return Err(EditFault::UnknownCode);
@@ -90,8 +92,8 @@ impl Session {
 
     /// Makes the input with this code undefined, which it may be already. An unknown code is refused. It takes no memory.
     pub fn clear(&mut self, code: &[u8]) -> Result<(), EditFault>
-        ensures answer { result ≡ answered (clear_of self.old.face.inputs code.now) }
-        ensures after { self.new ≡ edited self.old (clear_of self.old.face.inputs code.now) }
+        ensures answer { result ≡ answered (clear_of (codes_of self.old.face.inputs) code.now) }
+        ensures after { self.new ≡ edited self.old (clear_of (codes_of self.old.face.inputs) code.now) }
     {
         let Some(input) = self.codes.find(code) else {
             return Err(EditFault::UnknownCode);
@@ -103,7 +105,7 @@ impl Session {
     /// Writes the lines of what the program answers for the amounts as they are now, and then a line with a point. On a
     /// failure a prefix of them was appended. It changes nothing, and takes no memory.
     pub fn show<K: Sink>(&mut self, out: &mut K) -> Result<(), Failed>
-        ensures text { Gives K.written K.faults out.old out.new result (shown self.old) }
+        ensures text { Gives K.written K.faults out.old out.new result (shown (showing_of self.old) self.old.values) }
         ensures kept { self.new ≡ self.old }
     {
         print_fresh(&self.flat, &self.face, &self.inputs, &mut self.nodes, out)?;

@@ -3,7 +3,8 @@ use Rattle.std.specs.Prelude.{◌≡◌, ℕ, List, length}
 use Rattle.observables.specs.declared.face.Face.{Face}
 use Rattle.flat_code.specs.declared.program.Flat.{Flat}
 use Rattle.flat_code.specs.Runs.{IsFlat}
-use Rattle.household_session.specs.Sessions.{IsFaceOf}
+use Rattle.observables.specs.Inputs.{codes_of}
+use Rattle.flat_code.specs.Faces.{IsFaceOf}
 use Rattle.household_session.specs.Commands.{SessionCommand, no_words, sets, clears, shows, too_long, bad}
 use Rattle.household_session.specs.declared.command.Asked.{Asked}
 use Rattle.household_session.specs.declared.command.Asked.TheVariants.{Nothing, Set, Clear, Show, TooLong, Bad}
@@ -12,7 +13,7 @@ use Rattle.household_session.specs.declared.command.Asked.TheVariants.{Nothing, 
 pub record IsReady (flat : Flat) (face : Face) (inputs : List (List ℕ)) (values places : ℕ) : Type 0 where
   pub valid : IsFlat flat
   pub face_of : IsFaceOf face flat
-  pub codes : inputs ≡ face.inputs
+  pub codes : inputs ≡ codes_of face.inputs
   pub given : values ≡ flat.inputs
   pub room : places ≡ length flat.nodes
 

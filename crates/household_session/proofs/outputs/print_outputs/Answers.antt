@@ -10,7 +10,7 @@ returns-in_err-print_values g c =
     let gave = c.in_err-print_values.ensures in
     let named : c.loop-k.k < length c.args.face.now.outputs = omega arith in
     piece_failed _ _ _ _ _ _ _ _ _ _ _ p.1
-    (outputs_at c.args.face.now.outputs c.args.nodes.now c.args.outputs.now c.loop-k.k c.index-nodes-outputs.result named c.loop-k-test.true
+    (outputs_at c.args.face.now c.args.nodes.now c.args.outputs.now c.loop-k.k c.index-nodes-outputs.result named c.loop-k-test.true
     (read_at c.args.nodes.now c.args.outputs.now c.loop-k.k c.index-nodes-outputs.result c.loop-k-test.true c.requires.within c.index-nodes-outputs.is))
     c.loop-k.invariant gave.failed gave.prefix gave.counted
 
@@ -19,10 +19,10 @@ loop-k-preserved g c =
     let gave = c.in_ok-print_values.ensures in
     let named : c.loop-k.k < length c.args.face.now.outputs = omega arith in
     piece_given _ _ _ _ _ _ _ _ _
-    (outputs_at c.args.face.now.outputs c.args.nodes.now c.args.outputs.now c.loop-k.k c.index-nodes-outputs.result named c.loop-k-test.true
+    (outputs_at c.args.face.now c.args.nodes.now c.args.outputs.now c.loop-k.k c.index-nodes-outputs.result named c.loop-k-test.true
     (read_at c.args.nodes.now c.args.outputs.now c.loop-k.k c.index-nodes-outputs.result c.loop-k-test.true c.requires.within c.index-nodes-outputs.is))
     c.loop-k.invariant gave.all gave.faultless
 
 pub returns : goal.returns
 returns g c =
-    all_given _ _ _ _ _ _ tt refl (rw (outputs_end c.args.face.now.outputs c.args.nodes.now c.args.outputs.now c.loop-k.k c.loop-k-test.false) at c.loop-k.invariant)
+    all_given _ _ _ _ _ _ tt refl (rw (outputs_end c.args.face.now c.args.nodes.now c.args.outputs.now c.loop-k.k c.loop-k-test.false) at c.loop-k.invariant)

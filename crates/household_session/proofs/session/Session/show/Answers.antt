@@ -2,18 +2,18 @@ use Rattle.std.proofs.Common.{refl, subst}
 use Rattle.std.proofs.lemmas.Result.{err_from_is_err_and}
 use Rattle.text_pieces.specs.Giving.{Gives}
 use Rattle.text_pieces.proofs.GivingLemmas.{none_given, piece_given, piece_failed, last_given}
-use Rattle.household_session.specs.Sessions.{Sitting, shown}
+use Rattle.household_session.specs.Sessions.{Sitting, showing_of, shown}
 use Rattle.household_session.proofs.session.Session.show.Goals as goal
 
 pub returns-in_err-print_fresh-clause-text : goal.returns-in_err-print_fresh-clause-text
 returns-in_err-print_fresh-clause-text g c =
     let p = err_from_is_err_and c.from_residual.result c.from_residual.ensures.1 in
     let gave = rw c.deref.ensures.value at c.in_err-print_fresh.ensures in
-    subst (λ (sitting : Sitting). Gives g.K.Sink.written g.K.Sink.faults c.args.out.now c.print_fresh.new.out c.from_residual.result (shown sitting)) c.self.view_is
+    subst (λ (sitting : Sitting). Gives g.K.Sink.written g.K.Sink.faults c.args.out.now c.print_fresh.new.out c.from_residual.result (shown (showing_of sitting) sitting.values)) c.self.view_is
     (piece_failed _ _ _ _ _ _ _ _ _ _ _ p.1 refl (none_given _ _ _ _) gave.failed gave.prefix gave.counted)
 
 pub returns-clause-text : goal.returns-clause-text
 returns-clause-text g c =
     let gave = rw c.deref.ensures.value at c.in_ok-print_fresh.ensures in
-    subst (λ (sitting : Sitting). Gives g.K.Sink.written g.K.Sink.faults c.args.out.now c.give_pieces.new.out c.give_pieces.result (shown sitting)) c.self.view_is
+    subst (λ (sitting : Sitting). Gives g.K.Sink.written g.K.Sink.faults c.args.out.now c.give_pieces.new.out c.give_pieces.result (shown (showing_of sitting) sitting.values)) c.self.view_is
     (last_given _ _ _ _ _ _ _ _ (piece_given _ _ _ _ _ _ _ _ _ refl (none_given _ _ _ _) gave.all gave.faultless) c.give_pieces.ensures)
