@@ -11,7 +11,7 @@ ghost use Rattle.rule_order.specs.Orders.{IsOrder};
 ghost use Rattle.m_compile.specs.Sources.{HasRules, IsWritten, running};
 ghost use Rattle.m_compile.specs.Faults.{IsSourceFault};
 ghost use Rattle.m_compile.specs.Compiled.{IsCompiled, IsRunnable};
-ghost use Rattle.m_compile.specs.inner.Parts.{IsAsked, IsAskedFault, IsProgram, IsHeavy, IsDriverFault, faced};
+ghost use Rattle.m_compile.specs.inner.Parts.{IsAsked, IsAskedFault, IsProgram, IsHeavy, IsDriverFault, compiled_of};
 ghost use Rattle.m_compile.specs.declared.fault.SourceFault.TheVariants.{Memory};
 
 use crate::SourceFault;
@@ -19,7 +19,6 @@ use crate::face::face_of;
 use driver_core::Core;
 use flat_code::Flat;
 use observables::Face;
-use household::Codes;
 use m_places::Seq;
 use m_requests::read_requests;
 use m_symbols::Symbols;
@@ -33,18 +32,16 @@ use std::alloc::{AllocError, Global};
 /// What a source is compiled to.
 #[derive(Drop)]
 pub struct Compiled {
-    /// The codes of the inputs, the labels of the stops, and the names of what is asked for.
+    /// The inputs, the labels of the stops, and the names of what is asked for.
     pub face: Face,
     /// The program.
     pub flat: Flat,
-    /// The codes of the inputs, by which households are read.
-    pub codes: Codes,
 }
 
 /// Compiles a source, or tells the fault of its earliest step that has one: the rule files, the lines of the driver, its names,
 /// the requests, the weight.
 ///
-/// For every list of values of the inputs the program answers, read through its face, what the source says.
+/// For every list of values that the inputs may have the program answers, read through its face, what the source says.
 pub fn compile(alloc: Global, source: &Source) -> Result<Compiled, SourceFault>
     requires { SourceKeepsLimits source.now }
     ensures outcome { Outcome Memory result (IsCompiled source.now) (IsSourceFault source.now) }
@@ -52,11 +49,7 @@ pub fn compile(alloc: Global, source: &Source) -> Result<Compiled, SourceFault>
 {
     let made = rule_base(alloc, source.texts.as_slice(), source.application.bytes())?;
     let (flat, face) = program(alloc, source, &made)?;
-    Ok(Compiled {
-        face,
-        flat,
-        codes: Codes::new(made.symbols.into_codes()),
-    })
+    Ok(Compiled { face, flat })
 }
 
 // The program of what a source asks for over its rules in an order, with its face.
@@ -67,7 +60,7 @@ fn program(alloc: Global, source: &Source, made: &RuleBase) -> Result<(Flat, Fac
     requires order { IsOrder made.now.ordered.base made.now.ordered.sequence }
     requires cells { made.now.ordered.base.cells ≡ length (owners_from 0 made.now.symbols.variables) }
     requires placed { IsPlaced made.now.symbols }
-    ensures { Outcome Memory result (λ given. IsCompiled source.now (faced made.now.symbols given.0 given.1)) (IsSourceFault source.now) }
+    ensures { Outcome Memory result (λ given. IsCompiled source.now (compiled_of given.0 given.1)) (IsSourceFault source.now) }
 {
     let (core, requests) = asked(alloc, source, &made.symbols)?;
     faced(alloc, made, &core, requests.as_slice())
@@ -141,7 +134,7 @@ fn faced(
     requires cells { made.now.ordered.base.cells ≡ length (owners_from 0 made.now.symbols.variables) }
     requires known { All (λ c. c < length (owners_from 0 made.now.symbols.variables)) requests.now }
     requires few { length requests.now ≤ REQUESTS }
-    ensures { Outcome Memory result (λ given. IsProgram made.now.symbols made.now.ordered.base core.now requests.now (faced made.now.symbols given.0 given.1)) (IsHeavy core.now made.now.ordered.base) }
+    ensures { Outcome Memory result (λ given. IsProgram made.now.symbols made.now.ordered.base core.now requests.now given.0 given.1) (IsHeavy core.now made.now.ordered.base) }
 {
     let (flat, labels) = inline(alloc, core, &made.ordered, &made.symbols, requests)?;
     let face = face_of(alloc, &made.symbols, labels, requests)?;

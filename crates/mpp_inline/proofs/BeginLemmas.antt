@@ -206,12 +206,12 @@ check-at vs c = elim (is_one (get_or vs c.guard Undef)) as (λ b. IsAt c.label (
   | false ↦ tt
 ]
 
-told-one : (labels : List FaceLabel) (l : ℕ) (o p : Option Stop) (outs : List Value) → IsAt l o → l < length labels → told_of labels (option_map_or Stopped p (Values outs)) ≡ Some (ended (stop_read labels p) outs) → told_of labels (option_map_or Stopped (option_or o p) (Values outs)) ≡ Some (ended (stop_read labels (option_or o p)) outs)
+told-one : (labels : List FaceLabel) (l : ℕ) (o p : Option Stop) (outs : List Value) → IsAt l o → l < length labels → told_of labels [] (option_map_or Stopped p (Values outs)) ≡ Some (ended (stop_read labels p) outs) → told_of labels [] (option_map_or Stopped (option_or o p) (Values outs)) ≡ Some (ended (stop_read labels (option_or o p)) outs)
 told-one labels l None p outs a h rest = rest
 told-one labels l (Some stop) p outs a h rest = ap (option_map (λ label. stopped (cause_of stop label))) (slice_get-get_or labels (label_number stop) (DriverLine 0) (omega (arith, a, h)))
 
 -- what a program tells, read through its labels
-pub told-flat : (n : ℕ) (labels : List FaceLabel) (vs : List Value) (checks : List Check) (outs : List Value) → AllByRecursion (λ c. IsCheckWithin n (length labels) c) checks → told_of labels (option_map_or Stopped (first_stop vs checks) (Values outs)) ≡ Some (ended (stop_read labels (first_stop vs checks)) outs)
+pub told-flat : (n : ℕ) (labels : List FaceLabel) (vs : List Value) (checks : List Check) (outs : List Value) → AllByRecursion (λ c. IsCheckWithin n (length labels) c) checks → told_of labels [] (option_map_or Stopped (first_stop vs checks) (Values outs)) ≡ Some (ended (stop_read labels (first_stop vs checks)) outs)
 told-flat n labels vs [] outs all = refl
 told-flat n labels vs (c ∷ cs) outs all = told-one labels c.label (check_stop vs c) (first_stop vs cs) outs (check-at vs c) all.0.label (told-flat n labels vs cs outs all.1)
 
