@@ -1,4 +1,4 @@
-use Rattle.std.proofs.Common.{◌≡◌, ℕ, ◌+◌, ◌*◌, ◌≤◌, [], map, length, ap, ◌∙◌, subst, arith}
+use Rattle.std.proofs.Common.{◌≡◌, ℕ, ◌+◌, ◌*◌, ◌≤◌, [], map, length, sym, ap, ◌∙◌, subst, arith}
 use Rattle.std.specs.List.{sum_by}
 use Rattle.std.proofs.lemmas.List.{length-map}
 use Rattle.std.proofs.lemmas.Result.{on_ok_weaker}
@@ -35,7 +35,7 @@ write_under-requires c =
     let xs = c.args.cells.now in
     let base = c.args.ordered.now.base in
     let sequence = c.args.ordered.now.sequence in
-    let given : c.deref-then-cells-len-2.result.now ≡ picked 0 xs f = c.deref-then-cells-len-2.ensures.value ∙ c.in_ok-given.ensures in
+    let given : c.deref-then-cells-len.result.now ≡ picked 0 xs f = c.deref-then-cells-len.ensures.value ∙ c.in_ok-given.ensures in
     omega (
       arith,
       c.requires.room,
@@ -65,11 +65,11 @@ returns-then-cells-len-clause-step c =
     let cells = cells_at base c.args.ordered.now.sequence in
     let back : c.write.new.env ≡ e =
     c.write.ensures
-    ∙ ap (λ ps. written ps f) (c.deref-then-cells-len.ensures.value ∙ c.in_ok-before.ensures)
+    ∙ ap (λ ps. written ps f) (c.deref.ensures.value ∙ c.in_ok-before.ensures)
     ∙ restored cells e f c.in_ok-emit_definitions.ensures.frame in
-    let given : c.deref-then-cells-len-2.result.now ≡ picked 0 xs f = c.deref-then-cells-len-2.ensures.value ∙ c.in_ok-given.ensures in
+    let given : c.deref-then-cells-len.result.now ≡ picked 0 xs f = c.deref-then-cells-len.ensures.value ∙ c.in_ok-given.ensures in
     on_ok_weaker c.write_under.result
-    (λ (m : Placed d2 c.write.new.env g → Held d2 c.deref-then-cells-len-2.result.now → Merged d2 last g [] c.deref-then-cells-len-2.result.now c.write.new.env h).
+    (λ (m : Placed d2 c.write.new.env g → Held d2 c.deref-then-cells-len.result.now → Merged d2 last g [] c.deref-then-cells-len.result.now c.write.new.env h).
     rules-step xs
     c.in_ok-emit_definitions.ensures.step
     c.in_ok-emit_checks.ensures.step
@@ -87,9 +87,9 @@ returns-then-cells-len-clause-size c =
     let xs = c.args.cells.now in
     let base = c.args.ordered.now.base in
     let sequence = c.args.ordered.now.sequence in
-    let given : c.deref-then-cells-len-2.result.now ≡ picked 0 xs f = c.deref-then-cells-len-2.ensures.value ∙ c.in_ok-given.ensures in
+    let given : c.deref-then-cells-len.result.now ≡ picked 0 xs f = c.deref-then-cells-len.ensures.value ∙ c.in_ok-given.ensures in
     on_ok_weaker c.write_under.result
-    (λ (m : load last ≤ load d2 + length c.deref-then-cells-len-2.result.now).
+    (λ (m : load last ≤ load d2 + length c.deref-then-cells-len.result.now).
     let goal' : load last ≤ load b + 2 * base_weight base = omega (
       arith,
       m,
@@ -114,7 +114,7 @@ write_under-requires-2 c =
     let f = c.emit_definitions.new.env in
     let base = c.args.ordered.now.base in
     let sequence = c.args.ordered.now.sequence in
-    let after : c.deref-2.result.now ≡ picked 0 (cells_at base sequence) f = c.deref-2.ensures.value ∙ c.in_ok-after.ensures in
+    let after : c.deref-3.result.now ≡ picked 0 (cells_at base sequence) f = c.deref-3.ensures.value ∙ c.in_ok-after.ensures in
     omega (
       arith,
       c.requires.room,
@@ -140,12 +140,12 @@ returns c =
     let sequence = c.args.ordered.now.sequence in
     let cells = cells_at base sequence in
     let frame = c.in_ok-emit_definitions.ensures.frame in
-    let after : c.deref-2.result.now ≡ picked 0 cells f = c.deref-2.ensures.value ∙ c.in_ok-after.ensures in
-    let back : c.write-2.new.env ≡ e = c.write-2.ensures ∙ ap (λ ps. written ps f) (c.deref.ensures.value ∙ c.in_ok-before.ensures) ∙ restored cells e f frame in
+    let after : c.deref-3.result.now ≡ picked 0 cells f = c.deref-3.ensures.value ∙ c.in_ok-after.ensures in
+    let back : c.write-2.new.env ≡ e = c.write-2.ensures ∙ ap (λ ps. written ps f) (c.deref-2.ensures.value ∙ c.in_ok-before.ensures) ∙ restored cells e f frame in
     let changed : SameBut cells e m = subst (λ x. SameBut cells x m) back
     (subst (λ ys. SameBut ys c.write-2.new.env m) (ap cells_of after ∙ cells-picked 0 cells f) c.in_ok-write_under.ensures.frame) in
-    let back2 : c.write-3.new.env ≡ e = c.write-3.ensures ∙ ap (λ ps. written ps m) (c.deref-3.ensures.value ∙ c.in_ok-before.ensures) ∙ restored cells e m changed in
-    let end : c.write-4.new.env ≡ received 0 xs m e = c.write-4.ensures ∙ (λ i. written ((c.deref-4.ensures.value ∙ c.in_ok-given-2.ensures) i) (back2 i)) in
+    let back2 : c.write-3.new.env ≡ e = c.write-3.ensures ∙ ap (λ ps. written ps m) (c.deref-4.ensures.value ∙ c.in_ok-before.ensures) ∙ restored cells e m changed in
+    let end : c.write-4.new.env ≡ received 0 xs m e = c.write-4.ensures ∙ (λ i. written ((c.deref-5.ensures.value ∙ c.in_ok-given-2.ensures) i) (back2 i)) in
     record {
       step = λ r. subst (λ x. Step b last g e x (rules_in_turn base sequence xs)) (sym end)
           (rules-step-all xs cells frame
