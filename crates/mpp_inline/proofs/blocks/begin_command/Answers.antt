@@ -69,13 +69,13 @@ returns-in_ok-emit_rules-in-Rules-clause-step c =
 pub assign_under-requires : goal.assign_under-requires
 assign_under-requires c =
     let whole = whole_of c.args.core.now c.args.ordered.now in
-    let is : assign c.in-Set.line c.in-Set.cell c.in-Set.term ≡ c.args.command.now = sym (ap action_of c.in-Set.is) ∙ c.command.view_is in
+    let is : assign c.in-Set.field-0 c.in-Set.cell c.in-Set.term ≡ c.args.command.now = sym (ap action_of c.in-Set.is) ∙ c.command.view_is in
     omega (arith, c.requires.room, c.in_ok-number-in-Set.ensures.size, formula-pos c.in-Set.term, ap (action_size whole c.args.depth) is)
 
 pub returns-in_ok-assign_under-in-Set-clause-size : goal.returns-in_ok-assign_under-in-Set-clause-size
 returns-in_ok-assign_under-in-Set-clause-size c =
     let whole = whole_of c.args.core.now c.args.ordered.now in
-    let is : assign c.in-Set.line c.in-Set.cell c.in-Set.term ≡ c.args.command.now = sym (ap action_of c.in-Set.is) ∙ c.command.view_is in
+    let is : assign c.in-Set.field-0 c.in-Set.cell c.in-Set.term ≡ c.args.command.now = sym (ap action_of c.in-Set.is) ∙ c.command.view_is in
     omega (arith, c.in_ok-number-in-Set.ensures.size, c.in_ok-assign_under-in-Set.ensures.size, formula-pos c.in-Set.term, ap (action_size whole c.args.depth) is)
 
 pub begin_if-requires : goal.begin_if-requires

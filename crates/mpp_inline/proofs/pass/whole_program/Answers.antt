@@ -1,4 +1,4 @@
-use Rattle.std.proofs.Common.{arith}
+use Rattle.std.proofs.Common.{arith, ◌∙◌}
 use Rattle.mpp_inline.proofs.pass.whole_program.Goals as goal
 
 pub emit_driver-requires : goal.emit_driver-requires
