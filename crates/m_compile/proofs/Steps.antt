@@ -141,7 +141,7 @@ compiled_when source declared base asked core flat face r a p =
       written = a.written;
       requests = asked;
       valid = record { rules = r; driven = a.driven; requested = a.requested; light = subst (λ c. weight_of c base ≤ DRIVER_WEIGHT) a.runs p.light };
-      runnable = record { flat = p.valid; shown = p.shown; distinct = rw (ap codes_of p.inputs ∙ codes_said declared) (distinct_codes source.texts source.application declared base r.made) };
+      runnable = record { valid = p.valid; shown = p.shown; distinct = rw (ap codes_of p.inputs ∙ codes_said declared) (distinct_codes source.texts source.application declared base r.made) };
       inputs = p.inputs;
       names = ap names_of p.outputs ∙ names-named (map (cell_name declared) asked);
       notes = subst (AllByRecursion (λ number. number < length base.labels)) (sym no_notes) tt;
