@@ -5,6 +5,7 @@
 
 mod program;
 mod run;
+pub mod touched;
 
 pub use program::{Check, Flat, Node};
 pub use run::{run_flat, stop_among, value_of};
