@@ -64,7 +64,7 @@ pub fn answer_serve<S: Input, K: Sink>(
 // The session of a program that begins with a household, or the household's fault.
 fn session_of(alloc: Global, program: Program, household: &[u8]) -> Result<Session, HouseholdFault>
     requires { IsRunnable program.face program.flat }
-    ensures { Outcome Memory result (IsBegun program household.now) (λ fault. household_of (codes_of program.face.inputs) household.now ≡ Err fault) }
+    ensures { Outcome Memory result (λ session. IsBegun program household.now session.sitting) (λ fault. household_of (codes_of program.face.inputs) household.now ≡ Err fault) }
 {
     let codes = Codes::new(alloc, program.face.inputs.as_slice())?;
     let given = read_household(alloc, household, &codes)?;

@@ -7,7 +7,7 @@ use Rattle.m_work.proofs.serving.answer_serve.Goals as goal
 
 pub returns-in-Ok : goal.returns-in-Ok
 returns-in-Ok g c = λ scheme shown.
-    session_served scheme c.args.program c.args.household.now c.in-Ok.session c.requires shown c.in-Ok.ensures _ _ _ _ _ c.serve_session.ensures
+    session_served scheme c.args.program c.args.household.now c.in-Ok.session.sitting c.requires shown c.in-Ok.ensures _ _ _ _ _ c.serve_session.ensures
 
 pub returns-in-Err : goal.returns-in-Err
 returns-in-Err g c = λ scheme shown.
