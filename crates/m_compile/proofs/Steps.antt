@@ -141,12 +141,11 @@ compiled_when source declared base asked core flat face r a p =
       written = a.written;
       requests = asked;
       valid = record { rules = r; driven = a.driven; requested = a.requested; light = subst (λ c. weight_of c base ≤ DRIVER_WEIGHT) a.runs p.light };
-      runnable = record { flat = p.valid; shown = p.shown; distinct = rw (ap codes_of p.inputs ∙ codes_said declared) (distinct_codes source.texts source.application declared base r.made) };
+      runnable = record { valid = p.valid; shown = p.shown; distinct = rw (ap codes_of p.inputs ∙ codes_said declared) (distinct_codes source.texts source.application declared base r.made); nodes_fit = p.nodes_fit };
       inputs = p.inputs;
       names = ap names_of p.outputs ∙ names-named (map (cell_name declared) asked);
       notes = subst (AllByRecursion (λ number. number < length base.labels)) (sym no_notes) tt;
       first_labels = p.first_labels;
-      nodes_fit = p.nodes_fit;
       answers = λ inputs given. ap (λ notes. told_of face.labels notes (flat_run flat inputs)) no_notes ∙ rw (sym a.runs) (p.answers inputs);
     }
 

@@ -45,7 +45,7 @@ pub struct Compiled {
 pub fn compile(alloc: Global, source: &Source) -> Result<Compiled, SourceFault>
     requires { SourceKeepsLimits source.now }
     ensures outcome { Outcome Memory result (IsCompiled source.now) (IsSourceFault source.now) }
-    ensures runnable { IfOk result IsRunnable }
+    ensures runnable { IfOk result (λ compiled. IsRunnable compiled.face compiled.flat) }
 {
     let made = rule_base(alloc, source.texts.as_slice(), source.application.bytes())?;
     let (flat, face) = program(alloc, source, &made)?;

@@ -1,19 +1,4 @@
-use Rattle.household.specs.Household.{household_of}
-use Rattle.m_large.specs.Large.{household_text}
-use Rattle.m_work.specs.Larges.{large_source}
-use Rattle.m_work.proofs.LargeLimits.{large_within}
-use Rattle.m_work.proofs.Refusals.{source_told}
-use Rattle.m_work.proofs.Ways.{large_refused}
 use Rattle.m_work.proofs.large.answer_large.Goals as goal
 
-pub compile-requires : goal.compile-requires
-compile-requires g c = rw c.in-Ok.ensures (large_within c.args.n c.requires.some c.requires.few)
-
-pub returns-in-Ok-compile : goal.returns-in-Ok-compile
-returns-in-Ok-compile g c = c.answer_compiled.ensures (rw c.in-Ok.ensures at c.in-Ok-compile.ensures.outcome)
-
-pub returns : goal.returns
-returns g c =
-    large_refused c.args.n _ _ _
-    (source_told (large_source c.args.n) (λ inputs. household_of inputs (household_text c.args.n)) c.in-Err.fault _ _ _ (rw c.in-Ok.ensures at c.in-Err.ensures.outcome)
-    (rw c.in-Ok.ensures at (rw c.as_slice.ensures at (rw c.told_fault.ensures at c.tell_refusal.ensures))))
+pub returns-in-Ok : goal.returns-in-Ok
+returns-in-Ok g c = ?

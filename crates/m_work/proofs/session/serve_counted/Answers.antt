@@ -5,7 +5,7 @@ use Rattle.m_plan.specs.Views.{output_view}
 use Rattle.m_plan.specs.declared.status.Status.TheVariants.{ReadFault, Refused}
 use Rattle.m_work.specs.Serving.{to_its_end, unread, too_long, unwritten}
 use Rattle.m_work.proofs.Printings.{prints_behind}
-use Rattle.m_work.proofs.session.serve_session.Goals as goal
+use Rattle.m_work.proofs.session.serve_counted.Goals as goal
 
 pub returns-in-Done : goal.returns-in-Done
 returns-in-Done g c =
@@ -17,7 +17,7 @@ returns-in-ReadFault g c =
     let end = c.in-ReadFault.ensures.end in
     unread end.0 end.1.moved c.in-ReadFault.ensures.counts.0
     (prints_behind (output_view g.K.Sink.written g.K.Sink.faults c.args.out.now) (output_view g.K.Sink.written g.K.Sink.faults c.serve.new.out)
-    (output_view g.K.Sink.written g.K.Sink.faults c.print_fault.new.out) (replies_to c.args.session.now (ended_lines end.0)) unreadable_input_line ReadFault c.print_fault.result
+    (output_view g.K.Sink.written g.K.Sink.faults c.print_fault.new.out) (replies_to c.args.session.now.sitting (ended_lines end.0)) unreadable_input_line ReadFault c.print_fault.result
     end.1.appended c.in-ReadFault.ensures.counts.1 c.print_fault.ensures)
 
 pub returns-in-WriteFault : goal.returns-in-WriteFault
@@ -30,5 +30,5 @@ returns-in-TooLong g c =
     let end = c.in-TooLong.ensures.end in
     too_long end.0 end.2.moved end.1 c.in-TooLong.ensures.counts.0
     (prints_behind (output_view g.K.Sink.written g.K.Sink.faults c.args.out.now) (output_view g.K.Sink.written g.K.Sink.faults c.serve.new.out)
-    (output_view g.K.Sink.written g.K.Sink.faults c.print_fault-in-TooLong.new.out) (replies_to c.args.session.now (ended_lines end.0)) input_too_long_line Refused
+    (output_view g.K.Sink.written g.K.Sink.faults c.print_fault-in-TooLong.new.out) (replies_to c.args.session.now.sitting (ended_lines end.0)) input_too_long_line Refused
     c.print_fault-in-TooLong.result end.2.appended c.in-TooLong.ensures.counts.1 c.print_fault-in-TooLong.ensures)
