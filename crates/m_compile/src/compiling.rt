@@ -2,7 +2,7 @@
 
 ghost use Rattle.std.specs.Prelude.{◌≡◌, ◌<◌, ◌≤◌, All, IfOk, IfSome, Ok, length};
 ghost use Rattle.m_places.specs.Refusals.{Outcome};
-ghost use Rattle.m_places.specs.declared.limits.TheConstants.{FILE_BYTES, REQUESTS};
+ghost use Rattle.m_places.specs.declared.limits.TheConstants.{CELLS, FILE_BYTES, PARTS, REQUESTS};
 ghost use Rattle.rule_text.specs.Limits.{SourceKeepsLimits, FileIsWithin};
 ghost use Rattle.m_symbols.specs.Declarations.{owners_from};
 ghost use Rattle.m_requests.specs.Placed.{IsPlaced};
@@ -138,6 +138,9 @@ fn faced(
     requires base { IsValidBase made.now.ordered.base }
     requires order { IsOrder made.now.ordered.base made.now.ordered.sequence }
     requires cells { made.now.ordered.base.cells ≡ length (owners_from 0 made.now.symbols.variables) }
+    requires placed { IsPlaced made.now.symbols }
+    requires few_cells { made.now.ordered.base.cells ≤ CELLS }
+    requires few_labels { length made.now.ordered.base.labels ≤ PARTS }
     requires known { All (λ c. c < length (owners_from 0 made.now.symbols.variables)) requests.now }
     requires few { length requests.now ≤ REQUESTS }
     ensures { Outcome Memory result (λ given. IsProgram made.now.symbols made.now.ordered.base core.now requests.now (faced made.now.symbols given.0 given.1)) (IsHeavy core.now made.now.ordered.base) }
