@@ -36,7 +36,7 @@ use Rattle.mpp_inline.specs.inner.Growth.{count, at, stop_of, stop_read, denoted
 use Rattle.driver_core.specs.Weights.{weight_of}
 use Rattle.mpp_inline.specs.inner.Sizes.{load}
 use Rattle.mpp_inline.specs.inner.Told.{ended, Answers}
-use Rattle.mpp_inline.specs.Inlined.{IsInlined, most_nodes}
+use Rattle.mpp_inline.specs.Inlined.{IsInlined}
 use Rattle.mpp_inline.specs.inner.Work.{under, Step}
 use Rattle.mpp_inline.proofs.ListLemmas.{all-append, all-more}
 use Rattle.mpp_inline.proofs.GrowthLemmas.{grows-none, grows-then, known-on, denoted-on, known-get, denoted-get}

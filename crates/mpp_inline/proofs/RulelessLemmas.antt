@@ -1,10 +1,9 @@
 -- Where a base has neither definitions nor checks, calls of the rules change nothing.
-use Rattle.std.proofs.Common.{◌≡◌, ℕ, zero, suc, ◌+◌, ◌<◌, ◌≤◌, List, [], ◌∷◌, ◌++◌, length, get_or, set, drop, map, Some, None, refl, sym, ap, ◌∙◌, subst, arith, add-one}
-use Rattle.std.specs.Prelude.{slice_get, option_and_then, IfOk, Result, Ok, Err}
+use Rattle.std.proofs.Common.{◌≡◌, ℕ, zero, suc, ◌+◌, ◌≤◌, List, [], ◌∷◌, ◌++◌, length, get_or, set, Some, refl, sym, ap, ◌∙◌, arith, add-one}
+use Rattle.std.specs.Prelude.{option_and_then}
 use Rattle.std.specs.Option.{option_map_or}
 use Rattle.std.proofs.lemmas.List.{length-map}
-use Rattle.m_fixed.specs.declared.amount.Value.{Value}
-use Rattle.m_fixed.specs.declared.amount.Value.TheVariants.{Undef, Num, Over}
+use Rattle.m_fixed.specs.declared.amount.Value.TheVariants.{Undef}
 use Rattle.m_symbols.specs.Declarations.{Declared}
 use Rattle.micro_m.specs.declared.base.Base.{Base}
 use Rattle.micro_m.specs.Bases.{definition_among}
@@ -15,7 +14,7 @@ use Rattle.flat_code.specs.declared.program.Flat.{Flat}
 use Rattle.driver_core.specs.declared.program.Core.{Core}
 use Rattle.driver_core.specs.Actions.{Action, assign, clear, branch, partition, call, solve, Block, no_actions, an_action}
 use Rattle.driver_core.specs.ActionView.{block_of}
-use Rattle.driver_core.specs.Valid.{block_or_none, body_among}
+use Rattle.driver_core.specs.Valid.{body_among}
 use Rattle.driver_core.specs.Weights.{names_changed, names_changed_in, action_weight, block_weight, body_weight, base_weight, weight_of}
 use Rattle.driver_core.specs.Answers.{answer_of, start_of, told_by}
 use Rattle.driver_core.specs.Meaning.{Env, RunState, goes, stops, then_do, with_values, without, formula_value, chosen_block, failure_cause, unless_stopped, rules_run, run_of, action_run, block_run, called}

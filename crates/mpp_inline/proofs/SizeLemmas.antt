@@ -1,5 +1,5 @@
 -- Sizes of parts, and calls one level less deep.
-use Rattle.std.proofs.Common.{◌≡◌, ℕ, zero, suc, ◌+◌, ◌-◌, ◌*◌, ◌<◌, ◌≤◌, Bool, true, false, List, [], ◌∷◌, ◌++◌, map, drop, length, get_or, set, eqb, All, ⊎_elim, refl, sym, ap, ◌∙◌, subst, arith, replicate, length-append}
+use Rattle.std.proofs.Common.{◌≡◌, ℕ, zero, suc, ◌+◌, ◌-◌, ◌<◌, ◌≤◌, Bool, true, false, List, [], ◌∷◌, ◌++◌, map, length, get_or, set, eqb, All, refl, sym, ap, ◌∙◌, subst, arith, replicate, length-append}
 use mathlib.Core.Bool.{◌||◌}
 use Rattle.std.specs.Prelude.{slice_get, Some}
 use Rattle.std.specs.List.{sum_by}
@@ -13,15 +13,14 @@ use Rattle.m_symbols.specs.Declarations.{placed_from, owners_from}
 use Rattle.micro_m.specs.declared.base.Base.{Base}
 use Rattle.micro_m.specs.Trees.{Tree, lit as lit_tree}
 use Rattle.micro_m.specs.Views.{trees_of}
-use Rattle.micro_m.specs.Bases.{Definition, is_among, AreDistinctCells, term_at}
+use Rattle.micro_m.specs.Bases.{Definition, is_among, AreDistinctCells}
 use Rattle.rule_order.specs.Orders.{IsOrder}
-use Rattle.driver_core.specs.declared.program.Core.{Core}
 use Rattle.driver_core.specs.Formulas.{Formula, lit, cell, apply, chain, exists}
 use Rattle.driver_core.specs.FormulaView.{formulas_of}
-use Rattle.driver_core.specs.Actions.{Action, assign, clear, branch, partition, call, solve, Block, no_actions, an_action}
+use Rattle.driver_core.specs.Actions.{Block, no_actions, an_action}
 use Rattle.driver_core.specs.ActionView.{block_of}
 use Rattle.driver_core.specs.Valid.{body_of}
-use Rattle.driver_core.specs.Weights.{tree_weight, trees_weight, formula_weight, formulas_weight, definition_weight, check_weight, base_weight}
+use Rattle.driver_core.specs.Weights.{tree_weight, trees_weight, formula_weight, formulas_weight, definition_weight}
 use Rattle.mpp_inline.specs.declared.work.Work.{Work}
 use Rattle.mpp_inline.specs.declared.work.Work.TheVariants.{Run, Under, Restore, Return}
 use Rattle.mpp_inline.specs.inner.Work.{Whole}

@@ -34,8 +34,8 @@ use std::alloc::{AllocError, Global};
 /// answers what the driver does. The inputs are those of the symbols in order, and there is an output for each requested cell.
 ///
 /// The base has the cells of the symbols and is ordered, as `order` answers it. Where the driver weighs more than 4,000,000,
-/// it is refused before any node is made. No call is as deep as a chain of functions. Where functions call each other in a
-/// ring, it gives up as for want of memory.
+/// it is refused before any node is made; else the program has at most 6 nodes, checks and labels for each unit of the weight, one
+/// node for each cell, and 3 nodes and the labels of the base besides. No call is as deep as a chain of functions.
 pub fn inline(
     alloc: Global,
     core: &Core,

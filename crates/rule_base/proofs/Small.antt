@@ -93,6 +93,7 @@ label-more declared before said condition e = by (term_said declared condition.t
     labels : Result Checks ResolveFault → ℕ
     labels (Ok checks) = length checks.1
     labels (Err fault) = 0
+
     by : (t : Result Tree ResolveFault) (l : Result Label ResolveFault) → if_said (λ tree. if_said (λ label. Ok (before.0 ++ (tree, length before.1, condition.place) ∷ [], before.1 ++ label ∷ [])) l) t ≡ Ok said → length said.1 ≡ length before.1 + 1
     by (Err f) l h = absurd (cc)
     by (Ok tree) (Err f) h = absurd (cc)

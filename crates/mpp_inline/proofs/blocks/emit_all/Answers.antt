@@ -44,8 +44,8 @@ loop-work-preserved c =
     let next = called (rules_in_turn ordered.base ordered.sequence) core.bodies (length core.bodies + 1) core.main in
     record {
       step = λ r. moves-then c.pop.new.self.items c.in-Some.work
-    (subst (λ l. Moves whole b c.loop-work.b c.loop-work.env.items c.loop-work.guard [] l (main-point b e next)) c.in-Some.ensures.items (c.loop-work.invariant.step r))
-    c.in_ok-guard.ensures.step;
+          (subst (λ l. Moves whole b c.loop-work.b c.loop-work.env.items c.loop-work.guard [] l (main-point b e next)) c.in-Some.ensures.items (c.loop-work.invariant.step r))
+          c.in_ok-guard.ensures.step;
       size = omega (arith, c.loop-work.invariant.size, c.in_ok-guard.ensures.size, ap (left_weight whole) c.in-Some.ensures.items, weight-last whole c.pop.new.self.items c.in-Some.work);
     }
 

@@ -1,4 +1,4 @@
-use Rattle.std.proofs.Common.{ℕ, length, ap, ◌∙◌, subst, arith}
+use Rattle.std.proofs.Common.{length, ap, ◌∙◌, subst, arith}
 use Rattle.std.specs.Prelude.{IfOk}
 use Rattle.driver_core.specs.Meaning.{any_present}
 use Rattle.mpp_inline.specs.inner.Growth.{Sane, Known, TermStep}

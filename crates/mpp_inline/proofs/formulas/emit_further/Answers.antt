@@ -20,8 +20,8 @@ loop-cell-preserved c =
     record {
       size = omega (arith, c.loop-cell.invariant.size, ap length next, c.in_ok-present.ensures.size, pushed-load c.in_ok-number.ensures);
       step = λ s kn h. fold-next (λ y. present_in y (get_or all i 0)) (λ inputs v. present_or (environment (denoted b inputs e)) v (drop (i + 1) all))
-    (subst (λ l. Along b c.loop-cell.b (λ inputs v. present_or (environment (denoted b inputs e)) v l) (λ inputs. present_or (environment (denoted b inputs e)) (at b inputs c.args.so_far) all) c.loop-cell.number) next (c.loop-cell.invariant.step s kn h))
-    c.in_ok-present.ensures.step c.in_ok-number.ensures kn;
+          (subst (λ l. Along b c.loop-cell.b (λ inputs v. present_or (environment (denoted b inputs e)) v l) (λ inputs. present_or (environment (denoted b inputs e)) (at b inputs c.args.so_far) all) c.loop-cell.number) next (c.loop-cell.invariant.step s kn h))
+          c.in_ok-present.ensures.step c.in_ok-number.ensures kn;
     }
 
 pub returns : goal.returns

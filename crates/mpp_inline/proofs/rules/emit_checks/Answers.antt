@@ -27,8 +27,8 @@ loop-condition-preserved c =
     let next : drop i items ≡ d ∷ drop (i + 1) items = drop_next items i d c.loop-condition-test.true c.loop-condition-item.is in
     record {
       step = λ r. stage-next r
-    (subst (λ ds. Stage c.args.b.now c.loop-condition.b c.args.guard env env (checked base.labels ds) (checked base.labels base.checks)) next (c.loop-condition.invariant.step r))
-    (rule-stage d no-label low c.in_ok-value.ensures.step c.in_ok-check_rule.ensures);
+          (subst (λ ds. Stage c.args.b.now c.loop-condition.b c.args.guard env env (checked base.labels ds) (checked base.labels base.checks)) next (c.loop-condition.invariant.step r))
+          (rule-stage d no-label low c.in_ok-value.ensures.step c.in_ok-check_rule.ensures);
       size = omega (arith, c.loop-condition.invariant.size, ap (sum_by check_weight) next, sum_by-cons check_weight d (drop (i + 1) items), c.in_ok-value.ensures.size, rule-load c.in_ok-check_rule.ensures);
     }
 

@@ -1,5 +1,5 @@
 use Rattle.std.proofs.Common.{sym, subst}
-use Rattle.std.proofs.lemmas.Result.{IfOk-weaker, on_ok_weaker}
+use Rattle.std.proofs.lemmas.Result.{IfOk-weaker}
 use Rattle.flat_code.specs.declared.program.Node.TheVariants.{Lit}
 use Rattle.micro_m.specs.Values.{picked_value}
 use Rattle.mpp_inline.specs.inner.Growth.{Pushed, TermStep}

@@ -11,7 +11,7 @@ use Rattle.driver_core.specs.Weights.{tree_weight, trees_weight, tree_steps_weig
 use Rattle.flat_code.specs.declared.program.Node.TheVariants.{Lit, Do}
 use Rattle.mpp_inline.specs.inner.Growth.{count, at, denoted, Sane, Known, Pushed, Along, Gives, TermStep}
 use Rattle.mpp_inline.specs.inner.Sizes.{load}
-use Rattle.mpp_inline.proofs.SizeLemmas.{three-trees, weight-at}
+use Rattle.mpp_inline.proofs.SizeLemmas.{three-trees}
 use Rattle.mpp_inline.proofs.ListLemmas.{drop_next}
 use Rattle.mpp_inline.proofs.GrowthLemmas.{gives-lit, gives-same, pushed-load}
 use Rattle.mpp_inline.proofs.TermLemmas.{applied-step, undef-step, fold-first, fold-next, chain-step}
@@ -79,8 +79,8 @@ emit_steps-loop-step-preserved t c =
     record {
       size = omega (arith, c.loop-step.invariant.size, ap (λ l. tree_steps_weight (steps_of l)) next, c.in_ok-operand.ensures.size, pushed-load c.in_ok-number.ensures);
       step = λ s kn h. fold-next (λ y. term_value y d.term) (λ inputs v. folded (environment (denoted b inputs e)) v (steps_of (drop (i + 1) all)))
-    (subst (λ l. Along b c.loop-step.b (λ inputs v. folded (environment (denoted b inputs e)) v (steps_of l)) (λ inputs. folded (environment (denoted b inputs e)) (at b inputs c.args.so_far) (steps_of all)) c.loop-step.number) next (c.loop-step.invariant.step s kn h))
-    c.in_ok-operand.ensures.step c.in_ok-number.ensures kn;
+          (subst (λ l. Along b c.loop-step.b (λ inputs v. folded (environment (denoted b inputs e)) v (steps_of l)) (λ inputs. folded (environment (denoted b inputs e)) (at b inputs c.args.so_far) (steps_of all)) c.loop-step.number) next (c.loop-step.invariant.step s kn h))
+          c.in_ok-operand.ensures.step c.in_ok-number.ensures kn;
     }
 
 pub emit_steps-returns : goal.emit_steps-returns
