@@ -100,9 +100,10 @@ fn print_answered<K: Sink>(
     held: &mut FixedText,
     out: &mut K,
 ) -> Status
-    requires { IsRunnable program.now.face program.now.flat }
+    requires runnable { IsRunnable program.now.face program.now.flat }
+    requires generated { household.now ≡ household_text n }
     ensures { (scheme : Scheme) → Shows scheme program.now
-        → IsAnswered (HouseholdReplies (large_line n) scheme household.now) (output_view K.written K.faults out.old) (output_view K.written K.faults out.new) result }
+        → IsAnswered (HouseholdReplies (large_line n) scheme (household_text n)) (output_view K.written K.faults out.old) (output_view K.written K.faults out.new) result }
 {
     match answer_of(alloc, program, household) {
         Ok(answer) => printed(
