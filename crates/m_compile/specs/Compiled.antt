@@ -17,6 +17,7 @@ use Rattle.observables.specs.Outputs.{names_of, notes_of}
 use Rattle.flat_code.specs.declared.program.Flat.{Flat}
 use Rattle.flat_code.specs.Faces.{IsFaceOf}
 use Rattle.flat_code.specs.Runs.{IsFlat, flat_run}
+use Rattle.flat_code.specs.Tidy.{IsTidy}
 use Rattle.driver_core.specs.declared.program.Core.{Core}
 use Rattle.m_requests.specs.Cells.{cell_name}
 use Rattle.mpp_inline.specs.Inlined.{most_nodes}
@@ -39,8 +40,8 @@ pub record IsRunnable (face : Face) (flat : Flat) : Type 0 where
   pub distinct : AreDistinct (codes_of face.inputs)
   pub nodes_fit : length flat.nodes ≤ most_nodes
 
--- The source is valid, and it is compiled to this: for every list of values that the inputs may have, the answer of the program, read through its face, is
--- the answer of the source. The face has the inputs, the labels of the base's checks before all others, and the names of what is asked for, each in its order,
+-- The source is valid, and it is compiled to this: for every list of values that the inputs may have, the answer of the tidy program, read through its face,
+-- is the answer of the source. The face has the inputs, the labels of the base's checks before all others, and the names of what is asked for, each in its order,
 -- and each note is that of a check of the base.
 pub record IsCompiled (source : Source) (compiled : Compiled) : Type 0 where
   pub declared : Declared
@@ -48,10 +49,11 @@ pub record IsCompiled (source : Source) (compiled : Compiled) : Type 0 where
   pub written : Option Core
   pub requests : List ℕ
   pub valid : IsValid source declared base written requests
-  pub runnable : IsRunnable compiled.face compiled.flat
+  pub runnable : IsRunnable compiled.face compiled.tidy
+  pub tidy : IsTidy compiled.tidy
   pub inputs : compiled.face.inputs ≡ inputs_said declared
   pub names : names_of compiled.face.outputs ≡ map (cell_name declared) requests
   pub notes : AllByRecursion (λ number. number < length base.labels) (notes_of compiled.face.outputs)
   pub first_labels : take (length base.labels) compiled.face.labels ≡ map Verif base.labels
   pub answers : (inputs : List Value) → AreValuesOf compiled.face.inputs inputs
-      → told_of compiled.face.labels (notes_of compiled.face.outputs) (flat_run compiled.flat inputs) ≡ Some (answer_to declared base written requests inputs)
+      → told_of compiled.face.labels (notes_of compiled.face.outputs) (flat_run compiled.tidy inputs) ≡ Some (answer_to declared base written requests inputs)
