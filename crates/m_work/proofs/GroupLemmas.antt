@@ -55,12 +55,12 @@ answered_all flat face [] = refl
 answered_all flat face (row ∷ rows) = ap (λ rest. household_lines row.label face (row_answer flat row) ++ rest) (answered_all flat face rows)
 
 -- rows by a program are rows by its scheme, where they give the inputs values that it may be asked for
-pub rows_told : (scheme : Scheme) (program : Program) (rows : List Row) → Shows scheme program → program.flat.inputs ≡ length scheme.inputs
-    → AllByRecursion (λ row. AreValuesOf scheme.inputs (values_of row.household.pairs (length scheme.inputs))) rows → program_lines program.flat program.face rows ≡ rows_lines scheme rows
+pub rows_told : (scheme : Scheme) (program : Program) (rows : List Row) → Shows scheme program → program.tidy.inputs ≡ length scheme.inputs
+    → AllByRecursion (λ row. AreValuesOf scheme.inputs (values_of row.household.pairs (length scheme.inputs))) rows → program_lines program.tidy program.face rows ≡ rows_lines scheme rows
 rows_told scheme program [] shown many given = refl
 rows_told scheme program (row ∷ rows) shown many given =
-    ap (λ text. (joined (codes "household " ∷ row.label ∷ new_line ∷ []) ++ text) ++ program_lines program.flat program.face rows)
-    (ap (λ n. answer_lines program.face (flat_run program.flat (values_of row.household.pairs n))) many
+    ap (λ text. (joined (codes "household " ∷ row.label ∷ new_line ∷ []) ++ text) ++ program_lines program.tidy program.face rows)
+    (ap (λ n. answer_lines program.face (flat_run program.tidy (values_of row.household.pairs n))) many
     ∙ lines_told scheme program (values_of row.household.pairs (length scheme.inputs)) shown given.0)
     ∙ ap (λ rest. (joined (codes "household " ∷ row.label ∷ new_line ∷ []) ++ told_lines scheme.names (scheme.tells (values_of row.household.pairs (length scheme.inputs)))) ++ rest)
     (rows_told scheme program rows shown many given.1)

@@ -29,11 +29,11 @@ use Rattle.m_work.specs.inner.Answers.{IsAnswerOf}
 many_codes : (inputs : List Coded) → length (codes_of inputs) ≡ length inputs
 many_codes inputs = length-map inputs (λ (c : Coded). c.code)
 
-pub as_many : (scheme : Scheme) (program : Program) → IsRunnable program.face program.flat → Shows scheme program → program.flat.inputs ≡ length scheme.inputs
+pub as_many : (scheme : Scheme) (program : Program) → IsRunnable program.face program.tidy → Shows scheme program → program.tidy.inputs ≡ length scheme.inputs
 as_many scheme program runs shown =
     sym runs.shown.inputs ∙ sym (many_codes program.face.inputs) ∙ ap length shown.codes ∙ many_codes scheme.inputs
 
-pub as_many_codes : (program : Program) → IsRunnable program.face program.flat → length (codes_of program.face.inputs) ≡ program.flat.inputs
+pub as_many_codes : (program : Program) → IsRunnable program.face program.tidy → length (codes_of program.face.inputs) ≡ program.tidy.inputs
 as_many_codes program runs = many_codes program.face.inputs ∙ runs.shown.inputs
 
 -- the lines of what a program tells
@@ -44,8 +44,8 @@ told_answer scheme program answer told shown is =
 
 -- the lines of a program's answer to values
 pub lines_told : (scheme : Scheme) (program : Program) (vs : List Value) → Shows scheme program → AreValuesOf scheme.inputs vs
-    → answer_lines program.face (flat_run program.flat vs) ≡ told_lines scheme.names (scheme.tells vs)
-lines_told scheme program vs shown given = told_answer scheme program (flat_run program.flat vs) (scheme.tells vs) shown (shown.answers vs given)
+    → answer_lines program.face (flat_run program.tidy vs) ≡ told_lines scheme.names (scheme.tells vs)
+lines_told scheme program vs shown given = told_answer scheme program (flat_run program.tidy vs) (scheme.tells vs) shown (shown.answers vs given)
 
 -- ---- a household
 
@@ -55,10 +55,10 @@ pub given_by : (scheme : Scheme) (program : Program) (rows : List ℕ) (answer :
 given_by scheme program rows answer shown of = subst (λ codes. household_of codes rows ≡ Ok of.pairs) shown.codes of.given
 
 -- what it is told
-pub household_told : (scheme : Scheme) (program : Program) (rows : List ℕ) (answer : Answer) → IsRunnable program.face program.flat → Shows scheme program → (of : IsAnswerOf program rows answer)
+pub household_told : (scheme : Scheme) (program : Program) (rows : List ℕ) (answer : Answer) → IsRunnable program.face program.tidy → Shows scheme program → (of : IsAnswerOf program rows answer)
     → told_of program.face.labels (notes_of program.face.outputs) answer ≡ Some (told_to scheme of.pairs)
 household_told scheme program rows answer runs shown of =
-    ap (told_of program.face.labels (notes_of program.face.outputs)) (of.ran ∙ ap (λ n. flat_run program.flat (values_of of.pairs n)) (as_many scheme program runs shown))
+    ap (told_of program.face.labels (notes_of program.face.outputs)) (of.ran ∙ ap (λ n. flat_run program.tidy (values_of of.pairs n)) (as_many scheme program runs shown))
     ∙ shown.answers (values_of of.pairs (length scheme.inputs)) (household_gives scheme.inputs rows of.pairs shown.any (given_by scheme program rows answer shown of))
 
 stopped_status : (found : Option FaceLabel) (stop : Stop) (told : Told) → option_map (λ label. stopped (cause_of stop label)) found ≡ Some told → status.Stopped ≡ told_status told

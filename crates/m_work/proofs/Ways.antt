@@ -75,7 +75,7 @@ rows_refused front scheme program rows fault old new status shown (inl (line, re
 rows_refused front scheme program rows fault old new status shown (inr (same, memory)) = no_memory same memory
 
 pub rows_printed : (front : List ℕ) (scheme : Scheme) (program : Program) (rows : List ℕ) (answer : Answer) (old new : OutputView) (status : Status)
-    → IsRunnable program.face program.flat → Shows scheme program → (of : IsAnswerOf program rows answer)
+    → IsRunnable program.face program.tidy → Shows scheme program → (of : IsAnswerOf program rows answer)
     → Prints (front ++ answer_lines program.face answer) (answer_status answer) old new status → IsAnswered (HouseholdReplies front scheme rows) old new status
 rows_printed front scheme program rows answer old new status runs shown of p =
     let told = told_to scheme of.pairs in
@@ -175,15 +175,15 @@ served_as one ended other also heard told old new status w e (too_long taken mov
 served_as one ended other also heard told old new status w e (unwritten taken rest moved left calm breaks is) =
     unwritten taken rest moved left calm (subst (λ text. Breaks text old new) (w (taken ++ rest)) breaks) is
 
-same_replies : (scheme : Scheme) (program : Program) (rows : List ℕ) (session : Sitting) → IsRunnable program.face program.flat → Shows scheme program → (of : IsBegun program rows session)
+same_replies : (scheme : Scheme) (program : Program) (rows : List ℕ) (session : Sitting) → IsRunnable program.face program.tidy → Shows scheme program → (of : IsBegun program rows session)
     → household_of (scheme_codes scheme) rows ≡ Ok of.pairs → (lines : List (List ℕ)) → replies_to session lines ≡ replies_by scheme of.pairs lines
 same_replies scheme program rows session runs shown of given lines =
     ap (λ sitting. replies_to sitting lines) of.begins
-    ∙ ap (λ n. replies_to (record { flat = program.flat; face = program.face; values = values_of of.pairs n }) lines) (as_many scheme program runs shown)
-    ∙ replies_are scheme.inputs (showing_of (begun program.flat program.face of.pairs)) (scheme_showing scheme) shown.any shown.codes (λ vs all. lines_told scheme program vs shown all)
+    ∙ ap (λ n. replies_to (record { flat = program.tidy; face = program.face; values = values_of of.pairs n }) lines) (as_many scheme program runs shown)
+    ∙ replies_are scheme.inputs (showing_of (begun program.tidy program.face of.pairs)) (scheme_showing scheme) shown.any shown.codes (λ vs all. lines_told scheme program vs shown all)
     lines (values_of of.pairs (length scheme.inputs)) (household_gives scheme.inputs rows of.pairs shown.any given)
 
-pub session_served : (scheme : Scheme) (program : Program) (rows : List ℕ) (session : Sitting) → IsRunnable program.face program.flat → Shows scheme program → (of : IsBegun program rows session)
+pub session_served : (scheme : Scheme) (program : Program) (rows : List ℕ) (session : Sitting) → IsRunnable program.face program.tidy → Shows scheme program → (of : IsBegun program rows session)
     → (heard told : InputView) (old new : OutputView) (status : Status)
     → Served (replies_of session) (λ taken. replies_to session (ended_lines taken)) heard told old new status → IsServedBy scheme rows heard told old new status
 session_served scheme program rows session runs shown of heard told old new status done =
@@ -199,7 +199,7 @@ any_said [] = tt
 any_said (code ∷ codes) = (refl, any_said codes)
 
 -- what a source is compiled to is prepared
-pub is_prepared : (source : Source) (compiled : Compiled) → IsCompiled source compiled → IsPrepared source (record { face = compiled.face; flat = compiled.flat })
+pub is_prepared : (source : Source) (compiled : Compiled) → IsCompiled source compiled → IsPrepared source (record { face = compiled.face; tidy = compiled.tidy })
 is_prepared source compiled is = record {
   scheme = scheme_said is.declared is.base is.written is.requests;
   valid = record { declared = is.declared; base = is.base; written = is.written; requests = is.requests; valid = is.valid; said = refl };

@@ -30,7 +30,7 @@ pub record Shows (scheme : Scheme) (program : Program) : Type 0 where
   pub any : AreAny scheme.inputs
   pub names : names_of program.face.outputs ≡ scheme.names
   pub answers : (values : List Value) → AreValuesOf scheme.inputs values
-      → told_of program.face.labels (notes_of program.face.outputs) (flat_run program.flat values) ≡ Some (scheme.tells values)
+      → told_of program.face.labels (notes_of program.face.outputs) (flat_run program.tidy values) ≡ Some (scheme.tells values)
 
 -- The source is valid, and the program is to households what the source is.
 pub record IsPrepared (source : Source) (program : Program) : Type 0 where

@@ -53,15 +53,16 @@ pub fn answer_batch<R: Threads + Sync, K: Sink>(
     table: &[u8],
     out: &mut K,
 ) -> Status
-    requires { IsRunnable program.now.face program.now.flat }
+    requires { IsRunnable program.now.face program.now.tidy }
     ensures { (scheme : Scheme) → Shows scheme program.now
         → IsWrittenInParts (TableReplies scheme table.now) (output_view K.written K.faults out.old) (output_view K.written K.faults out.new) result }
 {
+    let flat = program.tidy.flat();
     match rows_of(alloc, program, table) {
         Ok(rows) => status_of_rows(print_rows(
             rt,
             alloc,
-            &program.flat,
+            flat,
             &program.face,
             rows.as_slice(),
             out,
@@ -72,7 +73,7 @@ pub fn answer_batch<R: Threads + Sync, K: Sink>(
 
 // The rows of the table of these bytes, by the codes of a program.
 fn rows_of(alloc: Global, program: &Program, table: &[u8]) -> Result<Seq<Row>, HouseholdFault>
-    requires { IsRunnable program.now.face program.now.flat }
+    requires { IsRunnable program.now.face program.now.tidy }
     ensures outcome { Outcome NoMemory result (λ rows. table_of (codes_of program.now.face.inputs) table.now ≡ Ok rows) (λ fault. table_of (codes_of program.now.face.inputs) table.now ≡ Err fault) }
     ensures inputs { IfOk result (λ rows. AllByRecursion (λ row. AreInputs (length (codes_of program.now.face.inputs)) row.household.pairs) rows) }
 {

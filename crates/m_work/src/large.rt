@@ -78,7 +78,7 @@ fn large_requests(alloc: Global, n: u32) -> Result<Vec<u8>, AllocError>
 pub fn answer_large<K: Sink>(alloc: Global, n: u32, program: &Program, out: &mut K) -> Status
     requires some { 1 ≤ n }
     requires few { n ≤ LARGE }
-    requires runnable { IsRunnable program.now.face program.now.flat }
+    requires runnable { IsRunnable program.now.face program.now.tidy }
     ensures { (scheme : Scheme) → Shows scheme program.now
         → IsAnswered (HouseholdReplies (large_line n) scheme (household_text n)) (output_view K.written K.faults out.old) (output_view K.written K.faults out.new) result }
 {
@@ -100,9 +100,10 @@ fn print_answered<K: Sink>(
     held: &mut FixedText,
     out: &mut K,
 ) -> Status
-    requires { IsRunnable program.now.face program.now.flat }
+    requires runnable { IsRunnable program.now.face program.now.tidy }
+    requires generated { household.now ≡ household_text n }
     ensures { (scheme : Scheme) → Shows scheme program.now
-        → IsAnswered (HouseholdReplies (large_line n) scheme household.now) (output_view K.written K.faults out.old) (output_view K.written K.faults out.new) result }
+        → IsAnswered (HouseholdReplies (large_line n) scheme (household_text n)) (output_view K.written K.faults out.old) (output_view K.written K.faults out.new) result }
 {
     match answer_of(alloc, program, household) {
         Ok(answer) => printed(

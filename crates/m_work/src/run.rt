@@ -40,7 +40,7 @@ pub fn run_source<K: Sink>(alloc: Global, source: &Source, household: &[u8], out
 
 /// Prints what a program answers to the household of these bytes, or the line by which that is refused.
 pub fn answer_run<K: Sink>(alloc: Global, program: &Program, household: &[u8], out: &mut K) -> Status
-    requires { IsRunnable program.now.face program.now.flat }
+    requires { IsRunnable program.now.face program.now.tidy }
     ensures { (scheme : Scheme) → Shows scheme program.now
         → IsAnswered (HouseholdReplies [] scheme household.now) (output_view K.written K.faults out.old) (output_view K.written K.faults out.new) result }
 {
@@ -62,17 +62,18 @@ pub(crate) fn answer_of(
     program: &Program,
     household: &[u8],
 ) -> Result<Answer, HouseholdFault>
-    requires { IsRunnable program.now.face program.now.flat }
+    requires { IsRunnable program.now.face program.now.tidy }
     ensures { Outcome Memory result (IsAnswerOf program.now household.now) (λ fault. household_of (codes_of program.now.face.inputs) household.now ≡ Err fault) }
 {
+    let flat = program.tidy.flat();
     let given = given(alloc, program, household)?;
-    let values = values(alloc, &given, program.flat.inputs)?;
-    Ok(run_flat(alloc, &program.flat, &values)?)
+    let values = values(alloc, &given, flat.inputs)?;
+    Ok(run_flat(alloc, flat, &values)?)
 }
 
 // The household of these bytes, by the codes of a program.
 fn given(alloc: Global, program: &Program, household: &[u8]) -> Result<Household, HouseholdFault>
-    requires { IsRunnable program.now.face program.now.flat }
+    requires { IsRunnable program.now.face program.now.tidy }
     ensures outcome { Outcome Memory result (λ given. household_of (codes_of program.now.face.inputs) household.now ≡ Ok given.pairs) (λ fault. household_of (codes_of program.now.face.inputs) household.now ≡ Err fault) }
     ensures inputs { IfOk result (λ given. AreInputs (length (codes_of program.now.face.inputs)) given.pairs) }
 {

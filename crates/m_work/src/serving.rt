@@ -50,7 +50,7 @@ pub fn answer_serve<S: Input, K: Sink>(
     input: &mut S,
     out: &mut K,
 ) -> Status
-    requires { IsRunnable program.face program.flat }
+    requires { IsRunnable program.face program.tidy }
     ensures { (scheme : Scheme) → Shows scheme program
         → IsServedBy scheme household.now (input_view S.left S.faults input.old) (input_view S.left S.faults input.new)
         (output_view K.written K.faults out.old) (output_view K.written K.faults out.new) result }
@@ -63,11 +63,11 @@ pub fn answer_serve<S: Input, K: Sink>(
 
 // The session of a program that begins with a household, or the household's fault.
 fn session_of(alloc: Global, program: Program, household: &[u8]) -> Result<Session, HouseholdFault>
-    requires { IsRunnable program.face program.flat }
+    requires { IsRunnable program.face program.tidy }
     ensures { Outcome Memory result (λ session. IsBegun program household.now session.sitting) (λ fault. household_of (codes_of program.face.inputs) household.now ≡ Err fault) }
 {
     let codes = Codes::new(alloc, program.face.inputs.as_slice())?;
     let given = read_household(alloc, household, &codes)?;
-    let Program { face, flat } = program;
-    Ok(Session::start(alloc, flat, face, codes, &given)?)
+    let Program { face, tidy } = program;
+    Ok(Session::start(alloc, tidy, face, codes, &given)?)
 }

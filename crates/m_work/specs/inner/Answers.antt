@@ -11,10 +11,10 @@ use Rattle.m_work.specs.declared.program.Program.{Program}
 pub record IsAnswerOf (program : Program) (rows : List ℕ) (answer : Answer) : Type 0 where
   pub pairs : List (ℕ × ℤ)
   pub given : household_of (codes_of program.face.inputs) rows ≡ Ok pairs
-  pub ran : answer ≡ flat_run program.flat (values_of pairs program.flat.inputs)
+  pub ran : answer ≡ flat_run program.tidy (values_of pairs program.tidy.inputs)
 
 -- the household of these bytes has no fault, and the session begins with it
 pub record IsBegun (program : Program) (rows : List ℕ) (session : Sitting) : Type 0 where
   pub pairs : List (ℕ × ℤ)
   pub given : household_of (codes_of program.face.inputs) rows ≡ Ok pairs
-  pub begins : session ≡ begun program.flat program.face pairs
+  pub begins : session ≡ begun program.tidy program.face pairs

@@ -12,7 +12,7 @@ pub give_answer-requires : goal.give_answer-requires
 give_answer-requires g c =
     let of = c.in-Ok.ensures in
     subst (AnswerIsWithin c.args.program.now.face) (sym of.ran)
-    (run_within c.args.program.now.flat c.args.program.now.face (values_of of.pairs c.args.program.now.flat.inputs) c.requires.shown)
+    (run_within c.args.program.now.tidy c.args.program.now.face (values_of of.pairs c.args.program.now.tidy.inputs) c.requires.shown)
 
 pub returns-in-Ok : goal.returns-in-Ok
 returns-in-Ok g c = λ scheme shown.
