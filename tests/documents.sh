@@ -80,7 +80,7 @@ if command -v python3 >/dev/null 2>&1; then
 fi
 
 # English: no page has a word that ARCHITECTURE's table replaces, outside of code; MUTANTS, which is made of the files, has them.
-for page in $(git ls-files '*.md' | grep -v '^crates/\|^bench/\|^docs/MUTANTS.md'); do
+for page in $(git ls-files '*.md' | grep -v '^crates/\|^bench/\|^unlanded/\|^docs/MUTANTS.md'); do
     awk '/^```/{code = !code; next} !code && !/looks that no page has/' "$page" | sed 's/`[^`]*`//g; s/REFUSALS.md//g; s/front page//g; s/leave it behind//g' |
         grep -niwE "front|fronts|behind|want of|wrong body|wrong bodies|second reading|refusal|refusals|weighs" | sed "s|^|$page: |"
 done >"$room/words"
@@ -89,7 +89,7 @@ echo none >"$room/none"
 same "the words of the pages and ARCHITECTURE's table" "$room/none" "$room/words"
 
 # Links: each names a file that is there.
-git ls-files '*.md' | while read -r page; do
+git ls-files '*.md' | grep -v '^unlanded/' | while read -r page; do
     sed 's/`[^`]*`//g' "$page" | grep -oE '\]\([^):]+\)' | sed 's/^](//; s/)$//; s/#.*//' | while read -r link; do
         [ -z "$link" ] || echo "$page $(dirname "$page")/$link"
     done

@@ -9,7 +9,7 @@ use Rattle.m_symbols.specs.declared.variable.Variable.{Variable}
 use Rattle.m_symbols.specs.Declarations.{Declared}
 use Rattle.micro_m.specs.declared.base.Base.{Base}
 use Rattle.micro_m.specs.Values.{environment}
-use Rattle.flat_code.specs.Answers.{Told, values, stopped}
+use Rattle.observables.specs.Answers.{Told, values, stopped}
 use Rattle.driver_core.specs.declared.program.Core.{Core}
 use Rattle.driver_core.specs.Meaning.{Env, RunState, goes, stops, run_of}
 
@@ -36,7 +36,7 @@ start_of declared inputs = start_from inputs 0 declared.variables
 
 -- what is told of the requested cells
 abbrev pub told_by : List ℕ → RunState → Told
-told_by requests (goes env) = values (map (environment env) requests)
+told_by requests (goes env) = values [] (map (environment env) requests)
 told_by requests (stops cause) = stopped cause
 
 -- What a driver answers over the rules of a base, for the inputs' values in order of declaration: what ended the run, or the

@@ -10,7 +10,7 @@ use Rattle.micro_m.specs.declared.base.Failure.{Failure}
 use Rattle.micro_m.specs.declared.base.Failure.TheVariants.{Failed, Over as OverCheck}
 use Rattle.micro_m.specs.Values.{Environment, environment, applied, value_of}
 use Rattle.micro_m.specs.Failures.{first_failure}
-use Rattle.flat_code.specs.Answers.{Cause, failed, over, over_driver}
+use Rattle.observables.specs.Answers.{Cause, failed, over, over_driver}
 use Rattle.driver_core.specs.declared.program.Core.{Core}
 use Rattle.driver_core.specs.Formulas.{Formula, lit, cell, apply, chain, exists, Formulas, no_formulas, a_formula, Steps, no_steps, a_step}
 use Rattle.driver_core.specs.Actions.{Action, assign, clear, branch, partition, call, solve, Block, no_actions, an_action}

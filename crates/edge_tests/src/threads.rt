@@ -1,5 +1,5 @@
 //! Types that may be sent to other threads and shared with them. That this compiles is the test.
-use flat_code::{Answer, Face, FaceLabel, Stop};
+use observables::{Answer, Face, FaceLabel, Stop};
 use household::{Household, HouseholdFault, Row};
 
 fn crosses_threads<T: Send + Sync>() {}

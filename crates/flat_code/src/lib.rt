@@ -1,15 +1,16 @@
-//! Flat programs, what they answer, and what they show of themselves: the codes of their inputs, the
-//! labels of their stops and the names of their outputs.
+//! Flat programs, their run, what is known of their nodes, and their tidy form.
 //!
 //! This crate knows nothing of rules, drivers or printed lines.
 #![tactic(auto)]
 
-mod answer;
-mod face;
+mod hash;
+mod laws;
 mod program;
 mod run;
+pub mod touched;
+mod tidy;
 
-pub use answer::{Answer, Stop};
-pub use face::{Face, FaceLabel};
+pub use laws::{facts_hold, passes_compose};
 pub use program::{Check, Flat, Node};
 pub use run::{run_flat, stop_among, value_of};
+pub use tidy::Tidy;

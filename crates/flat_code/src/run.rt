@@ -4,9 +4,10 @@ ghost use Rattle.std.specs.List.{AllByRecursion};
 ghost use Rattle.m_fixed.specs.declared.amount.Value.{Value};
 ghost use Rattle.flat_code.specs.Runs.{IsFlat, IsNode, AreNodes, IsCheck, entry_of, values_for, node_values, value_at, is_one, stop_of, check_stop, first_stop, flat_run};
 
-use crate::{Answer, Check, Flat, Node, Stop};
+use crate::{Check, Flat, Node};
 use m_fixed::{Amount, Value, apply};
 use m_places::Seq;
+use observables::{Answer, Stop};
 use std::alloc::{AllocError, Global};
 
 /// What a program answers for these inputs, one for each of its inputs. It takes one step for each node,

@@ -2,7 +2,7 @@
 use Rattle.std.proofs.Common.{◌≡◌, ℕ, ◌+◌, ◌<◌, length, get_or, take, List, [], ◌∷◌, ◌++◌, sym, ◌∙◌, ap}
 use Rattle.std.specs.List.{AllByRecursion}
 use Rattle.std.proofs.lemmas.List.{take_more, map-append}
-use Rattle.flat_code.specs.declared.answer.Answer.{Answer}
+use Rattle.observables.specs.declared.answer.Answer.{Answer}
 use Rattle.flat_code.specs.declared.program.Flat.{Flat}
 use Rattle.household.specs.declared.table.Row.{Row}
 use Rattle.household.specs.Household.{AreInputs}

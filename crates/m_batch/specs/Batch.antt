@@ -1,7 +1,7 @@
 -- What the rows of a table are answered.
 use Rattle.std.specs.Prelude.{ℕ, ◌<◌, List, map}
 use Rattle.std.specs.List.{AllByRecursion}
-use Rattle.flat_code.specs.declared.answer.Answer.{Answer}
+use Rattle.observables.specs.declared.answer.Answer.{Answer}
 use Rattle.flat_code.specs.declared.program.Flat.{Flat}
 use Rattle.flat_code.specs.Runs.{flat_run}
 use Rattle.household.specs.declared.table.Row.{Row}

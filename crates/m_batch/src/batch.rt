@@ -4,7 +4,8 @@ ghost use Rattle.std.specs.List.{AllByRecursion};
 ghost use Rattle.flat_code.specs.Runs.{IsFlat};
 ghost use Rattle.m_batch.specs.Batch.{HasInputsBelow, row_answer, answers_of};
 
-use flat_code::{Answer, Flat, run_flat};
+use flat_code::{Flat, run_flat};
+use observables::Answer;
 use household::{Row, values};
 use m_places::Seq;
 use std::alloc::{AllocError, Global};

@@ -5,7 +5,7 @@ use Rattle.m_ports.specs.Counts.{Rose}
 use Rattle.m_ports.specs.Files.{failed_count}
 use Rattle.m_ports.specs.declared.files.Attempt.{Attempt}
 use Rattle.m_ports.proofs.FileLemmas.{failed_count-append}
-use Rattle.flat_code.specs.Answers.{Told, values, stopped}
+use Rattle.observables.specs.Answers.{Told, values, stopped}
 use Rattle.household.specs.Household.{household_of}
 use Rattle.household.specs.Table.{table_of}
 use Rattle.m_large.specs.Large.{household_text}
@@ -39,7 +39,7 @@ use Rattle.m_commands.proofs.Ways.{Way, way_of, tells, lacks_memory, breaks_off,
 
 -- what is told is the end of a command that did all of its work
 told_complete : (told : Told) → IsComplete (told_status told)
-told_complete (values vs) = tt
+told_complete (values notes vs) = tt
 told_complete (stopped cause) = tt
 
 -- nothing that is typed is as much as is taken

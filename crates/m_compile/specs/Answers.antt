@@ -3,7 +3,7 @@ use Rattle.std.specs.Prelude.{ℕ, List, Option}
 use Rattle.m_fixed.specs.declared.amount.Value.{Value}
 use Rattle.m_symbols.specs.Declarations.{Declared}
 use Rattle.micro_m.specs.declared.base.Base.{Base}
-use Rattle.flat_code.specs.Answers.{Told}
+use Rattle.observables.specs.Answers.{Told}
 use Rattle.driver_core.specs.declared.program.Core.{Core}
 use Rattle.driver_core.specs.Answers.{answer_of}
 use Rattle.m_compile.specs.Sources.{running}

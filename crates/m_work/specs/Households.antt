@@ -2,9 +2,9 @@
 use Rattle.std.specs.Prelude.{ℕ, List, Option, Some, None}
 use Rattle.fault_lines.specs.Lines.{household_header_line, household_line, too_many_rows_line}
 use Rattle.fault_lines.specs.declared.fault.RowFault.TheVariants as row
-use Rattle.flat_code.specs.Answers.{Told, values, stopped}
-use Rattle.flat_code.specs.declared.answer.Answer.{Answer}
-use Rattle.flat_code.specs.declared.answer.Answer.TheVariants.{Values, Stopped as AnswerStopped}
+use Rattle.observables.specs.Answers.{Told, values, stopped}
+use Rattle.observables.specs.declared.answer.Answer.{Answer}
+use Rattle.observables.specs.declared.answer.Answer.TheVariants.{Values, Stopped as AnswerStopped}
 use Rattle.household.specs.declared.fault.HouseholdFault.{HouseholdFault}
 use Rattle.household.specs.declared.fault.HouseholdFault.TheVariants.{BadHeader, TooManyRows, BadRow, UnknownCode, BadAmount, CodeTwice, Memory}
 use Rattle.m_plan.specs.declared.status.Status.{Status}
@@ -22,7 +22,7 @@ household_fault_line Memory = None
 
 -- the status of what is told: the values, or what stopped the run
 abbrev pub told_status : Told → Status
-told_status (values vs) = Done
+told_status (values notes vs) = Done
 told_status (stopped cause) = Stopped
 
 -- the status of an answer of a program

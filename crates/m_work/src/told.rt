@@ -7,7 +7,7 @@ ghost use Rattle.m_work.specs.Households.{answer_status, household_fault_line};
 ghost use Rattle.m_work.specs.inner.Refusals.{TellsLine};
 
 use fault_lines::{Fault, RowFault};
-use flat_code::Answer;
+use observables::Answer;
 use household::HouseholdFault;
 use m_plan::{Status, print_fault};
 use m_ports::Sink;

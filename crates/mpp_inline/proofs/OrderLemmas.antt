@@ -18,7 +18,7 @@ use Rattle.micro_m.specs.Values.{environment, term_value, value_of}
 use Rattle.micro_m.specs.Failures.{Check, failure_of, failure_among, first_failure}
 use Rattle.rule_order.specs.Orders.{IsOrder}
 use Rattle.rule_order.proofs.ValueLemmas.{filled, filled-values, failure_among-same}
-use Rattle.flat_code.specs.Answers.{Cause, failed, over}
+use Rattle.observables.specs.Answers.{Cause, failed, over}
 use Rattle.driver_core.specs.declared.program.Core.{Core}
 use Rattle.driver_core.specs.Actions.{Action, assign, clear, branch, partition, call, solve, Block, no_actions, an_action}
 use Rattle.driver_core.specs.Valid.{body_among}

@@ -9,13 +9,13 @@ use Rattle.std.proofs.lemmas.List.Sums.{fold-append}
 use Rattle.m_fixed.specs.declared.amount.Value.{Value}
 use Rattle.m_fixed.specs.declared.amount.Value.TheVariants.{Undef, Num, Over}
 use Rattle.m_fixed.specs.Operators.{is_zero}
-use Rattle.flat_code.specs.declared.answer.Stop.{Stop}
-use Rattle.flat_code.specs.declared.answer.Stop.TheVariants.{Failed, Over as OverAt}
+use Rattle.observables.specs.declared.answer.Stop.{Stop}
+use Rattle.observables.specs.declared.answer.Stop.TheVariants.{Failed, Over as OverAt}
 use Rattle.flat_code.specs.declared.program.Node.{Node}
 use Rattle.flat_code.specs.declared.program.Check.{Check}
-use Rattle.flat_code.specs.declared.face.FaceLabel.{FaceLabel}
-use Rattle.flat_code.specs.declared.face.FaceLabel.TheVariants.{Verif, DriverLine}
-use Rattle.flat_code.specs.Answers.{Cause, cause_of}
+use Rattle.observables.specs.declared.face.FaceLabel.{FaceLabel}
+use Rattle.observables.specs.declared.face.FaceLabel.TheVariants.{Verif, DriverLine}
+use Rattle.observables.specs.Answers.{Cause, cause_of}
 use Rattle.flat_code.specs.Runs.{entry_of, values_for, node_values, is_one, stop_of, check_stop, first_stop}
 use Rattle.flat_code.proofs.RunLemmas.{length-node_values}
 use Rattle.mpp_inline.specs.inner.Growth.{stop_read, IsCheckWithin}

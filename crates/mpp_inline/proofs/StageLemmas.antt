@@ -13,9 +13,9 @@ use Rattle.micro_m.specs.Failures.{Check}
 use Rattle.micro_m.specs.declared.base.Failure.TheVariants.{Failed}
 use Rattle.micro_m.specs.Values.{Environment, environment, term_value}
 use Rattle.flat_code.specs.declared.program.Node.TheVariants.{Do}
-use Rattle.flat_code.specs.declared.face.FaceLabel.{FaceLabel}
-use Rattle.flat_code.specs.declared.face.FaceLabel.TheVariants.{Verif, DriverLine}
-use Rattle.flat_code.specs.Answers.{Cause, failed, over}
+use Rattle.observables.specs.declared.face.FaceLabel.{FaceLabel}
+use Rattle.observables.specs.declared.face.FaceLabel.TheVariants.{Verif, DriverLine}
+use Rattle.observables.specs.Answers.{Cause, failed, over}
 use Rattle.driver_core.specs.Meaning.{Env, RunState, goes, stops, then_do, chosen_block, with_values, failure_cause, unless_stopped}
 use Rattle.mpp_inline.specs.declared.builder.Builder.{Builder}
 use Rattle.mpp_inline.specs.inner.Cells.{picked, written, received}

@@ -4,7 +4,8 @@ ghost use Rattle.std.specs.Prelude.{◌≡◌, ◌<◌, IfOk, length};
 ghost use Rattle.std.specs.List.{AllByRecursion};
 ghost use Rattle.flat_code.specs.Runs.{IsFlat};
 
-use flat_code::{Answer, Check, Face, FaceLabel, Flat, Node, Stop};
+use flat_code::{Check, Flat, Node};
+use observables::{Answer, Face, FaceLabel, Stop};
 use household::{Codes, Household, read_table};
 use household_session::Session;
 use m_batch::run_batch;

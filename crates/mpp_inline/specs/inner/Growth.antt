@@ -12,12 +12,12 @@ use Rattle.micro_m.specs.declared.base.Base.{Base}
 use Rattle.micro_m.specs.Bases.{is_among, target_at, term_at}
 use Rattle.micro_m.specs.Failures.{Check, failure_of}
 use Rattle.micro_m.specs.Values.{Environment, environment, term_value}
-use Rattle.flat_code.specs.declared.answer.Stop.{Stop}
+use Rattle.observables.specs.declared.answer.Stop.{Stop}
 use Rattle.flat_code.specs.declared.program.Node.{Node}
 use Rattle.flat_code.specs.declared.program.Check.{Check as Guarded}
-use Rattle.flat_code.specs.declared.face.FaceLabel.{FaceLabel}
-use Rattle.flat_code.specs.declared.face.FaceLabel.TheVariants.{Verif, DriverLine}
-use Rattle.flat_code.specs.Answers.{Cause, over_driver, label_number, cause_of}
+use Rattle.observables.specs.declared.face.FaceLabel.{FaceLabel}
+use Rattle.observables.specs.declared.face.FaceLabel.TheVariants.{Verif, DriverLine}
+use Rattle.observables.specs.Answers.{Cause, over_driver, label_number, cause_of}
 use Rattle.flat_code.specs.Runs.{AreNodes, node_values, first_stop}
 use Rattle.driver_core.specs.declared.program.Core.{Core}
 use Rattle.driver_core.specs.Actions.{Action, Block}

@@ -1,10 +1,10 @@
 -- What a program tells at its end.
-use Rattle.std.specs.Prelude.{◌≡◌, ℕ, ◌<◌, List, Option, Some, None, map, length}
+use Rattle.std.specs.Prelude.{◌≡◌, ℕ, ◌<◌, List, [], Option, Some, None, map, length}
 use Rattle.std.specs.List.{AllByRecursion}
 use Rattle.m_fixed.specs.declared.amount.Value.{Value}
 use Rattle.m_symbols.specs.Declarations.{Declared, inputs_from}
 use Rattle.micro_m.specs.declared.base.Base.{Base}
-use Rattle.flat_code.specs.Answers.{Cause, Told, values, stopped}
+use Rattle.observables.specs.Answers.{Cause, Told, values, stopped}
 use Rattle.driver_core.specs.declared.program.Core.{Core}
 use Rattle.driver_core.specs.Answers.{answer_of}
 use Rattle.mpp_inline.specs.declared.builder.Builder.{Builder}
@@ -12,7 +12,7 @@ use Rattle.mpp_inline.specs.inner.Growth.{count, at, stop_of, Sane, HasFaces}
 
 -- the stop if there is one, and else these values
 abbrev pub ended : Option Cause → List Value → Told
-ended None vs = values vs
+ended None vs = values [] vs
 ended (Some cause) vs = stopped cause
 
 -- a whole program with these outputs, which tells what the driver answers

@@ -1,5 +1,5 @@
 use Rattle.std.proofs.Common.{◌≡◌, ◌++◌, drop, map}
-use Rattle.flat_code.specs.declared.face.FaceLabel.TheVariants.{Verif}
+use Rattle.observables.specs.declared.face.FaceLabel.TheVariants.{Verif}
 use Rattle.mpp_inline.proofs.begin.first_labels.Given as goal
 
 abbrev pub invariant-loop-label : goal.invariant-loop-label

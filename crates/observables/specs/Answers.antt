@@ -1,0 +1,61 @@
+-- An answer read through a face: numbers of labels are replaced by what the labels tell, and notes are told apart from values.
+use Rattle.std.specs.Prelude.{ℕ, Bool, true, false, not, List, [], ◌∷◌, length, drop, Option, Some, None, option_map, slice_get, if◌then◌else◌}
+use Rattle.std.specs.List.{cons_option}
+use Rattle.m_fixed.specs.declared.amount.Value.{Value}
+use Rattle.m_fixed.specs.declared.amount.Value.TheVariants.{Undef, Num, Over as OverValue}
+use Rattle.m_fixed.specs.Operators.{is_zero}
+use Rattle.m_places.specs.declared.verification.Label.{Label}
+use Rattle.observables.specs.declared.answer.Answer.{Answer}
+use Rattle.observables.specs.declared.answer.Answer.TheVariants.{Values, Stopped}
+use Rattle.observables.specs.declared.answer.Stop.{Stop}
+use Rattle.observables.specs.declared.answer.Stop.TheVariants.{Failed, Over}
+use Rattle.observables.specs.declared.face.FaceLabel.{FaceLabel}
+use Rattle.observables.specs.declared.face.FaceLabel.TheVariants.{Verif, DriverLine}
+use Rattle.observables.specs.Outputs.{verif_at}
+
+-- what ended a run: a verification whose condition is a number other than 0, or is over, or a condition
+-- of the driver that is over, with its line
+pub data Cause : Type 0 where
+  failed : Label → Cause
+  over : Label → Cause
+  over_driver : ℕ → Cause
+
+-- what is told to a household: the verifications that are noted and the values of what was asked for, each in order, or what
+-- ended the run
+pub data Told : Type 0 where
+  values : List Label → List Value → Told
+  stopped : Cause → Told
+
+-- the label's number in a stop
+abbrev pub label_number : Stop → ℕ
+label_number (Failed label) = label
+label_number (Over label) = label
+
+-- What a stop at this label tells. At a line of the driver both stops tell that its condition is over. The checks of such lines
+-- look for over only; that they do is the program's affair, and no part of `IsFlat`.
+abbrev pub cause_of : Stop → FaceLabel → Cause
+cause_of stop (DriverLine line) = over_driver line
+cause_of (Failed number) (Verif label) = failed label
+cause_of (Over number) (Verif label) = over label
+
+-- whether a note with this value is told: it is a number other than 0
+abbrev pub is_told : Value → Bool
+is_told Undef = false
+is_told (Num z) = not (is_zero z)
+is_told OverValue = false
+
+-- the verification that a note with this value tells, by the number of its label, where it tells one
+abbrev pub note_told : List FaceLabel → ℕ → Value → Option Label
+note_told labels number value = if is_told value then verif_at labels number else None
+
+-- the verifications that notes with these values tell, in order
+abbrev pub notes_told : List FaceLabel → List ℕ → List Value → List Label
+notes_told labels [] vs = []
+notes_told labels (number ∷ numbers) [] = []
+notes_told labels (number ∷ numbers) (v ∷ vs) = cons_option (note_told labels number v) (notes_told labels numbers vs)
+
+-- An answer read through labels, where the first outputs are notes of labels with these numbers. There is none where it stops at a
+-- number that has no label.
+abbrev pub told_of : List FaceLabel → List ℕ → Answer → Option Told
+told_of labels notes (Values vs) = Some (values (notes_told labels notes vs) (drop (length notes) vs))
+told_of labels notes (Stopped stop) = option_map (λ label. stopped (cause_of stop label)) (slice_get labels (label_number stop))

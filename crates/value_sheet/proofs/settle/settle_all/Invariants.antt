@@ -1,0 +1,13 @@
+use Rattle.std.proofs.Common.{◌-◌, ◌≤◌, length}
+use Rattle.flat_code.specs.Runs.{node_values}
+use Rattle.value_sheet.specs.inner.Sound.{IsSettling}
+use Rattle.value_sheet.proofs.settle.settle_all.Given as goal
+
+abbrev pub invariant-loop-k : goal.invariant-loop-k
+invariant-loop-k g l = record {
+  settling : IsSettling l.nodes l.puts l.fn.kept (node_values l.inputs l.nodes) l.kept l.marks l.p l.fn.steps l.steps;
+  within : l.p ≤ length l.nodes;
+}
+
+abbrev pub decreases-loop-k : goal.decreases-loop-k
+decreases-loop-k g l = length l.nodes - l.p

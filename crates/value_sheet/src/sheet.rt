@@ -1,0 +1,146 @@
+//! The sheet.
+ghost use Rattle.std.specs.Prelude.{◌≡◌, ◌+◌, ◌*◌, ◌<◌, ◌↔◌, false, true, IsTrue, IfOk, length, replicate, slice_set};
+ghost use Rattle.m_fixed.specs.declared.amount.Value.{Value};
+ghost use Rattle.flat_code.specs.Runs.{IsFlat, first_stop, node_values, value_at};
+ghost use Rattle.flat_code.specs.Touched.{touched};
+ghost use Rattle.value_sheet.specs.Held.{fresh, output_value};
+
+use crate::build::{input_rows_of, readers_of, values_of};
+use crate::settle::settle_all;
+use dirty_set::Bits;
+use edge_rows::Rows;
+use flat_code::{Flat, stop_among};
+use m_fixed::Value;
+use observables::Stop;
+use std::alloc::{AllocError, Global};
+use std::marker::Model;
+use std::snapshot::Snapshot;
+use std::sync::ledger::Ledger;
+use steps::Steps;
+
+/// The kept values of a flat program. Contracts see the program, the inputs of the last settled state, those of now, and which
+/// were put since then; nothing of values, marks or edges.
+#[derive(Drop)]
+pub struct Sheet {
+    flat: Flat,
+    inputs: Vec<Value>,
+    puts: Bits,
+    // the value of each node in the last settled state
+    kept: Vec<Value>,
+    // empty between two calls
+    marks: Bits,
+    // of each node those that look at it, and of each input its nodes
+    readers: Rows,
+    input_rows: Rows,
+    // the inputs of the last settled state, for clauses alone: it takes no bytes
+    last: Snapshot<Vec<Value>>,
+}
+
+impl Model for Sheet {
+    ghost use Rattle.std.specs.Prelude.{length};
+    ghost use Rattle.value_sheet.specs.Held.{Held};
+
+    ghost Value = { Held };
+
+    ghost use Rattle.value_sheet.specs.inner.Sound.{IsSheet};
+
+    ghost view = { λ s. record { flat = s.flat; settled = s.last.value.items; now = s.inputs.items; put = s.puts } };
+
+    ghost invariant = { λ s. IsSheet s.flat s.last.value.items s.inputs.items s.puts s.kept.items s.marks s.readers s.input_rows };
+}
+
+impl Sheet {
+    /// The sheet of a program, of which all inputs are undefined. It is settled. The program's arguments are numbered in 32 bits.
+    /// Its only error is want of memory; no later call takes memory.
+    pub fn new(alloc: Global, flat: Flat) -> Result<Sheet, AllocError>
+        requires valid { IsFlat flat }
+        requires few { 3 * length flat.nodes < 4_294_967_295 }
+        ensures { IfOk result (λ sheet. sheet ≡ fresh flat) }
+    {
+        let nodes = flat.nodes.as_slice();
+        let readers = readers_of(alloc, nodes)?;
+        let input_rows = input_rows_of(alloc, nodes, flat.inputs)?;
+        let inputs = vec![in alloc; Value::Undef; flat.inputs as usize]?;
+        let kept = values_of(alloc, nodes, &inputs)?;
+        let marks = Bits::new(alloc, nodes.len() as u32)?;
+        let puts = Bits::new(alloc, flat.inputs)?;
+        let last = Snapshot::of(&inputs);
+        Ok(Sheet {
+            flat,
+            inputs,
+            puts,
+            kept,
+            marks,
+            readers,
+            input_rows,
+            last,
+        })
+    }
+
+    /// Sets an input, by its number. It evaluates nothing.
+    pub fn put(&mut self, input: u32, value: Value)
+        requires { input < self.old.flat.inputs }
+        ensures { self.new ≡ record self.old { now = slice_set self.old.now input value; put = slice_set self.old.put input true } }
+    {
+        self.inputs[input as usize] = value;
+        self.puts.insert(input);
+    }
+
+    /// Makes the value of each node that for the inputs as they are now. It takes one step for each node that is touched between the
+    /// inputs of the last settled state and those of now, and no other.
+    pub fn settle<L: Ledger>(&mut self, steps: &mut Steps<L>)
+        ensures after { self.new ≡ record self.old { settled = self.old.now; put = replicate (length self.old.put) false } }
+        ensures cost { steps.new ≡ steps.old + touched self.old.flat.nodes self.old.put self.old.settled self.old.now }
+    {
+        settle_all(
+            self.flat.nodes.as_slice(),
+            &self.inputs,
+            &self.puts,
+            &self.readers,
+            &self.input_rows,
+            &mut self.kept,
+            &mut self.marks,
+            steps,
+        );
+        self.puts.clear();
+        self.last = Snapshot::of(&self.inputs);
+    }
+
+    /// Whether nothing was put since the last settled state. Outputs and stops can be read then; they can also where all that was put
+    /// is as it was.
+    pub fn settled(&self) -> bool
+        ensures unput { IsTrue result ↔ (self.now.put ≡ replicate (length self.now.put) false) }
+        ensures settled { IsTrue result → self.now.settled ≡ self.now.now }
+    {
+        match self.puts.first() {
+            None => true,
+            Some(_) => false,
+        }
+    }
+
+    /// The value of an input as it is now: the last one that was put, or undefined.
+    pub fn input_value(&self, input: u32) -> Value
+        requires { input < self.now.flat.inputs }
+        ensures { result ≡ value_at self.now.now input }
+    {
+        self.inputs[input as usize]
+    }
+
+    /// The value of an output, by its number, where the inputs are those of the last settled state.
+    pub fn output(&self, k: u32) -> Value
+        requires settled { self.now.settled ≡ self.now.now }
+        requires output { k < length self.now.flat.outputs }
+        ensures { result ≡ output_value self.now.flat self.now.now k }
+    {
+        let node = self.flat.outputs.as_slice()[k as usize];
+        self.kept[node as usize]
+    }
+
+    /// What stops a run for the inputs as they are now, where they are those of the last settled state: the first check that stops.
+    pub fn stop(&self) -> Option<Stop>
+        requires { self.now.settled ≡ self.now.now }
+        ensures { result ≡ first_stop (node_values self.now.now self.now.flat.nodes) self.now.flat.checks }
+    {
+        stop_among(self.flat.checks.as_slice(), &self.kept)
+    }
+}
