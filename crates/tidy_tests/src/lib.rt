@@ -1,0 +1,8 @@
+//! Tests of numbers of nodes, folding and the tidy form, through their public calls. They stand apart from the crates, so
+//! that a crate isn't proved a second time with its tests.
+#![tactic(auto)]
+
+#[cfg(test)]
+mod programs;
+#[cfg(test)]
+mod tables;
