@@ -1,9 +1,8 @@
 -- Faces whose words a code file can spell.
-use Rattle.std.specs.Prelude.{◌≡◌, ◌≢◌, ◌⊎◌, ℕ, ◌<◌, ◌≤◌, List, [], ◌∷◌, ◌++◌, length, codes, decimal, slice_index_or}
+use Rattle.std.specs.Prelude.{◌≡◌, ◌≢◌, ◌⊎◌, ℕ, ◌<◌, ◌≤◌, List, [], ◌∷◌, length, codes, decimal, slice_index_or}
 use Rattle.std.specs.List.{AllByRecursion}
 use Rattle.m_text.specs.Words.{IsWord, AreDigits}
 use Rattle.m_places.specs.declared.verification.Label.{Label}
-use Rattle.observables.specs.declared.inputs.Coded.{Coded}
 use Rattle.observables.specs.declared.face.FaceLabel.{FaceLabel}
 use Rattle.observables.specs.declared.face.FaceLabel.TheVariants.{Verif, DriverLine}
 use Rattle.observables.specs.declared.face.FaceOutput.{FaceOutput}

@@ -126,14 +126,7 @@ fn give_both<K: Sink>(op: Op, r: u8, a: u8, b: u8, out: &mut K) -> Result<(), Fa
     give_pieces(out, &[b"do ", r, b" ", word, b" ", a, b" ", b, b"\n"])
 }
 
-fn give_all_three<K: Sink>(
-    op: Op,
-    r: u8,
-    a: u8,
-    b: u8,
-    c: u8,
-    out: &mut K,
-) -> Result<(), Failed>
+fn give_all_three<K: Sink>(op: Op, r: u8, a: u8, b: u8, c: u8, out: &mut K) -> Result<(), Failed>
     ensures { Gives K.written K.faults out.old out.new result (joined (codes "do " ∷ decimal r ∷ codes " " ∷ op_word op ∷ codes " " ∷ decimal a ∷ codes " " ∷ decimal b ∷ codes " " ∷ decimal c ∷ new_line ∷ [])) }
 {
     let mut first = Buffer::new();
