@@ -32,6 +32,9 @@ nodes-at inputs k [] p d lt h = absurd (omega arith)
 nodes-at inputs k (node ∷ nodes) zero d lt h = subst (λ m. IsNode inputs m node) (let e : k ≡ k + 0 = omega arith in e) h.0
 nodes-at inputs k (node ∷ nodes) (suc p) d lt h = subst (λ m. IsNode inputs m (get_or nodes p d)) (let e : k + 1 + p ≡ k + suc p = omega arith in e) (nodes-at inputs (k + 1) nodes p d (omega arith) h.1)
 
+node-at : (inputs : ℕ) (nodes : List Node) (p : ℕ) (d : Node) → p < length nodes → AreNodes inputs 0 nodes → IsNode inputs p (get_or nodes p d)
+node-at inputs nodes p d lt h = subst (λ m. IsNode inputs m (get_or nodes p d)) (let e : 0 + p ≡ p = omega arith in e) (nodes-at inputs 0 nodes p d lt h)
+
 all-at : {X : Type 0} (P : X → Type 0) (xs : List X) (k : ℕ) (d : X) → k < length xs → AllByRecursion P xs → P (get_or xs k d)
 all-at P [] k d lt h = absurd (omega arith)
 all-at P (x ∷ xs) zero d lt h = h.0
@@ -69,8 +72,8 @@ get-default (x ∷ xs) (suc k) c d lt = get-default xs k c d (omega arith)
 -- a program in the tidy form is what the allocator needs
 pub valid-from : (flat : Flat) (labels : ℕ) → IsFlat flat → IsTidy flat → IsSmall flat labels → IsValid flat
 valid-from flat labels valid tidy small = record {
-  nodes = λ p x node lt e. reads-below flat.inputs p x (get_or flat.nodes p node) (nodes-at flat.inputs 0 flat.nodes p node lt valid.nodes) e;
-  inputs = λ p node lt. input-of flat.inputs p (get_or flat.nodes p node) (nodes-at flat.inputs 0 flat.nodes p node lt valid.nodes);
+  nodes = λ p x node lt e. reads-below flat.inputs p x (get_or flat.nodes p node) (node-at flat.inputs flat.nodes p node lt valid.nodes) e;
+  inputs = λ p node lt. input-of flat.inputs p (get_or flat.nodes p node) (node-at flat.inputs flat.nodes p node lt valid.nodes);
   tidy = λ p node lt. subst IsNormal (get-default flat.nodes p (Number Undef) node lt) (tidy.folded.normal p lt);
   checks = λ j x check lt e. tests-below (length flat.nodes) x (get_or flat.checks j check) (all-at (IsCheck (length flat.nodes)) flat.checks j check lt valid.checks) e;
   outputs = λ j lt. all-at (λ x. x < length flat.nodes) flat.outputs j 0 lt valid.outputs;
