@@ -9,8 +9,8 @@ ghost use Rattle.reg_machine.specs.inner.Cells.{registers_behind, slots_behind, 
 
 use crate::code::Packed;
 use crate::instr::REGISTERS;
-use observables::Stop;
 use m_fixed::{Amount, Value, apply};
+use observables::Stop;
 use std::alloc::{AllocError, Global};
 
 /// The values of the registers, of the slots that are used, and of the outputs.

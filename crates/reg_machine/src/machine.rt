@@ -5,8 +5,8 @@ ghost use Rattle.reg_machine.specs.Machine.{answer_of, machine_run};
 
 use crate::cells::Cells;
 use crate::code::{Code, Packed};
-use observables::Stop;
 use m_fixed::Value;
+use observables::Stop;
 use std::alloc::{AllocError, Global};
 use std::marker::Model;
 

@@ -1,0 +1,7 @@
+use Rattle.std.proofs.Common.{drop}
+use Rattle.text_pieces.proofs.GivingLemmas.{Given}
+use Rattle.code_file.specs.Text.{lines, output_line}
+use Rattle.code_file.proofs.face_lines.give_outputs.Given as goal
+
+abbrev pub invariant-loop-k : goal.invariant-loop-k
+invariant-loop-k g l = Given g.K.Sink.written g.K.Sink.faults l.initial.out l.out (lines output_line l.outputs) (lines output_line (drop l.k l.outputs))

@@ -1,0 +1,149 @@
+-- Code and its face as text: the code file, byte for byte.
+use Rattle.std.specs.Prelude.{ℕ, ◌+◌, ◌/◌, ◌%◌, ◌==◌, nat_lt, Bool, true, false, List, [], ◌∷◌, ◌++◌, codes, decimal, if◌then◌else◌}
+use Rattle.std.specs.Fmt.{signed_decimal}
+use Rattle.m_fixed.specs.declared.operator.Op.{Op}
+use Rattle.m_fixed.specs.declared.operator.Op.TheVariants.{Add, Sub, Mul, Div, Neg, Eq, Ne, Lt, Le, Gt, Ge, And, Or, Not, Present, Abs, Positive, PositiveOrNull, Null, Arr, Inf, Max, Min, Truth as TruthOf, Choose, At}
+use Rattle.m_fixed.specs.Operators.{arity_of}
+use Rattle.m_fixed.specs.declared.amount.Value.{Value}
+use Rattle.m_fixed.specs.declared.amount.Value.TheVariants.{Undef, Num, Over}
+use Rattle.m_places.specs.declared.verification.ErrorKind.{ErrorKind}
+use Rattle.m_places.specs.declared.verification.ErrorKind.TheVariants.{Anomalie, Discordance, Informative}
+use Rattle.m_places.specs.declared.verification.Label.{Label}
+use Rattle.observables.specs.declared.inputs.Coded.{Coded}
+use Rattle.observables.specs.declared.inputs.InputType.{InputType}
+use Rattle.observables.specs.declared.inputs.InputType.TheVariants.{Any, Whole, Truth}
+use Rattle.observables.specs.declared.face.FaceLabel.{FaceLabel}
+use Rattle.observables.specs.declared.face.FaceLabel.TheVariants.{Verif, DriverLine}
+use Rattle.observables.specs.declared.face.FaceOutput.{FaceOutput}
+use Rattle.observables.specs.declared.face.FaceOutput.TheVariants.{Named, Noted}
+use Rattle.reg_machine.specs.declared.instr.Instr.{Instr}
+use Rattle.reg_machine.specs.declared.instr.Instr.TheVariants.{Take, Lit, Do, Store, Load, Check, Output}
+use Rattle.reg_machine.specs.Flow.{Listing}
+use Rattle.text_pieces.specs.Pieces.{new_line, joined}
+
+-- the lines of things, in order
+abbrev pub lines : {X : Type 0} → (X → List ℕ) → List X → List ℕ
+lines line [] = []
+lines line (x ∷ xs) = line x ++ lines line xs
+
+-- ---- the face
+
+-- how many slots there are: `slots 3`
+abbrev pub slots_line : ℕ → List ℕ
+slots_line n = joined (codes "slots " ∷ decimal n ∷ new_line ∷ [])
+
+-- the word of a type, behind the code
+abbrev pub kind_words : InputType → List ℕ
+kind_words Any = []
+kind_words Whole = codes " whole"
+kind_words Truth = codes " truth"
+
+-- an input: `input 1AJ`, `input 0CF whole`, `input 8ZZ truth`
+abbrev pub input_line : Coded → List ℕ
+input_line input = joined (codes "input " ∷ input.code ∷ kind_words input.kind ∷ new_line ∷ [])
+
+-- a hexadecimal digit, from `0` to `9` and `a` to `f`
+abbrev pub hex_digit : ℕ → ℕ
+hex_digit d = if nat_lt d 10 then 48 + d else 87 + d
+
+-- bytes as two digits each: of `n:` it is `6e3a`
+abbrev pub hex_of : List ℕ → List ℕ
+hex_of [] = []
+hex_of (b ∷ bs) = hex_digit (b / 16) ∷ hex_digit (b % 16) ∷ hex_of bs
+
+-- the word of an error's kind
+abbrev pub kind_word : ErrorKind → List ℕ
+kind_word Anomalie = codes "anomalie"
+kind_word Discordance = codes "discordance"
+kind_word Informative = codes "informative"
+
+-- what stands before the text of a verification's label: `label verif 2000 A20 anomalie `
+abbrev pub verif_front : Label → List ℕ
+verif_front label = joined (codes "label verif " ∷ label.verif ∷ codes " " ∷ label.error ∷ codes " " ∷ kind_word label.kind ∷ codes " " ∷ [])
+
+-- a label: `label verif 2000 A20 anomalie 6e3a`, or of a line of the driver `label driver 2`
+abbrev pub label_line : FaceLabel → List ℕ
+label_line (Verif label) = verif_front label ++ (hex_of label.text ++ new_line)
+label_line (DriverLine line) = joined (codes "label driver " ∷ decimal line ∷ new_line ∷ [])
+
+-- an output: `output T[1]`, or of a note of label 3 `note 3`
+abbrev pub output_line : FaceOutput → List ℕ
+output_line (Named name) = joined (codes "output " ∷ name ∷ new_line ∷ [])
+output_line (Noted number) = joined (codes "note " ∷ decimal number ∷ new_line ∷ [])
+
+-- ---- instructions
+
+-- the word of an operator
+abbrev pub op_word : Op → List ℕ
+op_word Add = codes "add"
+op_word Sub = codes "sub"
+op_word Mul = codes "mul"
+op_word Div = codes "div"
+op_word Neg = codes "neg"
+op_word Eq = codes "eq"
+op_word Ne = codes "ne"
+op_word Lt = codes "lt"
+op_word Le = codes "le"
+op_word Gt = codes "gt"
+op_word Ge = codes "ge"
+op_word And = codes "and"
+op_word Or = codes "or"
+op_word Not = codes "not"
+op_word Present = codes "present"
+op_word Abs = codes "abs"
+op_word Positive = codes "positif"
+op_word PositiveOrNull = codes "positif_ou_nul"
+op_word Null = codes "null"
+op_word Arr = codes "arr"
+op_word Inf = codes "inf"
+op_word Max = codes "max"
+op_word Min = codes "min"
+op_word TruthOf = codes "truth"
+op_word Choose = codes "choose"
+op_word At = codes "at"
+
+-- a word and two numbers: `in 0 3`
+abbrev pub two_numbers : List ℕ → ℕ → ℕ → List ℕ
+two_numbers word a b = joined (word ∷ codes " " ∷ decimal a ∷ codes " " ∷ decimal b ∷ new_line ∷ [])
+
+-- a word and three numbers: `ck 0 1 2`
+abbrev pub three_numbers : List ℕ → ℕ → ℕ → ℕ → List ℕ
+three_numbers word a b c = joined (word ∷ codes " " ∷ decimal a ∷ codes " " ∷ decimal b ∷ codes " " ∷ decimal c ∷ new_line ∷ [])
+
+-- a literal: `lit 0 undef`, `lit 0 over`, or in whole millionths `lit 0 -1500000`
+abbrev pub literal_line : ℕ → Value → List ℕ
+literal_line r Undef = joined (codes "lit " ∷ decimal r ∷ codes " undef" ∷ new_line ∷ [])
+literal_line r (Num amount) = joined (codes "lit " ∷ decimal r ∷ codes " " ∷ signed_decimal amount ∷ new_line ∷ [])
+literal_line r Over = joined (codes "lit " ∷ decimal r ∷ codes " over" ∷ new_line ∷ [])
+
+-- an operator with one, two or three arguments: `do 0 neg 1`, `do 0 sub 0 1`, `do 0 choose 1 2 3`
+abbrev pub do_line : ℕ → Op → ℕ → ℕ → ℕ → ℕ → List ℕ
+do_line n op r a b c =
+    if n == 1
+    then joined (codes "do " ∷ decimal r ∷ codes " " ∷ op_word op ∷ codes " " ∷ decimal a ∷ new_line ∷ [])
+    else if n == 2
+    then joined (codes "do " ∷ decimal r ∷ codes " " ∷ op_word op ∷ codes " " ∷ decimal a ∷ codes " " ∷ decimal b ∷ new_line ∷ [])
+    else joined (codes "do " ∷ decimal r ∷ codes " " ∷ op_word op ∷ codes " " ∷ decimal a ∷ codes " " ∷ decimal b ∷ codes " " ∷ decimal c ∷ new_line ∷ [])
+
+-- the word of a check: the second looks for over only
+abbrev pub check_word : Bool → List ℕ
+check_word false = codes "ck"
+check_word true = codes "co"
+
+-- an instruction
+abbrev pub instr_line : Instr → List ℕ
+instr_line (Take r n) = two_numbers (codes "in") r n
+instr_line (Lit r v) = literal_line r v
+instr_line (Do op r a b c) = do_line (arity_of op) op r a b c
+instr_line (Store k r) = two_numbers (codes "st") k r
+instr_line (Load r k) = two_numbers (codes "ld") r k
+instr_line (Check g c over_only label) = three_numbers (check_word over_only) g c label
+instr_line (Output k r) = two_numbers (codes "out") k r
+
+-- ---- the file
+
+-- The text of code with a face that has these inputs, labels and outputs.
+abbrev pub code_text : Listing → List Coded → List FaceLabel → List FaceOutput → List ℕ
+code_text code inputs labels outputs =
+    codes "mcode 1\n" ++ (slots_line code.counts.slots ++ (lines input_line inputs ++ (lines label_line labels
+    ++ (lines output_line outputs ++ (codes "code\n" ++ (lines instr_line code.instrs ++ codes "end\n"))))))
