@@ -1,6 +1,7 @@
 pub mod Between
 pub mod Beyond
 pub mod Cuts
+pub mod Exact
 pub mod FactLaws
 pub mod Holding
 pub mod Quotients

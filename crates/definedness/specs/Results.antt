@@ -1,11 +1,11 @@
 -- Which numbers an operator may give where its arguments are numbers of intervals, by the ends of the intervals.
-use Rattle.std.specs.Prelude.{Bool, not, ◌&&◌, ◌||◌, ℤ, pos, neg_ℤ, ◌*ℤ◌, int_lt, int_le, if◌then◌else◌}
+use Rattle.std.specs.Prelude.{◌≡◌, Bool, true, not, ◌&&◌, ◌||◌, ℤ, pos, neg_ℤ, ◌*ℤ◌, int_lt, int_le, if◌then◌else◌}
 use Rattle.std.specs.Int.{int_min, int_max}
 use Rattle.m_fixed.specs.declared.operator.Op.{Op}
 use Rattle.m_fixed.specs.declared.operator.Op.TheVariants.{Add, Sub, Mul, Div, Neg, Eq, Ne, Lt, Le, Gt, Ge, And, Or, Not, Present, Abs, Positive, PositiveOrNull, Null, Arr, Inf, Max, Min, Truth, Choose, At}
 use Rattle.m_fixed.specs.Amounts.{unit}
 use Rattle.m_fixed.specs.Operators.{result_of, truth, cut}
-use Rattle.definedness.specs.Ranges.{alone, has_zero, has_other}
+use Rattle.definedness.specs.Ranges.{InRange, alone, has_zero, has_other}
 
 -- ---- tests
 
@@ -95,3 +95,16 @@ results_of Min r s = (int_min r.0 s.0, int_min r.1 s.1)
 results_of Truth r _ = truths (has_other r) (has_zero r)
 results_of Choose _ s = s
 results_of At r s = truths (may_be_equal (cut_range r) (cut_range s)) (may_differ (cut_range r) (cut_range s))
+
+-- z is what the operator gives of some number of each interval
+pub record IsResult (op : Op) (r s : ℤ × ℤ) (z : ℤ) : Type 0 where
+  pub first : ℤ
+  pub second : ℤ
+  pub in_first : InRange r first
+  pub in_second : InRange s second
+  pub is : result_of op first second ≡ z
+
+-- the least and the greatest result are known exactly: of all but quotients by numbers some of which are 0
+abbrev pub is_exact : Op → ℤ × ℤ → Bool
+is_exact Div s = not (has_zero s && has_other s)
+is_exact _ s = true

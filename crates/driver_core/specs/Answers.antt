@@ -36,7 +36,7 @@ start_of declared inputs = start_from inputs 0 declared.variables
 
 -- what is told of the requested cells
 abbrev pub told_by : List ℕ → RunState → Told
-told_by requests (goes env) = values (map (environment env) requests)
+told_by requests (goes env) = values [] (map (environment env) requests)
 told_by requests (stops cause) = stopped cause
 
 -- What a driver answers over the rules of a base, for the inputs' values in order of declaration: what ended the run, or the

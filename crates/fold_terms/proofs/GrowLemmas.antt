@@ -1,5 +1,5 @@
 -- A builder's nodes, from one to the next.
-use Rattle.std.proofs.Common.{◌≡◌, ℕ, ◌<◌, ◌≤◌, Bool, true, false, eqb, ◌⊎◌, List, [], ◌∷◌, ◌++◌, length, take, refl, ap, sym, ◌∙◌, subst, inl, inr, ⊎_elim, arith}
+use Rattle.std.proofs.Common.{◌≡◌, ℕ, ◌<◌, ◌≤◌, Bool, false, eqb, ◌⊎◌, List, [], ◌∷◌, ◌++◌, length, take, refl, ap, sym, ◌∙◌, subst, inl, inr, ⊎_elim, arith}
 use Rattle.std.specs.Prelude.{Result, Ok, Err, IfOk, OnOk, OnErr}
 use Rattle.std.proofs.lemmas.Bool.{cases_lt}
 use Rattle.std.proofs.lemmas.List.{length_push, take_all, take-append-le}
@@ -15,6 +15,10 @@ use Rattle.flat_code.specs.inner.Renumber.{AreValid}
 use Rattle.flat_code.proofs.ReadLemmas.{entries-length, entries-push, at-push, at-last, node-push, node-last}
 use Rattle.common_terms.specs.Numbers.{IsEntered, IsAbsent}
 use Rattle.fold_terms.specs.inner.Built.{IsBuilt, Longer, Extends}
+
+pub err-then : {X E : Type 0} (r : Result X E) {P Q : Type 0} → (P → Q) → OnErr r P → OnErr r Q
+err-then (Ok x) f p = tt
+err-then (Err e) f p = f p
 
 -- ---- one more node
 

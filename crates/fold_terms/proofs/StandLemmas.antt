@@ -1,14 +1,16 @@
 -- Which node stands for a node that is folded.
 use Rattle.std.proofs.Common.{◌≡◌, ◌≢◌, ℕ, ◌<◌, Bool, true, false, not, eqb, ◌⊎◌, List, length, Some, None, Option, ℤ, pos, refl, ap, sym, ◌∙◌, subst, inl, inr, ⊎_elim, arith}
 use mathlib.Core.Bool.{◌&&◌, ◌||◌}
-use Rattle.std.specs.Prelude.{Result, Ok, Err, IfOk, if◌then◌else◌, is_some, ◌≤ℤ◌, int_le}
-use Rattle.std.proofs.lemmas.Bool.{eqb-true, true≢false, or_cases}
+use Rattle.std.specs.Prelude.{Result, Ok, Err, IfOk, if◌then◌else◌, is_some, ◌≤ℤ◌, int_le, nat_lt}
+use Rattle.std.proofs.lemmas.Bool.{eqb-true, true≢false, or_cases, lt-ltb, ltb-true}
+use Rattle.std.proofs.lemmas.Int.{ints}
 use Rattle.m_fixed.specs.declared.amount.Value.{Value}
 use Rattle.m_fixed.specs.declared.amount.Value.TheVariants.{Undef, Num, Over}
 use Rattle.m_fixed.specs.declared.operator.Op.{Op}
 use Rattle.m_fixed.specs.declared.operator.Op.TheVariants.{Add, Sub, Mul, Neg, Truth, Choose}
 use Rattle.m_fixed.specs.Operators.{op_value, is_zero, arity_of, chosen}
 use Rattle.m_fixed.specs.Laws.{IsValue}
+use Rattle.m_fixed.proofs.Values.{second_is_ignored, third_is_ignored}
 use Rattle.definedness.specs.Ranges.{InSome, may_be_zero}
 use Rattle.definedness.specs.Facts.{Possible, Holds, IsFact, one_value, is_number, lacks_zero}
 use Rattle.definedness.proofs.FactLaws.{one_value_is, held_is_value}
@@ -22,7 +24,7 @@ use Rattle.flat_code.specs.inner.Renumber.{entry_by, AreValid}
 use Rattle.flat_code.proofs.ReadLemmas.{entry-by, entry-at, entry-same}
 use Rattle.flat_code.proofs.FactLemmas.{step-holds, holds-at}
 use Rattle.fold_terms.specs.Drafts.{StandsFor}
-use Rattle.fold_terms.specs.inner.Built.{IsBuilt, Longer, normalised, IsOpposite, choice_of, is_decided}
+use Rattle.fold_terms.specs.inner.Built.{Longer, normalised, IsOpposite, choice_of, is_decided}
 use Rattle.fold_terms.proofs.GrowLemmas.{at-grows}
 use Rattle.fold_terms.proofs.ValueLemmas.{null-value, one-value, same-sum, same-sum-left, same-difference, same-product, same-product-left, twice-opposite, truth-of-test, choice-is}
 
@@ -193,12 +195,15 @@ and-parts false b e = absurd (true≢false (sym e))
 zero-is : (n : ℤ) → is_zero n ≡ true → n ≡ pos 0
 zero-is n e = cc (null-value (Num n) e)
 
+at_most : (x y : ℤ) → x ≤ℤ y → int_le x y ≡ true
+at_most x y h = grind (arith, ints)
+
 zero-possible : (r : Option (ℤ × ℤ)) (n : ℤ) → InSome r n → n ≡ pos 0 → may_be_zero r ≡ true
 zero-possible None n h e = absurd h
 zero-possible (Some r) n h e =
     let low : r.0 ≤ℤ pos 0 = subst (λ n. r.0 ≤ℤ n) e h.0 in
     let high : pos 0 ≤ℤ r.1 = subst (λ n. n ≤ℤ r.1) e h.1 in
-    ?
+    rw (at_most r.0 (pos 0) low, at_most (pos 0) r.1 high) refl
 
 -- a number that is possible where 0 is not is another
 other-number : (f : Possible) (n : ℤ) → Holds f (Num n) → lacks_zero f ≡ true → is_zero n ≡ false
@@ -235,3 +240,62 @@ pub open-node : (node : Node) (f : Possible) → one_value f ≡ None → IsOpen
 open-node (Input n) f e = e
 open-node (Lit v) f e = tt
 open-node (Do op a b c) f e = e
+
+arity_pos : (op : Op) → 0 < arity_of op
+arity_pos Neg = omega arith
+arity_pos _ = omega arith
+
+if-true : {X : Type 0} (t : Bool) (x y : X) → t ≡ true → (if t then x else y) ≡ x
+if-true t x y e = ap (λ t. if t then x else y) e
+
+pub normal-is : (node : Node) → IsNormal (normalised node)
+normal-is (Input n) = tt
+normal-is (Lit v) = tt
+normal-is (Do op a b c) = (λ l. if-true (nat_lt (arity_of op) 2) a b (lt-ltb (arity_of op) 2 l), λ l. if-true (nat_lt (arity_of op) 3) a c (lt-ltb (arity_of op) 3 l))
+
+either-below : (t : Bool) (a b p : ℕ) → a < p → b < p → (if t then a else b) < p
+either-below true a b p la lb = la
+either-below false a b p la lb = lb
+
+pub normal-node : (count p : ℕ) (node : Node) → IsNode count p node → IsNode count p (normalised node)
+normal-node count p (Input n) h = h
+normal-node count p (Lit v) h = tt
+normal-node count p (Do op a b c) h = (h.0, either-below (nat_lt (arity_of op) 2) a b p h.0 h.1, either-below (nat_lt (arity_of op) 3) a c p h.0 h.2)
+
+-- arguments past the arity don't matter
+further : (op : Op) (v : ℕ → Value) (a b c : ℕ) (s t : Bool) → (s ≡ true → arity_of op < 2) → (t ≡ true → arity_of op < 3) → op_value op (v a) (v (if s then a else b)) (v (if t then a else c)) ≡ op_value op (v a) (v b) (v c)
+further op v a b c true t f g = let pos = arity_pos op in let lt : arity_of op < 2 = f refl in second_is_ignored op (v a) (v a) (v (if t then a else c)) (v b) (v c) (omega arith)
+further op v a b c false true f g = let lt : arity_of op < 3 = g refl in third_is_ignored op (v a) (v b) (v a) (v c) (omega arith)
+further op v a b c false false f g = refl
+
+normal-entry : (inputs : List Value) (before : ℕ → Value) (node : Node) → entry_by (values_for inputs) before (normalised node) ≡ entry_by (values_for inputs) before node
+normal-entry inputs before (Input n) = refl
+normal-entry inputs before (Lit v) = refl
+normal-entry inputs before (Do op a b c) = further op before a b c (nat_lt (arity_of op) 2) (nat_lt (arity_of op) 3) (ltb-true (arity_of op) 2) (ltb-true (arity_of op) 3)
+
+-- what stands for the node with other arguments past the arity stands for the node
+pub stands-normal : (nodes : List Node) (node : Node) (k : ℕ) → StandsFor nodes (normalised node) k → StandsFor nodes node k
+stands-normal nodes node k h = record {
+  within = h.within;
+  value = λ inputs plain.
+      let r = values_for inputs in
+      let vs = node_values inputs nodes in
+      h.value inputs plain ∙ entry-by r vs (normalised node) ∙ normal-entry inputs (value nodes inputs) node ∙ sym (entry-by r vs node);
+}
+
+-- a literal stands for a node of which its value alone is possible
+pub stands-literal : (count : ℕ) (old new : List Node) (node : Node) (w : Value) (k : ℕ) → AreValid count old → AreValid count new → Longer old new → IsNode count (length old) node → one_value (entry_of facts (entries_of facts old) node) ≡ Some w → k < length new → node_at new k ≡ Lit w → StandsFor new node k
+stands-literal count old new node w k valid valid' grows h e lt is = record {
+  within = lt;
+  value = λ inputs plain.
+      let r = values_for inputs in
+      let v = value old inputs in
+      let v' = value new inputs in
+      let f = entry_at facts old in
+      let named = step-holds inputs f v count (length old) node plain h (λ q l. holds-at inputs count old q plain valid l) in
+      let one : one_value (entry_by facts f node) ≡ Some w = ap one_value (sym (entry-by facts (entries_of facts old) node)) ∙ e in
+      entry-at r count new k valid' lt ∙ ap (entry_by r v') is
+      ∙ sym (one_value_is (entry_by facts f node) (entry_by r v node) w named one)
+      ∙ entry-same r v v' count (length old) node h (λ q l. sym (at-grows r old new grows q l))
+      ∙ sym (entry-by r (node_values inputs new) node);
+}

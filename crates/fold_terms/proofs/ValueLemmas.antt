@@ -1,8 +1,6 @@
 -- What operators give where a form is folded.
-use Rattle.std.proofs.Common.{◌≡◌, ◌≢◌, ℕ, zero, suc, ◌+◌, ◌*◌, ◌<◌, ◌≤◌, Bool, true, false, not, eqb, ℤ, pos, negsuc, ◌+ℤ◌, ◌-ℤ◌, ◌*ℤ◌, neg_ℤ, unsigned_abs, ◌⊎◌, Some, None, Option, refl, ap, sym, ◌∙◌, subst, ⊎_elim, arith}
-use mathlib.Core.Bool.{◌&&◌, ◌||◌}
-use Rattle.std.specs.Prelude.{if◌then◌else◌, ◌==◌}
-use Rattle.std.specs.Ordering.{int_eq}
+use Rattle.std.proofs.Common.{◌≡◌, ◌≢◌, ℕ, zero, suc, Bool, true, false, not, eqb, ℤ, pos, negsuc, ◌+ℤ◌, ◌-ℤ◌, ◌*ℤ◌, neg_ℤ, unsigned_abs, refl, ap, sym, ◌∙◌, subst, arith}
+use Rattle.std.specs.Prelude.{if◌then◌else◌}
 use Rattle.std.proofs.lemmas.Bool.{eqb-true, true≢false, le-leb}
 use Rattle.std.proofs.lemmas.Bool.Decides.{Decides-int_eq}
 use Rattle.std.proofs.lemmas.Int.{ints}
@@ -12,7 +10,7 @@ use Rattle.m_fixed.specs.declared.operator.Op.{Op}
 use Rattle.m_fixed.specs.declared.operator.Op.TheVariants.{Add, Sub, Mul, Neg, Eq, Ne, Lt, Le, Gt, Ge, And, Or, Not, Present, Positive, PositiveOrNull, Null, Truth, Choose, At}
 use Rattle.m_fixed.specs.Amounts.{IsAmount, most, unit}
 use Rattle.m_fixed.specs.Rounding.{rounded}
-use Rattle.m_fixed.specs.Operators.{op_value, bounded, truth, is_zero, of_one, of_two, result_of, truth_of, chosen, counts_undefined_as_zero, arity_of}
+use Rattle.m_fixed.specs.Operators.{op_value, bounded, truth, is_zero, of_one, of_two, result_of, chosen, counts_undefined_as_zero}
 use Rattle.m_fixed.specs.Laws.{IsValue}
 use Rattle.m_fixed.proofs.Products.{size_of_amount}
 use Rattle.m_fixed.proofs.Nearest.{nearest_is_rounded}

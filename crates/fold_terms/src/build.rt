@@ -44,6 +44,7 @@ impl Parts {
         ensures built { IsBuilt self.old.inputs self.new.nodes.items self.new.facts.items }
         ensures shared { self.new.table ≡ self.new.nodes.items }
         ensures grows { Longer self.old.nodes.items self.new.nodes.items }
+        ensures err { OnErr result (self.new.nodes.items ≡ self.old.nodes.items) }
         ensures stands { IfOk result (StandsFor self.new.nodes.items node) }
     {
         let node = normalised(node);
@@ -124,6 +125,7 @@ impl Builder {
         requires room { length self.old.nodes < 4_294_967_295 }
         ensures stands { IfOk result (StandsFor self.new.nodes node) }
         ensures grows { Grows self.old self.new }
+        ensures err { OnErr result (self.new ≡ self.old) }
         ensures folded { IsFolded self.new.nodes }
     {
         self.parts.push(node)

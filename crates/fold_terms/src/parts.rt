@@ -118,6 +118,7 @@ impl Parts {
         ensures built { IsBuilt self.old.inputs self.new.nodes.items self.new.facts.items }
         ensures shared { self.new.table ≡ self.new.nodes.items }
         ensures grows { Longer self.old.nodes.items self.new.nodes.items }
+        ensures err { OnErr result (self.new.nodes.items ≡ self.old.nodes.items) }
         ensures within { IfOk result (λ k. k < length self.new.nodes.items) }
         ensures node { IfOk result (λ k. node_at self.new.nodes.items k ≡ node) }
     {

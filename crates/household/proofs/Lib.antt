@@ -1,5 +1,7 @@
 pub mod CellLemmas
+pub mod CodeLemmas
 pub mod ColumnLemmas
+pub mod GivenLemmas
 pub mod InputLemmas
 pub mod LawLemmas
 pub mod LeftLemmas

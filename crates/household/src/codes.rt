@@ -1,7 +1,10 @@
-ghost use Rattle.std.specs.Prelude.{◌≡◌, ◌<◌, IfSome, length};
-ghost use Rattle.m_names.specs.Names.{index_of};
+ghost use Rattle.std.specs.Prelude.{◌≡◌, ◌<◌, IfOk, IfSome, length};
+ghost use Rattle.m_names.specs.Names.{AreDistinct, index_of};
+ghost use Rattle.observables.specs.Inputs.{codes_of};
 
-use m_names::Names;
+use m_names::{Key, Names, NamesDigest};
+use observables::Coded;
+use std::alloc::{AllocError, Global};
 use std::marker::Model;
 
 /// The codes of the inputs, each with its number: the place of its input among all inputs, from 0.
@@ -20,11 +23,16 @@ impl Model for Codes {
 }
 
 impl Codes {
-    /// The codes of inputs, in the order of their numbers. Takes no memory.
-    pub fn new(names: Names) -> Codes
-        ensures { result ≡ names }
+    /// The codes of inputs, in the order of their numbers. Its only error is want of memory.
+    pub fn new(alloc: Global, inputs: &[Coded]) -> Result<Codes, AllocError>
+        requires { AreDistinct (codes_of inputs.now) }
+        ensures { IfOk result (λ codes. codes ≡ codes_of inputs.now) }
     {
-        Codes { names }
+        let mut names = Names::under(alloc, key_of(inputs));
+        for input in inputs {
+            let _fresh = names.add(alloc, input.code.bytes())?;
+        }
+        Ok(Codes { names })
     }
 
     /// How many codes there are. Takes no memory.
@@ -41,4 +49,13 @@ impl Codes {
     {
         self.names.find(code)
     }
+}
+
+// A key that is made of all codes, so that nobody can choose them to collide.
+fn key_of(inputs: &[Coded]) -> Key {
+    let mut digest = NamesDigest::new();
+    for input in inputs {
+        digest.take(input.code.bytes());
+    }
+    digest.key()
 }

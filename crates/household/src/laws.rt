@@ -1,8 +1,13 @@
 //! What the readings of households and tables come to, said of their records.
 ghost use Rattle.std.specs.Prelude.{◌≡◌, ℕ, ℤ, List, Ok, Err};
-ghost use Rattle.household.specs.Household.{IsHousehold, household_of};
+ghost use Rattle.std.specs.Prelude.{length};
+ghost use Rattle.std.specs.List.{AllByRecursion};
+ghost use Rattle.observables.specs.declared.inputs.Coded.{Coded};
+ghost use Rattle.observables.specs.Inputs.{AreAny, AreValuesOf, codes_of};
+ghost use Rattle.household.specs.Household.{IsHousehold, household_of, values_of};
 ghost use Rattle.household.specs.Refusals.{IsRefusedHousehold, IsRefusedTable};
 ghost use Rattle.household.specs.Table.{table_of};
+ghost use Rattle.household.specs.declared.table.Row.{Row};
 ghost use Rattle.household.specs.declared.fault.HouseholdFault.{HouseholdFault};
 
 /// Bytes say the pairs of a household exactly where their records are a header and a row for each pair, no
@@ -21,4 +26,13 @@ pub fn first_fault()
 /// codes that has one.
 pub fn first_table_fault()
     ensures { (inputs : List (List ℕ)) (bytes : List ℕ) (fault : HouseholdFault) → table_of inputs bytes ≡ Err fault → IsRefusedTable inputs bytes fault }
+{}
+
+/// What a household without a fault gives the inputs is a list of values that programs with these inputs are asked for, where each
+/// input may have each amount; and so is what each row of a table gives them.
+pub fn given_values()
+    ensures household { (inputs : List Coded) (bytes : List ℕ) (pairs : List (ℕ × ℤ)) → AreAny inputs → household_of (codes_of inputs) bytes ≡ Ok pairs
+        → AreValuesOf inputs (values_of pairs (length inputs)) }
+    ensures table { (inputs : List Coded) (bytes : List ℕ) (rows : List Row) → AreAny inputs → table_of (codes_of inputs) bytes ≡ Ok rows
+        → AllByRecursion (λ row. AreValuesOf inputs (values_of row.household.pairs (length inputs))) rows }
 {}

@@ -1,4 +1,4 @@
 pub mod WordLemmas
-pub mod RunLemmas
 pub mod OutputLemmas
 pub mod ReplyLemmas
+pub mod SeatLemmas

@@ -10,32 +10,36 @@ use Rattle.m_fixed.specs.declared.amount.Value.TheVariants.{Undef, Num, Over}
 use Rattle.m_fixed.specs.Operators.{is_zero}
 use Rattle.observables.specs.declared.answer.Stop.{Stop}
 use Rattle.observables.specs.declared.answer.Stop.TheVariants.{Failed, Over as StopOver}
+use Rattle.observables.specs.declared.face.Face.{Face}
+use Rattle.observables.specs.declared.face.FaceLabel.{FaceLabel}
+use Rattle.observables.specs.declared.face.FaceOutput.{FaceOutput}
+use Rattle.observables.specs.declared.face.FaceOutput.TheVariants.{Noted}
 use Rattle.flat_code.specs.declared.program.Check.{Check}
 use Rattle.observables.specs.Answers.{label_number}
 use Rattle.flat_code.specs.Runs.{value_at, is_one, stop_of, check_stop, first_stop}
 use Rattle.flat_code.proofs.RunLemmas.{one_of_all}
-use Rattle.tax_print.specs.Lines.{value_line, values_lines, output_line}
+use Rattle.tax_print.specs.Lines.{output_line, output_lines, outputs_lines}
 
--- the lines that are left begin with that of the output that stands there
-pub outputs_at : (names : List (List ℕ)) (vs : List Value) (outputs : List ℕ) (k : ℕ) (value : Value) → k < length names → k < length outputs
+-- the lines that are left begin with those of the output that stands there
+pub outputs_at : (face : Face) (vs : List Value) (outputs : List ℕ) (k : ℕ) (value : Value) → k < length face.outputs → k < length outputs
     → value ≡ value_at vs (get_or outputs k 0)
-    → values_lines (drop k names) (map (value_at vs) (drop k outputs))
-    ≡ output_line names k value ++ values_lines (drop (k + 1) names) (map (value_at vs) (drop (k + 1) outputs))
-outputs_at names vs outputs k value named h is =
-    ap (λ left. values_lines left (map (value_at vs) (drop k outputs))) (drop_more names k [] named)
-    ∙ ap (λ left. values_lines (get_or names k [] ∷ drop (k + 1) names) (map (value_at vs) left)) (drop_more outputs k 0 h)
-    ∙ ap (λ v. value_line (get_or names k []) v ++ values_lines (drop (k + 1) names) (map (value_at vs) (drop (k + 1) outputs))) (sym is)
-    ∙ ap (λ line. line ++ values_lines (drop (k + 1) names) (map (value_at vs) (drop (k + 1) outputs)))
-    (sym (ap (λ name. option_map_or (λ n. value_line n value) name []) (slice_get-get_or names k [] named)))
+    → outputs_lines face.labels (drop k face.outputs) (map (value_at vs) (drop k outputs))
+    ≡ output_line face k value ++ outputs_lines face.labels (drop (k + 1) face.outputs) (map (value_at vs) (drop (k + 1) outputs))
+outputs_at face vs outputs k value shown h is =
+    ap (λ left. outputs_lines face.labels left (map (value_at vs) (drop k outputs))) (drop_more face.outputs k (Noted 0) shown)
+    ∙ ap (λ left. outputs_lines face.labels (get_or face.outputs k (Noted 0) ∷ drop (k + 1) face.outputs) (map (value_at vs) left)) (drop_more outputs k 0 h)
+    ∙ ap (λ v. output_lines face.labels v (get_or face.outputs k (Noted 0)) ++ outputs_lines face.labels (drop (k + 1) face.outputs) (map (value_at vs) (drop (k + 1) outputs))) (sym is)
+    ∙ ap (λ line. line ++ outputs_lines face.labels (drop (k + 1) face.outputs) (map (value_at vs) (drop (k + 1) outputs)))
+    (sym (ap (λ output. option_map_or (output_lines face.labels value) output []) (slice_get-get_or face.outputs k (Noted 0) shown)))
 
-no_lines : (names : List (List ℕ)) → values_lines names [] ≡ []
-no_lines [] = refl
-no_lines (name ∷ names) = refl
+no_lines : (labels : List FaceLabel) (outputs : List FaceOutput) → outputs_lines labels outputs [] ≡ []
+no_lines labels [] = refl
+no_lines labels (output ∷ outputs) = refl
 
 -- behind the last output there is nothing
-pub outputs_end : (names : List (List ℕ)) (vs : List Value) (outputs : List ℕ) (k : ℕ) → length outputs ≤ k
-    → values_lines (drop k names) (map (value_at vs) (drop k outputs)) ≡ []
-outputs_end names vs outputs k h = ap (λ left. values_lines (drop k names) (map (value_at vs) left)) (drop_all k outputs h) ∙ no_lines (drop k names)
+pub outputs_end : (face : Face) (vs : List Value) (outputs : List ℕ) (k : ℕ) → length outputs ≤ k
+    → outputs_lines face.labels (drop k face.outputs) (map (value_at vs) (drop k outputs)) ≡ []
+outputs_end face vs outputs k h = ap (λ left. outputs_lines face.labels (drop k face.outputs) (map (value_at vs) left)) (drop_all k outputs h) ∙ no_lines face.labels (drop k face.outputs)
 
 -- the value of an output, as code reads it
 pub read_at : (vs : List Value) (outputs : List ℕ) (k : ℕ) (value : Value) → k < length outputs → AllByRecursion (λ output. output < length vs) outputs

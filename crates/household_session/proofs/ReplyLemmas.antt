@@ -2,11 +2,12 @@
 use Rattle.std.proofs.Common.{◌≡◌, ◌≢◌, ℕ, ◌<◌, List, [], ◌∷◌, ◌++◌, length, length-append, append-nil, refl, sym, ap, ◌∙◌, arith}
 use Rattle.std.proofs.lemmas.Bool.{ne_eqb, lt-leb}
 use Rattle.m_places.specs.declared.limits.TheConstants.{SESSION_LINE_BYTES}
+use Rattle.m_fixed.specs.declared.amount.Value.{Value}
 use Rattle.m_text.specs.Bytes.{line_feed}
 use Rattle.m_text.specs.Lines.{onto_first}
-use Rattle.household_session.specs.Sessions.{Sitting}
+use Rattle.household_session.specs.Sessions.{Showing, Sitting, showing_of}
 use Rattle.household_session.specs.Commands.{SessionCommand, too_long, session_command}
-use Rattle.household_session.specs.Replies.{command_reply, after_command, reply_of, after_line, input_lines, onto_ended, ended_lines, replies_to, replies_of, IsUnended}
+use Rattle.household_session.specs.Replies.{command_reply, command_values, lines_replies, reply_of, after_line, input_lines, onto_ended, ended_lines, replies_to, replies_of, IsUnended}
 
 -- ---- a line that ends
 
@@ -98,14 +99,15 @@ too_long_asks bytes long = rw (lt-leb (length bytes) SESSION_LINE_BYTES long) re
 long_in_front : (front first : List ℕ) → SESSION_LINE_BYTES < length front → SESSION_LINE_BYTES < length (front ++ first)
 long_in_front front first long = omega (arith, long, length-append front first)
 
-same_said : (sitting : Sitting) (c d : SessionCommand) (lines : List (List ℕ)) → c ≡ d
-    → command_reply sitting c ++ replies_to (after_command sitting c) lines ≡ command_reply sitting d ++ replies_to (after_command sitting d) lines
-same_said sitting c d lines same = ap (λ e. command_reply sitting e ++ replies_to (after_command sitting e) lines) same
+same_said : (showing : Showing) (values : List Value) (c d : SessionCommand) (lines : List (List ℕ)) → c ≡ d
+    → command_reply showing values c ++ lines_replies showing (command_values showing values c) lines ≡ command_reply showing values d ++ lines_replies showing (command_values showing values d) lines
+same_said showing values c d lines same = ap (λ e. command_reply showing values e ++ lines_replies showing (command_values showing values e) lines) same
 
 -- Of a line that is too long it doesn't matter which bytes it has.
 long_alike : (sitting : Sitting) (one other : List ℕ) (lines : List (List ℕ)) → SESSION_LINE_BYTES < length one → SESSION_LINE_BYTES < length other
     → replies_to sitting (one ∷ lines) ≡ replies_to sitting (other ∷ lines)
-long_alike sitting one other lines long longer = same_said sitting (session_command one) (session_command other) lines (too_long_asks one long ∙ sym (too_long_asks other longer))
+long_alike sitting one other lines long longer =
+    same_said (showing_of sitting) sitting.values (session_command one) (session_command other) lines (too_long_asks one long ∙ sym (too_long_asks other longer))
 
 fronts_alike : (sitting : Sitting) (one other : List ℕ) (lines : List (List ℕ)) → SESSION_LINE_BYTES < length one → SESSION_LINE_BYTES < length other
     → replies_to sitting (in_front one lines) ≡ replies_to sitting (in_front other lines)

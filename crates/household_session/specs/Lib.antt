@@ -1,4 +1,5 @@
 pub mod Sessions
 pub mod Commands
 pub mod Replies
+pub mod Seats
 pub mod inner

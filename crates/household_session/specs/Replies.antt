@@ -3,9 +3,10 @@ use Rattle.std.specs.Prelude.{◌≢◌, ℕ, ◌==◌, List, [], ◌∷◌, ◌
 use Rattle.std.specs.List.{AllByRecursion}
 use Rattle.m_text.specs.Bytes.{line_feed}
 use Rattle.m_text.specs.Lines.{onto_first}
+use Rattle.m_fixed.specs.declared.amount.Value.{Value}
 use Rattle.household_session.specs.declared.fault.EditFault.{EditFault}
 use Rattle.household_session.specs.declared.fault.EditFault.TheVariants.{UnknownCode, BadAmount}
-use Rattle.household_session.specs.Sessions.{Sitting, set_of, clear_of, edited, answered, line, shown}
+use Rattle.household_session.specs.Sessions.{Showing, Sitting, answered, clear_of, line, set_of, showing_of, shown, values_edited}
 use Rattle.household_session.specs.Commands.{SessionCommand, no_words, sets, clears, shows, too_long, bad, session_command}
 
 -- ---- one line
@@ -16,31 +17,31 @@ answer_reply (Ok none) = line (codes "ok")
 answer_reply (Err UnknownCode) = line (codes "refused unknown code")
 answer_reply (Err BadAmount) = line (codes "refused bad amount")
 
--- the reply to a command
-abbrev pub command_reply : Sitting → SessionCommand → List ℕ
-command_reply sitting no_words = []
-command_reply sitting (sets code amount) = answer_reply (answered (set_of sitting.face.inputs code amount))
-command_reply sitting (clears code) = answer_reply (answered (clear_of sitting.face.inputs code))
-command_reply sitting shows = shown sitting
-command_reply sitting too_long = line (codes "refused line too long")
-command_reply sitting bad = line (codes "refused bad command")
+-- the reply to a command, where the inputs have these values
+abbrev pub command_reply : Showing → List Value → SessionCommand → List ℕ
+command_reply showing values no_words = []
+command_reply showing values (sets code amount) = answer_reply (answered (set_of showing.codes code amount))
+command_reply showing values (clears code) = answer_reply (answered (clear_of showing.codes code))
+command_reply showing values shows = shown showing values
+command_reply showing values too_long = line (codes "refused line too long")
+command_reply showing values bad = line (codes "refused bad command")
 
--- the session after a command
-abbrev pub after_command : Sitting → SessionCommand → Sitting
-after_command sitting no_words = sitting
-after_command sitting (sets code amount) = edited sitting (set_of sitting.face.inputs code amount)
-after_command sitting (clears code) = edited sitting (clear_of sitting.face.inputs code)
-after_command sitting shows = sitting
-after_command sitting too_long = sitting
-after_command sitting bad = sitting
+-- the values after a command
+abbrev pub command_values : Showing → List Value → SessionCommand → List Value
+command_values showing values no_words = values
+command_values showing values (sets code amount) = values_edited values (set_of showing.codes code amount)
+command_values showing values (clears code) = values_edited values (clear_of showing.codes code)
+command_values showing values shows = values
+command_values showing values too_long = values
+command_values showing values bad = values
 
 -- The reply to a line, given without its line feed: to `set 1AJ 5` the line `ok` where `1AJ` is a code.
 abbrev pub reply_of : Sitting → List ℕ → List ℕ
-reply_of sitting bytes = command_reply sitting (session_command bytes)
+reply_of sitting bytes = command_reply (showing_of sitting) sitting.values (session_command bytes)
 
 -- The session after a line.
 abbrev pub after_line : Sitting → List ℕ → Sitting
-after_line sitting bytes = after_command sitting (session_command bytes)
+after_line sitting bytes = record sitting { values = command_values (showing_of sitting) sitting.values (session_command bytes) }
 
 -- ---- many lines
 
@@ -64,11 +65,16 @@ ended_lines (byte ∷ bytes) = if byte == line_feed then [] ∷ ended_lines byte
 abbrev pub IsUnended : List ℕ → Type 0
 IsUnended bytes = AllByRecursion (λ byte. byte ≢ line_feed) bytes
 
--- the replies to lines, in order, each by the session as the lines before it left it
-abbrev pub replies_to : Sitting → List (List ℕ) → List ℕ
-replies_to sitting [] = []
-replies_to sitting (first ∷ lines) = reply_of sitting first ++ replies_to (after_line sitting first) lines
+-- The replies to lines, in order. Each is that to what the lines before it have made of the values.
+abbrev pub lines_replies : Showing → List Value → List (List ℕ) → List ℕ
+lines_replies showing values [] = []
+lines_replies showing values (first ∷ lines) =
+    command_reply showing values (session_command first) ++ lines_replies showing (command_values showing values (session_command first)) lines
 
--- The replies to a whole input.
+-- the replies of a session to lines
+abbrev pub replies_to : Sitting → List (List ℕ) → List ℕ
+replies_to sitting lines = lines_replies (showing_of sitting) sitting.values lines
+
+-- The replies of a session to a whole input.
 abbrev pub replies_of : Sitting → List ℕ → List ℕ
 replies_of sitting bytes = replies_to sitting (input_lines bytes)

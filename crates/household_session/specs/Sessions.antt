@@ -1,6 +1,5 @@
 -- A session: a household whose amounts are edited, and what it is shown.
-use Rattle.std.specs.Prelude.{◌≡◌, ℕ, ◌<◌, ◌^◌, ℤ, List, [], ◌∷◌, ◌++◌, length, codes, slice_set, Option, Some, None, Result, Ok, Err}
-use Rattle.std.specs.List.{AllByRecursion}
+use Rattle.std.specs.Prelude.{ℕ, ℤ, List, [], ◌∷◌, ◌++◌, codes, slice_set, Option, Some, None, Result, Ok, Err}
 use Rattle.text_pieces.specs.Pieces.{joined}
 use Rattle.m_fixed.specs.declared.amount.Value.{Value}
 use Rattle.m_fixed.specs.declared.amount.Value.TheVariants.{Undef, Num}
@@ -8,6 +7,7 @@ use Rattle.m_fixed.specs.declared.read.AmountFault.{AmountFault}
 use Rattle.m_fixed.specs.Text.{text_value, amount_read}
 use Rattle.m_names.specs.Names.{index_of}
 use Rattle.observables.specs.declared.face.Face.{Face}
+use Rattle.observables.specs.Inputs.{codes_of}
 use Rattle.flat_code.specs.declared.program.Flat.{Flat}
 use Rattle.flat_code.specs.Runs.{flat_run}
 use Rattle.household.specs.Household.{values_of}
@@ -16,19 +16,20 @@ use Rattle.tax_print.specs.Lines.{answer_lines}
 use Rattle.household_session.specs.declared.fault.EditFault.{EditFault}
 use Rattle.household_session.specs.declared.fault.EditFault.TheVariants.{UnknownCode, BadAmount}
 
+-- What a session shows, whatever program it has: the codes of the inputs, and the lines of what is answered to values of the inputs.
+pub record Showing : Type 0 where
+  pub codes : List (List ℕ)
+  pub text : List Value → List ℕ
+
 -- A session as contracts see it: the program, what it shows of itself, and the value of each input as it is now.
 pub record Sitting : Type 0 where
   pub flat : Flat
   pub face : Face
   pub values : List Value
 
--- A face shows a program: it has a code for each input, a label for each number of a check's label, and a name for each
--- output, and outputs are numbered in 32 bits.
-pub record IsFaceOf (face : Face) (flat : Flat) : Type 0 where
-  pub inputs : length face.inputs ≡ flat.inputs
-  pub labels : AllByRecursion (λ check. check.label < length face.labels) flat.checks
-  pub outputs : length face.outputs ≡ length flat.outputs
-  pub few : length face.outputs < 2 ^ 32
+-- what a session shows
+abbrev pub showing_of : Sitting → Showing
+showing_of sitting = record { codes = codes_of sitting.face.inputs; text = λ values. answer_lines sitting.face (flat_run sitting.flat values) }
 
 -- the session that begins with these pairs of an input and an amount
 abbrev pub begun : Flat → Face → List (ℕ × ℤ) → Sitting
@@ -56,10 +57,14 @@ clear_said (Some input) = Ok (input, Undef)
 abbrev pub clear_of : List (List ℕ) → List ℕ → Result (ℕ × Value) EditFault
 clear_of inputs code = clear_said (index_of code inputs)
 
--- The session after an edit. A refused one changes nothing.
+-- the values after an edit; a refused one changes nothing
+abbrev pub values_edited : List Value → Result (ℕ × Value) EditFault → List Value
+values_edited values (Ok edit) = slice_set values edit.0 edit.1
+values_edited values (Err fault) = values
+
+-- the session after an edit
 abbrev pub edited : Sitting → Result (ℕ × Value) EditFault → Sitting
-edited sitting (Ok edit) = record sitting { values = slice_set sitting.values edit.0 edit.1 }
-edited sitting (Err fault) = sitting
+edited sitting edit = record sitting { values = values_edited sitting.values edit }
 
 -- what an edit answers
 abbrev pub answered : Result (ℕ × Value) EditFault → Result (Unit {0}) EditFault
@@ -72,6 +77,6 @@ answered (Err fault) = Err fault
 abbrev pub line : List ℕ → List ℕ
 line bytes = joined (bytes ∷ new_line ∷ [])
 
--- What is shown: the lines of what the program answers for the values as they are now, and then a line with a point.
-abbrev pub shown : Sitting → List ℕ
-shown sitting = answer_lines sitting.face (flat_run sitting.flat sitting.values) ++ line (codes ".")
+-- What is shown where the inputs have these values: the lines of what is answered, and then a line with a point.
+abbrev pub shown : Showing → List Value → List ℕ
+shown showing values = showing.text values ++ line (codes ".")

@@ -1,64 +1,38 @@
-//! The lines of an answer, from the values of all nodes and without the answer as a list.
+//! The lines of an answer, from a settled sheet and without the answer as a list.
 ghost use Rattle.std.specs.Prelude.{◌≡◌, ◌<◌, ◌^◌, map, length};
-ghost use Rattle.std.specs.List.{AllByRecursion};
 ghost use Rattle.text_pieces.specs.Giving.{Gives};
-ghost use Rattle.flat_code.specs.Runs.{IsFlat, answer_by, flat_run, value_at};
-ghost use Rattle.tax_print.specs.Lines.{answer_lines, values_lines};
-ghost use Rattle.household_session.specs.Sessions.{IsFaceOf};
+ghost use Rattle.flat_code.specs.Faces.{IsFaceOf};
+ghost use Rattle.flat_code.specs.Runs.{flat_run, node_values, value_at};
+ghost use Rattle.tax_print.specs.Lines.{answer_lines, outputs_lines};
 
-use crate::run::fill_nodes;
-use flat_code::{Flat, stop_among};
-use observables::Face;
-use m_fixed::Value;
 use m_ports::{Failed, Sink};
+use observables::Face;
 use tax_print::{print_stop, print_values};
+use value_sheet::Sheet;
 
-/// Writes the lines of what a program answers for these inputs. What stood in the places for the nodes' values before
-/// doesn't matter.
-pub(crate) fn print_fresh<K: Sink>(
-    flat: &Flat,
-    face: &Face,
-    inputs: &[Value],
-    nodes: &mut [Value],
-    out: &mut K,
-) -> Result<(), Failed>
-    requires valid { IsFlat flat.now }
-    requires face { IsFaceOf face.now flat.now }
-    requires given { length inputs.now ≡ flat.now.inputs }
-    requires room { length nodes.old ≡ length flat.now.nodes }
-    ensures { Gives K.written K.faults out.old out.new result (answer_lines face.now (flat_run flat.now inputs.now)) }
+/// Writes the lines of what a settled sheet's program answers for its inputs.
+pub(crate) fn print_sheet<K: Sink>(sheet: &Sheet, face: &Face, out: &mut K) -> Result<(), Failed>
+    requires settled { sheet.now.settled ≡ sheet.now.now }
+    requires face { IsFaceOf face.now sheet.now.flat }
+    ensures { Gives K.written K.faults out.old out.new result (answer_lines face.now (flat_run sheet.now.flat sheet.now.now)) }
 {
-    fill_nodes(flat.nodes.as_slice(), inputs, nodes);
-    print_run(flat, face, nodes, out)
-}
-
-// Writes the lines of what a program answers where its nodes have these values.
-fn print_run<K: Sink>(flat: &Flat, face: &Face, nodes: &[Value], out: &mut K) -> Result<(), Failed>
-    requires valid { IsFlat flat.now }
-    requires face { IsFaceOf face.now flat.now }
-    requires nodes { length nodes.now ≡ length flat.now.nodes }
-    ensures { Gives K.written K.faults out.old out.new result (answer_lines face.now (answer_by nodes.now flat.now)) }
-{
-    match stop_among(flat.checks.as_slice(), nodes) {
+    match sheet.stop() {
         Some(stop) => print_stop(face, stop, out),
-        None => print_outputs(face, flat.outputs.as_slice(), nodes, out),
+        None => print_outputs(sheet, face, out),
     }
 }
 
-// Writes the lines of the outputs, each with the value of its node.
-fn print_outputs<K: Sink>(
-    face: &Face,
-    outputs: &[u32],
-    nodes: &[Value],
-    out: &mut K,
-) -> Result<(), Failed>
-    requires named { length outputs.now ≡ length face.now.outputs }
-    requires few { length outputs.now < 2 ^ 32 }
-    requires within { AllByRecursion (λ output. output < length nodes.now) outputs.now }
-    ensures { Gives K.written K.faults out.old out.new result (values_lines face.now.outputs (map (value_at nodes.now) outputs.now)) }
+// Writes the lines of the outputs.
+fn print_outputs<K: Sink>(sheet: &Sheet, face: &Face, out: &mut K) -> Result<(), Failed>
+    requires settled { sheet.now.settled ≡ sheet.now.now }
+    requires named { length face.now.outputs ≡ length sheet.now.flat.outputs }
+    requires few { length face.now.outputs < 2 ^ 32 }
+    ensures { Gives K.written K.faults out.old out.new result
+        (outputs_lines face.now.labels face.now.outputs (map (value_at (node_values sheet.now.now sheet.now.flat.nodes)) sheet.now.flat.outputs)) }
 {
-    for k in 0..outputs.len() {
-        print_values(face, k as u32, nodes[outputs[k] as usize], out)?;
+    let count = face.outputs.as_slice().len();
+    for k in 0..count {
+        print_values(face, k as u32, sheet.output(k as u32), out)?;
     }
     Ok(())
 }

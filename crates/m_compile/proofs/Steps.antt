@@ -1,18 +1,30 @@
 -- What a step's fault says of the source, and what the program of its rules is.
-use Rattle.std.proofs.Common.{◌≡◌, ◌≢◌, ◌≤◌, ◌<◌, ◌^◌, ℕ, Bool, true, false, List, [], All, map, length, Option, None, Some, Result, Ok, Err, nat_lt, cond, refl, sym, ap, ◌∙◌, subst, arith}
+use Rattle.std.proofs.Common.{◌≡◌, ◌≢◌, ◌≤◌, ◌<◌, ◌^◌, ℕ, suc, Bool, true, false, List, [], ◌∷◌, All, map, length, Option, None, Some, Result, Ok, Err, nat_lt, cond, refl, sym, ap, ◌∙◌, subst, arith}
 use Rattle.std.proofs.lemmas.Bool.{ltb-false}
 use Rattle.std.proofs.lemmas.List.{length-map}
 use Rattle.std.specs.Prelude.{take}
+use Rattle.std.specs.List.{AllByRecursion}
 use Rattle.m_places.specs.Refusals.{Outcome}
 use Rattle.m_places.specs.declared.limits.TheConstants.{DRIVER_WEIGHT, REQUESTS}
 use Rattle.rule_text.specs.declared.Source.{Source}
 use Rattle.rule_text.specs.declared.Text.{Text}
-use Rattle.m_symbols.specs.Declarations.{Declared, codes_of, inputs_from}
+use Rattle.m_symbols.specs.Declarations.{Declared, inputs_from}
+use Rattle.m_symbols.specs.Declarations as declarations
 use Rattle.m_symbols.proofs.Numbered.{as_many_codes}
 use Rattle.m_requests.specs.Cells.{cell_name, returned_cells}
 use Rattle.observables.specs.declared.face.Face.{Face}
 use Rattle.observables.specs.declared.face.FaceLabel.{FaceLabel}
 use Rattle.observables.specs.declared.face.FaceLabel.TheVariants.{Verif}
+use Rattle.observables.specs.declared.face.FaceOutput.{FaceOutput}
+use Rattle.observables.specs.declared.face.FaceOutput.TheVariants.{Named}
+use Rattle.observables.specs.declared.inputs.Coded.{Coded}
+use Rattle.observables.specs.Answers.{told_of}
+use Rattle.observables.specs.Inputs.{codes_of}
+use Rattle.observables.specs.Outputs.{names_of, notes_of}
+use Rattle.observables.proofs.OutputLemmas.{names-named, notes-named}
+use Rattle.flat_code.specs.Passes.{Becomes}
+use Rattle.flat_code.specs.Runs.{flat_run}
+use Rattle.flat_code.specs.Tidy.{IsTidy}
 use Rattle.flat_code.specs.declared.program.Flat.{Flat}
 use Rattle.micro_m.specs.declared.base.Base.{Base}
 use Rattle.micro_m.specs.Reads.{HasNoCycle}
@@ -37,13 +49,14 @@ use Rattle.rule_base.specs.Base.{IsBaseOf}
 use Rattle.rule_base.specs.Faults.{IsRuleFault}
 use Rattle.rule_base.specs.declared.fault.RuleFault.{RuleFault}
 use Rattle.rule_base.specs.declared.fault.RuleFault.TheVariants as rules
-use Rattle.m_compile.specs.declared.compiling.Compiled.{Compiled}
 use Rattle.m_compile.specs.declared.fault.SourceFault.{SourceFault}
 use Rattle.m_compile.specs.declared.fault.SourceFault.TheVariants.{Memory}
 use Rattle.m_compile.specs.Sources.{HasRules, IsWritten, running}
 use Rattle.m_compile.specs.Faults.{IsSourceFault, of_rules, of_driver, of_core, of_requests, of_weight}
-use Rattle.m_compile.specs.Compiled.{IsCompiled, IsRunnable}
-use Rattle.m_compile.specs.inner.Parts.{IsAsked, IsAskedFault, in_driver, in_requests, IsProgram, IsHeavy, heavy, of_lines, of_names, IsDriverFault, faced}
+use Rattle.m_compile.specs.Compiled.{IsCompiled, input_said, inputs_said}
+use Rattle.m_compile.specs.inner.Parts.{IsAsked, IsAskedFault, in_driver, in_requests, IsProgram, IsHeavy, heavy, of_lines, of_names, IsDriverFault, compiled_of}
+use Rattle.m_compile.proofs.Distinct.{codes_said, distinct_codes}
+use Rattle.m_compile.proofs.Tidied.{plain_values, labels_kept}
 use Rattle.m_compile.specs.inner.Steps.{rule_step, driver_step, core_step, request_step, inline_step}
 
 -- the fault of the rule files
@@ -121,58 +134,63 @@ heavy_told : (source : Source) (declared : Declared) (base : Base) (written : Op
 heavy_told source declared base written asked fault r d q (heavy w) = of_weight r d q w
 
 -- the whole
-compiled_when : (source : Source) (declared : Declared) (base : Base) (asked : List ℕ) (core : Core) (compiled : Compiled) → HasRules source declared base → IsAsked declared source core asked
-    → IsProgram declared base core asked compiled → IsCompiled source compiled
-compiled_when source declared base asked core compiled r a p = record {
-  declared = declared;
-  base = base;
-  written = a.written;
-  requests = asked;
-  valid = record { rules = r; driven = a.driven; requested = a.requested; light = subst (λ c. weight_of c base ≤ DRIVER_WEIGHT) a.runs p.light };
-  runnable = p.runnable;
-  codes = p.codes;
-  outputs = p.outputs;
-  first_labels = p.first_labels;
-  nodes_fit = p.nodes_fit;
-  answers = λ inputs. rw (sym a.runs) (p.answers inputs);
-}
+compiled_when : (source : Source) (declared : Declared) (base : Base) (asked : List ℕ) (core : Core) (flat : Flat) (face : Face) → HasRules source declared base → IsAsked declared source core asked
+    → IsProgram declared base core asked flat face → IsCompiled source (compiled_of flat face)
+compiled_when source declared base asked core flat face r a p =
+    let no_notes : notes_of face.outputs ≡ [] = ap notes_of p.outputs ∙ notes-named (map (cell_name declared) asked) in
+    record {
+      declared = declared;
+      base = base;
+      written = a.written;
+      requests = asked;
+      valid = record { rules = r; driven = a.driven; requested = a.requested; light = subst (λ c. weight_of c base ≤ DRIVER_WEIGHT) a.runs p.light };
+      runnable = record { valid = p.valid; shown = p.shown; distinct = rw (ap codes_of p.inputs ∙ codes_said declared) (distinct_codes source.texts source.application declared base r.made); nodes_fit = p.nodes_fit };
+      tidy = p.tidy;
+      inputs = p.inputs;
+      names = ap names_of p.outputs ∙ names-named (map (cell_name declared) asked);
+      notes = subst (AllByRecursion (λ number. number < length base.labels)) (sym no_notes) tt;
+      first_labels = p.first_labels;
+      answers = λ inputs given. ap (λ notes. told_of face.labels notes (flat_run flat inputs)) no_notes ∙ rw (sym a.runs) (p.answers inputs (plain_values face.inputs inputs given));
+    }
 
 pub finished : (source : Source) (declared : Declared) (base : Base) (asked : List ℕ) (core : Core) (result : Result (Flat × Face) SourceFault) → HasRules source declared base
-    → IsAsked declared source core asked → Outcome Memory result (λ given. IsProgram declared base core asked (faced declared given.0 given.1)) (IsHeavy core base)
-    → Outcome Memory result (λ given. IsCompiled source (faced declared given.0 given.1)) (IsSourceFault source)
-finished source declared base asked core (Ok given) r a p = compiled_when source declared base asked core (faced declared given.0 given.1) r a p
+    → IsAsked declared source core asked → Outcome Memory result (λ given. IsProgram declared base core asked given.0 given.1) (IsHeavy core base)
+    → Outcome Memory result (λ given. IsCompiled source (compiled_of given.0 given.1)) (IsSourceFault source)
+finished source declared base asked core (Ok given) r a p = compiled_when source declared base asked core given.0 given.1 r a p
 finished source declared base asked core (Err fault) r a p = λ m. heavy_told source declared base a.written asked fault r a.driven a.requested (subst (λ c. IsHeavy c base fault) a.runs (p m))
 
 -- ---- the program of a driver
 
--- each input has a code
-as_many_inputs : (declared : Declared) (codes : List (List ℕ)) (inputs : ℕ) → codes ≡ codes_of declared.variables → inputs ≡ length (inputs_from 0 declared.variables) → inputs ≡ length codes
-as_many_inputs declared codes inputs c i = i ∙ sym (as_many_codes 0 declared.variables) ∙ ap length (sym c)
+-- there is an input for each that is declared
+as_many_inputs : (declared : Declared) (said : List Coded) (inputs : ℕ) → said ≡ inputs_said declared → inputs ≡ length (inputs_from 0 declared.variables) → length said ≡ inputs
+as_many_inputs declared said inputs c i = ap length c ∙ length-map (declarations.codes_of declared.variables) input_said ∙ as_many_codes 0 declared.variables ∙ sym i
 
--- there is a name for each of the cells that are asked for
-as_many_names : (declared : Declared) (names : List (List ℕ)) (asked : List ℕ) → names ≡ map (cell_name declared) asked → length names ≡ length asked
-as_many_names declared names asked e = ap length e ∙ length-map asked (cell_name declared)
+-- there is an output for each of the cells that are asked for
+as_many_outputs : (declared : Declared) (outputs : List FaceOutput) (asked : List ℕ) → outputs ≡ map Named (map (cell_name declared) asked) → length outputs ≡ length asked
+as_many_outputs declared outputs asked e = ap length e ∙ length-map (map (cell_name declared) asked) Named ∙ length-map asked (cell_name declared)
 
-few_names : (names : List (List ℕ)) (asked : List ℕ) → length names ≡ length asked → length asked ≤ REQUESTS → length names < 2 ^ 32
-few_names names asked e h = omega (arith, e, h)
+few_outputs : (outputs : List FaceOutput) (asked : List ℕ) → length outputs ≡ length asked → length asked ≤ REQUESTS → length outputs < 2 ^ 32
+few_outputs outputs asked e h = omega (arith, e, h)
 
--- the program with its face
-pub program_made : (declared : Declared) (base : Base) (core : Core) (asked : List ℕ) (compiled : Compiled) (labels : List FaceLabel) → HasWeight core base → IsInlined core base declared asked compiled.flat labels
-    → compiled.face.labels ≡ labels → compiled.face.inputs ≡ codes_of declared.variables → compiled.face.outputs ≡ map (cell_name declared) asked → compiled.codes ≡ codes_of declared.variables
-    → length asked ≤ REQUESTS → IsProgram declared base core asked compiled
-program_made declared base core asked compiled labels w i l f o d h = record {
-  light = w;
-  runnable = record {
-    flat = i.flat_program;
-    inputs = as_many_inputs declared compiled.codes compiled.flat.inputs d i.inputs;
-    codes = f ∙ sym d;
-    outputs = i.outputs ∙ sym (as_many_names declared compiled.face.outputs asked o);
-    few = few_names compiled.face.outputs asked (as_many_names declared compiled.face.outputs asked o) h;
-    labels = subst (λ (ls : List FaceLabel). All (λ check. check.label < length ls) compiled.flat.checks) (sym l) i.labelled;
-  };
-  codes = d;
-  outputs = o;
-  first_labels = subst (λ (ls : List FaceLabel). take (length base.labels) ls ≡ map Verif base.labels) (sym l) i.first_labels;
-  nodes_fit = i.nodes_fit;
-  answers = λ inputs. rw l (i.answer inputs);
-}
+-- the tidy program with its face
+pub program_made : (declared : Declared) (base : Base) (core : Core) (asked : List ℕ) (flat tidy : Flat) (face : Face) (labels : List FaceLabel) → HasWeight core base → IsInlined core base declared asked flat labels
+    → Becomes flat tidy → IsTidy tidy → face.labels ≡ labels → face.inputs ≡ inputs_said declared → face.outputs ≡ map Named (map (cell_name declared) asked) → length asked ≤ REQUESTS
+    → IsProgram declared base core asked tidy face
+program_made declared base core asked flat tidy face labels w i b t l f o h =
+    let many = as_many_outputs declared face.outputs asked o in
+    record {
+      light = w;
+      valid = b.valid;
+      tidy = t;
+      shown = record {
+        inputs = as_many_inputs declared face.inputs tidy.inputs f (b.inputs ∙ i.inputs);
+        labels = labels_kept (length face.labels) flat.checks tidy.checks (subst (λ (ls : List FaceLabel). All (λ check. check.label < length ls) flat.checks) (sym l) i.labelled) b.labels;
+        outputs = many ∙ sym (b.outputs ∙ i.outputs);
+        few = few_outputs face.outputs asked many h;
+      };
+      inputs = f;
+      outputs = o;
+      first_labels = subst (λ (ls : List FaceLabel). take (length base.labels) ls ≡ map Verif base.labels) (sym l) i.first_labels;
+      nodes_fit = omega (arith, b.nodes, i.nodes_fit);
+      answers = λ inputs plain. rw (l, b.answer inputs plain) (i.answer inputs);
+    }

@@ -2,17 +2,20 @@
 
 ghost use Rattle.std.specs.Prelude.{◌≡◌, ◌<◌, ◌++◌, [], All, IfOk, OnOk, length, map};
 ghost use Rattle.std.specs.List.{cons_option};
+ghost use Rattle.std.specs.Option.{option_map};
 ghost use Rattle.m_requests.specs.Cells.{cell_name};
-ghost use Rattle.m_symbols.specs.Declarations.{code_of, codes_of, owners_from};
+ghost use Rattle.m_symbols.specs.Declarations.{code_of, owners_from};
+ghost use Rattle.observables.specs.declared.face.FaceOutput.TheVariants.{Named};
+ghost use Rattle.m_compile.specs.Compiled.{input_said, inputs_said};
 
-use observables::{Face, FaceLabel};
 use m_ast::Role;
-use m_places::{Name, Seq};
+use m_places::Seq;
 use m_requests::cell_names;
 use m_symbols::{Symbols, Variable};
+use observables::{Coded, Face, FaceLabel, InputType, named_face};
 use std::alloc::{AllocError, Global};
 
-/// The face of a program with these labels over what is declared: the codes of all inputs, the labels, and the names of
+/// The face of a program with these labels over what is declared: all inputs, the labels, and the names of
 /// the cells that are asked for. Its only error is want of memory.
 pub(crate) fn face_of(
     alloc: Global,
@@ -21,36 +24,39 @@ pub(crate) fn face_of(
     requests: &[u32],
 ) -> Result<Face, AllocError>
     requires { All (λ c. c < length (owners_from 0 symbols.now.variables)) requests.now }
-    ensures inputs { IfOk result (λ face. face.inputs ≡ codes_of symbols.now.variables) }
+    ensures inputs { IfOk result (λ face. face.inputs ≡ inputs_said symbols.now) }
     ensures labels { IfOk result (λ face. face.labels ≡ labels) }
-    ensures outputs { IfOk result (λ face. face.outputs ≡ map (cell_name symbols.now) requests.now) }
+    ensures outputs { IfOk result (λ face. face.outputs ≡ map Named (map (cell_name symbols.now) requests.now)) }
 {
-    let inputs = codes(alloc, symbols)?;
-    let outputs = cell_names(alloc, symbols, requests)?;
-    Ok(Face {
-        inputs,
-        labels,
-        outputs,
-    })
+    let inputs = inputs_of(alloc, symbols)?;
+    let names = cell_names(alloc, symbols, requests)?;
+    named_face(alloc, inputs, labels, names)
 }
 
-// The codes of the inputs, in order.
-fn codes(alloc: Global, symbols: &Symbols) -> Result<Seq<Name>, AllocError>
-    ensures { IfOk result (λ codes. codes ≡ codes_of symbols.now.variables) }
+// The inputs, in order.
+fn inputs_of(alloc: Global, symbols: &Symbols) -> Result<Seq<Coded>, AllocError>
+    ensures { IfOk result (λ inputs. inputs ≡ inputs_said symbols.now) }
 {
-    let mut codes = Vec::new(alloc);
+    let mut inputs = Vec::new(alloc);
     for number in 0..symbols.count() {
-        add_code(alloc, symbols.variable(number), &mut codes)?;
+        add_input(alloc, symbols.variable(number), &mut inputs)?;
     }
-    Ok(Seq::from_vec(codes))
+    Ok(Seq::from_vec(inputs))
 }
 
-// Adds the code of a variable, if it is an input.
-fn add_code(alloc: Global, variable: &Variable, codes: &mut Vec<Name>) -> Result<(), AllocError>
-    ensures { OnOk result (codes.new.items ≡ codes.old.items ++ cons_option (code_of variable.now) []) }
+// Adds a variable, if it is an input.
+fn add_input(
+    alloc: Global,
+    variable: &Variable,
+    inputs: &mut Vec<Coded>,
+) -> Result<(), AllocError>
+    ensures { OnOk result (inputs.new.items ≡ inputs.old.items ++ cons_option (option_map input_said (code_of variable.now)) []) }
 {
     match &variable.item.role {
-        Role::Input(code) => codes.push(code.copy(alloc)?)?,
+        Role::Input(code) => inputs.push(Coded {
+            code: code.copy(alloc)?,
+            kind: InputType::Any,
+        })?,
         Role::Computed(_) => {}
         Role::Constant(_) => {}
     }

@@ -1,6 +1,6 @@
 -- The inputs of a program, and the lists of values that programs are asked for.
-use Rattle.std.specs.Prelude.{ℕ, ℤ, pos, Bool, true, false, ◌||◌, ⊤, List, [], ◌∷◌, codes, map, IsTrue, int_rem, if◌then◌else◌}
-use Rattle.std.specs.List.{AllZip}
+use Rattle.std.specs.Prelude.{◌≡◌, ℕ, ℤ, pos, Bool, true, false, ◌||◌, ⊤, List, [], ◌∷◌, codes, map, IsTrue, int_rem, if◌then◌else◌}
+use Rattle.std.specs.List.{AllByRecursion, AllZip}
 use Rattle.std.specs.Ordering.{int_eq}
 use Rattle.std.specs.Str.{bytes_eq}
 use Rattle.m_fixed.specs.Amounts.{IsAmount}
@@ -24,6 +24,10 @@ abbrev pub is_of_type : InputType → ℤ → Bool
 is_of_type Any z = true
 is_of_type Whole z = int_eq (int_rem z (pos 1_000_000)) (pos 0)
 is_of_type Truth z = int_eq z (pos 0) || int_eq z (pos 1_000_000)
+
+-- inputs that may have each amount
+abbrev pub AreAny : List Coded → Type 0
+AreAny inputs = AllByRecursion (λ input. input.kind ≡ Any) inputs
 
 -- a value that an input of a type may have: it is undefined, or an amount of the type, and not over
 abbrev pub IsValueOf : InputType → Value → Type 0

@@ -8,26 +8,29 @@ ghost use Rattle.serve_loop.specs.inner.Going.{Goes};
 use household_session::Session;
 use m_ports::{Failed, Sink};
 use m_text::line_end;
+use std::sync::ledger::Ledger;
+use steps::Steps;
 
 /// Does each line that has its line feed among the bytes, of which the first `held` have none, and answers where the bytes
 /// behind the last one begin.
-pub(crate) fn do_ended<K: Sink>(
+pub(crate) fn do_ended<K: Sink, L: Ledger>(
     session: &mut Session,
     bytes: &[u8],
     held: usize,
     out: &mut K,
+    steps: &mut Steps<L>,
 ) -> Result<usize, Failed>
     requires within { held ≤ length bytes.now }
     requires unended { IsUnended (take held bytes.now) }
-    ensures goes { IfOk result (λ from. Goes K.written K.faults out.old out.new session.old session.new bytes.now (drop from bytes.now)) }
+    ensures goes { IfOk result (λ from. Goes K.written K.faults out.old out.new session.old.sitting session.new.sitting bytes.now (drop from bytes.now)) }
     ensures place { IfOk result (λ from. (from ≤ length bytes.now) × IsUnended (drop from bytes.now)) }
     ensures failed { OnErr result (Rose (K.faults out.old) (K.faults out.new)) }
-    ensures prefix { OnErr result ((rest : List ℕ) → AppendsPrefix (K.written out.old) (K.written out.new) (replies_of session.old (bytes.now ++ rest))) }
+    ensures prefix { OnErr result ((rest : List ℕ) → AppendsPrefix (K.written out.old) (K.written out.new) (replies_of session.old.sitting (bytes.now ++ rest))) }
 {
     let mut from = 0;
     let mut end = line_end(bytes, held);
     while end < bytes.len() {
-        session.command(&bytes[from..end], out)?;
+        session.command(&bytes[from..end], out, steps)?;
         from = end + 1;
         end = line_end(bytes, from);
     }

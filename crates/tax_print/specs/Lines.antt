@@ -7,22 +7,22 @@ use Rattle.m_fixed.specs.declared.amount.Value.TheVariants.{Undef, Num, Over as 
 use Rattle.m_fixed.specs.Text.{printed}
 use Rattle.m_places.specs.declared.verification.ErrorKind.{ErrorKind}
 use Rattle.m_places.specs.declared.verification.ErrorKind.TheVariants.{Anomalie, Discordance, Informative}
+use Rattle.m_places.specs.declared.verification.Label.{Label}
 use Rattle.observables.specs.declared.answer.Answer.{Answer}
 use Rattle.observables.specs.declared.answer.Answer.TheVariants.{Values, Stopped}
 use Rattle.observables.specs.declared.answer.Stop.{Stop}
 use Rattle.observables.specs.declared.face.Face.{Face}
 use Rattle.observables.specs.declared.face.FaceLabel.{FaceLabel}
-use Rattle.observables.specs.Answers.{Cause, failed, over, over_driver, Told, values, stopped, label_number, cause_of, told_of}
+use Rattle.observables.specs.declared.face.FaceOutput.{FaceOutput}
+use Rattle.observables.specs.declared.face.FaceOutput.TheVariants.{Named, Noted}
+use Rattle.observables.specs.Answers.{Cause, failed, over, over_driver, Told, values, stopped, label_number, cause_of, note_told, told_of}
+use Rattle.observables.specs.Outputs.{names_of, notes_of}
 
 -- the line of a name and its value: `IRN = 1500.5`, `IRN undefined`, `IRN over`
 abbrev pub value_line : List ℕ → Value → List ℕ
 value_line name Undef = joined (name ∷ codes " undefined" ∷ new_line ∷ [])
 value_line name (Num amount) = joined (name ∷ codes " = " ∷ printed amount ∷ new_line ∷ [])
 value_line name OverValue = joined (name ∷ codes " over" ∷ new_line ∷ [])
-
--- the line of the name with this number
-abbrev pub output_line : List (List ℕ) → ℕ → Value → List ℕ
-output_line names k value = option_map_or (λ name. value_line name value) (slice_get names k) []
 
 -- the lines of names and their values, in order
 abbrev pub values_lines : List (List ℕ) → List Value → List ℕ
@@ -35,17 +35,25 @@ kind_text Anomalie = codes "anomalie"
 kind_text Discordance = codes "discordance"
 kind_text Informative = codes "informative"
 
--- the lines of what ended a run: of a failed verification its number, its error and the error's kind, and
+-- the two lines of a verification behind a word, as `failed 2000 A20 anomalie`: its number, its error and the error's kind, and
 -- in a line of its own the error's text
+abbrev pub label_lines : List ℕ → Label → List ℕ
+label_lines word label = joined (word ∷ codes " " ∷ label.verif ∷ codes " " ∷ label.error ∷ codes " " ∷ kind_text label.kind ∷ new_line ∷ label.text ∷ new_line ∷ [])
+
+-- the lines of what ended a run
 abbrev pub cause_lines : Cause → List ℕ
-cause_lines (failed label) =
-    joined (codes "failed " ∷ label.verif ∷ codes " " ∷ label.error ∷ codes " " ∷ kind_text label.kind ∷ new_line ∷ label.text ∷ new_line ∷ [])
+cause_lines (failed label) = label_lines (codes "failed") label
 cause_lines (over label) = joined (codes "over verification " ∷ label.verif ∷ codes " " ∷ label.error ∷ new_line ∷ [])
 cause_lines (over_driver line) = joined (codes "over driver line " ∷ decimal line ∷ new_line ∷ [])
 
--- The lines of what a household is told, where these are the names of what was asked for.
+-- the lines of notes, in order: of each verification `noted 2000 A20 discordance`, and the error's text in a line of its own
+abbrev pub notes_lines : List Label → List ℕ
+notes_lines [] = []
+notes_lines (label ∷ labels) = label_lines (codes "noted") label ++ notes_lines labels
+
+-- The lines of what a household is told, where these are the names of what was asked for: first the notes, and then the values.
 abbrev pub told_lines : List (List ℕ) → Told → List ℕ
-told_lines names (values vs) = values_lines names vs
+told_lines names (values notes vs) = notes_lines notes ++ values_lines names vs
 told_lines names (stopped cause) = cause_lines cause
 
 -- the lines of a stop at one of these labels
@@ -54,7 +62,22 @@ stop_lines labels stop = option_map_or (λ label. cause_lines (cause_of stop lab
 
 -- The lines of an answer: it is read through the face, and told.
 abbrev pub answer_lines : Face → Answer → List ℕ
-answer_lines face answer = option_map_or (told_lines face.outputs) (told_of face.labels answer) []
+answer_lines face answer = option_map_or (told_lines (names_of face.outputs)) (told_of face.labels (notes_of face.outputs) answer) []
+
+-- the lines of an output with this value, where these are the labels: of a name its line, and of a note those of what it tells
+abbrev pub output_lines : List FaceLabel → Value → FaceOutput → List ℕ
+output_lines labels v (Named name) = value_line name v
+output_lines labels v (Noted number) = option_map_or (label_lines (codes "noted")) (note_told labels number v) []
+
+-- the lines of outputs with these values, in order
+abbrev pub outputs_lines : List FaceLabel → List FaceOutput → List Value → List ℕ
+outputs_lines labels [] vs = []
+outputs_lines labels (output ∷ outputs) [] = []
+outputs_lines labels (output ∷ outputs) (v ∷ vs) = output_lines labels v output ++ outputs_lines labels outputs vs
+
+-- the lines of the output with this number
+abbrev pub output_line : Face → ℕ → Value → List ℕ
+output_line face k v = option_map_or (output_lines face.labels v) (slice_get face.outputs k) []
 
 -- the lines of a household of a table: its label, and then its answer
 abbrev pub household_lines : List ℕ → Face → Answer → List ℕ

@@ -1,23 +1,28 @@
 ghost use Rattle.std.specs.Prelude.{◌≤◌, length};
 ghost use Rattle.text_pieces.specs.Giving.{Gives};
-ghost use Rattle.tax_print.specs.Lines.{AnswerIsWithin, answer_lines, household_lines, values_lines};
+ghost use Rattle.tax_print.specs.Lines.{AnswerIsWithin, answer_lines, household_lines, outputs_lines};
 
 use crate::stop::print_stop;
-use crate::value::print_value;
-use observables::{Answer, Face};
+use crate::value::print_output;
 use m_fixed::Value;
 use m_places::Name;
 use m_ports::{Failed, Sink};
+use observables::{Answer, Face, FaceLabel, FaceOutput};
 use text_pieces::give_pieces;
 
-/// Writes the lines of an answer: one for each output, in order, or those of what ended the run. On a
+/// Writes the lines of an answer: those of each output, in order, or those of what ended the run. On a
 /// failure a prefix of the lines was appended. It takes no memory.
 pub fn print_answer<K: Sink>(face: &Face, answer: &Answer, out: &mut K) -> Result<(), Failed>
     requires { AnswerIsWithin face.now answer.now }
     ensures { Gives K.written K.faults out.old out.new result (answer_lines face.now answer.now) }
 {
     match answer {
-        Answer::Values(values) => print_all(face.outputs.as_slice(), values.as_slice(), out),
+        Answer::Values(values) => print_all(
+            face.labels.as_slice(),
+            face.outputs.as_slice(),
+            values.as_slice(),
+            out,
+        ),
         Answer::Stopped(stop) => print_stop(face, *stop, out),
     }
 }
@@ -37,12 +42,17 @@ pub fn print_household<K: Sink>(
     print_answer(face, answer, out)
 }
 
-fn print_all<K: Sink>(names: &[Name], values: &[Value], out: &mut K) -> Result<(), Failed>
-    requires { length values.now ≤ length names.now }
-    ensures { Gives K.written K.faults out.old out.new result (values_lines names.now values.now) }
+fn print_all<K: Sink>(
+    labels: &[FaceLabel],
+    outputs: &[FaceOutput],
+    values: &[Value],
+    out: &mut K,
+) -> Result<(), Failed>
+    requires { length values.now ≤ length outputs.now }
+    ensures { Gives K.written K.faults out.old out.new result (outputs_lines labels.now outputs.now values.now) }
 {
     for (k, value) in values.iter().enumerate() {
-        print_value(names[k].bytes(), *value, out)?;
+        print_output(labels, &outputs[k], *value, out)?;
     }
     Ok(())
 }

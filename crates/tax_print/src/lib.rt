@@ -4,6 +4,7 @@
 #![tactic(auto)]
 
 mod answer;
+mod note;
 mod stop;
 mod value;
 

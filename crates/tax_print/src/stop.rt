@@ -1,14 +1,15 @@
 ghost use Rattle.std.specs.Prelude.{◌∷◌, [], ◌<◌, ◌≡◌, length, codes, decimal};
 ghost use Rattle.text_pieces.specs.Giving.{Gives};
 ghost use Rattle.text_pieces.specs.Pieces.{joined};
-ghost use Rattle.observables.specs.Answers.{label_number, cause_of, failed, over};
+ghost use Rattle.observables.specs.Answers.{label_number, cause_of, over};
 ghost use Rattle.text_pieces.specs.Pieces.{new_line};
-ghost use Rattle.tax_print.specs.Lines.{kind_text, cause_lines, stop_lines};
+ghost use Rattle.tax_print.specs.Lines.{cause_lines, stop_lines};
 
-use observables::{Face, FaceLabel, Stop};
+use crate::note::print_label;
 use itoa::Buffer;
-use m_places::{ErrorKind, Label};
+use m_places::Label;
 use m_ports::{Failed, Sink};
+use observables::{Face, FaceLabel, Stop};
 use text_pieces::give_pieces;
 
 /// Writes the lines of what ended a run: `failed 2000 A20 anomalie` and the error's text in a line of its
@@ -36,38 +37,11 @@ fn print_cause<K: Sink>(label: &FaceLabel, stop: Stop, out: &mut K) -> Result<()
 {
     match label {
         FaceLabel::Verif(label) => match stop {
-            Stop::Failed(_) => print_failed(label, out),
+            Stop::Failed(_) => print_label(b"failed", label, out),
             Stop::Over(_) => print_over(label, out),
         },
         FaceLabel::DriverLine(line) => print_driver_line(*line, out),
     }
-}
-
-fn print_failed<K: Sink>(label: &Label, out: &mut K) -> Result<(), Failed>
-    ensures { Gives K.written K.faults out.old out.new result (cause_lines (failed label.now)) }
-{
-    let verif = label.verif.bytes();
-    let error = label.error.bytes();
-    let text = label.text.bytes();
-    give_failed(verif, error, kind_text(label.kind), text, out)
-}
-
-fn give_failed<'a, K: Sink>(
-    verif: &'a [u8],
-    error: &'a [u8],
-    kind: &'a [u8],
-    text: &'a [u8],
-    out: &mut K,
-) -> Result<(), Failed>
-    ensures { Gives K.written K.faults out.old out.new result
-        (joined (codes "failed " ∷ verif.now ∷ codes " " ∷ error.now ∷ codes " " ∷ kind.now ∷ new_line ∷ text.now ∷ new_line ∷ [])) }
-{
-    give_pieces(
-        out,
-        &[
-            b"failed ", verif, b" ", error, b" ", kind, b"\n", text, b"\n",
-        ],
-    )
 }
 
 fn print_over<K: Sink>(label: &Label, out: &mut K) -> Result<(), Failed>
@@ -85,14 +59,4 @@ fn print_driver_line<K: Sink>(line: u32, out: &mut K) -> Result<(), Failed>
     let mut buffer = Buffer::new();
     let digits = buffer.format(line).as_bytes();
     give_pieces(out, &[b"over driver line ", digits, b"\n"])
-}
-
-fn kind_text(kind: ErrorKind) -> &'static [u8]
-    ensures { result.now ≡ kind_text kind }
-{
-    match kind {
-        ErrorKind::Anomalie => b"anomalie",
-        ErrorKind::Discordance => b"discordance",
-        ErrorKind::Informative => b"informative",
-    }
 }

@@ -3,21 +3,42 @@ ghost use Rattle.text_pieces.specs.Giving.{Gives};
 ghost use Rattle.text_pieces.specs.Pieces.{joined};
 ghost use Rattle.m_fixed.specs.Text.{printed};
 ghost use Rattle.text_pieces.specs.Pieces.{new_line};
-ghost use Rattle.tax_print.specs.Lines.{output_line, value_line};
+ghost use Rattle.tax_print.specs.Lines.{output_line, output_lines, value_line};
 
-use observables::Face;
+use crate::note::print_note;
 use m_fixed::{Amount, Value, write_amount};
 use m_ports::{Failed, Sink};
+use observables::{Face, FaceLabel, FaceOutput};
 use text_pieces::give_pieces;
 
-/// Writes the line of the output with this number, which has this value: `IRN = 1500.5`,
-/// `IRN undefined` or `IRN over`, with its line feed. On a failure a prefix of the line was appended.
-/// It takes no memory.
+/// Writes the lines of the output with this number, which has this value: of a name `IRN = 1500.5`,
+/// `IRN undefined` or `IRN over`, with its line feed, and of a note those of what it tells, if it tells anything. On a failure
+/// a prefix of the lines was appended. It takes no memory.
 pub fn print_values<K: Sink>(face: &Face, k: u32, v: Value, out: &mut K) -> Result<(), Failed>
     requires { k < length face.now.outputs }
-    ensures { Gives K.written K.faults out.old out.new result (output_line face.now.outputs k v) }
+    ensures { Gives K.written K.faults out.old out.new result (output_line face.now k v) }
 {
-    print_value(face.outputs.as_slice()[k as usize].bytes(), v, out)
+    print_output(
+        face.labels.as_slice(),
+        &face.outputs.as_slice()[k as usize],
+        v,
+        out,
+    )
+}
+
+/// Writes the lines of an output with this value.
+pub(crate) fn print_output<K: Sink>(
+    labels: &[FaceLabel],
+    output: &FaceOutput,
+    value: Value,
+    out: &mut K,
+) -> Result<(), Failed>
+    ensures { Gives K.written K.faults out.old out.new result (output_lines labels.now value output.now) }
+{
+    match output {
+        FaceOutput::Named(name) => print_value(name.bytes(), value, out),
+        FaceOutput::Noted(number) => print_note(labels, *number, value, out),
+    }
 }
 
 /// Writes the line of a name and its value.

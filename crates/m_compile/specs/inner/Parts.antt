@@ -1,14 +1,18 @@
 -- The last steps by themselves: from rules in an order and what is asked for to a program with its face.
-use Rattle.std.specs.Prelude.{◌≡◌, ℕ, ◌<◌, ◌≤◌, List, Option, length, map, take, Some, Ok, Err}
+use Rattle.std.specs.Prelude.{◌≡◌, ℕ, ◌<◌, ◌≤◌, List, [], Option, length, map, take, Some, Ok, Err}
 use Rattle.m_places.specs.declared.limits.TheConstants.{DRIVER_WEIGHT}
 use Rattle.m_fixed.specs.declared.amount.Value.{Value}
 use Rattle.rule_text.specs.declared.Source.{Source}
-use Rattle.m_symbols.specs.Declarations.{Declared, codes_of}
+use Rattle.m_symbols.specs.Declarations.{Declared}
 use Rattle.micro_m.specs.declared.base.Base.{Base}
 use Rattle.observables.specs.declared.face.Face.{Face}
 use Rattle.observables.specs.declared.face.FaceLabel.TheVariants.{Verif}
 use Rattle.flat_code.specs.declared.program.Flat.{Flat}
-use Rattle.flat_code.specs.Runs.{flat_run}
+use Rattle.observables.specs.declared.face.FaceOutput.TheVariants.{Named}
+use Rattle.flat_code.specs.Faces.{IsFaceOf}
+use Rattle.flat_code.specs.Facts.{ArePlain}
+use Rattle.flat_code.specs.Runs.{IsFlat, flat_run}
+use Rattle.flat_code.specs.Tidy.{IsTidy}
 use Rattle.observables.specs.Answers.{told_of}
 use Rattle.driver_core.specs.declared.program.Core.{Core}
 use Rattle.driver_core.specs.Answers.{answer_of}
@@ -27,7 +31,7 @@ use Rattle.m_compile.specs.declared.fault.SourceFault.{SourceFault}
 use Rattle.m_compile.specs.declared.fault.SourceFault.TheVariants.{Driver as DriverIs, Core as CoreIs, Requests, DriverTooLarge}
 use Rattle.m_compile.specs.Sources.{IsWritten, running}
 use Rattle.m_compile.specs.Faults.{told_weight}
-use Rattle.m_compile.specs.Compiled.{IsRunnable}
+use Rattle.m_compile.specs.Compiled.{inputs_said}
 
 -- Why a driver is refused over what is declared: its lines, or else its names. Where there is none there is no fault.
 pub data IsDriverFault (declared : Declared) : Option (List ℕ) → SourceFault → Type 0 where
@@ -48,18 +52,20 @@ pub data IsAskedFault (declared : Declared) (source : Source) : SourceFault → 
   in_requests : {written : Option Core} {fault : RequestFault} → IsWritten declared source.driver written → requests_said source.requests declared ≡ Err fault → IsAskedFault declared source (Requests fault)
 
 -- what a driver over rules in an order is compiled to, where these cells are asked for
-pub record IsProgram (declared : Declared) (base : Base) (core : Core) (requests : List ℕ) (compiled : Compiled) : Type 0 where
+pub record IsProgram (declared : Declared) (base : Base) (core : Core) (requests : List ℕ) (flat : Flat) (face : Face) : Type 0 where
   pub light : weight_of core base ≤ DRIVER_WEIGHT
-  pub runnable : IsRunnable compiled
-  pub codes : compiled.codes ≡ codes_of declared.variables
-  pub outputs : compiled.face.outputs ≡ map (cell_name declared) requests
-  pub first_labels : take (length base.labels) compiled.face.labels ≡ map Verif base.labels
-  pub nodes_fit : length compiled.flat.nodes ≤ most_nodes
-  pub answers : (inputs : List Value) → told_of compiled.face.labels (flat_run compiled.flat inputs) ≡ Some (answer_of core base declared requests inputs)
+  pub valid : IsFlat flat
+  pub tidy : IsTidy flat
+  pub shown : IsFaceOf face flat
+  pub inputs : face.inputs ≡ inputs_said declared
+  pub outputs : face.outputs ≡ map Named (map (cell_name declared) requests)
+  pub first_labels : take (length base.labels) face.labels ≡ map Verif base.labels
+  pub nodes_fit : length flat.nodes ≤ most_nodes
+  pub answers : (inputs : List Value) → ArePlain inputs → told_of face.labels [] (flat_run flat inputs) ≡ Some (answer_of core base declared requests inputs)
 
--- a program and its face, with the codes of what is declared
-abbrev pub faced : Declared → Flat → Face → Compiled
-faced declared flat face = record { face = face; flat = flat; codes = codes_of declared.variables }
+-- a program and its face
+abbrev pub compiled_of : Flat → Face → Compiled
+compiled_of flat face = record { face = face; tidy = flat }
 
 -- a driver that weighs too much
 pub data IsHeavy (core : Core) (base : Base) : SourceFault → Type 0 where

@@ -1,5 +1,5 @@
 -- What a program tells at its end.
-use Rattle.std.specs.Prelude.{◌≡◌, ℕ, ◌<◌, List, Option, Some, None, map, length}
+use Rattle.std.specs.Prelude.{◌≡◌, ℕ, ◌<◌, List, [], Option, Some, None, map, length}
 use Rattle.std.specs.List.{AllByRecursion}
 use Rattle.m_fixed.specs.declared.amount.Value.{Value}
 use Rattle.m_symbols.specs.Declarations.{Declared, inputs_from}
@@ -12,7 +12,7 @@ use Rattle.mpp_inline.specs.inner.Growth.{count, at, stop_of, Sane, HasFaces}
 
 -- the stop if there is one, and else these values
 abbrev pub ended : Option Cause → List Value → Told
-ended None vs = values vs
+ended None vs = values [] vs
 ended (Some cause) vs = stopped cause
 
 -- a whole program with these outputs, which tells what the driver answers

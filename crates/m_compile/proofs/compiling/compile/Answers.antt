@@ -1,4 +1,3 @@
-use Rattle.std.proofs.Common.{◌∙◌}
 use Rattle.m_requests.proofs.Outcomes.{told}
 use Rattle.m_compile.proofs.Steps.{rules_told, rules_made}
 use Rattle.m_compile.proofs.compiling.compile.Goals as goal
@@ -9,8 +8,5 @@ returns-in_err-made-clause-outcome c = told _ _ _ _ _ c.from_residual.ensures.1 
 pub program-requires-clause-rules : goal.program-requires-clause-rules
 program-requires-clause-rules c = rules_made c.args.source.now _ _ _ _ c.as_slice.ensures c.bytes.ensures c.in_ok-made.ensures.outcome.0 c.in_ok-made.ensures.no_cycle
 
-pub returns-clause-outcome : goal.returns-clause-outcome
-returns-clause-outcome c = rw (c.new.ensures ∙ c.into_codes.ensures) c.in_ok-flat.ensures
-
 pub returns-clause-runnable : goal.returns-clause-runnable
-returns-clause-runnable c = rw (c.new.ensures ∙ c.into_codes.ensures) c.in_ok-flat.ensures.runnable
+returns-clause-runnable c = c.in_ok-flat.ensures.runnable

@@ -23,8 +23,8 @@ loop-end-preserved g c =
     let gave = c.in_ok-command.ensures.text in
     record {
       runs = c.line_end-end-in-loop-end.ensures;
-      goes = subst (λ (sitting : Sitting). Goes g.K.Sink.written g.K.Sink.faults c.args.out.now c.command.new.out c.args.session.now sitting c.args.bytes.now
-          (drop (c.loop-end.end + 1) c.args.bytes.now)) (sym c.in_ok-command.ensures.after)
+      goes = subst (λ (sitting : Sitting). Goes g.K.Sink.written g.K.Sink.faults c.args.out.now c.command.new.out c.args.session.now.sitting sitting c.args.bytes.now
+          (drop (c.loop-end.end + 1) c.args.bytes.now)) (sym c.in_ok-command.ensures.sitting)
           (goes_line _ _ _ _ _ _ _ _ _ _ _ c.loop-end.invariant.goes (run_cut c.args.bytes.now c.loop-end.from c.loop-end.end runs c.loop-end-test.true)
           (run_unended c.args.bytes.now c.loop-end.from c.loop-end.end runs) gave.all gave.faultless);
     }

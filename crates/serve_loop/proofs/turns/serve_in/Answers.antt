@@ -17,7 +17,7 @@ loop-taken-preserved g c =
 pub returns-in-Err : goal.returns-in-Err
 returns-in-Err g c =
     let both = standing_stopped g.S.Source.left g.S.Source.faults g.K.Sink.written g.K.Sink.faults c.args.input.now c.loop-taken.input c.turn.new.input c.args.out.now c.loop-taken.out
-    c.turn.new.out c.args.session.now c.loop-taken.session _ c.loop-taken.taken c.in-Err.end c.loop-taken.invariant.standing c.in-Err.ensures c.loop-taken-test.true in
+    c.turn.new.out c.args.session.now.sitting c.loop-taken.session.sitting _ c.loop-taken.taken c.in-Err.end c.loop-taken.invariant.standing c.in-Err.ensures c.loop-taken-test.true in
     record { end = both.0; counts = both.1 }
 
 pub returns : goal.returns

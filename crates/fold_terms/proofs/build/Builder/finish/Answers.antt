@@ -1,6 +1,6 @@
 use Rattle.std.proofs.Common.{◌≡◌, ◌<◌, sym, ◌∙◌, ap, length, subst}
 use Rattle.std.specs.List.{AllByRecursion}
-use Rattle.flat_code.specs.Runs.{IsFlat, IsCheck, AreNodes}
+use Rattle.flat_code.specs.Runs.{IsCheck}
 use Rattle.flat_code.proofs.ReadLemmas.{are-nodes}
 use Rattle.fold_terms.specs.Drafts.{Draft}
 use Rattle.fold_terms.proofs.build.Builder.finish.Goals as goal

@@ -1,4 +1,4 @@
-use Rattle.std.proofs.Common.{◌<◌, length, arith, get_or, sym, ◌∙◌, ap}
+use Rattle.std.proofs.Common.{◌<◌, length, arith, get_or, ◌∙◌, ap}
 use Rattle.std.proofs.lemmas.List.{get_or_read}
 use Rattle.definedness.specs.Facts.{fact_of_input}
 use Rattle.fold_terms.proofs.GrowLemmas.{known-length}

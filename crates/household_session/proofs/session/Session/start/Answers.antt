@@ -1,14 +1,15 @@
-use Rattle.std.proofs.Common.{length, ap, ◌∙◌}
-use Rattle.std.proofs.lemmas.List.{length-replicate}
-use Rattle.m_fixed.specs.declared.amount.Value.TheVariants.{Undef}
-use Rattle.household.proofs.ValueLemmas.{length-values_of}
+use Rattle.std.proofs.Common.{◌≡◌, ◌<◌, sym, subst}
+use Rattle.std.specs.Prelude.{[]}
+use Rattle.std.specs.List.{AllByRecursion}
+use Rattle.household.specs.Household.{inputs_of, values_of}
+use Rattle.household.proofs.ValueLemmas.{values_of-none}
+use Rattle.value_sheet.specs.Held.{Held}
 use Rattle.household_session.proofs.session.Session.start.Goals as goal
 
-pub invariant_of-result : goal.invariant_of-result
-invariant_of-result c = record {
-  valid = c.requires.valid;
-  face_of = c.requires.face;
-  codes = c.requires.codes;
-  given = ap length c.in_ok-inputs.ensures ∙ length-values_of c.args.household.now.pairs c.args.flat.inputs;
-  room = ap length (c.in_ok-nodes.ensures.items_if_clones_equal (λ y h. h)) ∙ length-replicate (length c.as_slice.result.now) Undef ∙ ap length c.as_slice.ensures;
-}
+pub put_all-requires-clause-none : goal.put_all-requires-clause-none
+put_all-requires-clause-none c =
+    subst (λ (held : Held). held.now ≡ values_of [] held.flat.inputs) (sym c.in_ok-sheet.ensures) (values_of-none c.args.flat.inputs)
+
+pub put_all-requires-clause-inputs : goal.put_all-requires-clause-inputs
+put_all-requires-clause-inputs c =
+    subst (λ (held : Held). AllByRecursion (λ input. input < held.flat.inputs) (inputs_of c.args.household.now.pairs)) (sym c.in_ok-sheet.ensures) c.requires.inputs

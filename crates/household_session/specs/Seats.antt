@@ -1,0 +1,81 @@
+-- A session with what was put since its last show: on that depends what the next show costs, and nothing that is replied.
+use Rattle.std.specs.Prelude.{ℕ, ℤ, Bool, true, false, List, [], ◌∷◌, length, replicate, slice_set, Result, Ok, Err}
+use Rattle.m_fixed.specs.declared.amount.Value.{Value}
+use Rattle.m_fixed.specs.declared.amount.Value.TheVariants.{Undef}
+use Rattle.observables.specs.declared.face.Face.{Face}
+use Rattle.observables.specs.Inputs.{codes_of}
+use Rattle.flat_code.specs.declared.program.Flat.{Flat}
+use Rattle.flat_code.specs.Touched.{touched}
+use Rattle.value_sheet.specs.Held.{Held}
+use Rattle.household_session.specs.declared.fault.EditFault.{EditFault}
+use Rattle.household_session.specs.Sessions.{Sitting, set_of, clear_of}
+use Rattle.household_session.specs.Commands.{SessionCommand, no_words, sets, clears, shows, too_long, bad, session_command}
+
+-- The values of the inputs at the last show, all undefined before the first one, and of each input whether it was put since then.
+pub record Since : Type 0 where
+  pub shown : List Value
+  pub put : List Bool
+
+-- A session as contracts see it. Replies depend on the sitting alone.
+pub record Seated : Type 0 where
+  pub sitting : Sitting
+  pub since : Since
+
+-- how a sheet and a face are seen
+abbrev pub seated_by : Held → Face → Seated
+seated_by held face = record {
+  sitting = record { flat = held.flat; face = face; values = held.now };
+  since = record { shown = held.settled; put = held.put };
+}
+
+-- ---- what is noted
+
+-- the inputs of pairs are noted
+abbrev pub noted_pairs : List (ℕ × ℤ) → List Bool → List Bool
+noted_pairs [] put = put
+noted_pairs (pair ∷ pairs) put = slice_set (noted_pairs pairs put) pair.0 true
+
+-- where a session begins with these pairs of an input and an amount
+abbrev pub since_begun : Flat → List (ℕ × ℤ) → Since
+since_begun flat pairs = record { shown = replicate flat.inputs Undef; put = noted_pairs pairs (replicate flat.inputs false) }
+
+-- after an edit, of which a refused one notes nothing
+abbrev pub noted : Since → Result (ℕ × Value) EditFault → Since
+noted since (Ok edit) = record since { put = slice_set since.put edit.0 true }
+noted since (Err fault) = since
+
+-- after a show
+abbrev pub since_shown : Seated → Since
+since_shown seated = record { shown = seated.sitting.values; put = replicate (length seated.since.put) false }
+
+-- after a command
+abbrev pub since_command : Seated → SessionCommand → Since
+since_command seated no_words = seated.since
+since_command seated (sets code amount) = noted seated.since (set_of (codes_of seated.sitting.face.inputs) code amount)
+since_command seated (clears code) = noted seated.since (clear_of (codes_of seated.sitting.face.inputs) code)
+since_command seated shows = since_shown seated
+since_command seated too_long = seated.since
+since_command seated bad = seated.since
+
+-- after a line
+abbrev pub since_line : Seated → List ℕ → Since
+since_line seated bytes = since_command seated (session_command bytes)
+
+-- ---- costs
+
+-- How many nodes a show evaluates: those that are touched between the inputs of the last show and those of now.
+abbrev pub show_cost : Seated → ℕ
+show_cost seated = touched seated.sitting.flat.nodes seated.since.put seated.since.shown seated.sitting.values
+
+-- how many a command evaluates
+abbrev pub command_cost : Seated → SessionCommand → ℕ
+command_cost seated no_words = 0
+command_cost seated (sets code amount) = 0
+command_cost seated (clears code) = 0
+command_cost seated shows = show_cost seated
+command_cost seated too_long = 0
+command_cost seated bad = 0
+
+-- how many a line evaluates
+abbrev pub line_cost : Seated → List ℕ → ℕ
+line_cost seated bytes = command_cost seated (session_command bytes)
