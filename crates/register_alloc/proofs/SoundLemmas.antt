@@ -1,0 +1,640 @@
+-- The allocator's invariant, one instruction after another.
+use Rattle.std.proofs.Common.{◌≡◌, ◌≢◌, ℕ, zero, suc, ◌+◌, ◌-◌, ◌*◌, ◌<◌, ◌≤◌, Bool, true, false, cond, eqb, ltb, max, ◌⊎◌, List, [], ◌∷◌, ◌++◌, length, get_or, set, take, drop, map, Option, None, Some, is_some, refl, ap, sym, ◌∙◌, subst, inl, inr, ⊎_elim, arith}
+use mathlib.Core.Bool.{◌&&◌}
+use Rattle.std.specs.Prelude.{if◌then◌else◌}
+use Rattle.std.specs.Option.{option_and_then, option_map, option_map_or, is_none}
+use Rattle.std.specs.List.{sum_by}
+use Rattle.std.proofs.Math.Seq.{take-suc, drop-cons}
+use Rattle.std.proofs.lemmas.Bool.{cases_eq, and_from, lt-ltb, le-ltb, cases_lt, or_left, eq-eqb, true≢false}
+use Rattle.std.proofs.lemmas.List.{length-take-le, get_or_at, length-map, length-append, map-append, append_assoc, append-nil, set_at, take-append-drop, take_all, drop_all, length_push}
+use Rattle.std.proofs.lemmas.List.Sums.{fold_push, sum_by_push}
+use Rattle.m_fixed.specs.declared.amount.Value.TheVariants.{Undef}
+use Rattle.m_fixed.specs.declared.operator.Op.{Op}
+use Rattle.flat_code.specs.declared.program.Node.{Node}
+use Rattle.flat_code.specs.declared.program.Node.TheVariants.{Input, Lit as Number, Do as Work}
+use Rattle.flat_code.specs.declared.program.Check.{Check}
+use Rattle.flat_code.specs.declared.program.Flat.{Flat}
+use Rattle.flat_code.specs.Entries.{node_at}
+use Rattle.reg_machine.specs.declared.instr.TheConstants.{REGISTERS}
+use Rattle.reg_machine.specs.declared.instr.Instr.{Instr}
+use Rattle.reg_machine.specs.declared.instr.Instr.TheVariants.{Store, Load, Check as Test, Output}
+use Rattle.reg_machine.specs.declared.wrong.Wrong.TheVariants.{Number as NumberWrong, Order as OrderWrong}
+use Rattle.reg_machine.specs.Flow.{Counts, Listing, State, put, start, step, with_node, with_instr, with_slots, has_numbers, moved, reading, wrong_at, wrong_behind, repeats_first, loads_of}
+use Rattle.reg_machine.proofs.BuilderLemmas.{reads-on, wrong-is}
+use Rattle.register_alloc.specs.declared.moment.TheConstants.{MOST}
+use Rattle.register_alloc.specs.declared.room.Sources.{Sources}
+use Rattle.register_alloc.specs.Width.{reads, check_reads, reads_by, tests_by, one_if, width_of, is_held, moment_from}
+use Rattle.register_alloc.specs.Allocation.{is_spill, spills_of}
+use Rattle.register_alloc.specs.inner.Tables.{look, In, is_live, is_busy}
+use Rattle.register_alloc.specs.inner.Valid.{IsInput}
+use Rattle.register_alloc.specs.inner.Sound.{Once, Few, Sound, Counted, Spells, HasSources, instr_of, Cleared, nodes_read, checks_read, given_before, given_part, count_some, count_given}
+use Rattle.register_alloc.proofs.CountLemmas.{places-and, held-width, width-nodes}
+use Rattle.register_alloc.proofs.LiveLemmas.{live-parts, live-held, live-read, dies-read, live-checked, dies-checked, live-made, live-still, moment-rises, moment-reads}
+use Rattle.register_alloc.proofs.TableLemmas.{none≢some, put-same, put-other, put-cases, in-other, look-set, tables-store, tables-write, tables-pass}
+
+-- An instruction that may stand behind code of which `before` is known, where it has `count` slots or more; `after` is known
+-- behind it.
+pub record Next (code : Listing) (count : ℕ) (before : State) (i : Instr) (after : State) : Type 0 where
+  pub has : (n : ℕ) → count ≤ n → has_numbers (with_slots code n).counts before i ≡ true
+  pub moves : moved i before ≡ Some after
+
+-- one more instruction is read
+reading-push : (code : Listing) (i : Instr) (count more : ℕ) (s t : State) → ((n : ℕ) → count ≤ n → reading (with_slots code n) ≡ Some s) → count ≤ more → Next code more s i t → (n : ℕ) → more ≤ n → reading (with_slots (with_instr code i) n) ≡ Some t
+reading-push code i count more s t read le next n le' =
+    let all : count ≤ n = omega arith in
+    reads-on (with_slots code n) i s t (read n all) (next.has n le') next.moves
+
+-- nothing is wrong with it
+right-push : (code : Listing) (i : Instr) (count more : ℕ) (s t : State) → ((n : ℕ) → count ≤ n → reading (with_slots code n) ≡ Some s) → count ≤ more → more ≤ code.counts.slots → Next code more s i t → wrong_behind code i ≡ None
+right-push code i count more s t read le fits next =
+    let all : count ≤ code.counts.slots = omega arith in
+    wrong-is code i s (read code.counts.slots all)
+    ∙ ap (λ b. if b then (if is_none (moved i s) then Some OrderWrong else None) else Some NumberWrong) (next.has code.counts.slots fits)
+    ∙ ap (λ o. if is_none o then Some OrderWrong else None) next.moves
+
+-- how often nodes are loaded, by what is known
+loads-read : (code : Listing) (count : ℕ) (s : State) → ((n : ℕ) → count ≤ n → reading (with_slots code n) ≡ Some s) → count ≤ code.counts.slots → (y : ℕ) → loads_of y code ≡ s.loaded y
+loads-read code count s read fits y = ap (λ (o : Option State). option_map_or (λ (s : State). s.loaded y) o 0) (read code.counts.slots fits)
+
+spills-push : (code : Listing) (i : Instr) → is_spill i ≡ false → spills_of (with_instr code i) ≡ spills_of code
+spills-push code i e =
+    let none : spills_of code + 0 ≡ spills_of code = omega arith in
+    sum_by_push (λ i. cond (is_spill i) 1 0) code.instrs i ∙ ap (λ b. spills_of code + cond b 1 0) e ∙ none
+
+few-push : (flat : Flat) (code : Listing) (n : ℕ) (i : Instr) → Few flat code n → is_spill i ≡ false → Few flat (with_instr code i) n
+few-push flat code n i few e = record { within = few.within; direct = λ h. ((few.direct h).0, spills-push code i e ∙ (few.direct h).1) }
+
+-- any number of slots that the allocator comes to may stand in the code
+pub slots-fit : {flat : Flat} {made read checked : ℕ} {given : List (Option ℕ)} {code : Listing} {r s : ℕ → Option ℕ} {n : ℕ} → Sound flat made read checked given code r s n → (m : ℕ) → m ≤ width_of flat → m ≤ code.counts.slots
+slots-fit {flat} {made} {read} {checked} {given} {code} {r} {s} {n} h m le =
+    let most : width_of flat ≤ length flat.nodes = width-nodes flat in
+    let few : length flat.nodes ≤ MOST = h.order.few_nodes in
+    let slots : code.counts.slots ≡ 4294967295 = h.spelled.counted.slots in
+    omega arith
+
+-- all slots stand for live nodes, and one more node is live: they are fewer than the width
+pub slots-below : {flat : Flat} {made read checked : ℕ} {given : List (Option ℕ)} {code : Listing} {r s : ℕ → Option ℕ} {n : ℕ} → Sound flat made read checked given code r s n → (x : ℕ) → is_live flat made read checked x ≡ true → (In s x → ⊥) → ((k : ℕ) → k < n → is_some (s k) ≡ true) → n < width_of flat
+slots-below {flat} {made} {read} {checked} {given} {code} {r} {s} {n} h x live away all =
+    let order = h.order in
+    let parts = live-parts flat made read checked x live in
+    let most : made ≤ read = order.made_read in
+    let within : read ≤ length flat.nodes = order.read_within in
+    let each : (k : ℕ) → k < n → (y : ℕ) × (s k ≡ Some y) × (is_held flat (read - 1) y ≡ true) × (y < length flat.nodes) = λ k lt.
+    let e = some-from (s k) (all k lt) in
+    let l = h.tables.owned k e.0 e.1 in
+    let p = live-parts flat made read checked e.0 l in
+    (e.0, e.1, live-held flat made read checked e.0 order l, omega arith) in
+    let more = places-and s (is_held flat (read - 1)) n (length flat.nodes) x h.tables.one_slot each (live-held flat made read checked x order live) (omega arith) (λ k lt e. away (record { place = k; is = e })) in
+    let q : read - 1 < length flat.nodes = omega arith in
+    omega (arith, held-width flat (read - 1) q)
+  where
+    some-from : (o : Option ℕ) → is_some o ≡ true → (x : ℕ) × (o ≡ Some x)
+    some-from None e = absurd (true≢false (sym e))
+    some-from (Some x) e = (x, refl)
+
+busy-from : (live : ℕ → Bool) (o : Option ℕ) → is_busy live o ≡ true → (x : ℕ) × (o ≡ Some x) × (live x ≡ true)
+busy-from live None e = absurd (true≢false (sym e))
+busy-from live (Some x) e = (x, refl, e)
+
+-- all registers stand for live nodes, and one more node is held: there are fewer than the width
+pub registers-below : {flat : Flat} {made read checked : ℕ} {given : List (Option ℕ)} {code : Listing} {r s : ℕ → Option ℕ} {n : ℕ} → Sound flat made read checked given code r s n → (x : ℕ) → 0 < read → x < length flat.nodes → is_held flat (read - 1) x ≡ true → (In r x → ⊥) → ((k : ℕ) → k < REGISTERS → is_busy (is_live flat made read checked) (r k) ≡ true) → REGISTERS < width_of flat
+registers-below {flat} {made} {read} {checked} {given} {code} {r} {s} {n} h x some below held away all =
+    let order = h.order in
+    let most : made ≤ read = order.made_read in
+    let within : read ≤ length flat.nodes = order.read_within in
+    let each : (k : ℕ) → k < REGISTERS → (y : ℕ) × (r k ≡ Some y) × (is_held flat (read - 1) y ≡ true) × (y < length flat.nodes) = λ k lt.
+    let e = busy-from (is_live flat made read checked) (r k) (all k lt) in
+    let p = live-parts flat made read checked e.0 e.2 in
+    (e.0, e.1, live-held flat made read checked e.0 order e.2, omega arith) in
+    let more = places-and r (is_held flat (read - 1)) REGISTERS (length flat.nodes) x h.tables.one_register each held below (λ k lt e. away (record { place = k; is = e })) in
+    let q : read - 1 < length flat.nodes = omega arith in
+    omega (arith, held-width flat (read - 1) q)
+
+-- a register that is idle may be written
+pub spare-idle : (live : ℕ → Bool) (o : Option ℕ) (s : ℕ → Option ℕ) → is_busy live o ≡ false → (x : ℕ) → o ≡ Some x → live x ≡ true → In s x
+spare-idle live o s idle x e l = absurd (true≢false (sym l ∙ sym (ap (is_busy live) e) ∙ idle))
+
+once-store : (stored : ℕ → ℕ) (x k made : ℕ) (live : ℕ → Bool) (s : ℕ → Option ℕ) → ((y : ℕ) → Once (stored y) y made live s) → live x ≡ true → x < made → s k ≡ None → (In s x → ⊥) → (y : ℕ) → Once (put stored x (suc (stored x)) y) y made live (put s k (Some x))
+once-store stored x k made live s once lives lt free away y =
+    ⊎_elim
+    (λ (e : y ≡ x).
+    let fresh : stored x ≡ 0 = ⊎_elim (λ z. z) (λ p. absurd (away (p.2 lives))) (once x) in
+    let one : put stored x (suc (stored x)) x ≡ 1 = put-same stored x (suc (stored x)) ∙ ap suc fresh in
+    subst (λ z. Once (put stored x (suc (stored x)) z) z made live (put s k (Some x))) (sym e) (inr (one, lt, λ l. record { place = k; is = put-same s k (Some x) })))
+    (λ (ne : y ≢ x).
+    let same = put-other stored x (suc (stored x)) y ne in
+    ⊎_elim (λ z. inl (same ∙ z)) (λ p. inr (same ∙ p.0, p.1, λ l. in-other s k x y free (p.2 l))) (once y))
+    (cases_eq y x)
+
+-- ---- the instructions
+
+next-store : (code : Listing) (m k i x : ℕ) (t : State) → k < m → i < REGISTERS → t.registers i ≡ Some x → Next code m t (Store k i) (record t { slots = put t.slots k (Some x); stored = put t.stored x (suc (t.stored x)) })
+next-store code m k i x t lt below holds = record {
+  has = λ n le. and_from (ltb k n) (ltb i REGISTERS) (lt-ltb k n (omega arith)) (lt-ltb i REGISTERS below);
+  moves = ap (option_map (λ (x : ℕ). record t { slots = put t.slots k (Some x); stored = put t.stored x (suc (t.stored x)) })) holds;
+}
+
+next-load : (code : Listing) (m k i x : ℕ) (t : State) → i < m → k < REGISTERS → t.slots i ≡ Some x → Next code m t (Load k i) (record t { registers = put t.registers k (Some x); loaded = put t.loaded x (suc (t.loaded x)) })
+next-load code m k i x t lt below holds = record {
+  has = λ n le. and_from (ltb k REGISTERS) (ltb i n) (lt-ltb k REGISTERS below) (lt-ltb i n (omega arith));
+  moves = ap (option_map (λ (x : ℕ). record t { registers = put t.registers k (Some x); loaded = put t.loaded x (suc (t.loaded x)) })) holds;
+}
+
+-- the instruction of a node makes it
+next-node : (code : Listing) (m k : ℕ) (node : Node) (q : Sources) (t : State) → k < REGISTERS → IsInput code.counts.inputs node → HasSources t.registers node q → Next code m t (instr_of node k q) (with_node k node t)
+next-node code m k (Input n) q t below inputs has = record {
+  has = λ _ le. and_from (ltb k REGISTERS) (ltb n code.counts.inputs) (lt-ltb k REGISTERS below) (lt-ltb n code.counts.inputs inputs);
+  moves = refl;
+}
+next-node code m k (Number v) q t below inputs has = record { has = λ _ le. lt-ltb k REGISTERS below; moves = refl }
+next-node code m k (Work op a b c) q t below inputs has = record {
+  has = λ _ le.
+      and_from (ltb k REGISTERS) _ (lt-ltb k REGISTERS below)
+      (and_from (ltb q.first REGISTERS) _ (lt-ltb q.first REGISTERS has.3)
+      (and_from (ltb q.second REGISTERS) _ (lt-ltb q.second REGISTERS has.4)
+      (and_from (ltb q.third REGISTERS) (repeats_first op q.first q.second q.third) (lt-ltb q.third REGISTERS has.5) has.6)));
+  moves =
+      ap (option_and_then (λ (x : ℕ). option_and_then (λ (y : ℕ). option_map (λ (z : ℕ). with_node k (Work op x y z) t) (t.registers q.third)) (t.registers q.second))) has.0
+      ∙ ap (option_and_then (λ (y : ℕ). option_map (λ (z : ℕ). with_node k (Work op a y z) t) (t.registers q.third))) has.1
+      ∙ ap (option_map (λ (z : ℕ). with_node k (Work op a b z) t)) has.2;
+}
+
+next-test : (code : Listing) (m g k : ℕ) (check : Check) (t : State) → g < REGISTERS → k < REGISTERS → check.label < code.counts.labels → t.registers g ≡ Some check.guard → t.registers k ≡ Some check.condition → Next code m t (Test g k check.over_only check.label) (record t { checks = t.checks ++ check ∷ [] })
+next-test code m g k check t below below' label guard condition = record {
+  has = λ _ le. and_from (ltb g REGISTERS) _ (lt-ltb g REGISTERS below) (and_from (ltb k REGISTERS) (ltb check.label code.counts.labels) (lt-ltb k REGISTERS below') (lt-ltb check.label code.counts.labels label));
+  moves =
+      ap (option_and_then (λ (x : ℕ). option_map (λ (y : ℕ). record t { checks = t.checks ++ record { guard = x; condition = y; over_only = check.over_only; label = check.label } ∷ [] }) (t.registers k))) guard
+      ∙ ap (option_map (λ (y : ℕ). record t { checks = t.checks ++ record { guard = check.guard; condition = y; over_only = check.over_only; label = check.label } ∷ [] })) condition;
+}
+
+next-give : (code : Listing) (m j k x : ℕ) (t : State) → j < code.counts.outputs → k < REGISTERS → get_or t.outputs j None ≡ None → t.registers k ≡ Some x → Next code m t (Output j k) (record t { outputs = set t.outputs j (Some x) })
+next-give code m j k x t lt below free holds = record {
+  has = λ _ le. and_from (ltb j code.counts.outputs) _ (lt-ltb j code.counts.outputs lt) (and_from (ltb k REGISTERS) (is_none (get_or t.outputs j None)) (lt-ltb k REGISTERS below) (ap is_none free));
+  moves = ap (option_map (λ (x : ℕ). record t { outputs = set t.outputs j (Some x) })) holds;
+}
+
+-- what a register holds, by the table
+held-by : {flat : Flat} {made read checked : ℕ} {given : List (Option ℕ)} {code : Listing} {r s : ℕ → Option ℕ} {n : ℕ} → (h : Sound flat made read checked given code r s n) → (i x : ℕ) → r i ≡ Some x → h.spelled.state.registers i ≡ Some x
+held-by h i x at = ap (λ (f : ℕ → Option ℕ). f i) h.spelled.registers ∙ at
+
+-- nothing is wrong with an instruction that may stand behind the code so far
+right-next : {flat : Flat} {made read checked : ℕ} {given : List (Option ℕ)} {code : Listing} {r s : ℕ → Option ℕ} {n : ℕ} → (h : Sound flat made read checked given code r s n) → (m : ℕ) (i : Instr) (after : State) → n ≤ m → m ≤ width_of flat → Next code m h.spelled.state i after → wrong_behind code i ≡ None
+right-next {flat} {made} {read} {checked} {given} {code} {r} {s} {n} h m i after le fits next =
+    right-push code i n m h.spelled.state after h.spelled.read le (slots-fit h m fits) next
+
+-- how often a node is loaded behind such an instruction
+loads-next : {flat : Flat} {made read checked : ℕ} {given : List (Option ℕ)} {code : Listing} {r s : ℕ → Option ℕ} {n : ℕ} → (h : Sound flat made read checked given code r s n) → (m : ℕ) (i : Instr) (after : State) → n ≤ m → m ≤ width_of flat → Next code m h.spelled.state i after → (y : ℕ) → loads_of y (with_instr code i) ≡ after.loaded y
+loads-next {flat} {made} {read} {checked} {given} {code} {r} {s} {n} h m i after le fits next y =
+    loads-read (with_instr code i) m after (reading-push code i n m h.spelled.state after h.spelled.read le next) (slots-fit h m fits) y
+
+loads-now : {flat : Flat} {made read checked : ℕ} {given : List (Option ℕ)} {code : Listing} {r s : ℕ → Option ℕ} {n : ℕ} → (h : Sound flat made read checked given code r s n) → (y : ℕ) → loads_of y code ≡ h.spelled.state.loaded y
+loads-now {flat} {made} {read} {checked} {given} {code} {r} {s} {n} h y = loads-read code n h.spelled.state h.spelled.read (slots-fit h n h.few.within) y
+
+-- a live node of a register is stored in a free slot, old or new
+pub sound-store : {flat : Flat} {made read checked : ℕ} {given : List (Option ℕ)} {code : Listing} {r s : ℕ → Option ℕ} {n : ℕ} → Sound flat made read checked given code r s n → (k i x m : ℕ) → s k ≡ None → k < m → n ≤ m → m ≤ width_of flat → REGISTERS < width_of flat → i < REGISTERS → r i ≡ Some x → is_live flat made read checked x ≡ true → (In s x → ⊥) → Sound flat made read checked given (with_instr code (Store k i)) r (put s k (Some x)) m
+sound-store {flat} {made} {read} {checked} {given} {code} {r} {s} {n} h k i x m free lt le fits crowded below at lives away =
+    let live = is_live flat made read checked in
+    let t = h.spelled.state in
+    let parts = live-parts flat made read checked x lives in
+    let next = next-store code m k i x t lt below (held-by h i x at) in
+    record {
+      order = h.order;
+      tables = tables-store live made r s k x h.tables free lives away;
+      spelled = record {
+        state = record t { slots = put t.slots k (Some x); stored = put t.stored x (suc (t.stored x)) };
+        counted = h.spelled.counted;
+        read = reading-push code (Store k i) n m t _ h.spelled.read le next;
+        registers = h.spelled.registers;
+        slots = λ j y e. ⊎_elim
+            (λ p. subst (λ i. put t.slots k (Some x) i ≡ Some y) (sym p.0) (put-same t.slots k (Some x) ∙ ap (λ (n : ℕ). Some n) p.1))
+            (λ p. put-other t.slots k (Some x) j p.0 ∙ h.spelled.slots j y p.1)
+            (put-cases s k x j y e);
+        within = λ j y e. ⊎_elim
+            (λ (p : (j ≡ k) × (x ≡ y)). let is : j ≡ k = p.0 in let z : j < m = omega arith in z)
+            (λ (p : (j ≢ k) × (s j ≡ Some y)). let old : j < n = h.spelled.within j y p.1 in let z : j < m = omega arith in z)
+            (put-cases s k x j y e);
+        nodes = h.spelled.nodes;
+        checks = h.spelled.checks;
+        outputs = h.spelled.outputs;
+        stored = once-store t.stored x k made live s h.spelled.stored lives parts.0 free away;
+      };
+      few = record { within = fits; direct = λ z. absurd (omega arith) };
+    }
+
+-- a node of a slot is loaded into a register that may be written
+pub sound-load : {flat : Flat} {made read checked : ℕ} {given : List (Option ℕ)} {code : Listing} {r s : ℕ → Option ℕ} {n : ℕ} → Sound flat made read checked given code r s n → (k i x : ℕ) → k < REGISTERS → s i ≡ Some x → (In r x → ⊥) → ((y : ℕ) → r k ≡ Some y → is_live flat made read checked y ≡ true → In s y) → Sound flat made read checked given (with_instr code (Load k i)) (put r k (Some x)) s n
+sound-load {flat} {made} {read} {checked} {given} {code} {r} {s} {n} h k i x lt at away spare =
+    let live = is_live flat made read checked in
+    let t = h.spelled.state in
+    let parts = live-parts flat made read checked x (h.tables.owned i x at) in
+    let next = next-load code n k i x t (h.spelled.within i x at) lt (h.spelled.slots i x at) in
+    record {
+      order = h.order;
+      tables = tables-write live live made made r s k x h.tables (omega arith) parts.0 away spare (λ y l. l) (λ y l. inr l);
+      spelled = record {
+        state = record t { registers = put t.registers k (Some x); loaded = put t.loaded x (suc (t.loaded x)) };
+        counted = h.spelled.counted;
+        read = reading-push code (Load k i) n n t _ h.spelled.read (omega arith) next;
+        registers = ap (λ f. put f k (Some x)) h.spelled.registers;
+        slots = h.spelled.slots;
+        within = h.spelled.within;
+        nodes = h.spelled.nodes;
+        checks = h.spelled.checks;
+        outputs = h.spelled.outputs;
+        stored = h.spelled.stored;
+      };
+      few = record { within = h.few.within; direct = λ z. let none = (h.few.direct z).0 in let some : i < n = h.spelled.within i x at in absurd (omega arith) };
+    }
+
+pub right-load : {flat : Flat} {made read checked : ℕ} {given : List (Option ℕ)} {code : Listing} {r s : ℕ → Option ℕ} {n : ℕ} → Sound flat made read checked given code r s n → (k i x : ℕ) → k < REGISTERS → s i ≡ Some x → wrong_behind code (Load k i) ≡ None
+right-load {flat} {made} {read} {checked} {given} {code} {r} {s} {n} h k i x lt at =
+    right-next h n (Load k i) _ (omega arith) h.few.within (next-load code n k i x h.spelled.state (h.spelled.within i x at) lt (h.spelled.slots i x at))
+
+-- one more load of x, and none of another node
+put-suc : (f : ℕ → ℕ) (x y : ℕ) → put f x (suc (f x)) y ≤ f y + one_if (eqb x y)
+put-suc f x y =
+    ⊎_elim
+    (λ (e : x ≡ y).
+    let same : put f x (suc (f x)) y ≡ suc (f y) = subst (λ z. put f x (suc (f x)) z ≡ suc (f z)) e (put-same f x (suc (f x))) in
+    let one : one_if (eqb x y) ≡ 1 = ap one_if (eq-eqb x y e) in
+    omega arith)
+    (λ (ne : x ≢ y).
+    let same : put f x (suc (f x)) y ≡ f y = put-other f x (suc (f x)) y (λ e. ne (sym e)) in
+    omega arith)
+    (cases_eq x y)
+
+pub loads-load : {flat : Flat} {made read checked : ℕ} {given : List (Option ℕ)} {code : Listing} {r s : ℕ → Option ℕ} {n : ℕ} → Sound flat made read checked given code r s n → (k i x : ℕ) → k < REGISTERS → s i ≡ Some x → (y : ℕ) → loads_of y (with_instr code (Load k i)) ≤ loads_of y code + one_if (eqb x y)
+loads-load {flat} {made} {read} {checked} {given} {code} {r} {s} {n} h k i x lt at y =
+    let t = h.spelled.state in
+    let now = loads-now h y in
+    let after = loads-next h n (Load k i) _ (omega arith) h.few.within (next-load code n k i x t (h.spelled.within i x at) lt (h.spelled.slots i x at)) y in
+    omega (arith, put-suc t.loaded x y)
+
+spill-node : (node : Node) (k : ℕ) (q : Sources) → is_spill (instr_of node k q) ≡ false
+spill-node (Input n) k q = refl
+spill-node (Number v) k q = refl
+spill-node (Work op a b c) k q = refl
+
+-- the next node may be made
+next-made : {flat : Flat} {made read checked : ℕ} {given : List (Option ℕ)} {code : Listing} {r s : ℕ → Option ℕ} {n : ℕ} → (h : Sound flat made read checked given code r s n) → (k : ℕ) (node : Node) (q : Sources) → made < read → node ≡ node_at flat.nodes made → k < REGISTERS → HasSources r node q → Next code n h.spelled.state (instr_of node k q) (with_node k node h.spelled.state)
+next-made {flat} {made} {read} {checked} {given} {code} {r} {s} {n} h k node q some is lt has =
+    let within : read ≤ length flat.nodes = h.order.read_within in
+    let below : made < length flat.nodes = omega arith in
+    next-node code n k node q h.spelled.state lt (subst (λ (x : Node). IsInput code.counts.inputs x) (sym is) (h.spelled.counted.takes made (Number Undef) below))
+    (subst (λ (f : ℕ → Option ℕ). HasSources f node q) (sym h.spelled.registers) has)
+
+pub right-make : {flat : Flat} {made read checked : ℕ} {given : List (Option ℕ)} {code : Listing} {r s : ℕ → Option ℕ} {n : ℕ} → Sound flat made read checked given code r s n → (k : ℕ) (node : Node) (q : Sources) → made < read → node ≡ node_at flat.nodes made → k < REGISTERS → HasSources r node q → wrong_behind code (instr_of node k q) ≡ None
+right-make {flat} {made} {read} {checked} {given} {code} {r} {s} {n} h k node q some is lt has =
+    right-next h n (instr_of node k q) _ (omega arith) h.few.within (next-made h k node q some is lt has)
+
+pub loads-make : {flat : Flat} {made read checked : ℕ} {given : List (Option ℕ)} {code : Listing} {r s : ℕ → Option ℕ} {n : ℕ} → Sound flat made read checked given code r s n → (k : ℕ) (node : Node) (q : Sources) → made < read → node ≡ node_at flat.nodes made → k < REGISTERS → HasSources r node q → (y : ℕ) → loads_of y (with_instr code (instr_of node k q)) ≡ loads_of y code
+loads-make {flat} {made} {read} {checked} {given} {code} {r} {s} {n} h k node q some is lt has y =
+    loads-next h n (instr_of node k q) _ (omega arith) h.few.within (next-made h k node q some is lt has) y ∙ sym (loads-now h y)
+
+-- the next node is made in a register that may be written
+pub sound-make : {flat : Flat} {made read checked : ℕ} {given : List (Option ℕ)} {code : Listing} {r s : ℕ → Option ℕ} {n : ℕ} → Sound flat made read checked given code r s n → (k : ℕ) (node : Node) (q : Sources) → made < read → node ≡ node_at flat.nodes made → k < REGISTERS → HasSources r node q → ((y : ℕ) → r k ≡ Some y → is_live flat made read checked y ≡ true → In s y) → Sound flat (suc made) read checked given (with_instr code (instr_of node k q)) (put r k (Some made)) s n
+sound-make {flat} {made} {read} {checked} {given} {code} {r} {s} {n} h k node q some is lt has spare =
+    let live = is_live flat made read checked in
+    let live' = is_live flat (suc made) read checked in
+    let t = h.spelled.state in
+    let order = h.order in
+    let within : read ≤ length flat.nodes = order.read_within in
+    let below : made < length flat.nodes = omega arith in
+    let size : length t.nodes ≡ made = ap length h.spelled.nodes ∙ length-take-le made flat.nodes (omega arith) in
+    record {
+      order = record { few_nodes = order.few_nodes; few_checks = order.few_checks; few_outputs = order.few_outputs; made_read = some; read_within = order.read_within; checked_within = order.checked_within; late = order.late };
+      tables = tables-write live live' made (suc made) r s k made h.tables (omega arith) (omega arith) (λ p. let lt : made < made = h.tables.earlier p.place made p.is in absurd (omega arith)) spare (λ y l. live-still flat made read checked y l) (λ y l. live-made flat made read checked y l);
+      spelled = record {
+        state = with_node k node t;
+        counted = h.spelled.counted;
+        read = reading-push code (instr_of node k q) n n t _ h.spelled.read (omega arith) (next-made h k node q some is lt has);
+        registers = ap (λ f. put f k (Some (length t.nodes))) h.spelled.registers ∙ ap (λ (m : ℕ). put r k (Some m)) size;
+        slots = h.spelled.slots;
+        within = h.spelled.within;
+        nodes = ap (λ xs. xs ++ node ∷ []) h.spelled.nodes ∙ ap (λ x. take made flat.nodes ++ x ∷ []) is ∙ sym (take-suc flat.nodes made (Number Undef) below);
+        checks = h.spelled.checks;
+        outputs = h.spelled.outputs;
+        stored = λ y. ⊎_elim (λ z. inl z)
+            (λ p. inr (p.0, omega (arith, p.1), λ l. p.2 (⊎_elim (λ (e : y ≡ made). absurd (omega (arith, p.1))) (λ l'. l') (live-made flat made read checked y l))))
+            (h.spelled.stored y);
+      };
+      few = few-push flat code n (instr_of node k q) h.few (spill-node node k q);
+    }
+
+-- the arguments of a node are read, and slots lose those that are dead
+pub sound-pass : {flat : Flat} {made read checked : ℕ} {given : List (Option ℕ)} {code : Listing} {r s : ℕ → Option ℕ} {n : ℕ} → Sound flat made read checked given code r s n → (node : Node) (s' : ℕ → Option ℕ) → read < length flat.nodes → node ≡ node_at flat.nodes read → (checked < length flat.checks → read ≤ moment_from 0 flat.checks checked) → Cleared (λ x. reads x node) (is_live flat made (suc read) checked) s s' → Sound flat made (suc read) checked given code r s' n
+sound-pass {flat} {made} {read} {checked} {given} {code} {r} {s} {n} h node s' below is late clear =
+    let live = is_live flat made read checked in
+    let live' = is_live flat made (suc read) checked in
+    let order = h.order in
+    let most : made ≤ read = order.made_read in
+    let lives : (k y : ℕ) → s' k ≡ Some y → live' y ≡ true = λ k y e.
+    let o = clear.only k y e in
+    ⊎_elim
+    (λ here. o.1 (ap (reads y) is ∙ here))
+    (λ there. there)
+    (dies-read flat made read checked y (Number Undef) below (h.tables.owned k y o.0)) in
+    record {
+      order = record { few_nodes = order.few_nodes; few_checks = order.few_checks; few_outputs = order.few_outputs; made_read = omega arith; read_within = below; checked_within = order.checked_within; late = λ lt. omega (arith, late lt) };
+      tables = tables-pass live live' made r s s' h.tables (λ y l. live-read flat made read checked y node below l) (λ k y e. ((clear.only k y e).0, lives k y e)) clear.stays;
+      spelled = record {
+        state = h.spelled.state;
+        counted = h.spelled.counted;
+        read = h.spelled.read;
+        registers = h.spelled.registers;
+        slots = λ k y e. h.spelled.slots k y (clear.only k y e).0;
+        within = λ k y e. h.spelled.within k y (clear.only k y e).0;
+        nodes = h.spelled.nodes;
+        checks = h.spelled.checks;
+        outputs = h.spelled.outputs;
+        stored = λ y. ⊎_elim (λ z. inl z)
+            (λ p. inr (p.0, p.1, λ l. let w = p.2 (live-read flat made read checked y node below l) in record { place = w.place; is = clear.stays w.place y w.is l }))
+            (h.spelled.stored y);
+      };
+      few = h.few;
+    }
+
+-- the next check may be done
+next-tested : {flat : Flat} {made read checked : ℕ} {given : List (Option ℕ)} {code : Listing} {r s : ℕ → Option ℕ} {n : ℕ} → (h : Sound flat made read checked given code r s n) → (check : Check) (g k : ℕ) → checked < length flat.checks → check ≡ get_or flat.checks checked check → g < REGISTERS → k < REGISTERS → r g ≡ Some check.guard → r k ≡ Some check.condition → Next code n h.spelled.state (Test g k check.over_only check.label) (record h.spelled.state { checks = h.spelled.state.checks ++ check ∷ [] })
+next-tested {flat} {made} {read} {checked} {given} {code} {r} {s} {n} h check g k below is lt lt' guard condition =
+    next-test code n g k check h.spelled.state lt lt' (subst (λ (x : Check). x.label < code.counts.labels) (sym is) (h.spelled.counted.labels checked check below))
+    (held-by h g check.guard guard) (held-by h k check.condition condition)
+
+pub right-test : {flat : Flat} {made read checked : ℕ} {given : List (Option ℕ)} {code : Listing} {r s : ℕ → Option ℕ} {n : ℕ} → Sound flat made read checked given code r s n → (check : Check) (g k : ℕ) → checked < length flat.checks → check ≡ get_or flat.checks checked check → g < REGISTERS → k < REGISTERS → r g ≡ Some check.guard → r k ≡ Some check.condition → wrong_behind code (Test g k check.over_only check.label) ≡ None
+right-test {flat} {made} {read} {checked} {given} {code} {r} {s} {n} h check g k below is lt lt' guard condition =
+    right-next h n (Test g k check.over_only check.label) _ (omega arith) h.few.within (next-tested h check g k below is lt lt' guard condition)
+
+pub loads-test : {flat : Flat} {made read checked : ℕ} {given : List (Option ℕ)} {code : Listing} {r s : ℕ → Option ℕ} {n : ℕ} → Sound flat made read checked given code r s n → (check : Check) (g k : ℕ) → checked < length flat.checks → check ≡ get_or flat.checks checked check → g < REGISTERS → k < REGISTERS → r g ≡ Some check.guard → r k ≡ Some check.condition → (y : ℕ) → loads_of y (with_instr code (Test g k check.over_only check.label)) ≡ loads_of y code
+loads-test {flat} {made} {read} {checked} {given} {code} {r} {s} {n} h check g k below is lt lt' guard condition y =
+    loads-next h n (Test g k check.over_only check.label) _ (omega arith) h.few.within (next-tested h check g k below is lt lt' guard condition) y ∙ sym (loads-now h y)
+
+-- a check is done, and slots lose what is dead of what it read
+pub sound-test : {flat : Flat} {made read checked : ℕ} {given : List (Option ℕ)} {code : Listing} {r s : ℕ → Option ℕ} {n : ℕ} → Sound flat made read checked given code r s n → (check : Check) (g k : ℕ) (s' : ℕ → Option ℕ) → checked < length flat.checks → check ≡ get_or flat.checks checked check → g < REGISTERS → k < REGISTERS → r g ≡ Some check.guard → r k ≡ Some check.condition → Cleared (λ x. check_reads x check) (is_live flat made read (suc checked)) s s' → Sound flat made read (suc checked) given (with_instr code (Test g k check.over_only check.label)) r s' n
+sound-test {flat} {made} {read} {checked} {given} {code} {r} {s} {n} h check g k s' below is lt lt' guard condition clear =
+    let live = is_live flat made read checked in
+    let live' = is_live flat made read (suc checked) in
+    let t = h.spelled.state in
+    let order = h.order in
+    let lives : (k y : ℕ) → s' k ≡ Some y → live' y ≡ true = λ k y e.
+    let o = clear.only k y e in
+    ⊎_elim
+    (λ here. o.1 (ap (check_reads y) is ∙ here))
+    (λ there. there)
+    (dies-checked flat made read checked y check below (h.tables.owned k y o.0)) in
+    record {
+      order = record { few_nodes = order.few_nodes; few_checks = order.few_checks; few_outputs = order.few_outputs; made_read = order.made_read; read_within = order.read_within; checked_within = below; late = λ lt. omega (arith, order.late below, moment-rises 0 flat.checks checked) };
+      tables = tables-pass live live' made r s s' h.tables (λ y l. live-checked flat made read checked y check below l) (λ k y e. ((clear.only k y e).0, lives k y e)) clear.stays;
+      spelled = record {
+        state = record t { checks = t.checks ++ check ∷ [] };
+        counted = h.spelled.counted;
+        read = reading-push code (Test g k check.over_only check.label) n n t _ h.spelled.read (omega arith) (next-tested h check g k below is lt lt' guard condition);
+        registers = h.spelled.registers;
+        slots = λ k y e. h.spelled.slots k y (clear.only k y e).0;
+        within = λ k y e. h.spelled.within k y (clear.only k y e).0;
+        nodes = h.spelled.nodes;
+        checks = ap (λ xs. xs ++ check ∷ []) h.spelled.checks ∙ ap (λ x. take checked flat.checks ++ x ∷ []) is ∙ sym (take-suc flat.checks checked check below);
+        outputs = h.spelled.outputs;
+        stored = λ y. ⊎_elim (λ z. inl z)
+            (λ p. inr (p.0, p.1, λ l. let w = p.2 (live-checked flat made read checked y check below l) in record { place = w.place; is = clear.stays w.place y w.is l }))
+            (h.spelled.stored y);
+      };
+      few = few-push flat code n (Test g k check.over_only check.label) h.few refl;
+    }
+
+-- an output may be given
+next-given : {flat : Flat} {made read checked : ℕ} {given : List (Option ℕ)} {code : Listing} {r s : ℕ → Option ℕ} {n : ℕ} → (h : Sound flat made read checked given code r s n) → (j k x : ℕ) → j < length flat.outputs → k < REGISTERS → get_or given j None ≡ None → r k ≡ Some x → Next code n h.spelled.state (Output j k) (record h.spelled.state { outputs = set h.spelled.state.outputs j (Some x) })
+next-given {flat} {made} {read} {checked} {given} {code} {r} {s} {n} h j k x lt lt' free at =
+    let count : code.counts.outputs ≡ length flat.outputs = h.spelled.counted.outputs in
+    next-give code n j k x h.spelled.state (omega arith) lt' (ap (λ os. get_or os j None) h.spelled.outputs ∙ free) (held-by h k x at)
+
+pub right-give : {flat : Flat} {made read checked : ℕ} {given : List (Option ℕ)} {code : Listing} {r s : ℕ → Option ℕ} {n : ℕ} → Sound flat made read checked given code r s n → (j k x : ℕ) → j < length flat.outputs → k < REGISTERS → get_or given j None ≡ None → r k ≡ Some x → wrong_behind code (Output j k) ≡ None
+right-give {flat} {made} {read} {checked} {given} {code} {r} {s} {n} h j k x lt lt' free at =
+    right-next h n (Output j k) _ (omega arith) h.few.within (next-given h j k x lt lt' free at)
+
+pub loads-give : {flat : Flat} {made read checked : ℕ} {given : List (Option ℕ)} {code : Listing} {r s : ℕ → Option ℕ} {n : ℕ} → Sound flat made read checked given code r s n → (j k x : ℕ) → j < length flat.outputs → k < REGISTERS → get_or given j None ≡ None → r k ≡ Some x → (y : ℕ) → loads_of y (with_instr code (Output j k)) ≡ loads_of y code
+loads-give {flat} {made} {read} {checked} {given} {code} {r} {s} {n} h j k x lt lt' free at y =
+    loads-next h n (Output j k) _ (omega arith) h.few.within (next-given h j k x lt lt' free at) y ∙ sym (loads-now h y)
+
+pub sound-give : {flat : Flat} {made read checked : ℕ} {given : List (Option ℕ)} {code : Listing} {r s : ℕ → Option ℕ} {n : ℕ} → Sound flat made read checked given code r s n → (j k x : ℕ) → j < length flat.outputs → k < REGISTERS → get_or given j None ≡ None → r k ≡ Some x → Sound flat made read checked (set given j (Some x)) (with_instr code (Output j k)) r s n
+sound-give {flat} {made} {read} {checked} {given} {code} {r} {s} {n} h j k x lt lt' free at =
+    let t = h.spelled.state in
+    record {
+      order = h.order;
+      tables = h.tables;
+      spelled = record {
+        state = record t { outputs = set t.outputs j (Some x) };
+        counted = h.spelled.counted;
+        read = reading-push code (Output j k) n n t _ h.spelled.read (omega arith) (next-given h j k x lt lt' free at);
+        registers = h.spelled.registers;
+        slots = h.spelled.slots;
+        within = h.spelled.within;
+        nodes = h.spelled.nodes;
+        checks = h.spelled.checks;
+        outputs = ap (λ xs. set xs j (Some x)) h.spelled.outputs;
+        stored = h.spelled.stored;
+      };
+      few = few-push flat code n (Output j k) h.few refl;
+    }
+
+-- a new slot, or a free one, is within the width
+slots-more : {flat : Flat} {made read checked : ℕ} {given : List (Option ℕ)} {code : Listing} {r : ℕ → Option ℕ} (old : List (Option ℕ)) (size : ℕ) → Sound flat made read checked given code r (look old) (length old) → (x : ℕ) → (size ≡ length old) ⊎ ((size ≡ suc (length old)) × ((j : ℕ) → j < length old → is_some (look old j) ≡ true)) → is_live flat made read checked x ≡ true → ((j : ℕ) → look old j ≡ Some x → ⊥) → (length old ≤ size) × (size ≤ width_of flat)
+slots-more {flat} old size h x grows live away =
+    let away' : In (look old) x → ⊥ = λ p. away p.place p.is in
+    let more = slots-below h x live away' in
+    let within : length old ≤ width_of flat = h.few.within in
+    ⊎_elim (λ e. (omega arith, omega arith)) (λ p. (omega (arith, p.0), omega (arith, p.0, more p.1))) grows
+
+-- `sound-store` by what `occupy` of the slots says
+pub sound-stored : {flat : Flat} {made read checked : ℕ} {given : List (Option ℕ)} {code : Listing} {r : ℕ → Option ℕ} (old new : List (Option ℕ)) → Sound flat made read checked given code r (look old) (length old) → (k i x : ℕ) → k < length new → look old k ≡ None → ((j : ℕ) → look new j ≡ put (look old) k (Some x) j) → (length new ≡ length old) ⊎ ((length new ≡ suc (length old)) × ((j : ℕ) → j < length old → is_some (look old j) ≡ true)) → REGISTERS < width_of flat → i < REGISTERS → r i ≡ Some x → is_live flat made read checked x ≡ true → ((j : ℕ) → look old j ≡ Some x → ⊥) → Sound flat made read checked given (with_instr code (Store k i)) r (look new) (length new)
+sound-stored {flat} {made} {read} {checked} {given} {code} {r} old new h k i x lt free same grows crowded below at live away =
+    let fits = slots-more old (length new) h x grows live away in
+    subst (λ (f : ℕ → Option ℕ). Sound flat made read checked given (with_instr code (Store k i)) r f (length new)) (λ i. λ j. sym (same j) i)
+    (sound-store h k i x (length new) free lt fits.0 fits.1 crowded below at live (λ p. away p.place p.is))
+
+pub right-stored : {flat : Flat} {made read checked : ℕ} {given : List (Option ℕ)} {code : Listing} {r : ℕ → Option ℕ} (old : List (Option ℕ)) (size : ℕ) → Sound flat made read checked given code r (look old) (length old) → (k i x : ℕ) → k < size → (size ≡ length old) ⊎ ((size ≡ suc (length old)) × ((j : ℕ) → j < length old → is_some (look old j) ≡ true)) → i < REGISTERS → r i ≡ Some x → is_live flat made read checked x ≡ true → ((j : ℕ) → look old j ≡ Some x → ⊥) → wrong_behind code (Store k i) ≡ None
+right-stored {flat} {made} {read} {checked} {given} {code} {r} old size h k i x lt grows below at live away =
+    let fits = slots-more old size h x grows live away in
+    right-next h size (Store k i) _ fits.0 fits.1 (next-store code size k i x h.spelled.state lt below (held-by h i x at))
+
+pub loads-stored : {flat : Flat} {made read checked : ℕ} {given : List (Option ℕ)} {code : Listing} {r : ℕ → Option ℕ} (old : List (Option ℕ)) (size : ℕ) → Sound flat made read checked given code r (look old) (length old) → (k i x : ℕ) → k < size → (size ≡ length old) ⊎ ((size ≡ suc (length old)) × ((j : ℕ) → j < length old → is_some (look old j) ≡ true)) → i < REGISTERS → r i ≡ Some x → is_live flat made read checked x ≡ true → ((j : ℕ) → look old j ≡ Some x → ⊥) → (y : ℕ) → loads_of y (with_instr code (Store k i)) ≡ loads_of y code
+loads-stored {flat} {made} {read} {checked} {given} {code} {r} old size h k i x lt grows below at live away y =
+    let fits = slots-more old size h x grows live away in
+    loads-next h size (Store k i) _ fits.0 fits.1 (next-store code size k i x h.spelled.state lt below (held-by h i x at)) y ∙ sym (loads-now h y)
+
+-- a slot's number is one of 32 bits
+pub slot-small : {flat : Flat} {made read checked : ℕ} {given : List (Option ℕ)} {code : Listing} {r : ℕ → Option ℕ} (old : List (Option ℕ)) (size : ℕ) → Sound flat made read checked given code r (look old) (length old) → (x : ℕ) → (size ≡ length old) ⊎ ((size ≡ suc (length old)) × ((j : ℕ) → j < length old → is_some (look old j) ≡ true)) → is_live flat made read checked x ≡ true → ((j : ℕ) → look old j ≡ Some x → ⊥) → size ≤ 200000000
+slot-small {flat} {made} {read} {checked} {given} {code} {r} old size h x grows live away =
+    let fits = slots-more old size h x grows live away in
+    let most = width-nodes flat in
+    let few : length flat.nodes ≤ MOST = h.order.few_nodes in
+    omega (arith, fits.1)
+
+-- `sound-load` of lists
+pub sound-loaded : {flat : Flat} {made read checked : ℕ} {given : List (Option ℕ)} {code : Listing} {s : ℕ → Option ℕ} {n : ℕ} (table : List (Option ℕ)) → Sound flat made read checked given code (look table) s n → (k i x : ℕ) → k < REGISTERS → k < length table → s i ≡ Some x → ((j : ℕ) → look table j ≡ Some x → ⊥) → ((y : ℕ) → look table k ≡ Some y → is_live flat made read checked y ≡ true → In s y) → Sound flat made read checked given (with_instr code (Load k i)) (look (set table k (Some x))) s n
+sound-loaded {flat} {made} {read} {checked} {given} {code} {s} {n} table h k i x lt within at away spare =
+    subst (λ (f : ℕ → Option ℕ). Sound flat made read checked given (with_instr code (Load k i)) f s n) (look-set table k (Some x) within)
+    (sound-load h k i x lt at (λ p. away p.place p.is) spare)
+
+-- `sound-make` of lists
+pub sound-made : {flat : Flat} {made read checked : ℕ} {given : List (Option ℕ)} {code : Listing} {s : ℕ → Option ℕ} {n : ℕ} (table : List (Option ℕ)) → Sound flat made read checked given code (look table) s n → (k : ℕ) (node : Node) (q : Sources) → made < read → node ≡ node_at flat.nodes made → k < REGISTERS → k < length table → HasSources (look table) node q → ((y : ℕ) → look table k ≡ Some y → is_live flat made read checked y ≡ true → In s y) → Sound flat (suc made) read checked given (with_instr code (instr_of node k q)) (look (set table k (Some made))) s n
+sound-made {flat} {made} {read} {checked} {given} {code} {s} {n} table h k node q some is lt within has spare =
+    subst (λ (f : ℕ → Option ℕ). Sound flat (suc made) read checked given (with_instr code (instr_of node k q)) f s n) (look-set table k (Some made) within)
+    (sound-make h k node q some is lt has spare)
+
+-- `sound-pass` with numbers that are equal
+pub sound-passed : {flat : Flat} {made read checked : ℕ} {given : List (Option ℕ)} {code : Listing} {r s : ℕ → Option ℕ} {n : ℕ} → Sound flat made read checked given code r s n → (node : Node) (s' : ℕ → Option ℕ) (read' n' : ℕ) → suc read ≡ read' → n ≡ n' → read < length flat.nodes → node ≡ node_at flat.nodes read → (checked < length flat.checks → read ≤ moment_from 0 flat.checks checked) → Cleared (λ x. reads x node) (is_live flat made read' checked) s s' → Sound flat made read' checked given code r s' n'
+sound-passed {flat} {made} {read} {checked} {given} {code} {r} {s} {n} h node s' read' n' e f below is late =
+    subst (λ m. Cleared (λ x. reads x node) (is_live flat made m checked) s s' → Sound flat made m checked given code r s' n') e
+    (λ clear. subst (λ m. Sound flat made (suc read) checked given code r s' m) f (sound-pass h node s' below is late clear))
+
+-- `sound-test` with numbers that are equal
+pub sound-tested : {flat : Flat} {made read checked : ℕ} {given : List (Option ℕ)} {code : Listing} {r s : ℕ → Option ℕ} {n : ℕ} → Sound flat made read checked given code r s n → (check : Check) (g k : ℕ) (s' : ℕ → Option ℕ) (checked' n' : ℕ) → suc checked ≡ checked' → n ≡ n' → checked < length flat.checks → check ≡ get_or flat.checks checked check → g < REGISTERS → k < REGISTERS → r g ≡ Some check.guard → r k ≡ Some check.condition → Cleared (λ x. check_reads x check) (is_live flat made read checked') s s' → Sound flat made read checked' given (with_instr code (Test g k check.over_only check.label)) r s' n'
+sound-tested {flat} {made} {read} {checked} {given} {code} {r} {s} {n} h check g k s' checked' n' e f below is lt lt' guard condition =
+    subst (λ m. Cleared (λ x. check_reads x check) (is_live flat made read m) s s' → Sound flat made read m given (with_instr code (Test g k check.over_only check.label)) r s' n') e
+    (λ clear. subst (λ m. Sound flat made read (suc checked) given (with_instr code (Test g k check.over_only check.label)) r s' m) f (sound-test h check g k s' below is lt lt' guard condition clear))
+
+-- `sound-made` with a number that is equal
+pub sound-made-at : {flat : Flat} {made read checked : ℕ} {given : List (Option ℕ)} {code : Listing} {s : ℕ → Option ℕ} {n : ℕ} (table : List (Option ℕ)) → Sound flat made read checked given code (look table) s n → (made' : ℕ) → suc made ≡ made' → (k : ℕ) (node : Node) (q : Sources) → made < read → node ≡ node_at flat.nodes made → k < REGISTERS → k < length table → HasSources (look table) node q → ((y : ℕ) → look table k ≡ Some y → is_live flat made read checked y ≡ true → In s y) → Sound flat made' read checked given (with_instr code (instr_of node k q)) (look (set table k (Some made))) s n
+sound-made-at {flat} {made} {read} {checked} {given} {code} {s} {n} table h made' e k node q some is lt within has spare =
+    subst (λ m. Sound flat m read checked given (with_instr code (instr_of node k q)) (look (set table k (Some made))) s n) e (sound-made table h k node q some is lt within has spare)
+
+-- where all registers stand for live nodes at the next node, there are fewer than the width
+pub turn-crowded : {flat : Flat} {made read checked : ℕ} {given : List (Option ℕ)} {code : Listing} {r s : ℕ → Option ℕ} {n : ℕ} → Sound flat made read checked given code r s n → read ≡ suc made → made < length flat.nodes → ((k : ℕ) → k < REGISTERS → is_busy (is_live flat made read checked) (r k) ≡ true) → REGISTERS < width_of flat
+turn-crowded {flat} {made} {read} {checked} {given} {code} {r} {s} {n} h e below all =
+    let same : made ≡ read - 1 = omega arith in
+    let held : is_held flat (read - 1) made ≡ true = or_left (eqb made (read - 1)) _ (eq-eqb made (read - 1) same) in
+    registers-below h made (omega arith) below held (λ p. let lt : made < made = h.tables.earlier p.place made p.is in absurd (omega arith)) all
+
+-- the reads of one more node
+pub reads-more : (flat : Flat) (made : ℕ) (node : Node) → made < length flat.nodes → node ≡ node_at flat.nodes made → (y : ℕ) → nodes_read flat (suc made) y ≡ nodes_read flat made y + reads_by y node
+reads-more flat made node below is y =
+    ap (sum_by (reads_by y)) (take-suc flat.nodes made (Number Undef) below) ∙ sum_by_push (reads_by y) (take made flat.nodes) (node_at flat.nodes made) ∙ ap (λ x. nodes_read flat made y + reads_by y x) (sym is)
+
+-- the reads of one more check
+pub tests-more : (flat : Flat) (checked : ℕ) (check : Check) → checked < length flat.checks → check ≡ get_or flat.checks checked check → (y : ℕ) → checks_read flat (suc checked) y ≡ checks_read flat checked y + tests_by y check
+tests-more flat checked check below is y =
+    ap (sum_by (tests_by y)) (take-suc flat.checks checked check below) ∙ sum_by_push (tests_by y) (take checked flat.checks) (get_or flat.checks checked check) ∙ ap (λ x. checks_read flat checked y + tests_by y x) (sym is)
+
+-- the outputs at place k of those that were looked at
+part-at : (p k : ℕ) (outputs : List ℕ) → k < length outputs → given_part p k outputs ≡ given_before (suc p) (take k outputs) ++ (given_before p (get_or outputs k 0 ∷ []) ++ given_before p (drop (suc k) outputs))
+part-at p k outputs lt = ap (λ xs. given_before (suc p) (take k outputs) ++ given_before p xs) (drop-cons outputs k 0 lt)
+
+part-next : (p k : ℕ) (outputs : List ℕ) → k < length outputs → given_part p (suc k) outputs ≡ given_before (suc p) (take k outputs) ++ (given_before (suc p) (get_or outputs k 0 ∷ []) ++ given_before p (drop (suc k) outputs))
+part-next p k outputs lt =
+    ap (λ xs. given_before (suc p) xs ++ given_before p (drop (suc k) outputs)) (take-suc outputs k 0 lt)
+    ∙ ap (λ xs. xs ++ given_before p (drop (suc k) outputs)) (map-append (λ x. if ltb x (suc p) then Some x else None) (take k outputs) (get_or outputs k 0 ∷ []))
+    ∙ append_assoc (given_before (suc p) (take k outputs)) (given_before (suc p) (get_or outputs k 0 ∷ [])) (given_before p (drop (suc k) outputs))
+
+-- an output of another node
+pub part-other : (p k : ℕ) (outputs : List ℕ) → k < length outputs → get_or outputs k 0 ≢ p → given_part p k outputs ≡ given_part p (suc k) outputs
+part-other p k outputs lt ne =
+    let y = get_or outputs k 0 in
+    let same : ltb y p ≡ ltb y (suc p) = ⊎_elim (λ a. lt-ltb y p a ∙ sym (lt-ltb y (suc p) (omega arith))) (λ a. let more : suc p ≤ y = omega arith in le-ltb y p a ∙ sym (le-ltb y (suc p) more)) (cases_lt y p) in
+    part-at p k outputs lt
+    ∙ ap (λ (b : Bool). given_before (suc p) (take k outputs) ++ (((if b then Some y else None) ∷ []) ++ given_before p (drop (suc k) outputs))) same
+    ∙ sym (part-next p k outputs lt)
+
+-- an output of this node
+pub part-this : (p k : ℕ) (outputs : List ℕ) → k < length outputs → get_or outputs k 0 ≡ p → set (given_part p k outputs) k (Some p) ≡ given_part p (suc k) outputs
+part-this p k outputs lt is =
+    let y = get_or outputs k 0 in
+    let size : length (given_before (suc p) (take k outputs)) ≡ k = length-map (take k outputs) (λ x. if ltb x (suc p) then Some x else None) ∙ length-take-le k outputs (omega arith) in
+    let here : ltb y (suc p) ≡ true = lt-ltb y (suc p) (omega arith) in
+    ap (λ xs. set xs k (Some p)) (part-at p k outputs lt)
+    ∙ set_at (given_before (suc p) (take k outputs)) (if ltb y p then Some y else None) (given_before p (drop (suc k) outputs)) (Some p) k size
+    ∙ ap (λ (x : ℕ). given_before (suc p) (take k outputs) ++ Some x ∷ given_before p (drop (suc k) outputs)) (sym is)
+    ∙ ap (λ (b : Bool). given_before (suc p) (take k outputs) ++ (((if b then Some y else None) ∷ []) ++ given_before p (drop (suc k) outputs))) (sym here)
+    ∙ sym (part-next p k outputs lt)
+
+-- it wasn't given before
+part-free : (p k : ℕ) (outputs : List ℕ) → k < length outputs → get_or outputs k 0 ≡ p → get_or (given_part p k outputs) k None ≡ None
+part-free p k outputs lt is =
+    let y = get_or outputs k 0 in
+    let size : length (given_before (suc p) (take k outputs)) ≡ k = length-map (take k outputs) (λ x. if ltb x (suc p) then Some x else None) ∙ length-take-le k outputs (omega arith) in
+    ap (λ xs. get_or xs k None) (part-at p k outputs lt)
+    ∙ get_or_at (given_before (suc p) (take k outputs)) (if ltb y p then Some y else None) (given_before p (drop (suc k) outputs)) None k size
+    ∙ ap (λ b. if b then Some y else None) (le-ltb y p (omega arith))
+
+-- each output has an entry
+pub length-part : (p k : ℕ) (outputs : List ℕ) → length (given_part p k outputs) ≡ length outputs
+length-part p k outputs =
+    let front : length (given_before (suc p) (take k outputs)) ≡ length (take k outputs) = length-map (take k outputs) (λ x. if ltb x (suc p) then Some x else None) in
+    let back : length (given_before p (drop k outputs)) ≡ length (drop k outputs) = length-map (drop k outputs) (λ x. if ltb x p then Some x else None) in
+    let all : length (take k outputs) + length (drop k outputs) ≡ length outputs = sym (length-append (take k outputs) (drop k outputs)) ∙ ap length (take-append-drop k outputs) in
+    length-append (given_before (suc p) (take k outputs)) (given_before p (drop k outputs)) ∙ (let whole : length (given_before (suc p) (take k outputs)) + length (given_before p (drop k outputs)) ≡ length outputs = omega arith in whole)
+
+-- before the first output is looked at, and after the last
+pub part-none : (p : ℕ) (outputs : List ℕ) → given_before p outputs ≡ given_part p 0 outputs
+part-none p outputs = refl
+
+pub part-all : (p k : ℕ) (outputs : List ℕ) → length outputs ≤ k → given_part p k outputs ≡ given_before (suc p) outputs
+part-all p k outputs le =
+    ap (λ xs. given_before (suc p) xs ++ given_before p (drop k outputs)) (take_all k outputs le)
+    ∙ ap (λ xs. given_before (suc p) outputs ++ given_before p xs) (drop_all k outputs le)
+    ∙ append-nil (given_before (suc p) outputs)
+
+-- the next check isn't ready
+pub settled-from : (flat : Flat) (made checked : ℕ) (check : Check) → check ≡ get_or flat.checks checked check → made ≤ max check.guard check.condition → checked < length flat.checks → made ≤ moment_from 0 flat.checks checked
+settled-from flat made checked check is le lt =
+    let guard : check.guard ≡ (get_or flat.checks checked check).guard = ap (λ (c : Check). c.guard) is in
+    let condition : check.condition ≡ (get_or flat.checks checked check).condition = ap (λ (c : Check). c.condition) is in
+    omega (arith, moment-reads 0 flat.checks checked check lt)
+
+-- one of the outputs is given, or isn't of this node
+pub sound-gave : {flat : Flat} {made read checked : ℕ} {code : Listing} {r s : ℕ → Option ℕ} {n : ℕ} (p j : ℕ) → Sound flat made read checked (given_part p j flat.outputs) code r s n → (j' k : ℕ) → suc j ≡ j' → j < length flat.outputs → k < REGISTERS → r k ≡ Some p → get_or flat.outputs j 0 ≡ p → Sound flat made read checked (given_part p j' flat.outputs) (with_instr code (Output j k)) r s n
+sound-gave {flat} {made} {read} {checked} {code} {r} {s} {n} p j h j' k e lt lt' at is =
+    subst (λ (given : List (Option ℕ)). Sound flat made read checked given (with_instr code (Output j k)) r s n)
+    (part-this p j flat.outputs lt is ∙ ap (λ m. given_part p m flat.outputs) e)
+    (sound-give h j k p lt lt' (part-free p j flat.outputs lt is) at)
+
+pub right-gave : {flat : Flat} {made read checked : ℕ} {code : Listing} {r s : ℕ → Option ℕ} {n : ℕ} (p j : ℕ) → Sound flat made read checked (given_part p j flat.outputs) code r s n → (k : ℕ) → j < length flat.outputs → k < REGISTERS → r k ≡ Some p → get_or flat.outputs j 0 ≡ p → wrong_behind code (Output j k) ≡ None
+right-gave {flat} p j h k lt lt' at is = right-give h j k p lt lt' (part-free p j flat.outputs lt is) at
+
+pub loads-gave : {flat : Flat} {made read checked : ℕ} {code : Listing} {r s : ℕ → Option ℕ} {n : ℕ} (p j : ℕ) → Sound flat made read checked (given_part p j flat.outputs) code r s n → (k : ℕ) → j < length flat.outputs → k < REGISTERS → r k ≡ Some p → get_or flat.outputs j 0 ≡ p → (y : ℕ) → loads_of y (with_instr code (Output j k)) ≡ loads_of y code
+loads-gave {flat} p j h k lt lt' at is y = loads-give h j k p lt lt' (part-free p j flat.outputs lt is) at y
+
+-- one more output is given
+count-set : (xs : List (Option ℕ)) (j x : ℕ) → j < length xs → get_or xs j None ≡ None → count_some (set xs j (Some x)) ≡ suc (count_some xs)
+count-set [] j x lt free = absurd (omega arith)
+count-set (None ∷ xs) zero x lt free = refl
+count-set (Some y ∷ xs) zero x lt free = absurd (none≢some y (sym free))
+count-set (None ∷ xs) (suc j) x lt free = count-set xs j x (omega arith) free
+count-set (Some y ∷ xs) (suc j) x lt free = ap suc (count-set xs j x (omega arith) free)
+
+pub count-gave : (p j j' : ℕ) (outputs : List ℕ) → suc j ≡ j' → j < length outputs → get_or outputs j 0 ≡ p → count_some (given_part p j' outputs) ≡ suc (count_some (given_part p j outputs))
+count-gave p j j' outputs e lt is =
+    ap (λ m. count_some (given_part p m outputs)) (sym e)
+    ∙ ap (count_some) (sym (part-this p j outputs lt is))
+    ∙ count-set (given_part p j outputs) j p (omega (arith, length-part p j outputs)) (part-free p j outputs lt is)
+
+-- no more outputs are given than there are
+count-least : (xs : List (Option ℕ)) → count_some xs ≤ length xs
+count-least [] = omega arith
+count-least (None ∷ xs) = omega (arith, count-least xs)
+count-least (Some x ∷ xs) = omega (arith, count-least xs)
+
+pub given-least : (p : ℕ) (outputs : List ℕ) → count_given p outputs ≤ length outputs
+given-least p outputs =
+    let size : length (given_before p outputs) ≡ length outputs = length-map outputs (λ x. if ltb x p then Some x else None) in
+    omega (arith, count-least (given_before p outputs))
+
+pub part-least : (p k : ℕ) (outputs : List ℕ) → count_some (given_part p k outputs) ≤ length outputs
+part-least p k outputs = omega (arith, count-least (given_part p k outputs), length-part p k outputs)
+
+-- slots are fewer than numbers of 32 bits
+pub slots-small : {flat : Flat} {made read checked : ℕ} {given : List (Option ℕ)} {code : Listing} {r s : ℕ → Option ℕ} {n : ℕ} → Sound flat made read checked given code r s n → n ≤ 200000000
+slots-small {flat} {made} {read} {checked} {given} {code} {r} {s} {n} h =
+    let within : n ≤ width_of flat = h.few.within in
+    let few : length flat.nodes ≤ MOST = h.order.few_nodes in
+    omega (arith, width-nodes flat)
+
+-- there is room for the instructions of one more node, and of one more check
+pub turn-room : {flat : Flat} {made read checked : ℕ} {given : List (Option ℕ)} {code : Listing} {r s : ℕ → Option ℕ} {n : ℕ} → Sound flat made read checked given code r s n → length code.instrs ≤ 8 * made + 5 * checked + count_given made flat.outputs → length code.instrs + 8 + length flat.outputs < 4294967295
+turn-room {flat} {made} {read} {checked} {given} {code} {r} {s} {n} h short =
+    let nodes : length flat.nodes ≤ MOST = h.order.few_nodes in
+    let checks : length flat.checks ≤ MOST = h.order.few_checks in
+    let outputs : length flat.outputs ≤ MOST = h.order.few_outputs in
+    let a : made ≤ read = h.order.made_read in
+    let b : read ≤ length flat.nodes = h.order.read_within in
+    let d : checked ≤ length flat.checks = h.order.checked_within in
+    omega (arith, given-least made flat.outputs)

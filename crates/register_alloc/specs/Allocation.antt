@@ -1,0 +1,41 @@
+-- What is said of an allocation.
+use Rattle.std.specs.Prelude.{◌≡◌, ℕ, ◌≤◌, ◌<◌, Bool, true, false, List, length, count_by, All, Some}
+use Rattle.flat_code.specs.declared.program.Flat.{Flat}
+use Rattle.reg_machine.specs.declared.instr.TheConstants.{REGISTERS}
+use Rattle.reg_machine.specs.declared.instr.Instr.{Instr}
+use Rattle.reg_machine.specs.declared.instr.Instr.TheVariants.{Take, Lit, Do, Store, Load, Check as Test, Output}
+use Rattle.reg_machine.specs.Flow.{Listing, flow_of, stores_of, loads_of}
+use Rattle.register_alloc.specs.declared.moment.TheConstants.{MOST}
+use Rattle.register_alloc.specs.Width.{width_of, reads_of}
+
+-- an instruction on a slot
+abbrev pub is_spill : Instr → Bool
+is_spill (Take r n) = false
+is_spill (Lit r v) = false
+is_spill (Do op r a b c) = false
+is_spill (Store k r) = true
+is_spill (Load r k) = true
+is_spill (Test g r over_only label) = false
+is_spill (Output k r) = false
+
+-- how many instructions are on slots
+abbrev pub spills_of : Listing → ℕ
+spills_of code = count_by is_spill code.instrs
+
+-- a program of which the code has at most 2^32 - 1 instructions, and whose labels are below a count
+pub record IsSmall (flat : Flat) (labels : ℕ) : Type 0 where
+  pub nodes : length flat.nodes ≤ MOST
+  pub checks : length flat.checks ≤ MOST
+  pub outputs : length flat.outputs ≤ MOST
+  pub labelled : All (λ check. check.label < labels) flat.checks
+
+-- The code spells the program, with so many labels, and with at most as many slots as the width; without Store and Load
+-- where the width is at most the number of registers; with at most one Store of a node, and at most one Load of it for each
+-- time that an argument within the arity, a guard or a condition reads it.
+pub record IsAllocation (flat : Flat) (labels : ℕ) (code : Listing) : Type 0 where
+  pub flow : flow_of code ≡ Some flat
+  pub labelled : code.counts.labels ≡ labels
+  pub slots : code.counts.slots ≤ width_of flat
+  pub direct : width_of flat ≤ REGISTERS → spills_of code ≡ 0
+  pub stores : (x : ℕ) → stores_of x code ≤ 1
+  pub loads : (x : ℕ) → loads_of x code ≤ reads_of x flat

@@ -1,0 +1,7 @@
+-- What the contracts of inner functions speak of. That of `allocate` needs none of it.
+pub mod Chain
+pub mod Index
+pub mod Last
+pub mod Tables
+pub mod Valid
+pub mod Sound

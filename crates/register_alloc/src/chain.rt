@@ -1,0 +1,40 @@
+//! The outputs of each node, one after the other.
+
+ghost use Rattle.std.specs.Prelude.{◌≡◌, ℕ, suc, ◌<◌, ◌≤◌, ◌+◌, IfOk, All, length, slice_index};
+ghost use Rattle.register_alloc.specs.inner.Chain.{IsChain, IsNext};
+
+use std::alloc::{AllocError, Global};
+
+/// Places in a list of outputs: of each node the first, and of each output the next one of its node.
+#[derive(Drop)]
+pub struct Chain {
+    pub firsts: Vec<usize>,
+    pub nexts: Vec<usize>,
+}
+
+/// Puts one more output, before the others, into the chain.
+fn link(firsts: &mut Vec<usize>, nexts: &mut Vec<usize>, outputs: &[u32], place: usize)
+    requires chain { IsChain outputs.now (length firsts.old.items) (place + 1) firsts.old.items nexts.old.items }
+    requires place { place < length outputs.now }
+    requires node { slice_index outputs.now place < length firsts.old.items }
+    ensures { IsChain outputs.now (length firsts.old.items) place firsts.new.items nexts.new.items }
+{
+    let node = outputs[place] as usize;
+    nexts[place] = firsts[node];
+    firsts[node] = place;
+}
+
+/// The chain of outputs of n nodes.
+pub fn chain_of(alloc: Global, outputs: &[u32], nodes: usize) -> Result<Chain, AllocError>
+    requires { All (λ x. x < nodes) outputs.now }
+    ensures { IfOk result (λ chain. IsChain outputs.now nodes 0 chain.firsts.items chain.nexts.items) }
+{
+    let mut firsts = vec![in alloc; outputs.len(); nodes]?;
+    let mut nexts = vec![in alloc; outputs.len(); outputs.len()]?;
+    let mut left = outputs.len();
+    while left > 0 {
+        left -= 1;
+        link(&mut firsts, &mut nexts, outputs, left);
+    }
+    Ok(Chain { firsts, nexts })
+}

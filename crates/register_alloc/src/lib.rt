@@ -1,0 +1,15 @@
+//! The allocator of registers: from a flat program in the tidy form to register code with spill slots.
+//!
+//! This crate knows nothing of rules, drivers, files or printed lines, nor what operators and machines do.
+#![tactic(auto)]
+
+mod chain;
+mod moment;
+mod room;
+mod slots;
+mod table;
+mod task;
+mod turn;
+
+pub use moment::MOST;
+pub use turn::allocate;
