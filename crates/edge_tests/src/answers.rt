@@ -1,8 +1,8 @@
 //! The lines of answers, as they are printed.
-use observables::{Face, FaceLabel, Stop};
 use m_fixed::{Amount, Value};
 use m_places::{ErrorKind, Label, Name, Seq, SharedName};
 use m_ports::{MemSink, Sink};
+use observables::{Face, FaceLabel, Stop, named_face};
 use std::alloc::Global;
 use std::test::Fail;
 use tax_print::{print_stop, print_values};
@@ -62,16 +62,17 @@ fn labels(alloc: Global) -> Result<Seq<FaceLabel>, Fail> {
 
 /// A face with the outputs IRN, T[1] and MARG.
 fn face(alloc: Global) -> Result<Face, Fail> {
-    let mut outputs = Vec::new(alloc);
+    let mut names = Vec::new(alloc);
     for name in ["IRN", "T[1]", "MARG"] {
-        outputs.push(Name::new(alloc, name.as_bytes())?)?;
+        names.push(Name::new(alloc, name.as_bytes())?)?;
     }
-    let labels = labels(alloc)?;
-    Ok(Face {
-        inputs: Seq::from_vec(Vec::new(alloc)),
-        labels,
-        outputs: Seq::from_vec(outputs),
-    })
+    let inputs = Seq::from_vec(Vec::new(alloc));
+    Ok(named_face(
+        alloc,
+        inputs,
+        labels(alloc)?,
+        Seq::from_vec(names),
+    )?)
 }
 
 fn number(millionths: i128) -> Value {

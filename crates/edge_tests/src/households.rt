@@ -1,14 +1,34 @@
 //! Households that are read and refused, and what they give each input.
+ghost use Rattle.std.specs.Prelude.{◌≡◌, IfOk};
+ghost use Rattle.observables.specs.Inputs.{codes_of};
+
 use household::{Codes, HouseholdFault, read_household, values};
 use m_fixed::Value;
 use m_names::Names;
 use m_places::Name;
+use observables::{Coded, InputType};
 use std::alloc::Global;
 use std::test::Fail;
 
 /// The codes of these names, which differ.
 fn codes_of(alloc: Global, names: &[Name]) -> Result<Codes, Fail> {
-    Ok(Codes::new(Names::of(alloc, names)?))
+    let _known = Names::of(alloc, names)?;
+    let inputs = inputs_of(alloc, names)?;
+    Ok(Codes::new(alloc, &inputs)?)
+}
+
+/// Inputs with these codes.
+fn inputs_of(alloc: Global, names: &[Name]) -> Result<Vec<Coded>, Fail>
+    ensures { IfOk result (λ inputs. codes_of inputs.items ≡ names.now) }
+{
+    let mut inputs = Vec::new(alloc);
+    for name in names {
+        inputs.push(Coded {
+            code: name.copy(alloc)?,
+            kind: InputType::Any,
+        })?;
+    }
+    Ok(inputs)
 }
 
 /// Three codes.

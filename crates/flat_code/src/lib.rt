@@ -1,11 +1,16 @@
-//! Flat programs and their run.
+//! Flat programs, their run, what is known of their nodes, and their tidy form.
 //!
 //! This crate knows nothing of rules, drivers or printed lines.
 #![tactic(auto)]
 
+mod hash;
+mod laws;
 mod program;
 mod run;
 pub mod touched;
+mod tidy;
 
+pub use laws::{facts_hold, passes_compose};
 pub use program::{Check, Flat, Node};
 pub use run::{run_flat, stop_among, value_of};
+pub use tidy::Tidy;

@@ -1,5 +1,6 @@
 //! Drivers over the input A and the variables B and C, without rules: what their flat programs answer.
-ghost use Rattle.std.specs.Prelude.{◌≡◌, IfOk};
+ghost use Rattle.std.specs.Prelude.{◌≡◌, [], map, IfOk};
+ghost use Rattle.m_symbols.specs.Declarations.{placed_from};
 ghost use Rattle.micro_m.specs.Bases.{IsValidBase};
 
 use driver_core::{CCommand, CCommandNode, CNode, CTerm, Core};
@@ -9,6 +10,7 @@ use observables::Answer;
 use input_kinds::{KindCells, KindIndex};
 use m_ast::{Item, Role, VariableItem};
 use m_fixed::{Amount, Op, Value};
+use m_places::limits::CELLS;
 use m_places::{Name, Place, Seq};
 use m_symbols::{Symbols, declare};
 use micro_m::Base;
@@ -71,6 +73,7 @@ fn kind(alloc: Global) -> Result<KindCells, AllocError> {
 fn no_rules(alloc: Global, cells: u32) -> Base
     ensures valid { IsValidBase result }
     ensures cells { result.cells ≡ cells }
+    ensures labels { result.labels ≡ [] }
 {
     Base {
         cells,
@@ -100,7 +103,12 @@ fn reading(answer: &Answer) -> Told {
 }
 
 // What a driver tells of C for this value of A.
-fn told_by(alloc: Global, core: &Core, symbols: &Symbols, a: Value) -> Result<Told, AllocError> {
+fn told_by(alloc: Global, core: &Core, symbols: &Symbols, a: Value) -> Result<Told, AllocError>
+    requires { symbols.now.variables ≡ placed_from 0 (map (λ v. v.item) symbols.now.variables) }
+{
+    if symbols.cells() > CELLS {
+        return Ok(Told::Nothing);
+    }
     let base = no_rules(alloc, symbols.cells());
     let Ok(ordered) = order(alloc, base) else {
         return Ok(Told::Nothing);
@@ -286,6 +294,26 @@ fn conditions_stop(rt: HostRuntime) -> Result<(), Fail> {
         is_told(found(alloc, 1, Value::Undef)?, wanted(0)),
         "over in no branch"
     );
+    Ok(())
+}
+
+// Functions that call each other in a ring: each level of calls weighs 3, and there are as many as functions, and one more.
+#[test]
+fn a_ring_of_functions_is_weighed(rt: HostRuntime) -> Result<(), Fail> {
+    let alloc = rt.alloc();
+    let mut bodies = Vec::new(alloc);
+    for n in 0..4_u32 {
+        let next = if n == 3 { 0 } else { n + 1 };
+        let call = CCommand::new(CCommandNode::Call(1, 1, cells(alloc, &[2])?, next));
+        bodies.push(Seq::from_vec(one(alloc, call)?))?;
+    }
+    let core = Core {
+        cells: 3,
+        names: Seq::from_vec(Vec::new(alloc)),
+        bodies: Seq::from_vec(bodies),
+        main: 0,
+    };
+    assert_eq!(rt; weight(alloc, &core, &no_rules(alloc, 3))?, 15);
     Ok(())
 }
 

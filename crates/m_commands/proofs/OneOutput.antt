@@ -18,7 +18,7 @@ use Rattle.m_work.specs.Households.{told_status}
 use Rattle.m_work.specs.LargeAnswers as large
 use Rattle.m_work.specs.Larges.{large_line, large_source}
 use Rattle.m_work.specs.Runs as run
-use Rattle.m_work.specs.Schemes.{Scheme, told_to}
+use Rattle.m_work.specs.Schemes.{Scheme, scheme_codes, told_to}
 use Rattle.m_work.specs.Serves.{IsSession}
 use Rattle.m_work.specs.Serves as serve
 use Rattle.m_work.specs.Sessions.{ended_replies, session_replies}
@@ -34,11 +34,11 @@ use Rattle.m_commands.proofs.Schemes.{not_refused, one_refusal, one_scheme, said
 
 -- the pairs of a household are the same by one scheme and by the other
 one_pairs : (source : Source) (rows : List ℕ) (one other : Scheme) (pairs given : List (ℕ × ℤ)) → IsScheme source one → IsScheme source other
-    → household_of one.codes rows ≡ Ok pairs → household_of other.codes rows ≡ Ok given → pairs ≡ given
+    → household_of (scheme_codes one) rows ≡ Ok pairs → household_of (scheme_codes other) rows ≡ Ok given → pairs ≡ given
 one_pairs source rows one other pairs given a b p q = let c = said_other source (λ inputs. household_of inputs rows) (Ok pairs) one other a b p in cc (c, q)
 
 one_rows : (source : Source) (table : List ℕ) (one other : Scheme) (rows given : List Row) → IsScheme source one → IsScheme source other
-    → table_of one.codes table ≡ Ok rows → table_of other.codes table ≡ Ok given → rows ≡ given
+    → table_of (scheme_codes one) table ≡ Ok rows → table_of (scheme_codes other) table ≡ Ok given → rows ≡ given
 one_rows source table one other rows given a b p q = let c = said_other source (λ inputs. table_of inputs table) (Ok rows) one other a b p in cc (c, q)
 
 -- ---- runs and `large N`

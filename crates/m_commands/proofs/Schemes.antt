@@ -8,7 +8,7 @@ use Rattle.m_compile.specs.Lines.{source_line}
 use Rattle.m_compile.specs.declared.fault.SourceFault.{SourceFault}
 use Rattle.m_plan.specs.declared.status.Status.TheVariants.{Refused}
 use Rattle.m_work.specs.Households.{household_fault_line}
-use Rattle.m_work.specs.Schemes.{Scheme}
+use Rattle.m_work.specs.Schemes.{Scheme, scheme_codes}
 use Rattle.m_work.specs.Sources.{IsScheme, Refuses, scheme_said, source_is_refused, households_are_refused}
 use Rattle.m_commands.specs.Output.{AreOneOutput, the_same, both_cycles, both_recursions}
 use Rattle.m_compile.specs.Faults.{AreOneSourceFault}
@@ -23,11 +23,11 @@ one_scheme source one other a b =
 
 -- what a file says is the same by one scheme and by the other
 pub said_other : (source : Source) {Given : Type 0} (said : List (List ℕ) → Result Given HouseholdFault) (result : Result Given HouseholdFault) (one other : Scheme) → IsScheme source one → IsScheme source other
-    → said one.codes ≡ result → said other.codes ≡ result
-said_other source said result one other a b e = subst (λ (s : Scheme). said s.codes ≡ result) (one_scheme source one other a b) e
+    → said (scheme_codes one) ≡ result → said (scheme_codes other) ≡ result
+said_other source said result one other a b e = subst (λ (s : Scheme). said (scheme_codes s) ≡ result) (one_scheme source one other a b) e
 
 -- a valid source and a file without a fault aren't refused
-pub not_refused : (source : Source) {Given : Type 0} (said : List (List ℕ) → Result Given HouseholdFault) (line : List ℕ) (scheme : Scheme) (given : Given) → IsScheme source scheme → said scheme.codes ≡ Ok given
+pub not_refused : (source : Source) {Given : Type 0} (said : List (List ℕ) → Result Given HouseholdFault) (line : List ℕ) (scheme : Scheme) (given : Given) → IsScheme source scheme → said (scheme_codes scheme) ≡ Ok given
     → Refuses source said line → ⊥
 not_refused source said line scheme given valid e (source_is_refused fault is told) = no_valid_and_fault source valid.declared valid.base valid.written valid.requests fault valid.valid is
 not_refused source said line scheme given valid e (households_are_refused other fault is faulty told) =

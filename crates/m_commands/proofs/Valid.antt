@@ -39,7 +39,7 @@ use Rattle.m_commands.proofs.Ways.{Way, way_of, tells, lacks_memory, breaks_off,
 
 -- what is told is the end of a command that did all of its work
 told_complete : (told : Told) → IsComplete (told_status told)
-told_complete (values vs) = tt
+told_complete (values notes vs) = tt
 told_complete (stopped cause) = tt
 
 -- nothing that is typed is as much as is taken

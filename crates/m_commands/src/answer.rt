@@ -6,7 +6,7 @@ ghost use Rattle.m_commands.specs.inner.Courses.{WorkIsAnswered};
 use crate::work::Work;
 use m_plan::Status;
 use m_ports::{Sink, Source};
-use m_work::{answer_batch, answer_large, answer_run, answer_serve};
+use m_work::{batch_source, run_large, run_source, serve_source};
 use std::alloc::Global;
 use std::thread::Threads;
 
@@ -23,9 +23,9 @@ pub fn answer<R: Threads + Sync, S: Source, K: Sink>(
         (output_view K.written K.faults out.old) (output_view K.written K.faults out.new) result }
 {
     match work {
-        Work::Run(source, rows) => answer_run(alloc, source, rows.as_slice(), out),
-        Work::Serve(source, rows) => answer_serve(alloc, source, rows.as_slice(), input, out),
-        Work::Batch(source, table) => answer_batch(rt, alloc, source, table.as_slice(), out),
-        Work::Large(n) => answer_large(alloc, *n, out),
+        Work::Run(source, rows) => run_source(alloc, source, rows.as_slice(), out),
+        Work::Serve(source, rows) => serve_source(alloc, source, rows.as_slice(), input, out),
+        Work::Batch(source, table) => batch_source(rt, alloc, source, table.as_slice(), out),
+        Work::Large(n) => run_large(alloc, *n, out),
     }
 }

@@ -22,7 +22,9 @@ use Rattle.observables.specs.Answers.{told_of}
 use Rattle.observables.specs.Inputs.{codes_of}
 use Rattle.observables.specs.Outputs.{names_of, notes_of}
 use Rattle.observables.proofs.OutputLemmas.{names-named, notes-named}
+use Rattle.flat_code.specs.Passes.{Becomes}
 use Rattle.flat_code.specs.Runs.{flat_run}
+use Rattle.flat_code.specs.Tidy.{IsTidy}
 use Rattle.flat_code.specs.declared.program.Flat.{Flat}
 use Rattle.micro_m.specs.declared.base.Base.{Base}
 use Rattle.micro_m.specs.Reads.{HasNoCycle}
@@ -54,6 +56,7 @@ use Rattle.m_compile.specs.Faults.{IsSourceFault, of_rules, of_driver, of_core, 
 use Rattle.m_compile.specs.Compiled.{IsCompiled, input_said, inputs_said}
 use Rattle.m_compile.specs.inner.Parts.{IsAsked, IsAskedFault, in_driver, in_requests, IsProgram, IsHeavy, heavy, of_lines, of_names, IsDriverFault, compiled_of}
 use Rattle.m_compile.proofs.Distinct.{codes_said, distinct_codes}
+use Rattle.m_compile.proofs.Tidied.{plain_values, labels_kept}
 use Rattle.m_compile.specs.inner.Steps.{rule_step, driver_step, core_step, request_step, inline_step}
 
 -- the fault of the rule files
@@ -141,13 +144,13 @@ compiled_when source declared base asked core flat face r a p =
       written = a.written;
       requests = asked;
       valid = record { rules = r; driven = a.driven; requested = a.requested; light = subst (λ c. weight_of c base ≤ DRIVER_WEIGHT) a.runs p.light };
-      runnable = record { flat = p.valid; shown = p.shown; distinct = rw (ap codes_of p.inputs ∙ codes_said declared) (distinct_codes source.texts source.application declared base r.made) };
+      runnable = record { valid = p.valid; shown = p.shown; distinct = rw (ap codes_of p.inputs ∙ codes_said declared) (distinct_codes source.texts source.application declared base r.made); nodes_fit = p.nodes_fit };
+      tidy = p.tidy;
       inputs = p.inputs;
       names = ap names_of p.outputs ∙ names-named (map (cell_name declared) asked);
       notes = subst (AllByRecursion (λ number. number < length base.labels)) (sym no_notes) tt;
       first_labels = p.first_labels;
-      nodes_fit = p.nodes_fit;
-      answers = λ inputs given. ap (λ notes. told_of face.labels notes (flat_run flat inputs)) no_notes ∙ rw (sym a.runs) (p.answers inputs);
+      answers = λ inputs given. ap (λ notes. told_of face.labels notes (flat_run flat inputs)) no_notes ∙ rw (sym a.runs) (p.answers inputs (plain_values face.inputs inputs given));
     }
 
 pub finished : (source : Source) (declared : Declared) (base : Base) (asked : List ℕ) (core : Core) (result : Result (Flat × Face) SourceFault) → HasRules source declared base
@@ -169,27 +172,25 @@ as_many_outputs declared outputs asked e = ap length e ∙ length-map (map (cell
 few_outputs : (outputs : List FaceOutput) (asked : List ℕ) → length outputs ≡ length asked → length asked ≤ REQUESTS → length outputs < 2 ^ 32
 few_outputs outputs asked e h = omega (arith, e, h)
 
-each : {X : Type 0} (P : X → Type 0) (xs : List X) → All P xs → AllByRecursion P xs
-each P [] h = tt
-each P (x ∷ xs) h = (h 0 x (omega arith), each P xs (λ k d q. h (suc k) d (omega (arith, q))))
-
--- the program with its face
-pub program_made : (declared : Declared) (base : Base) (core : Core) (asked : List ℕ) (flat : Flat) (face : Face) (labels : List FaceLabel) → HasWeight core base → IsInlined core base declared asked flat labels
-    → face.labels ≡ labels → face.inputs ≡ inputs_said declared → face.outputs ≡ map Named (map (cell_name declared) asked) → length asked ≤ REQUESTS → IsProgram declared base core asked flat face
-program_made declared base core asked flat face labels w i l f o h =
+-- the tidy program with its face
+pub program_made : (declared : Declared) (base : Base) (core : Core) (asked : List ℕ) (flat tidy : Flat) (face : Face) (labels : List FaceLabel) → HasWeight core base → IsInlined core base declared asked flat labels
+    → Becomes flat tidy → IsTidy tidy → face.labels ≡ labels → face.inputs ≡ inputs_said declared → face.outputs ≡ map Named (map (cell_name declared) asked) → length asked ≤ REQUESTS
+    → IsProgram declared base core asked tidy face
+program_made declared base core asked flat tidy face labels w i b t l f o h =
     let many = as_many_outputs declared face.outputs asked o in
     record {
       light = w;
-      valid = i.flat_program;
+      valid = b.valid;
+      tidy = t;
       shown = record {
-        inputs = as_many_inputs declared face.inputs flat.inputs f i.inputs;
-        labels = each (λ check. check.label < length face.labels) flat.checks (subst (λ (ls : List FaceLabel). All (λ check. check.label < length ls) flat.checks) (sym l) i.labelled);
-        outputs = many ∙ sym i.outputs;
+        inputs = as_many_inputs declared face.inputs tidy.inputs f (b.inputs ∙ i.inputs);
+        labels = labels_kept (length face.labels) flat.checks tidy.checks (subst (λ (ls : List FaceLabel). All (λ check. check.label < length ls) flat.checks) (sym l) i.labelled) b.labels;
+        outputs = many ∙ sym (b.outputs ∙ i.outputs);
         few = few_outputs face.outputs asked many h;
       };
       inputs = f;
       outputs = o;
       first_labels = subst (λ (ls : List FaceLabel). take (length base.labels) ls ≡ map Verif base.labels) (sym l) i.first_labels;
-      nodes_fit = i.nodes_fit;
-      answers = λ inputs. rw l (i.answer inputs);
+      nodes_fit = omega (arith, b.nodes, i.nodes_fit);
+      answers = λ inputs plain. rw (l, b.answer inputs plain) (i.answer inputs);
     }

@@ -7,14 +7,17 @@ use Rattle.rule_text.specs.declared.Source.{Source}
 use Rattle.m_symbols.specs.Declarations.{Declared}
 use Rattle.m_symbols.specs.Declarations as declarations
 use Rattle.micro_m.specs.declared.base.Base.{Base}
+use Rattle.observables.specs.declared.face.Face.{Face}
 use Rattle.observables.specs.declared.face.FaceLabel.TheVariants.{Verif}
 use Rattle.observables.specs.declared.inputs.Coded.{Coded}
 use Rattle.observables.specs.declared.inputs.InputType.TheVariants.{Any}
 use Rattle.observables.specs.Answers.{told_of}
 use Rattle.observables.specs.Inputs.{AreValuesOf, codes_of}
 use Rattle.observables.specs.Outputs.{names_of, notes_of}
+use Rattle.flat_code.specs.declared.program.Flat.{Flat}
 use Rattle.flat_code.specs.Faces.{IsFaceOf}
 use Rattle.flat_code.specs.Runs.{IsFlat, flat_run}
+use Rattle.flat_code.specs.Tidy.{IsTidy}
 use Rattle.driver_core.specs.declared.program.Core.{Core}
 use Rattle.m_requests.specs.Cells.{cell_name}
 use Rattle.mpp_inline.specs.Inlined.{most_nodes}
@@ -30,14 +33,15 @@ input_said code = record { code = code; kind = Any }
 abbrev pub inputs_said : Declared → List Coded
 inputs_said declared = map input_said (declarations.codes_of declared.variables)
 
--- a program that can be run, which its face shows, and whose inputs have different codes
-pub record IsRunnable (compiled : Compiled) : Type 0 where
-  pub flat : IsFlat compiled.flat
-  pub shown : IsFaceOf compiled.face compiled.flat
-  pub distinct : AreDistinct (codes_of compiled.face.inputs)
+-- a program that can be run, which its face shows, whose inputs have different codes, and whose nodes are not too many
+pub record IsRunnable (face : Face) (flat : Flat) : Type 0 where
+  pub valid : IsFlat flat
+  pub shown : IsFaceOf face flat
+  pub distinct : AreDistinct (codes_of face.inputs)
+  pub nodes_fit : length flat.nodes ≤ most_nodes
 
--- The source is valid, and it is compiled to this: for every list of values that the inputs may have, the answer of the program, read through its face, is
--- the answer of the source. The face has the inputs, the labels of the base's checks before all others, and the names of what is asked for, each in its order,
+-- The source is valid, and it is compiled to this: for every list of values that the inputs may have, the answer of the tidy program, read through its face,
+-- is the answer of the source. The face has the inputs, the labels of the base's checks before all others, and the names of what is asked for, each in its order,
 -- and each note is that of a check of the base.
 pub record IsCompiled (source : Source) (compiled : Compiled) : Type 0 where
   pub declared : Declared
@@ -45,11 +49,11 @@ pub record IsCompiled (source : Source) (compiled : Compiled) : Type 0 where
   pub written : Option Core
   pub requests : List ℕ
   pub valid : IsValid source declared base written requests
-  pub runnable : IsRunnable compiled
+  pub runnable : IsRunnable compiled.face compiled.tidy
+  pub tidy : IsTidy compiled.tidy
   pub inputs : compiled.face.inputs ≡ inputs_said declared
   pub names : names_of compiled.face.outputs ≡ map (cell_name declared) requests
   pub notes : AllByRecursion (λ number. number < length base.labels) (notes_of compiled.face.outputs)
   pub first_labels : take (length base.labels) compiled.face.labels ≡ map Verif base.labels
-  pub nodes_fit : length compiled.flat.nodes ≤ most_nodes
   pub answers : (inputs : List Value) → AreValuesOf compiled.face.inputs inputs
-      → told_of compiled.face.labels (notes_of compiled.face.outputs) (flat_run compiled.flat inputs) ≡ Some (answer_to declared base written requests inputs)
+      → told_of compiled.face.labels (notes_of compiled.face.outputs) (flat_run compiled.tidy inputs) ≡ Some (answer_to declared base written requests inputs)

@@ -2,7 +2,7 @@
 
 ghost use Rattle.std.specs.Prelude.{◌≡◌, ◌<◌, ◌≤◌, All, IfOk, IfSome, Ok, length};
 ghost use Rattle.m_places.specs.Refusals.{Outcome};
-ghost use Rattle.m_places.specs.declared.limits.TheConstants.{FILE_BYTES, REQUESTS};
+ghost use Rattle.m_places.specs.declared.limits.TheConstants.{CELLS, FILE_BYTES, PARTS, REQUESTS};
 ghost use Rattle.rule_text.specs.Limits.{SourceKeepsLimits, FileIsWithin};
 ghost use Rattle.m_symbols.specs.Declarations.{owners_from};
 ghost use Rattle.m_requests.specs.Placed.{IsPlaced};
@@ -17,7 +17,8 @@ ghost use Rattle.m_compile.specs.declared.fault.SourceFault.TheVariants.{Memory}
 use crate::SourceFault;
 use crate::face::face_of;
 use driver_core::Core;
-use flat_code::Flat;
+use dead_rules::tidy;
+use flat_code::Tidy;
 use observables::Face;
 use m_places::Seq;
 use m_requests::read_requests;
@@ -34,8 +35,8 @@ use std::alloc::{AllocError, Global};
 pub struct Compiled {
     /// The inputs, the labels of the stops, and the names of what is asked for.
     pub face: Face,
-    /// The program.
-    pub flat: Flat,
+    /// The program, in the tidy form.
+    pub tidy: Tidy,
 }
 
 /// Compiles a source, or tells the fault of its earliest step that has one: the rule files, the lines of the driver, its names,
@@ -45,15 +46,15 @@ pub struct Compiled {
 pub fn compile(alloc: Global, source: &Source) -> Result<Compiled, SourceFault>
     requires { SourceKeepsLimits source.now }
     ensures outcome { Outcome Memory result (IsCompiled source.now) (IsSourceFault source.now) }
-    ensures runnable { IfOk result IsRunnable }
+    ensures runnable { IfOk result (λ compiled. IsRunnable compiled.face compiled.tidy) }
 {
     let made = rule_base(alloc, source.texts.as_slice(), source.application.bytes())?;
-    let (flat, face) = program(alloc, source, &made)?;
-    Ok(Compiled { face, flat })
+    let (tidy, face) = program(alloc, source, &made)?;
+    Ok(Compiled { face, tidy })
 }
 
 // The program of what a source asks for over its rules in an order, with its face.
-fn program(alloc: Global, source: &Source, made: &RuleBase) -> Result<(Flat, Face), SourceFault>
+fn program(alloc: Global, source: &Source, made: &RuleBase) -> Result<(Tidy, Face), SourceFault>
     requires limits { SourceKeepsLimits source.now }
     requires rules { HasRules source.now made.now.symbols made.now.ordered.base }
     requires base { IsValidBase made.now.ordered.base }
@@ -122,21 +123,25 @@ fn running(
     }
 }
 
-// The flat program of a driver over rules in an order, and its face.
+// The tidy program of a driver over rules in an order, and its face.
 fn faced(
     alloc: Global,
     made: &RuleBase,
     core: &Core,
     requests: &[u32],
-) -> Result<(Flat, Face), SourceFault>
+) -> Result<(Tidy, Face), SourceFault>
     requires base { IsValidBase made.now.ordered.base }
     requires order { IsOrder made.now.ordered.base made.now.ordered.sequence }
     requires cells { made.now.ordered.base.cells ≡ length (owners_from 0 made.now.symbols.variables) }
+    requires placed { IsPlaced made.now.symbols }
+    requires few_cells { made.now.ordered.base.cells ≤ CELLS }
+    requires few_labels { length made.now.ordered.base.labels ≤ PARTS }
     requires known { All (λ c. c < length (owners_from 0 made.now.symbols.variables)) requests.now }
     requires few { length requests.now ≤ REQUESTS }
     ensures { Outcome Memory result (λ given. IsProgram made.now.symbols made.now.ordered.base core.now requests.now given.0 given.1) (IsHeavy core.now made.now.ordered.base) }
 {
     let (flat, labels) = inline(alloc, core, &made.ordered, &made.symbols, requests)?;
+    let tidy = tidy(alloc, &flat)?;
     let face = face_of(alloc, &made.symbols, labels, requests)?;
-    Ok((flat, face))
+    Ok((tidy, face))
 }

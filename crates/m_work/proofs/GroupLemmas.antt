@@ -21,17 +21,19 @@ use Rattle.flat_code.specs.declared.program.Flat.{Flat}
 use Rattle.household.specs.Household.{values_of}
 use Rattle.household.specs.declared.table.Row.{Row}
 use Rattle.household_session.proofs.OutputLemmas.{stop_label}
-use Rattle.household_session.specs.Sessions.{IsFaceOf}
+use Rattle.flat_code.specs.Faces.{IsFaceOf}
+use Rattle.observables.specs.Inputs.{AreValuesOf}
 use Rattle.m_batch.specs.Batch.{row_answer, answers_of}
 use Rattle.text_pieces.specs.Pieces.{new_line}
-use Rattle.tax_print.specs.Lines.{AnswerIsWithin, household_lines, told_lines}
+use Rattle.tax_print.specs.Lines.{AnswerIsWithin, answer_lines, household_lines, told_lines}
 use Rattle.m_work.specs.Schemes.{Scheme}
 use Rattle.m_work.specs.Tables.{rows_lines}
 use Rattle.m_work.specs.inner.Groups.{Counted, WritesGroups, answered_lines, program_lines}
 use Rattle.m_work.specs.declared.groups.GroupFault.{GroupFault}
 use Rattle.m_work.specs.declared.groups.GroupFault.TheVariants.{Memory, Failed}
-use Rattle.m_work.proofs.Shows.{Shows}
-use Rattle.m_work.proofs.SessionLemmas.{lines_told}
+use Rattle.m_work.specs.Prepared.{Shows}
+use Rattle.m_work.specs.declared.program.Program.{Program}
+use Rattle.m_work.proofs.Shown.{lines_told}
 
 -- ---- what holds of all holds of a part
 
@@ -52,15 +54,16 @@ pub answered_all : (flat : Flat) (face : Face) (rows : List Row) → answered_li
 answered_all flat face [] = refl
 answered_all flat face (row ∷ rows) = ap (λ rest. household_lines row.label face (row_answer flat row) ++ rest) (answered_all flat face rows)
 
--- rows by a program are rows by its scheme
-pub rows_told : (scheme : Scheme) (flat : Flat) (face : Face) (rows : List Row) → Shows scheme flat face → program_lines flat face rows ≡ rows_lines scheme rows
-rows_told scheme flat face [] shown = refl
-rows_told scheme flat face (row ∷ rows) shown =
-    ap (λ text. (joined (codes "household " ∷ row.label ∷ new_line ∷ []) ++ text) ++ program_lines flat face rows)
-    (lines_told scheme flat face (values_of row.household.pairs flat.inputs) shown
-    ∙ ap (λ inputs. told_lines scheme.names (scheme.tells (values_of row.household.pairs inputs))) shown.inputs)
-    ∙ ap (λ rest. (joined (codes "household " ∷ row.label ∷ new_line ∷ []) ++ told_lines scheme.names (scheme.tells (values_of row.household.pairs (length scheme.codes)))) ++ rest)
-    (rows_told scheme flat face rows shown)
+-- rows by a program are rows by its scheme, where they give the inputs values that it may be asked for
+pub rows_told : (scheme : Scheme) (program : Program) (rows : List Row) → Shows scheme program → program.tidy.inputs ≡ length scheme.inputs
+    → AllByRecursion (λ row. AreValuesOf scheme.inputs (values_of row.household.pairs (length scheme.inputs))) rows → program_lines program.tidy program.face rows ≡ rows_lines scheme rows
+rows_told scheme program [] shown many given = refl
+rows_told scheme program (row ∷ rows) shown many given =
+    ap (λ text. (joined (codes "household " ∷ row.label ∷ new_line ∷ []) ++ text) ++ program_lines program.tidy program.face rows)
+    (ap (λ n. answer_lines program.face (flat_run program.tidy (values_of row.household.pairs n))) many
+    ∙ lines_told scheme program (values_of row.household.pairs (length scheme.inputs)) shown given.0)
+    ∙ ap (λ rest. (joined (codes "household " ∷ row.label ∷ new_line ∷ []) ++ told_lines scheme.names (scheme.tells (values_of row.household.pairs (length scheme.inputs)))) ++ rest)
+    (rows_told scheme program rows shown many given.1)
 
 -- some rows and then others
 program_append : (flat : Flat) (face : Face) (one other : List Row) → program_lines flat face (one ++ other) ≡ program_lines flat face one ++ program_lines flat face other

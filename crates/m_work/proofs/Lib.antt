@@ -1,8 +1,8 @@
-pub mod Shows
+pub mod HeldLemmas
+pub mod Shown
 pub mod SessionLemmas
 pub mod GroupLemmas
 pub mod Printings
 pub mod LargeLimits
-pub mod Compileds
 pub mod Refusals
 pub mod Ways

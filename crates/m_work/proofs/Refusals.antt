@@ -8,17 +8,13 @@ use Rattle.m_compile.specs.Faults.{IsSourceFault}
 use Rattle.m_compile.specs.Lines.{source_line}
 use Rattle.m_compile.specs.declared.fault.SourceFault.{SourceFault}
 use Rattle.m_compile.specs.declared.fault.SourceFault.TheVariants as source
-use Rattle.m_compile.specs.Compiled.{IsCompiled}
-use Rattle.m_compile.specs.declared.compiling.Compiled.{Compiled}
 use Rattle.m_plan.specs.Printing.{Prints}
 use Rattle.m_plan.specs.Views.{OutputView}
 use Rattle.m_plan.specs.declared.status.Status.{Status}
 use Rattle.m_plan.specs.declared.status.Status.TheVariants.{Memory, Refused}
 use Rattle.m_work.specs.Households.{household_fault_line}
-use Rattle.m_work.specs.Schemes.{Scheme}
-use Rattle.m_work.specs.Sources.{IsScheme, Refuses, source_is_refused, households_are_refused}
+use Rattle.m_work.specs.Sources.{Refuses, source_is_refused}
 use Rattle.m_work.specs.inner.Refusals.{TellsLine}
-use Rattle.m_work.proofs.Compileds.{is_scheme, scheme_of}
 
 -- A line of this kind was printed, or there was no memory.
 abbrev pub TellsRefusal : (List ℕ → Type 0) → OutputView → OutputView → Status → Type 0
@@ -35,19 +31,13 @@ pub source_told : (s : Source) {Given : Type 0} (said : List (List ℕ) → Resu
     → (fault ≢ source.Memory → IsSourceFault s fault) → TellsLine (source_line s.texts fault) old new status → TellsRefusal (Refuses s said) old new status
 source_told s said fault old new status h told = told_by_line s said fault (source_line s.texts fault) old new status h refl told
 
--- a household or a table was refused
-household_told : (s : Source) (scheme : Scheme) {Given : Type 0} (said : List (List ℕ) → Result Given HouseholdFault) (fault : HouseholdFault) (old new : OutputView) (status : Status)
-    → IsScheme s scheme → (fault ≢ household.Memory → said scheme.codes ≡ Err fault) → TellsLine (household_fault_line fault) old new status → TellsRefusal (Refuses s said) old new status
-household_told s scheme said household.BadHeader old new status valid h told = inl (_, households_are_refused scheme household.BadHeader valid (h (λ m. cc m)) refl, told)
-household_told s scheme said household.TooManyRows old new status valid h told = inl (_, households_are_refused scheme household.TooManyRows valid (h (λ m. cc m)) refl, told)
-household_told s scheme said (household.BadRow line) old new status valid h told = inl (_, households_are_refused scheme (household.BadRow line) valid (h (λ m. cc m)) refl, told)
-household_told s scheme said (household.UnknownCode line) old new status valid h told = inl (_, households_are_refused scheme (household.UnknownCode line) valid (h (λ m. cc m)) refl, told)
-household_told s scheme said (household.BadAmount line) old new status valid h told = inl (_, households_are_refused scheme (household.BadAmount line) valid (h (λ m. cc m)) refl, told)
-household_told s scheme said (household.CodeTwice line) old new status valid h told = inl (_, households_are_refused scheme (household.CodeTwice line) valid (h (λ m. cc m)) refl, told)
-household_told s scheme said household.Memory old new status valid h told = inr told
-
--- a household or a table was refused by a compiled source
-pub compiled_told : (s : Source) (compiled : Compiled) (is : IsCompiled s compiled) {Given : Type 0} (said : List (List ℕ) → Result Given HouseholdFault) (fault : HouseholdFault) (old new : OutputView) (status : Status)
-    → (fault ≢ household.Memory → said compiled.codes ≡ Err fault) → TellsLine (household_fault_line fault) old new status → TellsRefusal (Refuses s said) old new status
-compiled_told s compiled is said fault old new status h told =
-    household_told s (scheme_of s compiled is) said fault old new status (is_scheme s compiled is) (λ m. subst (λ inputs. said inputs ≡ Err fault) is.codes (h m)) told
+-- a household or a table was refused, by codes
+pub household_refused : (fault : HouseholdFault) {IsFault : Type 0} (old new : OutputView) (status : Status) → (fault ≢ household.Memory → IsFault) → TellsLine (household_fault_line fault) old new status
+    → TellsRefusal (λ line. IsFault × (household_fault_line fault ≡ Some line)) old new status
+household_refused household.BadHeader old new status h told = inl (_, (h (λ m. cc m), refl), told)
+household_refused household.TooManyRows old new status h told = inl (_, (h (λ m. cc m), refl), told)
+household_refused (household.BadRow line) old new status h told = inl (_, (h (λ m. cc m), refl), told)
+household_refused (household.UnknownCode line) old new status h told = inl (_, (h (λ m. cc m), refl), told)
+household_refused (household.BadAmount line) old new status h told = inl (_, (h (λ m. cc m), refl), told)
+household_refused (household.CodeTwice line) old new status h told = inl (_, (h (λ m. cc m), refl), told)
+household_refused household.Memory old new status h told = inr told

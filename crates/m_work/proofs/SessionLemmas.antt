@@ -1,60 +1,76 @@
 -- A session of a program replies as its scheme says.
-use Rattle.std.proofs.Common.{◌≡◌, ℕ, List, [], ◌∷◌, ◌++◌, Result, Ok, Err, refl, ◌∙◌, ap}
+use Rattle.std.proofs.Common.{◌≡◌, ℕ, ℤ, length, List, [], ◌∷◌, ◌++◌, Option, None, Some, Result, Ok, Err, refl, sym, ◌∙◌, ap, subst}
 use Rattle.std.specs.Prelude.{codes}
-use Rattle.std.specs.Option.{option_map_or}
 use Rattle.m_fixed.specs.declared.amount.Value.{Value}
-use Rattle.flat_code.specs.Runs.{flat_run}
-use Rattle.observables.specs.declared.face.Face.{Face}
-use Rattle.flat_code.specs.declared.program.Flat.{Flat}
+use Rattle.m_fixed.specs.declared.amount.Value.TheVariants.{Num}
+use Rattle.m_fixed.specs.declared.read.AmountFault.{AmountFault}
+use Rattle.m_fixed.specs.Text.{text_value, amount_read}
+use Rattle.m_names.specs.Names.{index_of}
+use Rattle.observables.specs.declared.inputs.Coded.{Coded}
+use Rattle.observables.specs.Inputs.{AreAny, AreValuesOf}
+use Rattle.observables.proofs.InputLemmas.{read_amount, set-value}
 use Rattle.household_session.specs.Commands.{SessionCommand, no_words, sets, clears, shows, too_long, bad, session_command}
-use Rattle.household_session.specs.Replies.{after_command, answer_reply, command_reply, replies_to}
-use Rattle.household_session.specs.Sessions.{Sitting, answered, clear_of, edited, line, set_of}
-use Rattle.household_session.specs.declared.fault.EditFault.{EditFault}
-use Rattle.tax_print.specs.Lines.{answer_lines, told_lines}
-use Rattle.m_work.specs.Schemes.{Scheme}
-use Rattle.m_work.specs.Sessions.{command_replied, command_values, lines_replied, values_edited}
-use Rattle.m_work.proofs.Shows.{Shows}
+use Rattle.household_session.specs.Replies.{answer_reply, command_reply, command_values, lines_replies}
+use Rattle.household_session.specs.Sessions.{Showing, answered, clear_of, clear_said, line, set_of, set_said, shown, values_edited}
 
--- the lines of the program's answer
-pub lines_told : (scheme : Scheme) (flat : Flat) (face : Face) (values : List Value) → Shows scheme flat face
-    → answer_lines face (flat_run flat values) ≡ told_lines scheme.names (scheme.tells values)
-lines_told scheme flat face values shown =
-    ap (λ told. option_map_or (told_lines face.outputs) told []) (shown.answers values) ∙ ap (λ names. told_lines names (scheme.tells values)) shown.names
+-- ---- the values stay such that a program may be asked for them
 
-abbrev pub sitting_of : Flat → Face → List Value → Sitting
-sitting_of flat face values = record { flat = flat; face = face; values = values }
+set_keeps : (inputs : List Coded) (values : List Value) (found : Option ℕ) (said : Option ℤ) → AreAny inputs → AreValuesOf inputs values
+    → AreValuesOf inputs (values_edited values (set_said found (amount_read said)))
+set_keeps inputs values found said any all = by found (amount_read said) refl
+  where
+    by : (number : Option ℕ) (read : Result ℤ AmountFault) → amount_read said ≡ read → AreValuesOf inputs (values_edited values (set_said number read))
+    by None read is = all
+    by (Some input) (Err why) is = all
+    by (Some input) (Ok z) is = set-value inputs values input (Num z) any all (read_amount said z is, refl)
 
-edited_is : (flat : Flat) (face : Face) (values : List Value) (edit : Result (ℕ × Value) EditFault)
-    → edited (sitting_of flat face values) edit ≡ sitting_of flat face (values_edited values edit)
-edited_is flat face values (Ok edit) = refl
-edited_is flat face values (Err fault) = refl
+clear_keeps : (inputs : List Coded) (values : List Value) (found : Option ℕ) → AreAny inputs → AreValuesOf inputs values → AreValuesOf inputs (values_edited values (clear_said found))
+clear_keeps inputs values None any all = all
+clear_keeps inputs values (Some input) any all = set-value inputs values input _ any all tt
 
-reply_is : (scheme : Scheme) (flat : Flat) (face : Face) (values : List Value) (command : SessionCommand) → Shows scheme flat face
-    → command_reply (sitting_of flat face values) command ≡ command_replied scheme values command
-reply_is scheme flat face values no_words shown = refl
-reply_is scheme flat face values (sets code amount) shown = ap (λ inputs. answer_reply (answered (set_of inputs code amount))) shown.codes
-reply_is scheme flat face values (clears code) shown = ap (λ inputs. answer_reply (answered (clear_of inputs code))) shown.codes
-reply_is scheme flat face values shows shown = ap (λ text. text ++ line (codes ".")) (lines_told scheme flat face values shown)
-reply_is scheme flat face values too_long shown = refl
-reply_is scheme flat face values bad shown = refl
+command_keeps : (inputs : List Coded) (showing : Showing) (values : List Value) (command : SessionCommand) → AreAny inputs → AreValuesOf inputs values
+    → AreValuesOf inputs (command_values showing values command)
+command_keeps inputs showing values no_words any all = all
+command_keeps inputs showing values (sets code amount) any all = set_keeps inputs values (index_of code showing.codes) (text_value amount) any all
+command_keeps inputs showing values (clears code) any all = clear_keeps inputs values (index_of code showing.codes) any all
+command_keeps inputs showing values shows any all = all
+command_keeps inputs showing values too_long any all = all
+command_keeps inputs showing values bad any all = all
 
-after_is : (scheme : Scheme) (flat : Flat) (face : Face) (values : List Value) (command : SessionCommand) → Shows scheme flat face
-    → after_command (sitting_of flat face values) command ≡ sitting_of flat face (command_values scheme values command)
-after_is scheme flat face values no_words shown = refl
-after_is scheme flat face values (sets code amount) shown =
-    edited_is flat face values (set_of face.inputs code amount) ∙ ap (λ inputs. sitting_of flat face (values_edited values (set_of inputs code amount))) shown.codes
-after_is scheme flat face values (clears code) shown =
-    edited_is flat face values (clear_of face.inputs code) ∙ ap (λ inputs. sitting_of flat face (values_edited values (clear_of inputs code))) shown.codes
-after_is scheme flat face values shows shown = refl
-after_is scheme flat face values too_long shown = refl
-after_is scheme flat face values bad shown = refl
+-- ---- two sessions with the same codes, whose texts are the same for such values
+
+abbrev with_text : List (List ℕ) → (List Value → List ℕ) → Showing
+with_text known text = record { codes = known; text = text }
+
+same_reply : (known : List (List ℕ)) (one other : List Value → List ℕ) (values : List Value) (command : SessionCommand) → one values ≡ other values
+    → command_reply (with_text known one) values command ≡ command_reply (with_text known other) values command
+same_reply known one other values no_words same = refl
+same_reply known one other values (sets code amount) same = refl
+same_reply known one other values (clears code) same = refl
+same_reply known one other values shows same = ap (λ text. text ++ line (codes ".")) same
+same_reply known one other values too_long same = refl
+same_reply known one other values bad same = refl
+
+same_values : (known : List (List ℕ)) (one other : List Value → List ℕ) (values : List Value) (command : SessionCommand)
+    → command_values (with_text known one) values command ≡ command_values (with_text known other) values command
+same_values known one other values no_words = refl
+same_values known one other values (sets code amount) = refl
+same_values known one other values (clears code) = refl
+same_values known one other values shows = refl
+same_values known one other values too_long = refl
+same_values known one other values bad = refl
+
+same_lines : (inputs : List Coded) (known : List (List ℕ)) (one other : List Value → List ℕ) → AreAny inputs → ((values : List Value) → AreValuesOf inputs values → one values ≡ other values)
+    → (lines : List (List ℕ)) (values : List Value) → AreValuesOf inputs values → lines_replies (with_text known one) values lines ≡ lines_replies (with_text known other) values lines
+same_lines inputs known one other any same [] values all = refl
+same_lines inputs known one other any same (first ∷ lines) values all =
+    ap (λ reply. reply ++ lines_replies (with_text known one) (command_values (with_text known one) values (session_command first)) lines) (same_reply known one other values (session_command first) (same values all))
+    ∙ ap (λ rest. command_reply (with_text known other) values (session_command first) ++ rest)
+    (same_lines inputs known one other any same lines (command_values (with_text known one) values (session_command first)) (command_keeps inputs (with_text known one) values (session_command first) any all)
+    ∙ ap (λ vs. lines_replies (with_text known other) vs lines) (same_values known one other values (session_command first)))
 
 -- the replies to lines
-pub replies_are : (scheme : Scheme) (flat : Flat) (face : Face) (lines : List (List ℕ)) (values : List Value) → Shows scheme flat face
-    → replies_to (sitting_of flat face values) lines ≡ lines_replied scheme values lines
-replies_are scheme flat face [] values shown = refl
-replies_are scheme flat face (first ∷ lines) values shown =
-    ap (λ reply. reply ++ replies_to (after_command (sitting_of flat face values) (session_command first)) lines) (reply_is scheme flat face values (session_command first) shown)
-    ∙ ap (λ sitting. command_replied scheme values (session_command first) ++ replies_to sitting lines) (after_is scheme flat face values (session_command first) shown)
-    ∙ ap (λ rest. command_replied scheme values (session_command first) ++ rest)
-    (replies_are scheme flat face lines (command_values scheme values (session_command first)) shown)
+pub replies_are : (inputs : List Coded) (one other : Showing) → AreAny inputs → one.codes ≡ other.codes → ((values : List Value) → AreValuesOf inputs values → one.text values ≡ other.text values)
+    → (lines : List (List ℕ)) (values : List Value) → AreValuesOf inputs values → lines_replies one values lines ≡ lines_replies other values lines
+replies_are inputs one other any known same lines values all =
+    ap (λ codes. lines_replies (with_text codes one.text) values lines) known ∙ same_lines inputs other.codes one.text other.text any same lines values all

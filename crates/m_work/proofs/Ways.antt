@@ -1,17 +1,22 @@
 -- From what was told and written to how a command ended.
-use Rattle.std.proofs.Common.{◌≡◌, ℕ, length, List, ◌++◌, Result, Ok, Err, refl, ◌∙◌, ap, subst, inl, inr}
-use Rattle.std.specs.Prelude.{Option}
+use Rattle.std.proofs.Common.{◌≡◌, ℕ, ℤ, length, List, [], ◌∷◌, ◌++◌, Result, Ok, Err, refl, sym, ◌∙◌, ap, subst, inl, inr}
+use Rattle.std.specs.Prelude.{Option, Some, map}
 use Rattle.rule_text.specs.declared.Source.{Source}
 use Rattle.fault_lines.specs.Lines.{input_too_long_line, unreadable_input_line}
 use Rattle.observables.specs.Answers.{Told, values, stopped}
+use Rattle.observables.specs.Inputs.{AreAny, AreValuesOf, codes_of}
+use Rattle.observables.specs.Outputs.{notes_of}
+use Rattle.m_symbols.specs.Declarations as declarations
 use Rattle.observables.specs.declared.answer.Answer.{Answer}
 use Rattle.household.specs.Household.{household_of, values_of}
 use Rattle.household.specs.Table.{table_of}
+use Rattle.household.specs.declared.fault.HouseholdFault.{HouseholdFault}
+use Rattle.household.proofs.GivenLemmas.{household_gives}
 use Rattle.household_session.specs.Replies.{ended_lines, input_lines, replies_of, replies_to}
-use Rattle.household_session.specs.Sessions.{Sitting}
+use Rattle.household_session.specs.Sessions.{Sitting, begun, showing_of}
 use Rattle.m_large.specs.Large.{household_text}
 use Rattle.tax_print.specs.Lines.{answer_lines, told_lines}
-use Rattle.m_compile.specs.Compiled.{IsCompiled}
+use Rattle.m_compile.specs.Compiled.{IsCompiled, IsRunnable, input_said, inputs_said}
 use Rattle.m_compile.specs.declared.compiling.Compiled.{Compiled}
 use Rattle.m_plan.specs.Printing.{Appends, Breaks, IsAnswered, Prints, printed, no_memory}
 use Rattle.m_plan.specs.Status.{IsOfEnd}
@@ -20,29 +25,64 @@ use Rattle.m_plan.specs.declared.status.Status.{Status}
 use Rattle.m_plan.specs.declared.status.Status.TheVariants.{Done, ReadFault, Refused}
 use Rattle.m_work.specs.Batches.{BatchReplies, IsWrittenInParts, broke_off}
 use Rattle.m_work.specs.Batches as batch
-use Rattle.m_work.specs.Households.{answer_status, told_status}
+use Rattle.m_work.specs.Households.{answer_status, household_fault_line, told_status}
 use Rattle.m_work.specs.LargeAnswers.{LargeReplies}
 use Rattle.m_work.specs.LargeAnswers as large
 use Rattle.m_work.specs.Larges.{large_line, large_source}
+use Rattle.m_work.specs.Prepared.{HouseholdReplies, IsPrepared, IsServedBy, Shows, TableReplies}
+use Rattle.m_work.specs.Prepared as prepared
 use Rattle.m_work.specs.Runs.{RunReplies}
 use Rattle.m_work.specs.Runs as run
-use Rattle.m_work.specs.Schemes.{told_to}
+use Rattle.m_work.specs.Schemes.{Scheme, scheme_codes, told_to}
 use Rattle.m_work.specs.Serves.{IsServed}
 use Rattle.m_work.specs.Serves as serve
 use Rattle.m_work.specs.Serving.{Served, to_its_end, unread, too_long, unwritten}
-use Rattle.m_work.specs.Sessions.{ended_replies, lines_replied, session_replies}
-use Rattle.m_work.specs.Sources.{Refuses}
-use Rattle.m_work.specs.inner.Answers.{IsAnswerOf, IsBegun}
-use Rattle.m_work.specs.inner.Groups.{WritesGroups, group_status}
+use Rattle.m_work.specs.Sessions.{ended_replies, replies_by, scheme_showing, session_replies}
+use Rattle.m_work.specs.Sources.{IsScheme, Refuses, households_are_refused, scheme_said}
 use Rattle.m_work.specs.declared.groups.GroupFault.{GroupFault}
 use Rattle.m_work.specs.declared.groups.GroupFault.TheVariants as group
-use Rattle.m_work.proofs.Compileds.{scheme_of, is_scheme, shows_scheme, answer_told, answer_ends}
+use Rattle.m_work.specs.declared.program.Program.{Program}
+use Rattle.m_work.specs.inner.Answers.{IsAnswerOf, IsBegun}
+use Rattle.m_work.specs.inner.Groups.{WritesGroups, group_status}
 use Rattle.m_work.proofs.Refusals.{TellsRefusal}
 use Rattle.m_work.proofs.SessionLemmas.{replies_are}
+use Rattle.m_work.proofs.Shown.{as_many, given_by, household_told, lines_told, status_told, told_answer}
 
 of_end : (told : Told) → IsOfEnd (told_status told)
-of_end (values vs) = tt
+of_end (values notes vs) = tt
 of_end (stopped cause) = tt
+
+-- an answer by one way to reply is an answer by another that replies the same
+answered_as : (One Other : List ℕ → Status → Type 0) (old new : OutputView) (status : Status) → ((text : List ℕ) (own : Status) → One text own → Other text own)
+    → IsAnswered One old new status → IsAnswered Other old new status
+answered_as One Other old new status as (printed text own replied end shown) = printed text own (as text own replied) end shown
+answered_as One Other old new status as (no_memory same memory) = no_memory same memory
+
+parts_as : (One Other : List ℕ → Status → Type 0) (old new : OutputView) (status : Status) → ((text : List ℕ) (own : Status) → One text own → Other text own)
+    → IsWrittenInParts One old new status → IsWrittenInParts Other old new status
+parts_as One Other old new status as (batch.printed text own replied end shown) = batch.printed text own (as text own replied) end shown
+parts_as One Other old new status as (batch.no_memory same memory) = batch.no_memory same memory
+parts_as One Other old new status as (broke_off text own replied prefix none memory) = broke_off text own (as text own replied) prefix none memory
+
+-- ---- households
+
+-- the household of these bytes was refused, by a program's codes
+pub rows_refused : (front : List ℕ) (scheme : Scheme) (program : Program) (rows : List ℕ) (fault : HouseholdFault) (old new : OutputView) (status : Status) → Shows scheme program
+    → TellsRefusal (λ line. (household_of (codes_of program.face.inputs) rows ≡ Err fault) × (household_fault_line fault ≡ Some line)) old new status
+    → IsAnswered (HouseholdReplies front scheme rows) old new status
+rows_refused front scheme program rows fault old new status shown (inl (line, refused, p)) =
+    printed line Refused (prepared.is_refused fault (subst (λ codes. household_of codes rows ≡ Err fault) shown.codes refused.0) refused.1) tt p
+rows_refused front scheme program rows fault old new status shown (inr (same, memory)) = no_memory same memory
+
+pub rows_printed : (front : List ℕ) (scheme : Scheme) (program : Program) (rows : List ℕ) (answer : Answer) (old new : OutputView) (status : Status)
+    → IsRunnable program.face program.tidy → Shows scheme program → (of : IsAnswerOf program rows answer)
+    → Prints (front ++ answer_lines program.face answer) (answer_status answer) old new status → IsAnswered (HouseholdReplies front scheme rows) old new status
+rows_printed front scheme program rows answer old new status runs shown of p =
+    let told = told_to scheme of.pairs in
+    let is = household_told scheme program rows answer runs shown of in
+    printed (front ++ told_lines scheme.names told) (told_status told) (prepared.is_told of.pairs (given_by scheme program rows answer shown of)) (of_end told)
+    (subst (λ own. Prints (front ++ told_lines scheme.names told) own old new status) (status_told program.face.labels (notes_of program.face.outputs) answer told is)
+    (subst (λ text. Prints (front ++ text) (answer_status answer) old new status) (told_answer scheme program answer told shown is) p))
 
 -- ---- runs
 
@@ -51,14 +91,13 @@ pub run_refused : (source : Source) (rows : List ℕ) (old new : OutputView) (st
 run_refused source rows old new status (inl (line, refused, shown)) = printed line Refused (run.is_refused refused) tt shown
 run_refused source rows old new status (inr (same, memory)) = no_memory same memory
 
-pub run_printed : (source : Source) (compiled : Compiled) (rows : List ℕ) (answer : Answer) (is : IsCompiled source compiled) (of : IsAnswerOf compiled rows answer)
-    (old new : OutputView) (status : Status) → Prints (answer_lines compiled.face answer) (answer_status answer) old new status → IsAnswered (RunReplies source rows) old new status
-run_printed source compiled rows answer is of old new status shown =
-    let scheme = scheme_of source compiled is in
-    let told = told_to (scheme_of source compiled is) of.pairs in
-    printed (told_lines scheme.names told) (told_status told) (run.is_told scheme of.pairs (is_scheme source compiled is) (subst (λ inputs. household_of inputs rows ≡ Ok of.pairs) is.codes of.given)) (of_end told)
-    (subst (λ own. Prints (told_lines scheme.names told) own old new status) (answer_ends source compiled rows answer is of)
-    (subst (λ text. Prints text (answer_status answer) old new status) (answer_told source compiled rows answer is of) shown))
+run_as : (source : Source) (scheme : Scheme) (rows : List ℕ) → IsScheme source scheme → (text : List ℕ) (own : Status) → HouseholdReplies [] scheme rows text own → RunReplies source rows text own
+run_as source scheme rows valid text own (prepared.is_refused fault faulty line) = run.is_refused (households_are_refused scheme fault valid faulty line)
+run_as source scheme rows valid text own (prepared.is_told pairs given) = run.is_told scheme pairs valid given
+
+pub run_answered : (source : Source) (program : Program) (rows : List ℕ) (old new : OutputView) (status : Status) → (is : IsPrepared source program)
+    → IsAnswered (HouseholdReplies [] is.scheme rows) old new status → IsAnswered (RunReplies source rows) old new status
+run_answered source program rows old new status is a = answered_as (HouseholdReplies [] is.scheme rows) (RunReplies source rows) old new status (run_as source is.scheme rows is.valid) a
 
 -- ---- `large N`
 
@@ -67,14 +106,13 @@ pub large_refused : (n : ℕ) (old new : OutputView) (status : Status) → Tells
 large_refused n old new status (inl (line, refused, shown)) = printed line Refused (large.is_refused refused) tt shown
 large_refused n old new status (inr (same, memory)) = no_memory same memory
 
-pub large_printed : (n : ℕ) (compiled : Compiled) (answer : Answer) (is : IsCompiled (large_source n) compiled) (of : IsAnswerOf compiled (household_text n) answer)
-    (old new : OutputView) (status : Status) → Prints (large_line n ++ answer_lines compiled.face answer) (answer_status answer) old new status → IsAnswered (LargeReplies n) old new status
-large_printed n compiled answer is of old new status shown =
-    let scheme = scheme_of (large_source n) compiled is in
-    let told = told_to (scheme_of (large_source n) compiled is) of.pairs in
-    printed (large_line n ++ told_lines scheme.names told) (told_status told) (large.is_told scheme of.pairs (is_scheme (large_source n) compiled is) (subst (λ inputs. household_of inputs (household_text n) ≡ Ok of.pairs) is.codes of.given)) (of_end told)
-    (subst (λ own. Prints (large_line n ++ told_lines scheme.names told) own old new status) (answer_ends (large_source n) compiled (household_text n) answer is of)
-    (subst (λ text. Prints (large_line n ++ text) (answer_status answer) old new status) (answer_told (large_source n) compiled (household_text n) answer is of) shown))
+large_as : (n : ℕ) (scheme : Scheme) → IsScheme (large_source n) scheme → (text : List ℕ) (own : Status) → HouseholdReplies (large_line n) scheme (household_text n) text own → LargeReplies n text own
+large_as n scheme valid text own (prepared.is_refused fault faulty line) = large.is_refused (households_are_refused scheme fault valid faulty line)
+large_as n scheme valid text own (prepared.is_told pairs given) = large.is_told scheme pairs valid given
+
+pub large_answered : (n : ℕ) (program : Program) (old new : OutputView) (status : Status) → (is : IsPrepared (large_source n) program)
+    → IsAnswered (HouseholdReplies (large_line n) is.scheme (household_text n)) old new status → IsAnswered (LargeReplies n) old new status
+large_answered n program old new status is a = answered_as (HouseholdReplies (large_line n) is.scheme (household_text n)) (LargeReplies n) old new status (large_as n is.scheme is.valid) a
 
 -- ---- batches
 
@@ -82,6 +120,21 @@ pub batch_refused : (source : Source) (table : List ℕ) (old new : OutputView) 
     → IsWrittenInParts (BatchReplies source table) old new status
 batch_refused source table old new status (inl (line, refused, shown)) = batch.printed line Refused (batch.is_refused refused) tt shown
 batch_refused source table old new status (inr (same, memory)) = batch.no_memory same memory
+
+pub table_refused : (scheme : Scheme) (program : Program) (table : List ℕ) (fault : HouseholdFault) (old new : OutputView) (status : Status) → Shows scheme program
+    → TellsRefusal (λ line. (table_of (codes_of program.face.inputs) table ≡ Err fault) × (household_fault_line fault ≡ Some line)) old new status
+    → IsWrittenInParts (TableReplies scheme table) old new status
+table_refused scheme program table fault old new status shown (inl (line, refused, p)) =
+    batch.printed line Refused (prepared.table_is_refused fault (subst (λ codes. table_of codes table ≡ Err fault) shown.codes refused.0) refused.1) tt p
+table_refused scheme program table fault old new status shown (inr (same, memory)) = batch.no_memory same memory
+
+table_as : (source : Source) (scheme : Scheme) (table : List ℕ) → IsScheme source scheme → (text : List ℕ) (own : Status) → TableReplies scheme table text own → BatchReplies source table text own
+table_as source scheme table valid text own (prepared.table_is_refused fault faulty line) = batch.is_refused (households_are_refused scheme fault valid faulty line)
+table_as source scheme table valid text own (prepared.rows_are_told rows given) = batch.is_told scheme rows valid given
+
+pub batch_answered : (source : Source) (program : Program) (table : List ℕ) (old new : OutputView) (status : Status) → (is : IsPrepared source program)
+    → IsWrittenInParts (TableReplies is.scheme table) old new status → IsWrittenInParts (BatchReplies source table) old new status
+batch_answered source program table old new status is a = parts_as (TableReplies is.scheme table) (BatchReplies source table) old new status (table_as source is.scheme table is.valid) a
 
 pub batch_written : {S T : Type 0} (written : S → Option (List ℕ)) (faults : S → ℕ) (old new : S) (result : Result T GroupFault) (text : List ℕ) (Replies : List ℕ → Status → Type 0) (status : Status)
     → Replies text Done → status ≡ group_status result → WritesGroups written faults old new result text
@@ -97,6 +150,19 @@ pub serve_refused : (source : Source) (rows : List ℕ) (heard : InputView) (old
 serve_refused source rows heard old new status (inl (line, refused, shown)) = serve.refused line refused refl shown
 serve_refused source rows heard old new status (inr (same, memory)) = serve.no_memory refl same memory
 
+pub session_refused : (scheme : Scheme) (program : Program) (rows : List ℕ) (fault : HouseholdFault) (heard : InputView) (old new : OutputView) (status : Status) → Shows scheme program
+    → TellsRefusal (λ line. (household_of (codes_of program.face.inputs) rows ≡ Err fault) × (household_fault_line fault ≡ Some line)) old new status
+    → IsServedBy scheme rows heard heard old new status
+session_refused scheme program rows fault heard old new status shown (inl (line, refused, p)) =
+    prepared.refused line fault (subst (λ codes. household_of codes rows ≡ Err fault) shown.codes refused.0) refused.1 refl p
+session_refused scheme program rows fault heard old new status shown (inr (same, memory)) = prepared.no_memory refl same memory
+
+pub serve_answered : (source : Source) (program : Program) (rows : List ℕ) (heard told : InputView) (old new : OutputView) (status : Status) → (is : IsPrepared source program)
+    → IsServedBy is.scheme rows heard told old new status → IsServed source rows heard told old new status
+serve_answered source program rows heard told old new status is (prepared.refused line fault faulty said same p) = serve.refused line (households_are_refused is.scheme fault is.valid faulty said) same p
+serve_answered source program rows heard told old new status is (prepared.no_memory same none memory) = serve.no_memory same none memory
+serve_answered source program rows heard told old new status is (prepared.served pairs given s) = serve.served is.scheme pairs (record { valid = is.valid; given = given }) s
+
 -- the same replies
 served_as : (one ended other also : List ℕ → List ℕ) (heard told : InputView) (old new : OutputView) (status : Status) → ((bytes : List ℕ) → one bytes ≡ other bytes) → ((bytes : List ℕ) → ended bytes ≡ also bytes)
     → Served one ended heard told old new status → Served other also heard told old new status
@@ -109,17 +175,38 @@ served_as one ended other also heard told old new status w e (too_long taken mov
 served_as one ended other also heard told old new status w e (unwritten taken rest moved left calm breaks is) =
     unwritten taken rest moved left calm (subst (λ text. Breaks text old new) (w (taken ++ rest)) breaks) is
 
-same_replies : (source : Source) (compiled : Compiled) (rows : List ℕ) (session : Sitting) (is : IsCompiled source compiled) (of : IsBegun compiled rows session) (lines : List (List ℕ))
-    → replies_to session lines ≡ lines_replied (scheme_of source compiled is) (values_of of.pairs (length (scheme_of source compiled is).codes)) lines
-same_replies source compiled rows session is of lines =
+same_replies : (scheme : Scheme) (program : Program) (rows : List ℕ) (session : Sitting) → IsRunnable program.face program.tidy → Shows scheme program → (of : IsBegun program rows session)
+    → household_of (scheme_codes scheme) rows ≡ Ok of.pairs → (lines : List (List ℕ)) → replies_to session lines ≡ replies_by scheme of.pairs lines
+same_replies scheme program rows session runs shown of given lines =
     ap (λ sitting. replies_to sitting lines) of.begins
-    ∙ replies_are (scheme_of source compiled is) compiled.flat compiled.face lines (values_of of.pairs compiled.flat.inputs) (shows_scheme source compiled is)
-    ∙ ap (λ inputs. lines_replied (scheme_of source compiled is) (values_of of.pairs inputs) lines) (is.runnable.inputs ∙ ap length is.codes)
+    ∙ ap (λ n. replies_to (record { flat = program.tidy; face = program.face; values = values_of of.pairs n }) lines) (as_many scheme program runs shown)
+    ∙ replies_are scheme.inputs (showing_of (begun program.tidy program.face of.pairs)) (scheme_showing scheme) shown.any shown.codes (λ vs all. lines_told scheme program vs shown all)
+    lines (values_of of.pairs (length scheme.inputs)) (household_gives scheme.inputs rows of.pairs shown.any given)
 
-pub session_served : (source : Source) (compiled : Compiled) (rows : List ℕ) (session : Sitting) (is : IsCompiled source compiled) (of : IsBegun compiled rows session)
-    (heard told : InputView) (old new : OutputView) (status : Status)
-    → Served (replies_of session) (λ taken. replies_to session (ended_lines taken)) heard told old new status → IsServed source rows heard told old new status
-session_served source compiled rows session is of heard told old new status done =
-    serve.served (scheme_of source compiled is) of.pairs (record { valid = is_scheme source compiled is; given = subst (λ inputs. household_of inputs rows ≡ Ok of.pairs) is.codes of.given })
-    (served_as (replies_of session) (λ taken. replies_to session (ended_lines taken)) (session_replies (scheme_of source compiled is) of.pairs) (ended_replies (scheme_of source compiled is) of.pairs)
-    heard told old new status (λ bytes. same_replies source compiled rows session is of (input_lines bytes)) (λ bytes. same_replies source compiled rows session is of (ended_lines bytes)) done)
+pub session_served : (scheme : Scheme) (program : Program) (rows : List ℕ) (session : Sitting) → IsRunnable program.face program.tidy → Shows scheme program → (of : IsBegun program rows session)
+    → (heard told : InputView) (old new : OutputView) (status : Status)
+    → Served (replies_of session) (λ taken. replies_to session (ended_lines taken)) heard told old new status → IsServedBy scheme rows heard told old new status
+session_served scheme program rows session runs shown of heard told old new status done =
+    let given : household_of (scheme_codes scheme) rows ≡ Ok of.pairs = subst (λ codes. household_of codes rows ≡ Ok of.pairs) shown.codes of.given in
+    prepared.served of.pairs given
+    (served_as (replies_of session) (λ taken. replies_to session (ended_lines taken)) (session_replies scheme of.pairs) (ended_replies scheme of.pairs)
+    heard told old new status (λ bytes. same_replies scheme program rows session runs shown of given (input_lines bytes)) (λ bytes. same_replies scheme program rows session runs shown of given (ended_lines bytes)) done)
+
+-- ---- preparing
+
+any_said : (codes : List (List ℕ)) → AreAny (map input_said codes)
+any_said [] = tt
+any_said (code ∷ codes) = (refl, any_said codes)
+
+-- what a source is compiled to is prepared
+pub is_prepared : (source : Source) (compiled : Compiled) → IsCompiled source compiled → IsPrepared source (record { face = compiled.face; tidy = compiled.tidy })
+is_prepared source compiled is = record {
+  scheme = scheme_said is.declared is.base is.written is.requests;
+  valid = record { declared = is.declared; base = is.base; written = is.written; requests = is.requests; valid = is.valid; said = refl };
+  shows = record {
+    codes = ap codes_of is.inputs;
+    any = any_said (declarations.codes_of is.declared.variables);
+    names = is.names;
+    answers = λ vs all. is.answers vs (subst (λ inputs. AreValuesOf inputs vs) (sym is.inputs) all);
+  };
+}

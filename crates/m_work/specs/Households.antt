@@ -22,7 +22,7 @@ household_fault_line Memory = None
 
 -- the status of what is told: the values, or what stopped the run
 abbrev pub told_status : Told → Status
-told_status (values vs) = Done
+told_status (values notes vs) = Done
 told_status (stopped cause) = Stopped
 
 -- the status of an answer of a program

@@ -9,4 +9,5 @@ pub mod Serving
 pub mod Serves
 pub mod Larges
 pub mod LargeAnswers
+pub mod Prepared
 pub mod inner

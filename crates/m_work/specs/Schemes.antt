@@ -1,15 +1,21 @@
 -- What a valid source is to households.
 use Rattle.std.specs.Prelude.{ℕ, ℤ, List, length}
 use Rattle.m_fixed.specs.declared.amount.Value.{Value}
+use Rattle.observables.specs.declared.inputs.Coded.{Coded}
 use Rattle.observables.specs.Answers.{Told}
+use Rattle.observables.specs.Inputs.{codes_of}
 use Rattle.household.specs.Household.{values_of}
 
--- The codes of the inputs, the names of what is asked for, and what is told to values of the inputs.
+-- The inputs, the names of what is asked for, and what is told to values of the inputs.
 pub record Scheme : Type 0 where
-  pub codes : List (List ℕ)
+  pub inputs : List Coded
   pub names : List (List ℕ)
   pub tells : List Value → Told
 
+-- the codes of the inputs
+abbrev pub scheme_codes : Scheme → List (List ℕ)
+scheme_codes scheme = codes_of scheme.inputs
+
 -- what is told to the amounts of a household
 abbrev pub told_to : Scheme → List (ℕ × ℤ) → Told
-told_to scheme pairs = scheme.tells (values_of pairs (length scheme.codes))
+told_to scheme pairs = scheme.tells (values_of pairs (length scheme.inputs))

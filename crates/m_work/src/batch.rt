@@ -1,25 +1,35 @@
-//! A batch: a source is compiled, and its answers to the rows of a table are printed, in groups.
-ghost use Rattle.std.specs.Prelude.{◌≡◌};
+//! A batch: a program's answers to the rows of a table are printed, in groups.
+ghost use Rattle.std.specs.Prelude.{◌≡◌, IfOk, Ok, Err, length};
+ghost use Rattle.std.specs.List.{AllByRecursion};
+ghost use Rattle.m_places.specs.Refusals.{Outcome};
 ghost use Rattle.rule_text.specs.Limits.{SourceKeepsLimits};
-ghost use Rattle.rule_text.specs.declared.Source.{Source};
-ghost use Rattle.m_compile.specs.Compiled.{IsCompiled, IsRunnable};
+ghost use Rattle.household.specs.Household.{AreInputs};
+ghost use Rattle.household.specs.Table.{table_of};
+ghost use Rattle.household.specs.declared.fault.HouseholdFault.TheVariants.{Memory as NoMemory};
+ghost use Rattle.observables.specs.Inputs.{codes_of};
+ghost use Rattle.m_compile.specs.Compiled.{IsRunnable};
 ghost use Rattle.m_plan.specs.Views.{output_view};
 ghost use Rattle.m_work.specs.Batches.{BatchReplies, IsWrittenInParts};
+ghost use Rattle.m_work.specs.Prepared.{Shows, TableReplies};
+ghost use Rattle.m_work.specs.Schemes.{Scheme};
 ghost use Rattle.m_work.specs.inner.Groups.{group_status};
 
 use crate::groups::{GroupFault, print_rows};
+use crate::program::{Program, prepare};
 use crate::told::{tell_refusal, told_household};
-use household::read_table;
-use m_compile::{Compiled, compile, told_fault};
+use household::{Codes, HouseholdFault, Row, read_table};
+use m_compile::told_fault;
+use m_places::Seq;
 use m_plan::Status;
 use m_ports::Sink;
 use rule_text::Source;
 use std::alloc::Global;
 use std::thread::Threads;
 
-/// Compiles a source, and prints the label of each row of the table of these bytes with its answer, or the line by which one of
-/// them is refused. The rows are computed and written in groups, so that a front of the answer is written where memory ends it.
-pub fn answer_batch<R: Threads + Sync, K: Sink>(
+/// Prepares the program of a source, and prints the label of each row of the table of these bytes with its answer, or the line by
+/// which one of them is refused. The rows are computed and written in groups, so that a front of the answer is written where memory
+/// ends it.
+pub fn batch_source<R: Threads + Sync, K: Sink>(
     rt: &R,
     alloc: Global,
     source: &Source,
@@ -29,35 +39,46 @@ pub fn answer_batch<R: Threads + Sync, K: Sink>(
     requires { SourceKeepsLimits source.now }
     ensures { IsWrittenInParts (BatchReplies source.now table.now) (output_view K.written K.faults out.old) (output_view K.written K.faults out.new) result }
 {
-    match compile(alloc, source) {
-        Ok(compiled) => print_table(rt, alloc, &compiled, table, out),
+    match prepare(alloc, source) {
+        Ok(program) => answer_batch(rt, alloc, &program, table, out),
         Err(fault) => tell_refusal(out, told_fault(source.texts.as_slice(), &fault)),
     }
 }
 
-// Prints what a compiled source answers to a table.
-fn print_table<R: Threads + Sync, K: Sink>(
+/// Prints what a program answers to the rows of the table of these bytes, or the line by which that is refused.
+pub fn answer_batch<R: Threads + Sync, K: Sink>(
     rt: &R,
     alloc: Global,
-    compiled: &Compiled,
+    program: &Program,
     table: &[u8],
     out: &mut K,
 ) -> Status
-    requires { IsRunnable compiled.now }
-    ensures { (source : Source) → IsCompiled source compiled.now
-        → IsWrittenInParts (BatchReplies source table.now) (output_view K.written K.faults out.old) (output_view K.written K.faults out.new) result }
+    requires { IsRunnable program.now.face program.now.tidy }
+    ensures { (scheme : Scheme) → Shows scheme program.now
+        → IsWrittenInParts (TableReplies scheme table.now) (output_view K.written K.faults out.old) (output_view K.written K.faults out.new) result }
 {
-    match read_table(alloc, table, &compiled.codes) {
+    let flat = program.tidy.flat();
+    match rows_of(alloc, program, table) {
         Ok(rows) => status_of_rows(print_rows(
             rt,
             alloc,
-            &compiled.flat,
-            &compiled.face,
+            flat,
+            &program.face,
             rows.as_slice(),
             out,
         )),
         Err(fault) => tell_refusal(out, told_household(fault)),
     }
+}
+
+// The rows of the table of these bytes, by the codes of a program.
+fn rows_of(alloc: Global, program: &Program, table: &[u8]) -> Result<Seq<Row>, HouseholdFault>
+    requires { IsRunnable program.now.face program.now.tidy }
+    ensures outcome { Outcome NoMemory result (λ rows. table_of (codes_of program.now.face.inputs) table.now ≡ Ok rows) (λ fault. table_of (codes_of program.now.face.inputs) table.now ≡ Err fault) }
+    ensures inputs { IfOk result (λ rows. AllByRecursion (λ row. AreInputs (length (codes_of program.now.face.inputs)) row.household.pairs) rows) }
+{
+    let codes = Codes::new(alloc, program.face.inputs.as_slice())?;
+    read_table(alloc, table, &codes)
 }
 
 // The status behind rows that were written or not.

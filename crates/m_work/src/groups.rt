@@ -3,14 +3,16 @@ ghost use Rattle.std.specs.Prelude.{◌≡◌, ◌<◌, ◌≤◌, length};
 ghost use Rattle.std.specs.List.{AllByRecursion};
 ghost use Rattle.text_pieces.specs.Giving.{Gives};
 ghost use Rattle.flat_code.specs.Runs.{IsFlat};
-ghost use Rattle.household_session.specs.Sessions.{IsFaceOf};
+ghost use Rattle.flat_code.specs.Faces.{IsFaceOf};
 ghost use Rattle.m_batch.specs.Batch.{HasInputsBelow};
 ghost use Rattle.tax_print.specs.Lines.{AnswerIsWithin};
 ghost use Rattle.m_work.specs.inner.Groups.{WritesGroups, answered_lines, program_lines};
 ghost use Rattle.m_work.specs.declared.groups.GroupFault.TheVariants.{Memory as NoMemory, Failed as NotWritten};
 
+use crate::texts::{GROUP_ROOM, give_answers};
 use flat_code::Flat;
 use observables::{Answer, Face};
+use held_text::FixedText;
 use household::Row;
 use m_batch::run_batch;
 use m_ports::{Failed, Sink};
@@ -60,10 +62,11 @@ pub(crate) fn print_rows<R: Threads + Sync, K: Sink>(
     requires inputs { AllByRecursion (HasInputsBelow flat.now.inputs) rows.now }
     ensures { WritesGroups K.written K.faults out.old out.new result (program_lines flat.now face.now rows.now) }
 {
+    let mut held = FixedText::new(alloc, GROUP_ROOM)?;
     let mut from = 0;
     while from < rows.len() {
         let end = group_end(from, rows.len());
-        print_group(rt, alloc, flat, face, &rows[from..end], out)?;
+        print_group(rt, alloc, flat, face, &rows[from..end], &mut held, out)?;
         from = end;
     }
     Ok(())
@@ -89,6 +92,7 @@ fn print_group<R: Threads + Sync, K: Sink>(
     flat: &Flat,
     face: &Face,
     rows: &[Row],
+    held: &mut FixedText,
     out: &mut K,
 ) -> Result<(), GroupFault>
     requires valid { IsFlat flat.now }
@@ -97,12 +101,12 @@ fn print_group<R: Threads + Sync, K: Sink>(
     ensures { WritesGroups K.written K.faults out.old out.new result (program_lines flat.now face.now rows.now) }
 {
     let answers = run_batch(rt, alloc, flat, rows)?;
-    print_answers(face, rows, answers.as_slice(), out)?;
+    give_answers(face, rows, answers.as_slice(), held, out)?;
     Ok(())
 }
 
-// Writes the rows with their answers.
-fn print_answers<K: Sink>(
+/// Prints the rows with their answers.
+pub(crate) fn print_answers<K: Sink>(
     face: &Face,
     rows: &[Row],
     answers: &[Answer],

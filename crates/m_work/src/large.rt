@@ -1,32 +1,37 @@
-//! `large N`: the generated source is compiled, and its answer to the generated household is printed.
+//! `large N`: the program of the generated source is prepared, and its answer to the generated household is printed.
 ghost use Rattle.std.specs.Prelude.{◌≡◌, ◌≤◌, ◌++◌, IfOk};
 ghost use Rattle.m_places.specs.declared.limits.TheConstants.{LARGE};
 ghost use Rattle.text_pieces.specs.Giving.{Gives};
-ghost use Rattle.rule_text.specs.declared.Source.{Source};
 ghost use Rattle.m_large.specs.Large.{household_text};
 ghost use Rattle.tax_print.specs.Lines.{AnswerIsWithin, answer_lines};
-ghost use Rattle.m_compile.specs.Compiled.{IsCompiled, IsRunnable};
+ghost use Rattle.m_compile.specs.Compiled.{IsRunnable};
 ghost use Rattle.m_plan.specs.Printing.{IsAnswered};
 ghost use Rattle.m_plan.specs.Views.{output_view};
 ghost use Rattle.m_work.specs.Larges.{large_line, large_requests, large_source};
 ghost use Rattle.m_work.specs.LargeAnswers.{LargeReplies};
+ghost use Rattle.m_work.specs.Prepared.{HouseholdReplies, Shows};
+ghost use Rattle.m_work.specs.Schemes.{Scheme};
 
+use crate::program::{Program, prepare};
 use crate::run::answer_of;
+use crate::texts::{ANSWER_ROOM, give_large};
 use crate::told::{status_of, tell_refusal, told_household};
-use observables::{Answer, Face};
+use held_text::FixedText;
 use itoa::Buffer;
-use m_compile::{Compiled, compile, told_fault};
+use m_compile::told_fault;
 use m_large::{large_base, large_household};
 use m_places::{Name, Seq};
 use m_plan::{Status, printed};
 use m_ports::{Failed, Sink};
+use observables::{Answer, Face};
 use rule_text::Source;
 use std::alloc::{AllocError, Global};
 use tax_print::print_answer;
 use text_pieces::{append_pieces, give_pieces};
 
-/// Compiles the generated source of this many inputs, and prints the line `large N` and its answer to the generated household.
-pub fn answer_large<K: Sink>(alloc: Global, n: u32, out: &mut K) -> Status
+/// Prepares the program of the generated source of this many inputs, and prints the line `large N` and its answer to the generated
+/// household.
+pub fn run_large<K: Sink>(alloc: Global, n: u32, out: &mut K) -> Status
     requires some { 1 ≤ n }
     requires few { n ≤ LARGE }
     ensures { IsAnswered (LargeReplies n) (output_view K.written K.faults out.old) (output_view K.written K.faults out.new) result }
@@ -34,8 +39,8 @@ pub fn answer_large<K: Sink>(alloc: Global, n: u32, out: &mut K) -> Status
     let Ok(source) = large_source(alloc, n) else {
         return Status::Memory;
     };
-    match compile(alloc, &source) {
-        Ok(compiled) => answer_compiled(alloc, n, &compiled, out),
+    match prepare(alloc, &source) {
+        Ok(program) => answer_large(alloc, n, &program, out),
         Err(fault) => tell_refusal(out, told_fault(source.texts.as_slice(), &fault)),
     }
 }
@@ -69,44 +74,53 @@ fn large_requests(alloc: Global, n: u32) -> Result<Vec<u8>, AllocError>
     Ok(text)
 }
 
-// Prints what the compiled source answers to the generated household.
-fn answer_compiled<K: Sink>(alloc: Global, n: u32, compiled: &Compiled, out: &mut K) -> Status
+/// Prints the line `large N`, and what a program answers to the generated household.
+pub fn answer_large<K: Sink>(alloc: Global, n: u32, program: &Program, out: &mut K) -> Status
     requires some { 1 ≤ n }
     requires few { n ≤ LARGE }
-    requires runnable { IsRunnable compiled.now }
-    ensures { IsCompiled (large_source n) compiled.now
-        → IsAnswered (LargeReplies n) (output_view K.written K.faults out.old) (output_view K.written K.faults out.new) result }
+    requires runnable { IsRunnable program.now.face program.now.tidy }
+    ensures { (scheme : Scheme) → Shows scheme program.now
+        → IsAnswered (HouseholdReplies (large_line n) scheme (household_text n)) (output_view K.written K.faults out.old) (output_view K.written K.faults out.new) result }
 {
+    let Ok(mut held) = FixedText::new(alloc, ANSWER_ROOM) else {
+        return Status::Memory;
+    };
     match large_household(alloc, n) {
-        Ok(household) => print_compiled(alloc, n, compiled, &household, out),
+        Ok(household) => print_answered(alloc, n, program, &household, &mut held, out),
         Err(_) => Status::Memory,
     }
 }
 
 // The same with the household.
-fn print_compiled<K: Sink>(
+fn print_answered<K: Sink>(
     alloc: Global,
     n: u32,
-    compiled: &Compiled,
+    program: &Program,
     household: &[u8],
+    held: &mut FixedText,
     out: &mut K,
 ) -> Status
-    requires runnable { IsRunnable compiled.now }
+    requires runnable { IsRunnable program.now.face program.now.tidy }
     requires generated { household.now ≡ household_text n }
-    ensures { IsCompiled (large_source n) compiled.now
-        → IsAnswered (LargeReplies n) (output_view K.written K.faults out.old) (output_view K.written K.faults out.new) result }
+    ensures { (scheme : Scheme) → Shows scheme program.now
+        → IsAnswered (HouseholdReplies (large_line n) scheme (household_text n)) (output_view K.written K.faults out.old) (output_view K.written K.faults out.new) result }
 {
-    match answer_of(alloc, compiled, household) {
+    match answer_of(alloc, program, household) {
         Ok(answer) => printed(
-            print_large(n, &compiled.face, &answer, out),
+            give_large(n, &program.face, &answer, held, out),
             status_of(&answer),
         ),
         Err(fault) => tell_refusal(out, told_household(fault)),
     }
 }
 
-// Prints the line and then an answer.
-fn print_large<K: Sink>(n: u32, face: &Face, answer: &Answer, out: &mut K) -> Result<(), Failed>
+/// Prints the line and then an answer.
+pub(crate) fn print_large<K: Sink>(
+    n: u32,
+    face: &Face,
+    answer: &Answer,
+    out: &mut K,
+) -> Result<(), Failed>
     requires { AnswerIsWithin face.now answer.now }
     ensures { Gives K.written K.faults out.old out.new result (large_line n ++ answer_lines face.now answer.now) }
 {

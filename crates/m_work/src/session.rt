@@ -1,4 +1,5 @@
 //! A session over an input, and the line that says why it ended before the input did.
+ghost use Rattle.std.specs.Prelude.{◌≡◌, ◌<◌};
 ghost use Rattle.household_session.specs.Replies.{ended_lines, replies_of, replies_to};
 ghost use Rattle.m_plan.specs.Views.{input_view, output_view};
 ghost use Rattle.m_work.specs.Serving.{Served};
@@ -8,6 +9,8 @@ use household_session::Session;
 use m_plan::{Status, print_fault};
 use m_ports::{Sink, Source};
 use serve_loop::{ServeEnd, serve};
+use std::sync::ledger::{Blank, Ledger};
+use steps::Steps;
 
 /// Does the lines of an input, and tells how it ended. It takes no memory.
 pub(crate) fn serve_session<S: Source, K: Sink>(
@@ -15,10 +18,27 @@ pub(crate) fn serve_session<S: Source, K: Sink>(
     input: &mut S,
     out: &mut K,
 ) -> Status
-    ensures { Served (replies_of session.old) (λ taken. replies_to session.old (ended_lines taken)) (input_view S.left S.faults input.old) (input_view S.left S.faults input.new)
+    ensures { Served (replies_of session.old.sitting) (λ taken. replies_to session.old.sitting (ended_lines taken)) (input_view S.left S.faults input.old) (input_view S.left S.faults input.new)
         (output_view K.written K.faults out.old) (output_view K.written K.faults out.new) result }
 {
-    match serve(session, input, out) {
+    serve_counted::<S, K, Brand>(session, input, out, Blank::new(1))
+}
+
+// The same with a counter of steps, which takes no bytes.
+fn serve_counted<S: Source, K: Sink, L: Ledger>(
+    session: &mut Session,
+    input: &mut S,
+    out: &mut K,
+    blank: Blank,
+) -> Status
+    requires name { blank.name ≡ L.name }
+    requires parts { blank.parts ≡ L.parts }
+    requires some { 0 < L.parts }
+    ensures { Served (replies_of session.old.sitting) (λ taken. replies_to session.old.sitting (ended_lines taken)) (input_view S.left S.faults input.old) (input_view S.left S.faults input.new)
+        (output_view K.written K.faults out.old) (output_view K.written K.faults out.new) result }
+{
+    let mut steps = Steps::<L>::begin(blank);
+    match serve(session, input, out, &mut steps) {
         ServeEnd::Done => Status::Done,
         ServeEnd::ReadFault => print_fault(out, Fault::UnreadableInput, Status::ReadFault),
         ServeEnd::WriteFault => Status::WriteFault,

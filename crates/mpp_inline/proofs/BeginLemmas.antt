@@ -1,5 +1,5 @@
 -- The first nodes, and the answer at the end.
-use Rattle.std.proofs.Common.{◌≡◌, ℕ, zero, suc, ◌+◌, ◌<◌, ◌≤◌, Bool, true, false, cond, List, [], ◌∷◌, ◌++◌, map, take, drop, length, get_or, slice_get, replicate, Option, Some, None, refl, inr, sym, ap, ◌∙◌, subst, arith, pos, length-append}
+use Rattle.std.proofs.Common.{◌≡◌, ℕ, zero, suc, ◌+◌, ◌*◌, ◌<◌, ◌≤◌, Bool, true, false, cond, List, [], ◌∷◌, ◌++◌, map, take, drop, length, get_or, slice_get, replicate, Option, Some, None, refl, inr, sym, ap, ◌∙◌, subst, arith, pos, length-append}
 use mathlib.Core.Bool.{◌||◌}
 use Rattle.std.specs.List.{AllByRecursion}
 use Rattle.std.specs.Option.{option_or, option_map_or}
@@ -9,6 +9,7 @@ use Rattle.std.proofs.lemmas.Option.{slice_get-get_or}
 use Rattle.m_fixed.specs.declared.amount.Value.{Value}
 use Rattle.m_fixed.specs.declared.amount.Value.TheVariants.{Undef, Num, Over as OverValue}
 use Rattle.m_fixed.specs.Operators.{is_zero}
+use Rattle.m_places.specs.declared.limits.TheConstants.{CELLS, DRIVER_WEIGHT}
 use Rattle.m_places.specs.declared.verification.Label.{Label}
 use Rattle.m_ast.specs.declared.variable.Role.{Role}
 use Rattle.m_ast.specs.declared.variable.Role.TheVariants.{Input as InputRole, Computed as ComputedRole, Constant}
@@ -32,8 +33,10 @@ use Rattle.driver_core.specs.Answers.{first_value, next_input, start_from, told_
 use Rattle.driver_core.specs.Meaning.{Env, RunState, then_do}
 use Rattle.mpp_inline.specs.declared.builder.Builder.{Builder}
 use Rattle.mpp_inline.specs.inner.Growth.{count, at, stop_of, stop_read, denoted, outcome_of, run, IsCheckWithin, Sane, Known, HasLiterals, Begun, Grows, Gives, InputIsThere}
+use Rattle.driver_core.specs.Weights.{weight_of}
+use Rattle.mpp_inline.specs.inner.Sizes.{load}
 use Rattle.mpp_inline.specs.inner.Told.{ended, Answers}
-use Rattle.mpp_inline.specs.Inlined.{IsInlined, most_nodes}
+use Rattle.mpp_inline.specs.Inlined.{IsInlined}
 use Rattle.mpp_inline.specs.inner.Work.{under, Step}
 use Rattle.mpp_inline.proofs.ListLemmas.{all-append, all-more}
 use Rattle.mpp_inline.proofs.GrowthLemmas.{grows-none, grows-then, known-on, denoted-on, known-get, denoted-get}
@@ -77,7 +80,7 @@ all-replicate : (P : ℕ → Type 0) (n k : ℕ) → P k → AllByRecursion P (r
 all-replicate P zero k h = tt
 all-replicate P (suc n) k h = (h, all-replicate P n k h)
 
-replicate-long : {A : Type 0} (n : ℕ) (x : A) → length (replicate n x) ≡ n
+pub replicate-long : {A : Type 0} (n : ℕ) (x : A) → length (replicate n x) ≡ n
 replicate-long zero x = refl
 replicate-long (suc n) x = ap suc (replicate-long n x)
 
@@ -221,7 +224,7 @@ every P (x ∷ xs) all zero d h = all.0
 every P (x ∷ xs) all (suc k) d h = every P xs all.1 k d (omega arith)
 
 -- the whole program
-inlined-plain : (core : Core) (base : Base) (declared : Declared) (requests : List ℕ) (b : Builder) (outputs : List ℕ) → count b ≤ most_nodes → length b.checks.items ≤ most_nodes → length b.labels.items ≤ length base.labels + most_nodes → Answers core base declared requests b outputs → IsInlined core base declared requests (record { inputs = b.inputs; nodes = b.nodes.items; checks = b.checks.items; outputs = outputs }) b.labels.items
+inlined-plain : (core : Core) (base : Base) (declared : Declared) (requests : List ℕ) (b : Builder) (outputs : List ℕ) → base.cells ≤ CELLS → weight_of core base ≤ DRIVER_WEIGHT → load b ≤ 3 + length base.labels + base.cells + 6 * weight_of core base → Answers core base declared requests b outputs → IsInlined core base declared requests (record { inputs = b.inputs; nodes = b.nodes.items; checks = b.checks.items; outputs = outputs }) b.labels.items
 inlined-plain core base declared requests b outputs n c l a =
     let labels = b.labels.items in
     let Within : Check → Type 0 = λ d. IsCheckWithin (count b) (length labels) d in
@@ -236,12 +239,13 @@ inlined-plain core base declared requests b outputs n c l a =
       outputs = a.outputs_long;
       first_labels = first-faces base.labels labels a.labelled.within a.labelled.same;
       labelled = λ k d h. (every Within b.checks.items a.sane.checks k d h).label;
-      nodes_fit = n;
-      checks_fit = c;
-      labels_fit = l;
+      nodes_fit = omega (arith, n, c, l, a.labelled.within);
+      checks_fit = omega (arith, n, c, l, a.labelled.within);
+      labels_fit = omega (arith, n, c, l);
+      size = l;
     }
 
-pub inlined : (core : Core) (base : Base) (declared : Declared) (requests : List ℕ) (b : Builder) (outputs : List ℕ) (ns : List Node) (cs : List Check) (os : List ℕ) (ls : List FaceLabel) → ns ≡ b.nodes.items → cs ≡ b.checks.items → os ≡ outputs → ls ≡ b.labels.items → count b ≤ most_nodes → length b.checks.items ≤ most_nodes → length b.labels.items ≤ length base.labels + most_nodes → Answers core base declared requests b outputs → IsInlined core base declared requests (record { inputs = b.inputs; nodes = ns; checks = cs; outputs = os }) ls
+pub inlined : (core : Core) (base : Base) (declared : Declared) (requests : List ℕ) (b : Builder) (outputs : List ℕ) (ns : List Node) (cs : List Check) (os : List ℕ) (ls : List FaceLabel) → ns ≡ b.nodes.items → cs ≡ b.checks.items → os ≡ outputs → ls ≡ b.labels.items → base.cells ≤ CELLS → weight_of core base ≤ DRIVER_WEIGHT → load b ≤ 3 + length base.labels + base.cells + 6 * weight_of core base → Answers core base declared requests b outputs → IsInlined core base declared requests (record { inputs = b.inputs; nodes = ns; checks = cs; outputs = os }) ls
 inlined core base declared requests b outputs ns cs os ls en ec eo el n c l a =
     subst (λ xs. IsInlined core base declared requests (record { inputs = b.inputs; nodes = xs; checks = cs; outputs = os }) ls) (sym en)
     (subst (λ xs. IsInlined core base declared requests (record { inputs = b.inputs; nodes = b.nodes.items; checks = xs; outputs = os }) ls) (sym ec)

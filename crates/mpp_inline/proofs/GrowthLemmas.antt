@@ -16,6 +16,7 @@ use Rattle.observables.specs.declared.face.FaceLabel.TheVariants.{Verif, DriverL
 use Rattle.flat_code.specs.Runs.{IsNode, AreNodes, entry_of, values_for, node_values, first_stop}
 use Rattle.mpp_inline.specs.declared.builder.Builder.{Builder}
 use Rattle.mpp_inline.specs.inner.Growth.{count, faces, face, at, stop_of, stop_read, denoted, outcome_of, run, IsCheckWithin, Sane, Known, Pushed, Checked, CheckedRule, CheckedLine, HasFaces, Longer, Grows, Gives, TermStep}
+use Rattle.mpp_inline.specs.inner.Sizes.{load}
 use Rattle.mpp_inline.proofs.ListLemmas.{all-get, all-set, all-more, all-append, map-same}
 use Rattle.mpp_inline.proofs.RunLemmas.{value-kept, value-new, stop-kept, stop-push, read-or, face_fired, read-fired, read-kept}
 
@@ -207,3 +208,16 @@ cell-step {b} {env} x s k = record {
 pub denoted-set : {b c : Builder} {env : List ℕ} (inputs : List Value) (x k : ℕ) (v : Value) → Longer b c → Known b env → at c inputs k ≡ v → denoted c inputs (set env x k) ≡ set (denoted b inputs env) x v
 denoted-set {b} {c} {env} inputs x k v l kn e =
     map-set (at c inputs) env x k ∙ (λ i. set (denoted-on inputs l kn i) x (e i))
+
+-- how much the program grows
+pub pushed-load : {b c : Builder} {n : Node} {k : ℕ} → Pushed b c n k → load c ≡ load b + 1
+pushed-load p = omega (arith, pushed-count p, ap length p.checks, ap length p.labels)
+
+checked-more : {b c : Builder} {g k l : ℕ} {o : Bool} → Checked b c g k o l → length c.checks.items ≡ length b.checks.items + 1
+checked-more {b} {c} {g} {k} {l} {o} p = ap length p.checks ∙ length-append b.checks.items (record { guard = g; condition = k; over_only = o; label = l } ∷ [])
+
+pub line-load : {b c : Builder} {g k line : ℕ} → CheckedLine b c g k line → load c ≡ load b + 2
+line-load {b} {c} {g} {k} {line} p = omega (arith, ap length p.base.nodes, checked-more p.base, ap length p.labels, length-append b.labels.items (DriverLine line ∷ []))
+
+pub rule-load : {b c : Builder} {g k l : ℕ} → CheckedRule b c g k l → load c ≡ load b + 1
+rule-load p = omega (arith, ap length p.base.nodes, checked-more p.base, ap length p.labels)

@@ -8,4 +8,5 @@ pub mod TableLemmas
 pub mod CallLemmas
 pub mod OrderLemmas
 pub mod BeginLemmas
+pub mod SizeLemmas
 pub mod RulelessLemmas

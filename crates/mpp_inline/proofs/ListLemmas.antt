@@ -61,6 +61,10 @@ pub written-map : {A B : Type 0} (f : A → B) (ps : List (ℕ × A)) (into : Li
 written-map f [] into = refl
 written-map f (p ∷ ps) into = written-map f ps (set into p.0 p.1) ∙ ap (written (along f ps)) (map-set f into p.0 p.1)
 
+pub length-picked : (d : ℕ) (xs from : List ℕ) → length (picked d xs from) ≡ length xs
+length-picked d [] from = refl
+length-picked d (x ∷ xs) from = ap suc (length-picked d xs from)
+
 pub cells-picked : (d : ℕ) (xs from : List ℕ) → cells_of (picked d xs from) ≡ xs
 cells-picked d [] from = refl
 cells-picked d (x ∷ xs) from = ap (λ ys. x ∷ ys) (cells-picked d xs from)
@@ -100,6 +104,9 @@ among-append x (y ∷ xs) ys = elim (eqb x y) as (λ b. (b || is_among x (xs ++ 
 
 pub same-none : (xs env : List ℕ) → SameBut xs env env
 same-none xs env = record { size = refl; same = λ x h. refl }
+
+pub same-back : (xs e f : List ℕ) → SameBut xs e f → SameBut xs f e
+same-back xs e f s = record { size = sym s.size; same = λ x h. sym (s.same x h) }
 
 pub same-put : (x k : ℕ) (env : List ℕ) → SameBut (x ∷ []) env (set env x k)
 same-put x k env = record {

@@ -1,10 +1,9 @@
 -- Where a base has neither definitions nor checks, calls of the rules change nothing.
-use Rattle.std.proofs.Common.{◌≡◌, ℕ, zero, suc, ◌+◌, ◌<◌, ◌≤◌, List, [], ◌∷◌, ◌++◌, length, get_or, set, drop, map, Some, None, refl, sym, ap, ◌∙◌, subst, arith, add-one}
-use Rattle.std.specs.Prelude.{slice_get, option_and_then, IfOk, Result, Ok, Err}
+use Rattle.std.proofs.Common.{◌≡◌, ℕ, zero, suc, ◌+◌, ◌≤◌, List, [], ◌∷◌, ◌++◌, length, get_or, set, Some, refl, sym, ap, ◌∙◌, arith, add-one}
+use Rattle.std.specs.Prelude.{option_and_then}
 use Rattle.std.specs.Option.{option_map_or}
 use Rattle.std.proofs.lemmas.List.{length-map}
-use Rattle.m_fixed.specs.declared.amount.Value.{Value}
-use Rattle.m_fixed.specs.declared.amount.Value.TheVariants.{Undef, Num, Over}
+use Rattle.m_fixed.specs.declared.amount.Value.TheVariants.{Undef}
 use Rattle.m_symbols.specs.Declarations.{Declared}
 use Rattle.micro_m.specs.declared.base.Base.{Base}
 use Rattle.micro_m.specs.Bases.{definition_among}
@@ -15,7 +14,8 @@ use Rattle.flat_code.specs.declared.program.Flat.{Flat}
 use Rattle.driver_core.specs.declared.program.Core.{Core}
 use Rattle.driver_core.specs.Actions.{Action, assign, clear, branch, partition, call, solve, Block, no_actions, an_action}
 use Rattle.driver_core.specs.ActionView.{block_of}
-use Rattle.driver_core.specs.Valid.{block_or_none, body_among}
+use Rattle.driver_core.specs.Valid.{body_among}
+use Rattle.driver_core.specs.Weights.{names_changed, names_changed_in, action_weight, block_weight, body_weight, base_weight, weight_of}
 use Rattle.driver_core.specs.Answers.{answer_of, start_of, told_by}
 use Rattle.driver_core.specs.Meaning.{Env, RunState, goes, stops, then_do, with_values, without, formula_value, chosen_block, failure_cause, unless_stopped, rules_run, run_of, action_run, block_run, called}
 use Rattle.mpp_inline.specs.Inlined.{IsInlined}
@@ -104,6 +104,60 @@ run-left core base e r =
     ap (λ n. called (rules_run base) (left_in core.bodies) (suc n) core.main e) (length-map core.bodies body_left)
     ∙ called-left (rules_run base) core.bodies (rules-rest base r) (suc (length core.bodies)) core.main e
 
+-- ---- the weight
+
+fewer-append : (xs ys : List Action) → names_changed_in (block_of (xs ++ ys)) ≡ names_changed_in (block_of xs) + names_changed_in (block_of ys)
+fewer-append [] ys = omega arith
+fewer-append (x ∷ xs) ys = omega (arith, fewer-append xs ys)
+
+mutual
+  fewer-one : (a : Action) → names_changed_in (block_of (left a)) ≤ names_changed a
+  fewer-one (assign line c t) = omega arith
+  fewer-one (clear line c) = omega arith
+  fewer-one (branch line t x y) = omega (arith, fewer [] x, fewer [] y)
+  fewer-one (partition line xs x) = omega (arith, fewer [] x)
+  fewer-one (call line names xs f) = omega arith
+  fewer-one (solve line names xs) = omega arith
+
+  fewer : (before : List Action) (x : Block) → names_changed_in (block_of (left_behind before x)) ≤ names_changed_in (block_of before) + names_changed_in x
+  fewer before no_actions = omega arith
+  fewer before (an_action a rest) = omega (arith, fewer (before ++ left a) rest, fewer-append before (left a), fewer-one a)
+
+module _ (rules cells : ℕ) (b b' : ℕ → ℕ) (less : (f : ℕ) → b' f ≤ b f) where
+  append-weight : (xs ys : List Action) → block_weight rules cells b' (block_of (xs ++ ys)) ≡ block_weight rules cells b' (block_of xs) + block_weight rules cells b' (block_of ys)
+  append-weight [] ys = omega arith
+  append-weight (x ∷ xs) ys = omega (arith, append-weight xs ys)
+
+  mutual
+    lighter-one : (a : Action) → block_weight rules cells b' (block_of (left a)) ≤ action_weight rules cells b a
+    lighter-one (assign line c t) = omega arith
+    lighter-one (clear line c) = omega arith
+    lighter-one (branch line t x y) = omega (arith, lighter [] x, lighter [] y, fewer [] x, fewer [] y)
+    lighter-one (partition line xs x) = omega (arith, lighter [] x)
+    lighter-one (call line names xs f) = omega (arith, less f)
+    lighter-one (solve line names xs) = omega arith
+
+    lighter : (before : List Action) (x : Block) → block_weight rules cells b' (block_of (left_behind before x)) ≤ block_weight rules cells b' (block_of before) + block_weight rules cells b x
+    lighter before no_actions = omega arith
+    lighter before (an_action a rest) = omega (arith, lighter (before ++ left a) rest, append-weight before (left a), lighter-one a)
+
+body-lighter : (rules cells : ℕ) (bodies : List (List Action)) (turns f : ℕ) → body_weight rules cells (left_in bodies) turns f ≤ body_weight rules cells bodies turns f
+body-lighter rules cells bodies zero f = omega arith
+body-lighter rules cells bodies (suc turns) f =
+    omega (
+      arith,
+      ap (block_weight rules cells (body_weight rules cells (left_in bodies) turns)) (body-left bodies f),
+      lighter rules cells (body_weight rules cells bodies turns) (body_weight rules cells (left_in bodies) turns) (body-lighter rules cells bodies turns) [] (body_among bodies f),
+    )
+
+-- what is left of a driver weighs no more
+pub left-lighter : (core : Core) (base : Base) → weight_of (core_left core) base ≤ weight_of core base
+left-lighter core base =
+    let r = base_weight base in
+    let same : weight_of (core_left core) base ≡ body_weight r base.cells (left_in core.bodies) (suc (length core.bodies)) core.main =
+    ap (λ n. body_weight r base.cells (left_in core.bodies) (suc n) core.main) (length-map core.bodies body_left) in
+    omega (arith, same, body-lighter r base.cells core.bodies (suc (length core.bodies)) core.main)
+
 -- the flat program of what is left is that of the driver
 pub inlined-left : (core made : Core) (base : Base) (declared : Declared) (requests : List ℕ) (flat : Flat) (labels : List FaceLabel) → IsRuleless base → made ≡ core_left core → IsInlined made base declared requests flat labels → IsInlined core base declared requests flat labels
 inlined-left core made base declared requests flat labels r is h = record {
@@ -119,4 +173,5 @@ inlined-left core made base declared requests flat labels r is h = record {
   nodes_fit = h.nodes_fit;
   checks_fit = h.checks_fit;
   labels_fit = h.labels_fit;
+  size = omega (arith, h.size, ap (λ (k : Core). weight_of k base) is, left-lighter core base);
 }

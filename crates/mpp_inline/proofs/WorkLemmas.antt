@@ -18,9 +18,9 @@ use Rattle.mpp_inline.specs.declared.branches.Branches.{Branches}
 use Rattle.mpp_inline.specs.declared.work.Work.{Work}
 use Rattle.mpp_inline.specs.declared.work.Work.TheVariants.{Run, Under, Restore, Return}
 use Rattle.mpp_inline.specs.inner.Cells.{picked, written, received, blanked}
-use Rattle.mpp_inline.specs.inner.Growth.{count, at, stop_of, denoted, outcome_of, run, entries, Sane, Known, Held, Placed, Ready, Longer, TermStep, Computed, Stage, Opened, Merged, over_judged, calls}
+use Rattle.mpp_inline.specs.inner.Growth.{count, at, stop_of, denoted, outcome_of, run, entries, Sane, Known, Held, Placed, Ready, Longer, TermStep, Computed, Stage, Opened, Merged, SameBut, over_judged, calls}
 use Rattle.mpp_inline.specs.inner.Work.{under, Point, point, Whole, does, does_one, done, finish, ahead, block_ahead, IsBit, Guarding, Kept, Standing, Moves, Step}
-use Rattle.mpp_inline.proofs.ListLemmas.{all-more, all-append, all-picked, all-written, all-blanked, picked-map, written-map, blanked-map, restored, same-none, same-blanked, with-received, without-blanked}
+use Rattle.mpp_inline.proofs.ListLemmas.{all-more, all-append, all-picked, all-written, all-blanked, picked-map, written-map, blanked-map, restored, same-none, same-back, same-blanked, with-received, without-blanked}
 use Rattle.mpp_inline.proofs.GrowthLemmas.{longer-none, longer-then, known-on, denoted-on, faces-on}
 use Rattle.mpp_inline.proofs.StageLemmas.{goes-last, then-then, set-stage, del-stage, rules-stage, set-goes, wrap, truth-cases, both-zero, chosen-first, chosen-second, known-received, denoted-received}
 
@@ -71,6 +71,29 @@ set-step {b} {c} {d} {env} {env'} {g} {k} t x term write r =
 pub del-step : {b d : Builder} {env env' : List ℕ} {g : ℕ} (x : ℕ) → (Placed b env g → 0 < count b → Merged b d g [] ((x, 0) ∷ []) env env') → Placed b env g → Step b d g env env' (λ e. goes (set e x Undef))
 del-step {b} {d} {env} {env'} {g} x write r = step-written ((x, 0) ∷ []) r (del-stage x r) refl (write r (omega (arith, r.sane.three)))
 
+-- each of these cells chosen, and then some cells taken from them
+merged-received : {d f : Builder} {env env1 env2 : List ℕ} {g : ℕ} (xs ds : List ℕ) → Placed d env g → SameBut ds env env1 → Merged d f g [] (picked 0 ds env1) env env2 → Merged d f g [] (picked 0 xs env1) env (received 0 xs env2 env)
+merged-received {d} {f} {env} {env1} {env2} {g} xs ds r frame m =
+    let l = m.grows.base in
+    let last : (inputs : List Value) → denoted f inputs (received 0 xs env2 env) ≡ with_values xs (environment (denoted f inputs env2)) (denoted d inputs env) =
+    λ inputs. denoted-received inputs xs env2 env l.sane ∙ ap (with_values xs (environment (denoted f inputs env2))) (denoted-on inputs l r.known) in
+    let all : received 0 ds env1 env ≡ env1 = restored ds env1 env (same-back ds env env1 frame) in
+    record {
+      grows = m.grows;
+      known = known-received xs env2 env l.sane m.known (known-on l r.known);
+      first = λ inputs h.
+          last inputs
+          ∙ ap (λ e. with_values xs (environment e) (denoted d inputs env)) (m.first inputs h ∙ sym (written-map (at d inputs) (picked 0 ds env1) env) ∙ ap (denoted d inputs) all)
+          ∙ sym (denoted-received inputs xs env1 env r.sane)
+          ∙ written-map (at d inputs) (picked 0 xs env1) env;
+      second = λ inputs h.
+          last inputs
+          ∙ ap (λ e. with_values xs (environment e) (denoted d inputs env)) (m.second inputs h)
+          ∙ sym (denoted-received inputs xs env env r.sane)
+          ∙ ap (denoted d inputs) (restored xs env env (same-none xs env));
+    }
+
+-- the rules, where the received cells are chosen, and where all defined cells are
 pub rules-step : {labels : List Label} {b c d f : Builder} {env env1 env2 : List ℕ} {g : ℕ} {checks' : Env → RunState} {first : Env → Env} (xs : List ℕ) → (Sane b → Known b env → Computed b c env env1 (λ e. e) first) → (Ready labels c env1 g → Stage c d g env1 env1 (λ e. goes e) checks') → (Placed d env g → Held d (picked 0 xs env1) → Merged d f g [] (picked 0 xs env1) env env2) → Ready labels b env g → Step b f g env env2 (λ e. then_do (checks' (first e)) (λ h. goes (with_values xs (environment h) e)))
 rules-step {labels} {b} {c} {d} {f} {env} {env1} {env2} {g} xs defs checks write r =
     let k = defs r.placed.sane r.placed.known in
@@ -79,6 +102,16 @@ rules-step {labels} {b} {c} {d} {f} {env} {env1} {env2} {g} xs defs checks write
     let l = longer-then l1 s.base in
     step-written (picked 0 xs env1) r.placed (rules-stage xs defs checks r) refl
     (write (record { sane = l.sane; known = known-on l r.placed.known; guard = omega (arith, r.placed.guard, l.longer) }) (held-picked xs env1 l.sane s.known))
+
+pub rules-step-all : {labels : List Label} {b c d f : Builder} {env env1 env2 : List ℕ} {g : ℕ} {checks' : Env → RunState} {first : Env → Env} (xs ds : List ℕ) → SameBut ds env env1 → (Sane b → Known b env → Computed b c env env1 (λ e. e) first) → (Ready labels c env1 g → Stage c d g env1 env1 (λ e. goes e) checks') → (Placed d env g → Held d (picked 0 ds env1) → Merged d f g [] (picked 0 ds env1) env env2) → Ready labels b env g → Step b f g env (received 0 xs env2 env) (λ e. then_do (checks' (first e)) (λ h. goes (with_values xs (environment h) e)))
+rules-step-all {labels} {b} {c} {d} {f} {env} {env1} {env2} {g} xs ds frame defs checks write r =
+    let k = defs r.placed.sane r.placed.known in
+    let l1 = k.grows.base in
+    let s = checks (record { placed = record { sane = l1.sane; known = k.known; guard = omega (arith, r.placed.guard, l1.longer) }; labelled = faces-on l1 r.labelled }) in
+    let l = longer-then l1 s.base in
+    let p : Placed d env g = record { sane = l.sane; known = known-on l r.placed.known; guard = omega (arith, r.placed.guard, l.longer) } in
+    step-written (picked 0 xs env1) r.placed (rules-stage xs defs checks r) refl
+    (merged-received xs ds p frame (write p (held-picked ds env1 l.sane s.known)))
 
 -- what is left, as the program grows
 pub entries-on : {b c : Builder} (inputs : List Value) (ps : List (ℕ × ℕ)) → Longer b c → AllByRecursion (λ p. p.1 < count b) ps → entries c inputs ps ≡ entries b inputs ps

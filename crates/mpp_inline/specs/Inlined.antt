@@ -1,5 +1,5 @@
 -- What the flat program of a driver is, and when there is none.
-use Rattle.std.specs.Prelude.{◌≡◌, ℕ, ◌+◌, ◌<◌, ◌≤◌, min, List, [], take, map, length, Some, All}
+use Rattle.std.specs.Prelude.{◌≡◌, ℕ, ◌+◌, ◌*◌, ◌<◌, ◌≤◌, min, List, [], take, map, length, Some, All}
 use Rattle.m_fixed.specs.declared.amount.Value.{Value}
 use Rattle.m_places.specs.declared.limits.TheConstants.{DRIVER_WEIGHT}
 use Rattle.m_symbols.specs.Declarations.{Declared, inputs_from}
@@ -30,7 +30,8 @@ pub record IsInlined (core : Core) (base : Base) (declared : Declared) (requests
   -- the first labels are those of the base, in order, and each check's label is there
   pub first_labels : take (length base.labels) labels ≡ map Verif base.labels
   pub labelled : All (λ check. check.label < length labels) flat.checks
-  -- how large it may be
+  -- how large it is, which the driver's weight bounds, and how large it may be
+  pub size : length flat.nodes + length flat.checks + length labels ≤ 3 + length base.labels + base.cells + 6 * weight_of core base
   pub nodes_fit : length flat.nodes ≤ most_nodes
   pub checks_fit : length flat.checks ≤ most_nodes
   pub labels_fit : length labels ≤ length base.labels + most_nodes

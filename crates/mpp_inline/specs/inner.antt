@@ -3,5 +3,6 @@
 pub mod Cells
 pub mod Growth
 pub mod Work
+pub mod Sizes
 pub mod Told
 pub mod Ruleless

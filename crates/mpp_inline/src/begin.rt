@@ -1,11 +1,13 @@
 //! The first nodes, and the outputs at the end.
 
-ghost use Rattle.std.specs.Prelude.{◌≡◌, ◌++◌, pos, IfOk, OnOk, length, map, replicate, slice_index_or};
+ghost use Rattle.std.specs.Prelude.{◌≡◌, ◌<◌, ◌≤◌, ◌+◌, ◌^◌, ◌++◌, pos, IfOk, OnOk, length, map, replicate, slice_index_or};
 ghost use Rattle.m_fixed.specs.declared.amount.Value.TheVariants.{Num};
 ghost use Rattle.observables.specs.declared.face.FaceLabel.TheVariants.{Verif};
-ghost use Rattle.m_symbols.specs.Declarations.{inputs_from};
+ghost use Rattle.m_ast.specs.Items.{cells_in, size_in};
+ghost use Rattle.m_symbols.specs.Declarations.{inputs_from, owners_from, placed_from};
 ghost use Rattle.driver_core.specs.Answers.{start_from, first_value, next_input};
 ghost use Rattle.mpp_inline.specs.inner.Growth.{Sane, Gives, Begun, HasLiterals, InputIsThere};
+ghost use Rattle.mpp_inline.specs.inner.Sizes.{load};
 
 use crate::builder::{Builder, UNDEF};
 use crate::cells::look;
@@ -20,8 +22,10 @@ use std::alloc::{AllocError, Global};
 
 /// The three literals, and the labels of the rules.
 pub fn first_nodes(alloc: Global, inputs: u32, base: &Base) -> Result<Builder, AllocError>
+    requires { 3 + length base.now.labels < 2 ^ 32 }
     ensures literals { IfOk result (HasLiterals base.now.labels) }
     ensures inputs { IfOk result (λ b. b.inputs ≡ inputs) }
+    ensures size { IfOk result (λ b. load b ≡ 3 + length base.now.labels) }
 {
     let mut b = Builder {
         inputs,
@@ -77,9 +81,12 @@ pub fn first_cells(
     b: &mut Builder,
     symbols: &Symbols,
 ) -> Result<Vec<u32>, AllocError>
-    requires { b.old.inputs ≡ length (inputs_from 0 symbols.now.variables) }
-    ensures { IfOk result (λ env. Sane b.old
+    requires inputs { b.old.inputs ≡ length (inputs_from 0 symbols.now.variables) }
+    requires placed { symbols.now.variables ≡ placed_from 0 (map (λ v. v.item) symbols.now.variables) }
+    requires room { load b.old + length (owners_from 0 symbols.now.variables) < 2 ^ 32 }
+    ensures step { IfOk result (λ env. Sane b.old
         → Begun b.old b.new (λ inputs. start_from inputs 0 symbols.now.variables) env.items) }
+    ensures size { OnOk result (load b.new ≤ load b.old + length (owners_from 0 symbols.now.variables)) }
 {
     let inputs = b.inputs;
     let mut env = Vec::new(alloc);
@@ -96,8 +103,10 @@ pub fn first_cells(
 
 /// What a variable begins with, where the next input has this number.
 fn first_node(b: &mut Builder, role: &Role, next: u32) -> Result<u32, AllocError>
-    ensures { IfOk result (λ k. Sane b.old → InputIsThere b.old.inputs next role.now
+    requires { load b.old + cells_in (size_in role.now) < 2 ^ 32 }
+    ensures step { IfOk result (λ k. Sane b.old → InputIsThere b.old.inputs next role.now
         → Gives b.old b.new (λ inputs. first_value inputs next role.now) k) }
+    ensures size { OnOk result (load b.new ≤ load b.old + cells_in (size_in role.now)) }
 {
     match role {
         Role::Input(_) => b.push(Node::Input(next)),

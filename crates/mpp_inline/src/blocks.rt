@@ -1,15 +1,17 @@
 //! Commands, done from a list of what is left. No function here calls itself.
 
-ghost use Rattle.std.specs.Prelude.{◌≡◌, ℕ, ◌-◌, ◌+◌, OnOk, IfOk, length};
+ghost use Rattle.std.specs.Prelude.{◌≡◌, ℕ, ◌<◌, ◌≤◌, ◌-◌, ◌+◌, ◌*◌, ◌^◌, OnOk, IfOk, length};
 ghost use Rattle.micro_m.specs.Bases.{IsValidBase};
 ghost use Rattle.rule_order.specs.Orders.{IsOrder};
 ghost use Rattle.rule_order.specs.declared.ordered.Ordered.{Ordered};
 ghost use Rattle.driver_core.specs.Actions.{branch, partition, call};
 ghost use Rattle.driver_core.specs.ActionView.{block_of};
 ghost use Rattle.driver_core.specs.Meaning.{called};
+ghost use Rattle.driver_core.specs.Weights.{formula_weight, weight_of};
 ghost use Rattle.mpp_inline.specs.declared.builder.Builder.{Builder};
 ghost use Rattle.mpp_inline.specs.inner.Growth.{Ready, calls, rules_in_turn};
 ghost use Rattle.mpp_inline.specs.inner.Work.{Standing, Kept, Moves, Step, Whole, ahead, block_ahead, done, point, does, whole_of};
+ghost use Rattle.mpp_inline.specs.inner.Sizes.{load, body_size, action_size, block_size, work_weight, left_weight, body_turns, action_turns, block_turns, work_turns, left_turns};
 
 use crate::branches::open_branches;
 use crate::builder::{Builder, ONE, UNDEF};
@@ -23,13 +25,14 @@ use input_kinds::KindCells;
 use rule_order::Ordered;
 use std::alloc::{AllocError, Global};
 
-/// The most turns, which no machine takes in a man's life: a billion each second take five hundred years.
-const TURNS: u64 = 18_446_744_073_709_551_615;
-
 /// The body of a function, which is empty where calls are nested too deep, and where it isn't there.
 fn body_at(core: &Core, depth: usize, function: u32) -> &[CCommand]
-    ensures { (ordered : Ordered) → does (whole_of core.now ordered) (depth - 1) result.now
+    ensures means { (ordered : Ordered) → does (whole_of core.now ordered) (depth - 1) result.now
         ≡ calls core.now ordered.base ordered.sequence depth function }
+    ensures weight { (ordered : Ordered) → block_size (whole_of core.now ordered) (depth - 1) (block_of result.now)
+        ≡ body_size (whole_of core.now ordered) depth function }
+    ensures turns { (ordered : Ordered) → block_turns (whole_of core.now ordered) (depth - 1) (block_of result.now)
+        ≡ body_turns core.now.bodies depth function }
 {
     if depth == 0 {
         return &[];
@@ -53,10 +56,16 @@ fn begin_if<'a>(
     first: &'a [CCommand],
     second: &'a [CCommand],
 ) -> Result<u32, AllocError>
-    ensures { IfOk result (λ g. (whole : Whole) → Standing whole b.old env.now guard left.old.items
+    requires { load b.old + formula_weight condition.now + 5 < 2 ^ 32 }
+    ensures step { IfOk result (λ g. (whole : Whole) → Standing whole b.old env.now guard left.old.items
         → Moves whole b.old b.new env.now g left.old.items left.new.items
         (λ inputs. ahead whole b.old inputs env.now guard depth
         (branch line condition.now (block_of first.now) (block_of second.now)))) }
+    ensures size { OnOk result ((whole : Whole) → load b.new + 6 * left_weight whole left.new.items
+        ≤ load b.old + formula_weight condition.now + 5 + 6 * (left_weight whole left.old.items
+        + block_size whole depth (block_of first.now) + block_size whole depth (block_of second.now))) }
+    ensures turns { OnOk result ((whole : Whole) → left_turns whole left.new.items ≡ left_turns whole left.old.items
+        + block_turns whole depth (block_of first.now) + block_turns whole depth (block_of second.now) + 2) }
 {
     let branches = open_branches(alloc, b, env, guard, line, condition)?;
     left.push(Work::Under(guard))?;
@@ -76,9 +85,13 @@ fn begin_partition<'a>(
     cells: &[u32],
     block: &'a [CCommand],
 ) -> Result<(), AllocError>
-    ensures { OnOk result ((whole : Whole) (b : Builder) (guard : ℕ) → Standing whole b env.old guard left.old.items
+    ensures step { OnOk result ((whole : Whole) (b : Builder) (guard : ℕ) → Standing whole b env.old guard left.old.items
         → Moves whole b b env.new guard left.old.items left.new.items
         (λ inputs. ahead whole b inputs env.old guard depth (partition line cells.now (block_of block.now)))) }
+    ensures size { OnOk result ((whole : Whole) → left_weight whole left.new.items
+        ≤ left_weight whole left.old.items + block_size whole depth (block_of block.now)) }
+    ensures turns { OnOk result ((whole : Whole) → left_turns whole left.new.items ≡ left_turns whole left.old.items
+        + block_turns whole depth (block_of block.now) + 1) }
 {
     let before = pick_cells(alloc, env, cells)?;
     blank(env, cells);
@@ -97,9 +110,13 @@ fn begin_kind<'a>(
     kind: &KindCells,
     block: &'a [CCommand],
 ) -> Result<(), AllocError>
-    ensures { OnOk result ((whole : Whole) (b : Builder) (guard : ℕ) → Standing whole b env.old guard left.old.items
+    ensures step { OnOk result ((whole : Whole) (b : Builder) (guard : ℕ) → Standing whole b env.old guard left.old.items
         → Moves whole b b env.new guard left.old.items left.new.items
         (λ inputs. ahead whole b inputs env.old guard depth (partition line kind.now (block_of block.now)))) }
+    ensures size { OnOk result ((whole : Whole) → left_weight whole left.new.items
+        ≤ left_weight whole left.old.items + block_size whole depth (block_of block.now)) }
+    ensures turns { OnOk result ((whole : Whole) → left_turns whole left.new.items ≡ left_turns whole left.old.items
+        + block_turns whole depth (block_of block.now) + 1) }
 {
     let cells = kind.cells(alloc)?;
     begin_partition(alloc, env, left, depth, line, &cells, block)
@@ -117,10 +134,14 @@ fn begin_call<'a>(
     cells: &'a [u32],
     function: u32,
 ) -> Result<(), AllocError>
-    ensures { OnOk result ((ordered : Ordered) (b : Builder) (guard : ℕ)
+    ensures step { OnOk result ((ordered : Ordered) (b : Builder) (guard : ℕ)
         → Standing (whole_of core.now ordered) b env.now guard left.old.items
         → Moves (whole_of core.now ordered) b b env.now guard left.old.items left.new.items
         (λ inputs. ahead (whole_of core.now ordered) b inputs env.now guard depth (call line names cells.now function))) }
+    ensures size { OnOk result ((ordered : Ordered) → left_weight (whole_of core.now ordered) left.new.items
+        ≤ left_weight (whole_of core.now ordered) left.old.items + body_size (whole_of core.now ordered) depth function) }
+    ensures turns { OnOk result ((ordered : Ordered) → left_turns (whole_of core.now ordered) left.new.items
+        ≡ left_turns (whole_of core.now ordered) left.old.items + body_turns core.now.bodies depth function + 1) }
 {
     let outer = env.to_vec(alloc)?;
     left.push(Work::Return(cells, outer))?;
@@ -143,9 +164,16 @@ fn begin_command<'a>(
 ) -> Result<u32, AllocError>
     requires valid { IsValidBase ordered.now.base }
     requires order { IsOrder ordered.now.base ordered.now.sequence }
-    ensures { IfOk result (λ g. Standing (whole_of core.now ordered.now) b.old env.old guard left.old.items
+    requires room { load b.old + 6 * action_size (whole_of core.now ordered.now) depth command.now < 2 ^ 32 }
+    ensures step { IfOk result (λ g. Standing (whole_of core.now ordered.now) b.old env.old guard left.old.items
         → Moves (whole_of core.now ordered.now) b.old b.new env.new g left.old.items left.new.items
         (λ inputs. ahead (whole_of core.now ordered.now) b.old inputs env.old guard depth command.now)) }
+    ensures size { OnOk result (load b.new + 6 * left_weight (whole_of core.now ordered.now) left.new.items
+        ≤ load b.old + 6 * (left_weight (whole_of core.now ordered.now) left.old.items
+        + action_size (whole_of core.now ordered.now) depth command.now)) }
+    ensures turns { OnOk result (left_turns (whole_of core.now ordered.now) left.new.items
+        ≤ left_turns (whole_of core.now ordered.now) left.old.items
+        + action_turns (whole_of core.now ordered.now) depth command.now) }
 {
     match &command.node {
         CCommandNode::Set(_, cell, term) => {
@@ -201,9 +229,16 @@ fn begin_block<'a>(
 ) -> Result<u32, AllocError>
     requires valid { IsValidBase ordered.now.base }
     requires order { IsOrder ordered.now.base ordered.now.sequence }
-    ensures { IfOk result (λ g. Standing (whole_of core.now ordered.now) b.old env.old guard left.old.items
+    requires room { load b.old + 6 * block_size (whole_of core.now ordered.now) depth (block_of block.now) < 2 ^ 32 }
+    ensures step { IfOk result (λ g. Standing (whole_of core.now ordered.now) b.old env.old guard left.old.items
         → Moves (whole_of core.now ordered.now) b.old b.new env.new g left.old.items left.new.items
         (λ inputs. block_ahead (whole_of core.now ordered.now) b.old inputs env.old guard depth block.now)) }
+    ensures size { OnOk result (load b.new + 6 * left_weight (whole_of core.now ordered.now) left.new.items
+        ≤ load b.old + 6 * (left_weight (whole_of core.now ordered.now) left.old.items
+        + block_size (whole_of core.now ordered.now) depth (block_of block.now))) }
+    ensures turns { OnOk result (left_turns (whole_of core.now ordered.now) left.new.items
+        < left_turns (whole_of core.now ordered.now) left.old.items
+        + block_turns (whole_of core.now ordered.now) depth (block_of block.now)) }
 {
     match block.split_first() {
         Some((first, rest)) => {
@@ -227,10 +262,16 @@ fn advance<'a>(
 ) -> Result<u32, AllocError>
     requires valid { IsValidBase ordered.now.base }
     requires order { IsOrder ordered.now.base ordered.now.sequence }
-    ensures { IfOk result (λ g. Standing (whole_of core.now ordered.now) b.old env.old.items guard left.old.items
+    requires room { load b.old + 6 * work_weight (whole_of core.now ordered.now) work < 2 ^ 32 }
+    ensures step { IfOk result (λ g. Standing (whole_of core.now ordered.now) b.old env.old.items guard left.old.items
         → Kept b.old work.entry
         → Moves (whole_of core.now ordered.now) b.old b.new env.new.items g left.old.items left.new.items
         (λ inputs. done (whole_of core.now ordered.now) b.old inputs work.entry (point b.old inputs env.old.items guard))) }
+    ensures size { OnOk result (load b.new + 6 * left_weight (whole_of core.now ordered.now) left.new.items
+        ≤ load b.old + 6 * (left_weight (whole_of core.now ordered.now) left.old.items
+        + work_weight (whole_of core.now ordered.now) work.entry)) }
+    ensures turns { OnOk result (left_turns (whole_of core.now ordered.now) left.new.items
+        < left_turns (whole_of core.now ordered.now) left.old.items + work_turns (whole_of core.now ordered.now) work.entry) }
 {
     match work {
         Work::Run(depth, block) => {
@@ -261,7 +302,9 @@ pub fn emit_all(
 ) -> Result<(), AllocError>
     requires valid { IsValidBase ordered.now.base }
     requires order { IsOrder ordered.now.base ordered.now.sequence }
-    ensures { OnOk result (Ready ordered.now.base.labels b.old env.old.items 2
+    requires room { load b.old + 6 * weight_of core.now ordered.now.base < 2 ^ 32 }
+    ensures size { OnOk result (load b.new ≤ load b.old + 6 * weight_of core.now ordered.now.base) }
+    ensures step { OnOk result (Ready ordered.now.base.labels b.old env.old.items 2
         → Step b.old b.new 2 env.old.items env.new.items
         (called (rules_in_turn ordered.now.base ordered.now.sequence) core.now.bodies (length core.now.bodies + 1) core.now.main)) }
 {
@@ -269,12 +312,7 @@ pub fn emit_all(
     let main = body_at(core, core.bodies.as_slice().len() + 1, core.main);
     left.push(Work::Run(core.bodies.as_slice().len(), main))?;
     let mut guard = ONE;
-    let mut turns = TURNS;
     while let Some(work) = left.pop() {
-        if turns == 0 {
-            return Err(AllocError);
-        }
-        turns -= 1;
         guard = advance(alloc, b, env, guard, core, ordered, &mut left, work)?;
     }
     Ok(())

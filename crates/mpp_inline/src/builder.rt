@@ -1,7 +1,8 @@
 //! A flat program that grows.
 
-ghost use Rattle.std.specs.Prelude.{IfOk, OnOk};
+ghost use Rattle.std.specs.Prelude.{◌<◌, ◌^◌, IfOk, OnOk};
 ghost use Rattle.mpp_inline.specs.inner.Growth.{Pushed, CheckedRule, CheckedLine};
+ghost use Rattle.mpp_inline.specs.inner.Sizes.{load};
 
 use flat_code::{Check, Node};
 use observables::FaceLabel;
@@ -14,10 +15,6 @@ pub const ZERO: u32 = 1;
 /// The literal 1, the guard of what is always reached.
 pub const ONE: u32 = 2;
 
-/// The most nodes, and the most checks. A driver of the greatest weight needs about a fifth of them, where no call of the
-/// rules gives one cell back many times.
-pub const MOST: usize = 100_000_000;
-
 /// The program so far: how many inputs there are, the nodes, the checks, and what the labels tell.
 #[derive(Drop)]
 pub struct Builder {
@@ -28,13 +25,11 @@ pub struct Builder {
 }
 
 impl Builder {
-    /// One more node, and its number. More than 100,000,000 are refused as want of memory.
+    /// One more node, and its number.
     pub fn push(&mut self, node: Node) -> Result<u32, AllocError>
+        requires { load self.old < 2 ^ 32 }
         ensures { IfOk result (λ k. Pushed self.old self.new node k) }
     {
-        if self.nodes.len() >= MOST {
-            return Err(AllocError);
-        }
         let number = self.nodes.len() as u32;
         self.nodes.extend_from_slice(&[node])?;
         Ok(number)
@@ -55,11 +50,9 @@ impl Builder {
 
     /// A check for over alone, with a label of its own for the line.
     pub fn check_line(&mut self, guard: u32, condition: u32, line: u32) -> Result<(), AllocError>
+        requires { load self.old < 2 ^ 32 }
         ensures { OnOk result (CheckedLine self.old self.new guard condition line) }
     {
-        if self.labels.len() >= u32::MAX as usize {
-            return Err(AllocError);
-        }
         let label = self.labels.len() as u32;
         self.labels.push(FaceLabel::DriverLine(line))?;
         self.checks.push(Check {

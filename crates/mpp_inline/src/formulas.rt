@@ -1,11 +1,13 @@
 //! Terms of the driver, as nodes.
 
-ghost use Rattle.std.specs.Prelude.{◌<◌, IfOk, slice_index_or};
+ghost use Rattle.std.specs.Prelude.{◌<◌, ◌≤◌, ◌+◌, ◌*◌, ◌^◌, map, length, IfOk, OnOk, slice_index_or};
 ghost use Rattle.m_fixed.specs.declared.amount.Value.TheVariants.{Undef};
 ghost use Rattle.micro_m.specs.Values.{environment, applied};
 ghost use Rattle.driver_core.specs.FormulaView.{formulas_of, steps_of};
 ghost use Rattle.driver_core.specs.Meaning.{formula_value, formula_values, steps_value, present_in, present_or, any_present};
+ghost use Rattle.driver_core.specs.Weights.{formula_weight, formulas_weight, steps_weight};
 ghost use Rattle.mpp_inline.specs.inner.Growth.{Sane, Known, Gives, TermStep, at, count, denoted};
+ghost use Rattle.mpp_inline.specs.inner.Sizes.{load};
 
 use crate::builder::{Builder, UNDEF, ZERO};
 use crate::cells::look;
@@ -23,8 +25,10 @@ pub fn emit_formula(
     env: &[u32],
     term: &CTerm,
 ) -> Result<u32, AllocError>
-    ensures { IfOk result (λ k. Sane b.old → Known b.old env.now
+    requires { load b.old + formula_weight term.now < 2 ^ 32 }
+    ensures step { IfOk result (λ k. Sane b.old → Known b.old env.now
         → TermStep b.old b.new env.now (λ e. formula_value e term.now) k) }
+    ensures size { OnOk result (load b.new ≤ load b.old + formula_weight term.now) }
 {
     match &term.node {
         CNode::Lit(value) => b.push(Node::Lit(*value)),
@@ -47,8 +51,10 @@ fn emit_applied(
     op: Op,
     arguments: &[CTerm],
 ) -> Result<u32, AllocError>
-    ensures { IfOk result (λ k. Sane b.old → Known b.old env.now
+    requires { load b.old + formulas_weight (formulas_of arguments.now) + 1 < 2 ^ 32 }
+    ensures step { IfOk result (λ k. Sane b.old → Known b.old env.now
         → TermStep b.old b.new env.now (λ e. applied op (formula_values e (formulas_of arguments.now))) k) }
+    ensures size { OnOk result (load b.new ≤ load b.old + formulas_weight (formulas_of arguments.now) + 1) }
 {
     let first = emit_argument(alloc, b, env, arguments, 0)?;
     let second = emit_argument(alloc, b, env, arguments, 1)?;
@@ -65,8 +71,10 @@ fn emit_argument(
     arguments: &[CTerm],
     place: usize,
 ) -> Result<u32, AllocError>
-    ensures { IfOk result (λ k. Sane b.old → Known b.old env.now
+    requires { load b.old + slice_index_or (map formula_weight arguments.now) place 0 < 2 ^ 32 }
+    ensures step { IfOk result (λ k. Sane b.old → Known b.old env.now
         → TermStep b.old b.new env.now (λ e. slice_index_or (formula_values e (formulas_of arguments.now)) place Undef) k) }
+    ensures size { OnOk result (load b.new ≤ load b.old + slice_index_or (map formula_weight arguments.now) place 0) }
 {
     match arguments.get(place) {
         Some(argument) => emit_formula(alloc, b, env, argument),
@@ -83,9 +91,11 @@ fn emit_steps(
     so_far: u32,
     steps: &[CStep],
 ) -> Result<u32, AllocError>
-    ensures { IfOk result (λ k. Sane b.old → Known b.old env.now → so_far < count b.old
+    requires { load b.old + steps_weight (steps_of steps.now) < 2 ^ 32 }
+    ensures step { IfOk result (λ k. Sane b.old → Known b.old env.now → so_far < count b.old
         → Gives b.old b.new
         (λ inputs. steps_value (environment (denoted b.old inputs env.now)) (at b.old inputs so_far) (steps_of steps.now)) k) }
+    ensures size { OnOk result (load b.new ≤ load b.old + steps_weight (steps_of steps.now)) }
 {
     let mut number = so_far;
     for step in steps {
@@ -102,8 +112,10 @@ fn emit_exists(
     env: &[u32],
     kind: &KindCells,
 ) -> Result<u32, AllocError>
-    ensures { IfOk result (λ k. Sane b.old → Known b.old env.now
+    requires { load b.old + 2 * length kind.now + 1 < 2 ^ 32 }
+    ensures step { IfOk result (λ k. Sane b.old → Known b.old env.now
         → TermStep b.old b.new env.now (λ e. any_present e kind.now) k) }
+    ensures size { OnOk result (load b.new ≤ load b.old + 2 * length kind.now + 1) }
 {
     let cells = kind.cells(alloc)?;
     emit_any(b, env, &cells)
@@ -111,8 +123,10 @@ fn emit_exists(
 
 /// Whether one of these cells is defined, and 0 where there are none.
 fn emit_any(b: &mut Builder, env: &[u32], cells: &[u32]) -> Result<u32, AllocError>
-    ensures { IfOk result (λ k. Sane b.old → Known b.old env.now
+    requires { load b.old + 2 * length cells.now + 1 < 2 ^ 32 }
+    ensures step { IfOk result (λ k. Sane b.old → Known b.old env.now
         → TermStep b.old b.new env.now (λ e. any_present e cells.now) k) }
+    ensures size { OnOk result (load b.new ≤ load b.old + 2 * length cells.now + 1) }
 {
     match cells.split_first() {
         Some((first, rest)) => {
@@ -125,15 +139,19 @@ fn emit_any(b: &mut Builder, env: &[u32], cells: &[u32]) -> Result<u32, AllocErr
 
 /// Whether a cell is defined.
 fn emit_present(b: &mut Builder, env: &[u32], cell: u32) -> Result<u32, AllocError>
-    ensures { IfOk result (λ k. Sane b.old → Known b.old env.now
+    requires { load b.old < 2 ^ 32 }
+    ensures step { IfOk result (λ k. Sane b.old → Known b.old env.now
         → TermStep b.old b.new env.now (λ e. present_in e cell) k) }
+    ensures size { OnOk result (load b.new ≤ load b.old + 1) }
 {
     b.push(Node::Do(Op::Present, look(env, cell as usize), UNDEF, UNDEF))
 }
 
 /// So far, or one of these cells is defined.
 fn emit_further(b: &mut Builder, env: &[u32], so_far: u32, cells: &[u32]) -> Result<u32, AllocError>
-    ensures { IfOk result (λ k. Sane b.old → Known b.old env.now → so_far < count b.old
+    requires { load b.old + 2 * length cells.now < 2 ^ 32 }
+    ensures size { OnOk result (load b.new ≤ load b.old + 2 * length cells.now) }
+    ensures step { IfOk result (λ k. Sane b.old → Known b.old env.now → so_far < count b.old
         → Gives b.old b.new
         (λ inputs. present_or (environment (denoted b.old inputs env.now)) (at b.old inputs so_far) cells.now) k) }
 {

@@ -1,20 +1,24 @@
 //! The whole pass.
 
-ghost use Rattle.std.specs.Prelude.{◌≡◌, ℕ, List, length, IfOk};
+ghost use Rattle.std.specs.Prelude.{◌≡◌, ℕ, ◌<◌, ◌≤◌, ◌+◌, ◌*◌, ◌^◌, List, length, map, IfOk, OnOk};
 ghost use Rattle.m_places.specs.Refusals.{Outcome};
-ghost use Rattle.m_symbols.specs.Declarations.{Declared, owners_from, inputs_from};
+ghost use Rattle.m_places.specs.declared.limits.TheConstants.{CELLS, PARTS, DRIVER_WEIGHT};
+ghost use Rattle.m_symbols.specs.Declarations.{Declared, owners_from, inputs_from, placed_from};
+ghost use Rattle.micro_m.specs.declared.base.Base.{Base};
 ghost use Rattle.micro_m.specs.Bases.{IsValidBase};
 ghost use Rattle.rule_order.specs.Orders.{IsOrder};
 ghost use Rattle.mpp_inline.specs.declared.fault.InlineFault.TheVariants.{Memory};
 ghost use Rattle.driver_core.specs.declared.program.Core.{Core};
+ghost use Rattle.driver_core.specs.Weights.{weight_of};
 ghost use Rattle.mpp_inline.specs.Inlined.{IsInlined, HasWeight, IsTooLarge};
 ghost use Rattle.mpp_inline.specs.inner.Growth.{HasLiterals};
+ghost use Rattle.mpp_inline.specs.inner.Sizes.{load};
 ghost use Rattle.mpp_inline.specs.inner.Told.{Answers};
 
 use crate::InlineFault;
 use crate::begin::{first_cells, first_nodes, outputs_of};
 use crate::blocks::emit_all;
-use crate::builder::{Builder, MOST};
+use crate::builder::Builder;
 use crate::ruleless::{is_ruleless, without_rules};
 use driver_core::Core;
 use driver_weight::weight;
@@ -23,7 +27,6 @@ use observables::FaceLabel;
 use m_places::Seq;
 use m_places::limits::DRIVER_WEIGHT;
 use m_symbols::Symbols;
-use micro_m::Base;
 use rule_order::Ordered;
 use std::alloc::{AllocError, Global};
 
@@ -31,8 +34,8 @@ use std::alloc::{AllocError, Global};
 /// answers what the driver does. The inputs are those of the symbols in order, and there is an output for each requested cell.
 ///
 /// The base has the cells of the symbols and is ordered, as `order` answers it. Where the driver weighs more than 4,000,000,
-/// it is refused before any node is made. No call is as deep as a chain of functions. Where functions call each other in a
-/// ring, it gives up as for want of memory.
+/// it is refused before any node is made; else the program has at most 6 nodes, checks and labels for each unit of the weight, one
+/// node for each cell, and 3 nodes and the labels of the base besides. No call is as deep as a chain of functions.
 pub fn inline(
     alloc: Global,
     core: &Core,
@@ -43,6 +46,9 @@ pub fn inline(
     requires base { IsValidBase ordered.now.base }
     requires order { IsOrder ordered.now.base ordered.now.sequence }
     requires cells { ordered.now.base.cells ≡ length (owners_from 0 symbols.now.variables) }
+    requires placed { symbols.now.variables ≡ placed_from 0 (map (λ v. v.item) symbols.now.variables) }
+    requires few_cells { ordered.now.base.cells ≤ CELLS }
+    requires few_labels { length ordered.now.base.labels ≤ PARTS }
     ensures outcome { Outcome Memory result
         (λ made. HasWeight core.now ordered.now.base
         × IsInlined core.now ordered.now.base symbols.now requests.now made.0 made.1)
@@ -56,8 +62,7 @@ pub fn inline(
     Ok(made)
 }
 
-/// The same, whatever the driver weighs. It gives up as for want of memory where it comes to more than 100,000,000 nodes or
-/// checks.
+/// The same, for a driver that isn't too heavy.
 ///
 /// A call of the rules over a base that has none weighs nothing, so there may be any number of such calls. They are left out of
 /// the driver at first.
@@ -71,6 +76,10 @@ fn flat_program(
     requires base { IsValidBase ordered.now.base }
     requires order { IsOrder ordered.now.base ordered.now.sequence }
     requires cells { ordered.now.base.cells ≡ length (owners_from 0 symbols.now.variables) }
+    requires placed { symbols.now.variables ≡ placed_from 0 (map (λ v. v.item) symbols.now.variables) }
+    requires few_cells { ordered.now.base.cells ≤ CELLS }
+    requires few_labels { length ordered.now.base.labels ≤ PARTS }
+    requires light { weight_of core.now ordered.now.base ≤ DRIVER_WEIGHT }
     ensures { IfOk result (λ made. IsInlined core.now ordered.now.base symbols.now requests.now made.0 made.1) }
 {
     if is_ruleless(&ordered.base) {
@@ -91,11 +100,15 @@ fn whole_program(
     requires base { IsValidBase ordered.now.base }
     requires order { IsOrder ordered.now.base ordered.now.sequence }
     requires cells { ordered.now.base.cells ≡ length (owners_from 0 symbols.now.variables) }
+    requires placed { symbols.now.variables ≡ placed_from 0 (map (λ v. v.item) symbols.now.variables) }
+    requires few_cells { ordered.now.base.cells ≤ CELLS }
+    requires few_labels { length ordered.now.base.labels ≤ PARTS }
+    requires light { weight_of core.now ordered.now.base ≤ DRIVER_WEIGHT }
     ensures { IfOk result (λ made. IsInlined core.now ordered.now.base symbols.now requests.now made.0 made.1) }
 {
     let mut b = first_nodes(alloc, symbols.inputs(), &ordered.base)?;
     let outputs = emit_driver(alloc, &mut b, core, ordered, symbols, requests)?;
-    finished(b, outputs, &ordered.base)
+    Ok(finished(b, outputs))
 }
 
 /// What the driver does, from its inputs to the nodes of the requested cells.
@@ -111,7 +124,10 @@ fn emit_driver(
     requires order { IsOrder ordered.now.base ordered.now.sequence }
     requires cells { ordered.now.base.cells ≡ length (owners_from 0 symbols.now.variables) }
     requires inputs { b.old.inputs ≡ length (inputs_from 0 symbols.now.variables) }
-    ensures { IfOk result (λ outputs. HasLiterals ordered.now.base.labels b.old
+    requires placed { symbols.now.variables ≡ placed_from 0 (map (λ v. v.item) symbols.now.variables) }
+    requires room { load b.old + ordered.now.base.cells + 6 * weight_of core.now ordered.now.base < 2 ^ 32 }
+    ensures size { OnOk result (load b.new ≤ load b.old + ordered.now.base.cells + 6 * weight_of core.now ordered.now.base) }
+    ensures answers { IfOk result (λ outputs. HasLiterals ordered.now.base.labels b.old
         → Answers core.now ordered.now.base symbols.now requests.now b.new outputs.items) }
 {
     let mut env = first_cells(alloc, b, symbols)?;
@@ -119,23 +135,14 @@ fn emit_driver(
     outputs_of(alloc, &env, requests)
 }
 
-/// The program with its outputs, if it isn't too large.
-fn finished(
-    b: Builder,
-    outputs: Vec<u32>,
-    base: &Base,
-) -> Result<(Flat, Seq<FaceLabel>), AllocError>
-    ensures { IfOk result (λ made. (core : Core) (declared : Declared) (requests : List ℕ)
-        → Answers core base.now declared requests b outputs.items
-        → IsInlined core base.now declared requests made.0 made.1) }
+/// The program with its outputs.
+fn finished(b: Builder, outputs: Vec<u32>) -> (Flat, Seq<FaceLabel>)
+    ensures { (core : Core) (base : Base) (declared : Declared) (requests : List ℕ)
+        → Answers core base declared requests b outputs.items
+        → base.cells ≤ CELLS → weight_of core base ≤ DRIVER_WEIGHT
+        → load b ≤ 3 + length base.labels + base.cells + 6 * weight_of core base
+        → IsInlined core base declared requests result.0 result.1 }
 {
-    let first = base.labels.as_slice().len();
-    if b.nodes.len() > MOST
-        || b.checks.len() > MOST
-        || b.labels.len().saturating_sub(first) > MOST
-    {
-        return Err(AllocError);
-    }
     let Builder {
         inputs,
         nodes,
@@ -148,5 +155,5 @@ fn finished(
         checks: Seq::from_vec(checks),
         outputs: Seq::from_vec(outputs),
     };
-    Ok((flat, Seq::from_vec(labels)))
+    (flat, Seq::from_vec(labels))
 }

@@ -1,12 +1,15 @@
 //! The rules, written out.
 
-ghost use Rattle.std.specs.Prelude.{◌≡◌, OnOk, IfOk};
+ghost use Rattle.std.specs.Prelude.{◌≡◌, ◌<◌, ◌≤◌, ◌+◌, ◌*◌, ◌^◌, length, OnOk, IfOk};
+ghost use Rattle.std.specs.List.{sum_by};
 ghost use Rattle.micro_m.specs.Bases.{IsValidBase};
 ghost use Rattle.rule_order.specs.Orders.{IsOrder, cells_at};
 ghost use Rattle.driver_core.specs.Meaning.{goes};
+ghost use Rattle.driver_core.specs.Weights.{check_weight, base_weight};
 ghost use Rattle.mpp_inline.specs.inner.Cells.{picked};
 ghost use Rattle.mpp_inline.specs.inner.Growth.{Sane, Known, Ready, Computed, Stage, SameBut, checked, computed, rules_in_turn};
 ghost use Rattle.mpp_inline.specs.inner.Work.{Step};
+ghost use Rattle.mpp_inline.specs.inner.Sizes.{load, positions_weight};
 
 use crate::builder::Builder;
 use crate::cells::{look, pick_cells, put, write};
@@ -37,10 +40,13 @@ fn pick_defined(
 
 /// Each definition in turn.
 fn emit_definitions(b: &mut Builder, env: &mut [u32], ordered: &Ordered) -> Result<(), AllocError>
-    requires { IsOrder ordered.now.base ordered.now.sequence }
+    requires order { IsOrder ordered.now.base ordered.now.sequence }
+    requires room { load b.old + 2 * positions_weight ordered.now.base ordered.now.sequence < 2 ^ 32 }
     ensures step { OnOk result (Sane b.old → Known b.old env.old
         → Computed b.old b.new env.old env.new (λ e. e) (computed ordered.now.base ordered.now.sequence)) }
     ensures frame { OnOk result (SameBut (cells_at ordered.now.base ordered.now.sequence) env.old env.new) }
+    ensures size { OnOk result (load b.new + length ordered.now.sequence
+        ≤ load b.old + 2 * positions_weight ordered.now.base ordered.now.sequence) }
 {
     let definitions = ordered.base.definitions.as_slice();
     for position in ordered.sequence.as_slice() {
@@ -53,9 +59,11 @@ fn emit_definitions(b: &mut Builder, env: &mut [u32], ordered: &Ordered) -> Resu
 
 /// Each check in turn, under this guard.
 fn emit_checks(b: &mut Builder, env: &[u32], guard: u32, base: &Base) -> Result<(), AllocError>
-    requires { IsValidBase base.now }
-    ensures { OnOk result (Ready base.now.labels b.old env.now guard
+    requires valid { IsValidBase base.now }
+    requires room { load b.old + 2 * sum_by check_weight base.now.checks < 2 ^ 32 }
+    ensures step { OnOk result (Ready base.now.labels b.old env.now guard
         → Stage b.old b.new guard env.now env.now (λ e. goes e) (checked base.now.labels base.now.checks)) }
+    ensures size { OnOk result (load b.new ≤ load b.old + 2 * sum_by check_weight base.now.checks) }
 {
     for (condition, label, _) in base.checks.as_slice() {
         let value = emit_term(b, env, condition)?;
@@ -64,7 +72,9 @@ fn emit_checks(b: &mut Builder, env: &[u32], guard: u32, base: &Base) -> Result<
     Ok(())
 }
 
-/// The rules on a copy of the environment, of which these cells come back. Only the cells that are defined are put aside.
+/// The rules on a copy of the environment, of which these cells come back. Only the cells that are defined are put aside. Where more
+/// come back than are defined, as where one comes back often, the defined cells are chosen instead: so the definitions pay for
+/// all choices.
 pub fn emit_rules(
     alloc: Global,
     b: &mut Builder,
@@ -75,13 +85,24 @@ pub fn emit_rules(
 ) -> Result<(), AllocError>
     requires valid { IsValidBase ordered.now.base }
     requires order { IsOrder ordered.now.base ordered.now.sequence }
-    ensures { OnOk result (Ready ordered.now.base.labels b.old env.old guard
+    requires room { load b.old + 2 * base_weight ordered.now.base < 2 ^ 32 }
+    ensures step { OnOk result (Ready ordered.now.base.labels b.old env.old guard
         → Step b.old b.new guard env.old env.new (rules_in_turn ordered.now.base ordered.now.sequence cells.now)) }
+    ensures size { OnOk result (load b.new ≤ load b.old + 2 * base_weight ordered.now.base) }
 {
     let before = pick_defined(alloc, env, ordered)?;
     emit_definitions(b, env, ordered)?;
     emit_checks(b, env, guard, &ordered.base)?;
+    if cells.len() <= before.len() {
+        let given = pick_cells(alloc, env, cells)?;
+        write(env, &before);
+        return write_under(b, env, guard, &given);
+    }
+    let after = pick_defined(alloc, env, ordered)?;
+    write(env, &before);
+    write_under(b, env, guard, &after)?;
     let given = pick_cells(alloc, env, cells)?;
     write(env, &before);
-    write_under(b, env, guard, &given)
+    write(env, &given);
+    Ok(())
 }

@@ -1,12 +1,14 @@
 //! Tables read at an index, as nodes.
 
-ghost use Rattle.std.specs.Prelude.{◌≡◌, ◌<◌, ◌+◌, ◌*◌, pos, negsuc, IfOk, IfSome};
+ghost use Rattle.std.specs.Prelude.{◌≡◌, ℕ, ◌<◌, ◌≤◌, ◌+◌, ◌*◌, ◌^◌, pos, negsuc, IfOk, OnOk, IfSome, None};
 ghost use Rattle.m_fixed.specs.declared.amount.Value.TheVariants.{Num, Undef};
 ghost use Rattle.m_fixed.specs.declared.operator.Op.TheVariants.{At};
 ghost use Rattle.m_fixed.specs.Operators.{op_value, chosen};
 ghost use Rattle.micro_m.specs.Trees.{lit};
 ghost use Rattle.micro_m.specs.Values.{environment, picked, picked_value};
+ghost use Rattle.driver_core.specs.Weights.{read_weight};
 ghost use Rattle.mpp_inline.specs.inner.Growth.{Sane, Known, Gives, TermStep, at, count, denoted, outside};
+ghost use Rattle.mpp_inline.specs.inner.Sizes.{load};
 
 use crate::builder::{Builder, UNDEF, ZERO};
 use crate::cells::look;
@@ -20,7 +22,8 @@ const UNIT: i128 = 1_000_000;
 
 /// The value of an index that is a literal.
 pub fn literal_of(index: &MTerm) -> Option<Value>
-    ensures { IfSome result (λ value. index.now ≡ lit value) }
+    ensures is { IfSome result (λ value. index.now ≡ lit value) }
+    ensures weight { result ≡ None → (size weight : ℕ) → read_weight size index.now weight ≡ weight + 2 * size + 2 }
 {
     match &index.node {
         MNode::Lit(value) => Some(*value),
@@ -33,8 +36,10 @@ pub fn literal_of(index: &MTerm) -> Option<Value>
 
 /// What a table comes to at a literal index.
 pub fn emit_picked(b: &mut Builder, env: &[u32], place: Picked) -> Result<u32, AllocError>
-    ensures { IfOk result (λ k. Sane b.old → Known b.old env.now
+    requires { load b.old < 2 ^ 32 }
+    ensures step { IfOk result (λ k. Sane b.old → Known b.old env.now
         → TermStep b.old b.new env.now (λ e. picked_value e place) k) }
+    ensures size { OnOk result (load b.new ≤ load b.old + 1) }
 {
     match place {
         Picked::Cell(cell) => Ok(look(env, cell)),
@@ -51,9 +56,11 @@ pub fn emit_table(
     size: u32,
     index: u32,
 ) -> Result<u32, AllocError>
-    ensures { IfOk result (λ k. Sane b.old → Known b.old env.now → index < count b.old
+    requires { load b.old + 3 * size + 3 < 2 ^ 32 }
+    ensures step { IfOk result (λ k. Sane b.old → Known b.old env.now → index < count b.old
         → Gives b.old b.new
         (λ inputs. picked_value (environment (denoted b.old inputs env.now)) (picked first size (at b.old inputs index))) k) }
+    ensures size { OnOk result (load b.new ≤ load b.old + 3 * size + 3) }
 {
     let mut number = emit_outside(b, index)?;
     let mut left = size;
@@ -67,8 +74,10 @@ pub fn emit_table(
 
 /// What a table comes to at an index that means none of its cells.
 fn emit_outside(b: &mut Builder, index: u32) -> Result<u32, AllocError>
-    ensures { IfOk result (λ k. Sane b.old → index < count b.old
+    requires { load b.old + 3 < 2 ^ 32 }
+    ensures step { IfOk result (λ k. Sane b.old → index < count b.old
         → Gives b.old b.new (λ inputs. outside (at b.old inputs index)) k) }
+    ensures size { OnOk result (load b.new ≤ load b.old + 3) }
 {
     let limit = b.push(Node::Lit(unit_below()))?;
     let below = b.push(Node::Do(Op::Le, index, limit, UNDEF))?;
@@ -83,10 +92,12 @@ fn emit_cell(
     cell: u32,
     other: u32,
 ) -> Result<u32, AllocError>
-    ensures { IfOk result (λ k. Sane b.old → index < count b.old → cell < count b.old → other < count b.old
+    requires { load b.old + 3 < 2 ^ 32 }
+    ensures step { IfOk result (λ k. Sane b.old → index < count b.old → cell < count b.old → other < count b.old
         → Gives b.old b.new
         (λ inputs. chosen (op_value At (at b.old inputs index) (Num (pos (place * 1000000))) Undef)
         (at b.old inputs cell) (at b.old inputs other)) k) }
+    ensures size { OnOk result (load b.new ≤ load b.old + 3) }
 {
     let meant = b.push(Node::Lit(units(place)))?;
     let test = b.push(Node::Do(Op::At, index, meant, UNDEF))?;

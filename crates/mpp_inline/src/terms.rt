@@ -1,10 +1,12 @@
 //! Terms of the rules, as nodes.
 
-ghost use Rattle.std.specs.Prelude.{◌<◌, IfOk, slice_index_or};
+ghost use Rattle.std.specs.Prelude.{◌<◌, ◌≤◌, ◌+◌, ◌*◌, ◌^◌, map, IfOk, OnOk, slice_index_or};
 ghost use Rattle.m_fixed.specs.declared.amount.Value.TheVariants.{Undef};
 ghost use Rattle.micro_m.specs.Views.{trees_of, steps_of};
 ghost use Rattle.micro_m.specs.Values.{environment, term_value, argument_values, applied, folded, picked, picked_value};
+ghost use Rattle.driver_core.specs.Weights.{read_weight, tree_weight, trees_weight, tree_steps_weight};
 ghost use Rattle.mpp_inline.specs.inner.Growth.{Sane, Known, Gives, TermStep, at, count, denoted};
+ghost use Rattle.mpp_inline.specs.inner.Sizes.{load};
 
 use crate::builder::{Builder, UNDEF};
 use crate::cells::look;
@@ -17,8 +19,10 @@ use std::alloc::AllocError;
 /// The node with the value of a term.
 #[cycle(terms)]
 pub fn emit_term(b: &mut Builder, env: &[u32], term: &MTerm) -> Result<u32, AllocError>
-    ensures { IfOk result (λ k. Sane b.old → Known b.old env.now
+    requires { load b.old + 2 * tree_weight term.now < 2 ^ 32 }
+    ensures step { IfOk result (λ k. Sane b.old → Known b.old env.now
         → TermStep b.old b.new env.now (λ e. term_value e term.now) k) }
+    ensures size { OnOk result (load b.new ≤ load b.old + 2 * tree_weight term.now) }
 {
     match &term.node {
         MNode::Lit(value) => b.push(Node::Lit(*value)),
@@ -41,8 +45,10 @@ fn emit_read(
     size: u32,
     index: &MTerm,
 ) -> Result<u32, AllocError>
-    ensures { IfOk result (λ k. Sane b.old → Known b.old env.now
+    requires { load b.old + 2 * read_weight size index.now (tree_weight index.now) < 2 ^ 32 }
+    ensures step { IfOk result (λ k. Sane b.old → Known b.old env.now
         → TermStep b.old b.new env.now (λ e. picked_value e (picked first size (term_value e index.now))) k) }
+    ensures size { OnOk result (load b.new ≤ load b.old + 2 * read_weight size index.now (tree_weight index.now)) }
 {
     match literal_of(index) {
         Some(value) => emit_picked(b, env, pick(first, size, value)),
@@ -61,8 +67,10 @@ fn emit_applied(
     op: Op,
     arguments: &[MTerm],
 ) -> Result<u32, AllocError>
-    ensures { IfOk result (λ k. Sane b.old → Known b.old env.now
+    requires { load b.old + 2 * trees_weight (trees_of arguments.now) + 1 < 2 ^ 32 }
+    ensures step { IfOk result (λ k. Sane b.old → Known b.old env.now
         → TermStep b.old b.new env.now (λ e. applied op (argument_values e (trees_of arguments.now))) k) }
+    ensures size { OnOk result (load b.new ≤ load b.old + 2 * trees_weight (trees_of arguments.now) + 1) }
 {
     let first = emit_argument(b, env, arguments, 0)?;
     let second = emit_argument(b, env, arguments, 1)?;
@@ -78,8 +86,10 @@ fn emit_argument(
     arguments: &[MTerm],
     place: usize,
 ) -> Result<u32, AllocError>
-    ensures { IfOk result (λ k. Sane b.old → Known b.old env.now
+    requires { load b.old + 2 * slice_index_or (map tree_weight arguments.now) place 0 < 2 ^ 32 }
+    ensures step { IfOk result (λ k. Sane b.old → Known b.old env.now
         → TermStep b.old b.new env.now (λ e. slice_index_or (argument_values e (trees_of arguments.now)) place Undef) k) }
+    ensures size { OnOk result (load b.new ≤ load b.old + 2 * slice_index_or (map tree_weight arguments.now) place 0) }
 {
     match arguments.get(place) {
         Some(argument) => emit_term(b, env, argument),
@@ -90,7 +100,9 @@ fn emit_argument(
 /// A left fold, gone on with from a node so far.
 #[cycle(terms)]
 fn emit_steps(b: &mut Builder, env: &[u32], so_far: u32, steps: &[Step]) -> Result<u32, AllocError>
-    ensures { IfOk result (λ k. Sane b.old → Known b.old env.now → so_far < count b.old
+    requires { load b.old + 2 * tree_steps_weight (steps_of steps.now) < 2 ^ 32 }
+    ensures size { OnOk result (load b.new ≤ load b.old + 2 * tree_steps_weight (steps_of steps.now)) }
+    ensures step { IfOk result (λ k. Sane b.old → Known b.old env.now → so_far < count b.old
         → Gives b.old b.new
         (λ inputs. folded (environment (denoted b.old inputs env.now)) (at b.old inputs so_far) (steps_of steps.now)) k) }
 {

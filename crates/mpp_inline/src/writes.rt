@@ -1,7 +1,8 @@
 //! Writes that count where a guard is 1.
 
-ghost use Rattle.std.specs.Prelude.{◌<◌, [], ◌∷◌, OnOk};
-ghost use Rattle.mpp_inline.specs.inner.Growth.{Placed, Held, Merged, count};
+ghost use Rattle.std.specs.Prelude.{◌<◌, ◌≤◌, ◌+◌, ◌^◌, [], ◌∷◌, length, OnOk};
+ghost use Rattle.mpp_inline.specs.inner.Growth.{Placed, Held, Merged, SameBut, cells_of, count};
+ghost use Rattle.mpp_inline.specs.inner.Sizes.{load};
 
 use crate::builder::{Builder, ONE};
 use crate::cells::{look, put, write};
@@ -16,8 +17,11 @@ pub fn merge(
     guard: u32,
     given: &[(u32, u32)],
 ) -> Result<(), AllocError>
-    ensures { OnOk result (Placed b.old env.old guard → Held b.old given.now
+    requires { load b.old + length given.now < 2 ^ 32 }
+    ensures step { OnOk result (Placed b.old env.old guard → Held b.old given.now
         → Merged b.old b.new guard [] given.now env.old env.new) }
+    ensures size { OnOk result (load b.new ≤ load b.old + length given.now) }
+    ensures frame { OnOk result (SameBut (cells_of given.now) env.old env.new) }
 {
     for (cell, first) in given {
         let second = look(env, *cell as usize);
@@ -36,8 +40,11 @@ pub fn write_under(
     guard: u32,
     given: &[(u32, u32)],
 ) -> Result<(), AllocError>
-    ensures { OnOk result (Placed b.old env.old guard → Held b.old given.now
+    requires { load b.old + length given.now < 2 ^ 32 }
+    ensures step { OnOk result (Placed b.old env.old guard → Held b.old given.now
         → Merged b.old b.new guard [] given.now env.old env.new) }
+    ensures size { OnOk result (load b.new ≤ load b.old + length given.now) }
+    ensures frame { OnOk result (SameBut (cells_of given.now) env.old env.new) }
 {
     if guard == ONE {
         write(env, given);
@@ -54,8 +61,10 @@ pub fn assign_under(
     cell: u32,
     number: u32,
 ) -> Result<(), AllocError>
-    ensures { OnOk result (Placed b.old env.old guard → number < count b.old
+    requires { load b.old + 1 < 2 ^ 32 }
+    ensures step { OnOk result (Placed b.old env.old guard → number < count b.old
         → Merged b.old b.new guard [] ((cell, number) ∷ []) env.old env.new) }
+    ensures size { OnOk result (load b.new ≤ load b.old + 1) }
 {
     write_under(b, env, guard, &[(cell, number)])
 }

@@ -3,3 +3,4 @@ pub mod Saying
 pub mod Cycles
 pub mod OneFiles
 pub mod OneLaws
+pub mod Small

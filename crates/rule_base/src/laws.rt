@@ -1,5 +1,6 @@
 //! What holds of the definitions: rule files have one base or one fault, and not both.
-ghost use Rattle.std.specs.Prelude.{◌≡◌, ℕ, List};
+ghost use Rattle.std.specs.Prelude.{◌≡◌, ℕ, ◌≤◌, List, length};
+ghost use Rattle.m_places.specs.declared.limits.TheConstants.{CELLS, PARTS};
 ghost use Rattle.rule_text.specs.declared.Text.{Text};
 ghost use Rattle.m_symbols.specs.Declarations.{Declared};
 ghost use Rattle.micro_m.specs.declared.base.Base.{Base};
@@ -24,4 +25,12 @@ pub fn no_base_and_fault()
 pub fn one_fault()
     ensures { (texts : List Text) (application : List ℕ) (fault other : RuleFault) →
         IsRuleFault texts application fault → IsRuleFault texts application other → AreOneRuleFault fault other }
+{}
+
+/// A base has no more cells than may be declared, and no more labels than there may be parts.
+pub fn base_is_small()
+    ensures cells { (texts : List Text) (application : List ℕ) (declared : Declared) (base : Base) →
+        IsBaseOf texts application declared base → base.cells ≤ CELLS }
+    ensures labels { (texts : List Text) (application : List ℕ) (declared : Declared) (base : Base) →
+        IsBaseOf texts application declared base → length base.labels ≤ PARTS }
 {}

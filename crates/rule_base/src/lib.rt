@@ -12,4 +12,4 @@ mod laws;
 
 pub use base::{RuleBase, rule_base};
 pub use fault::RuleFault;
-pub use laws::{no_base_and_fault, one_base, one_fault};
+pub use laws::{base_is_small, no_base_and_fault, one_base, one_fault};

@@ -10,7 +10,9 @@ use Rattle.observables.specs.declared.face.FaceLabel.TheVariants.{Verif}
 use Rattle.flat_code.specs.declared.program.Flat.{Flat}
 use Rattle.observables.specs.declared.face.FaceOutput.TheVariants.{Named}
 use Rattle.flat_code.specs.Faces.{IsFaceOf}
+use Rattle.flat_code.specs.Facts.{ArePlain}
 use Rattle.flat_code.specs.Runs.{IsFlat, flat_run}
+use Rattle.flat_code.specs.Tidy.{IsTidy}
 use Rattle.observables.specs.Answers.{told_of}
 use Rattle.driver_core.specs.declared.program.Core.{Core}
 use Rattle.driver_core.specs.Answers.{answer_of}
@@ -53,16 +55,17 @@ pub data IsAskedFault (declared : Declared) (source : Source) : SourceFault → 
 pub record IsProgram (declared : Declared) (base : Base) (core : Core) (requests : List ℕ) (flat : Flat) (face : Face) : Type 0 where
   pub light : weight_of core base ≤ DRIVER_WEIGHT
   pub valid : IsFlat flat
+  pub tidy : IsTidy flat
   pub shown : IsFaceOf face flat
   pub inputs : face.inputs ≡ inputs_said declared
   pub outputs : face.outputs ≡ map Named (map (cell_name declared) requests)
   pub first_labels : take (length base.labels) face.labels ≡ map Verif base.labels
   pub nodes_fit : length flat.nodes ≤ most_nodes
-  pub answers : (inputs : List Value) → told_of face.labels [] (flat_run flat inputs) ≡ Some (answer_of core base declared requests inputs)
+  pub answers : (inputs : List Value) → ArePlain inputs → told_of face.labels [] (flat_run flat inputs) ≡ Some (answer_of core base declared requests inputs)
 
 -- a program and its face
 abbrev pub compiled_of : Flat → Face → Compiled
-compiled_of flat face = record { face = face; flat = flat }
+compiled_of flat face = record { face = face; tidy = flat }
 
 -- a driver that weighs too much
 pub data IsHeavy (core : Core) (base : Base) : SourceFault → Type 0 where

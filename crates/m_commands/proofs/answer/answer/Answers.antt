@@ -2,13 +2,13 @@ use Rattle.std.proofs.Common.{refl}
 use Rattle.m_commands.proofs.answer.answer.Goals as goal
 
 pub returns-in-Run : goal.returns-in-Run
-returns-in-Run g c = rw c.in-Run.is (refl, rw c.as_slice.ensures at c.answer_run.ensures)
+returns-in-Run g c = rw c.in-Run.is (refl, rw c.as_slice.ensures at c.run_source.ensures)
 
 pub returns-in-Serve : goal.returns-in-Serve
-returns-in-Serve g c = rw c.in-Serve.is (rw c.as_slice-in-Serve.ensures at c.answer_serve.ensures)
+returns-in-Serve g c = rw c.in-Serve.is (rw c.as_slice-in-Serve.ensures at c.serve_source.ensures)
 
 pub returns-in-Batch : goal.returns-in-Batch
-returns-in-Batch g c = rw c.in-Batch.is (refl, rw c.as_slice-in-Batch.ensures at c.answer_batch.ensures)
+returns-in-Batch g c = rw c.in-Batch.is (refl, rw c.as_slice-in-Batch.ensures at c.batch_source.ensures)
 
 pub returns-in-Large : goal.returns-in-Large
-returns-in-Large g c = rw c.in-Large.is (refl, c.answer_large.ensures)
+returns-in-Large g c = rw c.in-Large.is (refl, c.run_large.ensures)

@@ -1,4 +1,5 @@
 use Rattle.m_requests.proofs.Outcomes.{told}
+use Rattle.rule_base.proofs.Small.{few-cells, few-labels}
 use Rattle.m_compile.proofs.Steps.{asked_told, few_asked, finished}
 use Rattle.m_compile.proofs.compiling.program.Goals as goal
 
@@ -8,6 +9,18 @@ returns-in_err-core c = told _ _ _ _ _ c.from_residual.ensures.1 (λ n. asked_to
 pub faced-requires-clause-few : goal.faced-requires-clause-few
 faced-requires-clause-few c = rw c.as_slice.ensures (few_asked c.args.source.now.requests c.args.made.now.symbols _ c.in_ok-core.ensures.outcome.requested)
 
+pub faced-requires-clause-few_cells : goal.faced-requires-clause-few_cells
+faced-requires-clause-few_cells c = few-cells c.requires.rules.made
+
+pub faced-requires-clause-few_labels : goal.faced-requires-clause-few_labels
+faced-requires-clause-few_labels c = few-labels c.requires.rules.made
+
 pub returns : goal.returns
 returns c =
     finished c.args.source.now c.args.made.now.symbols c.args.made.now.ordered.base _ _ _ c.requires.rules c.in_ok-core.ensures.outcome (rw c.as_slice.ensures at c.faced.ensures)
+
+pub faced-requires-clause-few_cells : goal.faced-requires-clause-few_cells
+faced-requires-clause-few_cells c = few-cells c.requires.rules.made
+
+pub faced-requires-clause-few_labels : goal.faced-requires-clause-few_labels
+faced-requires-clause-few_labels c = few-labels c.requires.rules.made

@@ -1,13 +1,16 @@
+use Rattle.std.proofs.Common.{◌≡◌, Err}
 use Rattle.household.specs.Household.{household_of}
-use Rattle.m_work.proofs.Refusals.{source_told}
-use Rattle.m_work.proofs.Ways.{serve_refused}
+use Rattle.observables.specs.Inputs.{codes_of}
+use Rattle.m_work.proofs.Refusals.{household_refused}
+use Rattle.m_work.proofs.Ways.{session_refused, session_served}
 use Rattle.m_work.proofs.serving.answer_serve.Goals as goal
 
 pub returns-in-Ok : goal.returns-in-Ok
-returns-in-Ok g c = c.serve_compiled.ensures c.args.source.now c.in-Ok.ensures.outcome
+returns-in-Ok g c = λ scheme shown.
+    session_served scheme c.args.program c.args.household.now c.in-Ok.session.sitting c.requires shown c.in-Ok.ensures _ _ _ _ _ c.serve_session.ensures
 
 pub returns-in-Err : goal.returns-in-Err
-returns-in-Err g c =
-    serve_refused c.args.source.now c.args.household.now _ _ _ _
-    (source_told c.args.source.now (λ inputs. household_of inputs c.args.household.now) c.in-Err.fault _ _ _ c.in-Err.ensures.outcome
-    (rw c.as_slice.ensures at (rw c.told_fault.ensures at c.tell_refusal.ensures)))
+returns-in-Err g c = λ scheme shown.
+    session_refused scheme c.args.program c.args.household.now c.in-Err.fault _ _ _ _ shown
+    (household_refused c.in-Err.fault {IsFault = household_of (codes_of c.args.program.face.inputs) c.args.household.now ≡ Err c.in-Err.fault} _ _ _ c.in-Err.ensures
+    (rw c.told_household.ensures at c.tell_refusal.ensures))

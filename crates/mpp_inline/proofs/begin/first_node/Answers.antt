@@ -8,8 +8,8 @@ use Rattle.mpp_inline.specs.inner.Growth.{Pushed, Gives, InputIsThere}
 use Rattle.mpp_inline.proofs.GrowthLemmas.{gives-lit, gives-pushed}
 use Rattle.mpp_inline.proofs.begin.first_node.Goals as goal
 
-pub returns-in-Input : goal.returns-in-Input
-returns-in-Input c =
+pub returns-in-Input-clause-step : goal.returns-in-Input-clause-step
+returns-in-Input-clause-step c =
     let b = c.args.b.now in
     let next = c.args.next in
     IfOk-weaker _ (λ k. Pushed b c.push.new.self (Input next) k) _
@@ -17,8 +17,8 @@ returns-in-Input c =
     (λ low. gives-pushed (λ inputs. slice_index_or inputs next Undef) p low s (λ inputs. refl)) h)
     c.push.ensures
 
-pub returns-in-Constant : goal.returns-in-Constant
-returns-in-Constant c =
+pub returns-in-Constant-clause-step : goal.returns-in-Constant-clause-step
+returns-in-Constant-clause-step c =
     let b = c.args.b.now in
     let next = c.args.next in
     IfOk-weaker _ (λ k. Pushed b c.push-in-Constant.new.self (Lit (Num c.in-Constant.amount)) k) _

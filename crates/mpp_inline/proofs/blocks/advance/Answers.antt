@@ -7,8 +7,8 @@ use Rattle.mpp_inline.proofs.ListLemmas.{front-all}
 use Rattle.mpp_inline.proofs.WorkLemmas.{restore-moves, return-moves}
 use Rattle.mpp_inline.proofs.blocks.advance.Goals as goal
 
-pub returns-in-Restore : goal.returns-in-Restore
-returns-in-Restore c =
+pub returns-in-Restore-clause-step : goal.returns-in-Restore-clause-step
+returns-in-Restore-clause-step c =
     let whole = whole_of c.args.core.now c.args.ordered.now in
     let b = c.args.b.now in
     let e = c.args.env.now.items in
@@ -22,8 +22,8 @@ returns-in-Restore c =
     (λ s k. subst (λ x. Moves whole b b x g ws ws (λ inputs. done whole b inputs (Restore before) (point b inputs e g))) (sym last)
     (restore-moves before k s))
 
-pub returns-in_ok-given-in-Return : goal.returns-in_ok-given-in-Return
-returns-in_ok-given-in-Return c =
+pub returns-in_ok-given-in-Return-clause-step : goal.returns-in_ok-given-in-Return-clause-step
+returns-in_ok-given-in-Return-clause-step c =
     let whole = whole_of c.args.core.now c.args.ordered.now in
     let b = c.args.b.now in
     let e = c.args.env.now.items in

@@ -1,13 +1,15 @@
-use Rattle.std.proofs.Common.{◌≡◌, [], ◌∷◌, ◌++◌, sym, ap, ◌∙◌, subst}
+use Rattle.std.proofs.Common.{◌≡◌, [], ◌∷◌, ◌++◌, sym, ap, ◌∙◌, subst, arith}
 use Rattle.driver_core.specs.Actions.{branch}
 use Rattle.driver_core.specs.ActionView.{block_of}
 use Rattle.mpp_inline.specs.declared.work.Work.TheVariants.{Run, Under}
 use Rattle.mpp_inline.specs.inner.Work.{Moves, ahead}
+use Rattle.mpp_inline.specs.inner.Sizes.{left_weight, left_turns}
+use Rattle.mpp_inline.proofs.SizeLemmas.{weight-last, turns-last}
 use Rattle.mpp_inline.proofs.WorkLemmas.{if-moves}
 use Rattle.mpp_inline.proofs.blocks.begin_if.Goals as goal
 
-pub returns : goal.returns
-returns c =
+pub returns-clause-step : goal.returns-clause-step
+returns-clause-step c =
     let b = c.args.b.now in
     let d = c.open_branches.new.b in
     let e = c.args.env.now in
@@ -20,4 +22,43 @@ returns c =
     ∙ ap (λ l. l ++ Under r.second ∷ []) (c.in_ok-push-2.ensures.items
     ∙ ap (λ l. l ++ Run c.args.depth c.args.second ∷ []) c.in_ok-push.ensures.items)) in
     λ whole s. subst (λ l. Moves whole b d e r.first ws l (λ inputs. ahead whole b inputs e g c.args.depth (branch c.args.line c.args.condition.now (block_of c.args.first.now) (block_of c.args.second.now)))) (sym items)
-    (if-moves c.args.condition.now c.args.depth c.args.first c.args.second c.in_ok-branches.ensures s)
+    (if-moves c.args.condition.now c.args.depth c.args.first c.args.second c.in_ok-branches.ensures.step s)
+
+pub returns-clause-size : goal.returns-clause-size
+returns-clause-size c =
+    let ws = c.args.left.now.items in
+    let w1 = Under c.args.guard in
+    let w2 = Run c.args.depth c.args.second in
+    let w3 = Under c.in_ok-branches.branches.second in
+    let w4 = Run c.args.depth c.args.first in
+    λ whole. omega (
+      arith,
+      c.in_ok-branches.ensures.size,
+      ap (left_weight whole) c.in_ok-push.ensures.items,
+      ap (left_weight whole) c.in_ok-push-2.ensures.items,
+      ap (left_weight whole) c.in_ok-push-3.ensures.items,
+      ap (left_weight whole) c.in_ok-push-4.ensures.items,
+      weight-last whole ws w1,
+      weight-last whole c.push.new.self.items w2,
+      weight-last whole c.push-2.new.self.items w3,
+      weight-last whole c.push-3.new.self.items w4,
+    )
+
+pub returns-clause-turns : goal.returns-clause-turns
+returns-clause-turns c =
+    let ws = c.args.left.now.items in
+    let w1 = Under c.args.guard in
+    let w2 = Run c.args.depth c.args.second in
+    let w3 = Under c.in_ok-branches.branches.second in
+    let w4 = Run c.args.depth c.args.first in
+    λ whole. omega (
+      arith,
+      ap (left_turns whole) c.in_ok-push.ensures.items,
+      ap (left_turns whole) c.in_ok-push-2.ensures.items,
+      ap (left_turns whole) c.in_ok-push-3.ensures.items,
+      ap (left_turns whole) c.in_ok-push-4.ensures.items,
+      turns-last whole ws w1,
+      turns-last whole c.push.new.self.items w2,
+      turns-last whole c.push-2.new.self.items w3,
+      turns-last whole c.push-3.new.self.items w4,
+    )

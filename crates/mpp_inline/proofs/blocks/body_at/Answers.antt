@@ -3,11 +3,14 @@ use Rattle.std.specs.Prelude.{slice_get}
 use Rattle.driver_core.specs.ActionView.{block_of}
 use Rattle.driver_core.specs.Valid.{block_or_none}
 use Rattle.mpp_inline.specs.inner.Growth.{means}
+use Rattle.mpp_inline.specs.inner.Work.{whole_of}
+use Rattle.mpp_inline.specs.inner.Sizes.{block_size, block_turns}
 use Rattle.mpp_inline.proofs.CallLemmas.{called-body, found-at, none-at}
+use Rattle.mpp_inline.proofs.SizeLemmas.{body-less, body-turns}
 use Rattle.mpp_inline.proofs.blocks.body_at.Goals as goal
 
-pub returns-in-Some : goal.returns-in-Some
-returns-in-Some c =
+pub returns-in-Some-clause-means : goal.returns-in-Some-clause-means
+returns-in-Some-clause-means c =
     let core = c.args.core.now in
     let l = c.in-Some.ensures.lookup in
     λ ordered.
@@ -16,10 +19,46 @@ returns-in-Some c =
     ∙ ap (λ o. means core ordered.base ordered.sequence (c.args.depth - 1) (block_or_none o)) (sym found)
     ∙ called-body core ordered.base ordered.sequence c.args.depth c.args.function c.if-depth-eq0.false
 
-pub returns-in-None : goal.returns-in-None
-returns-in-None c =
+pub returns-in-None-clause-means : goal.returns-in-None-clause-means
+returns-in-None-clause-means c =
     let core = c.args.core.now in
     λ ordered.
     let none : slice_get core.bodies c.args.function ≡ None = none-at core.bodies _ c.args.function c.as_slice.ensures c.in-None.ensures.lookup.3 in
     ap (λ o. means core ordered.base ordered.sequence (c.args.depth - 1) (block_or_none o)) (sym none)
     ∙ called-body core ordered.base ordered.sequence c.args.depth c.args.function c.if-depth-eq0.false
+
+pub returns-in-Some-clause-weight : goal.returns-in-Some-clause-weight
+returns-in-Some-clause-weight c =
+    let core = c.args.core.now in
+    let l = c.in-Some.ensures.lookup in
+    λ ordered.
+    let found : slice_get core.bodies c.args.function ≡ Some c.in-Some.found.now = found-at core.bodies _ c.args.function c.in-Some.found.now c.as_slice.ensures l.3.0 l.1 in
+    ap (λ x. block_size (whole_of core ordered) (c.args.depth - 1) (block_of x)) c.as_slice-in-Some.ensures
+    ∙ ap (λ o. block_size (whole_of core ordered) (c.args.depth - 1) (block_or_none o)) (sym found)
+    ∙ body-less (whole_of core ordered) c.args.depth c.args.function c.if-depth-eq0.false
+
+pub returns-in-None-clause-weight : goal.returns-in-None-clause-weight
+returns-in-None-clause-weight c =
+    let core = c.args.core.now in
+    λ ordered.
+    let none : slice_get core.bodies c.args.function ≡ None = none-at core.bodies _ c.args.function c.as_slice.ensures c.in-None.ensures.lookup.3 in
+    ap (λ o. block_size (whole_of core ordered) (c.args.depth - 1) (block_or_none o)) (sym none)
+    ∙ body-less (whole_of core ordered) c.args.depth c.args.function c.if-depth-eq0.false
+
+pub returns-in-Some-clause-turns : goal.returns-in-Some-clause-turns
+returns-in-Some-clause-turns c =
+    let core = c.args.core.now in
+    let l = c.in-Some.ensures.lookup in
+    λ ordered.
+    let found : slice_get core.bodies c.args.function ≡ Some c.in-Some.found.now = found-at core.bodies _ c.args.function c.in-Some.found.now c.as_slice.ensures l.3.0 l.1 in
+    ap (λ x. block_turns (whole_of core ordered) (c.args.depth - 1) (block_of x)) c.as_slice-in-Some.ensures
+    ∙ ap (λ o. block_turns (whole_of core ordered) (c.args.depth - 1) (block_or_none o)) (sym found)
+    ∙ body-turns (whole_of core ordered) c.args.depth c.args.function c.if-depth-eq0.false
+
+pub returns-in-None-clause-turns : goal.returns-in-None-clause-turns
+returns-in-None-clause-turns c =
+    let core = c.args.core.now in
+    λ ordered.
+    let none : slice_get core.bodies c.args.function ≡ None = none-at core.bodies _ c.args.function c.as_slice.ensures c.in-None.ensures.lookup.3 in
+    ap (λ o. block_turns (whole_of core ordered) (c.args.depth - 1) (block_or_none o)) (sym none)
+    ∙ body-turns (whole_of core ordered) c.args.depth c.args.function c.if-depth-eq0.false

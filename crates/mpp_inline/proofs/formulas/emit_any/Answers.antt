@@ -6,8 +6,8 @@ use Rattle.mpp_inline.specs.inner.Growth.{count, at, denoted, Sane, Known, Gives
 use Rattle.mpp_inline.proofs.TermLemmas.{chain-step}
 use Rattle.mpp_inline.proofs.formulas.emit_any.Goals as goal
 
-pub returns-in_ok-so_far-in-Some : goal.returns-in_ok-so_far-in-Some
-returns-in_ok-so_far-in-Some c =
+pub returns-in_ok-so_far-in-Some-clause-step : goal.returns-in_ok-so_far-in-Some-clause-step
+returns-in_ok-so_far-in-Some-clause-step c =
     let b = c.args.b.now in
     let d = c.emit_present.new.b in
     let e = c.args.env.now in
@@ -17,5 +17,5 @@ returns-in_ok-so_far-in-Some c =
     let is : c.args.cells.now ≡ first ∷ rest = c.in-Some.ensures.cases.0 in
     IfOk-weaker c.emit_further.result (λ k. Sane d → Known d e → x < count d → Gives d c.emit_further.new.b (λ inputs. present_or (environment (denoted d inputs e)) (at d inputs x) rest) k) _
     (λ k f s kn. subst (λ l. TermStep b c.emit_further.new.b e (λ y. any_present y l) k) (sym is)
-    (chain-step (λ y. present_in y first) (λ y v. present_or y v rest) c.in_ok-so_far-in-Some.ensures f s kn))
-    c.emit_further.ensures
+    (chain-step (λ y. present_in y first) (λ y v. present_or y v rest) c.in_ok-so_far-in-Some.ensures.step f s kn))
+    c.emit_further.ensures.step

@@ -8,8 +8,8 @@ use Rattle.mpp_inline.proofs.GrowthLemmas.{gives-same, known-get, denoted-get}
 use Rattle.mpp_inline.proofs.TermLemmas.{do-step}
 use Rattle.mpp_inline.proofs.formulas.emit_present.Goals as goal
 
-pub returns : goal.returns
-returns c =
+pub returns-clause-step : goal.returns-clause-step
+returns-clause-step c =
     let b = c.args.b.now in
     let e = c.args.env.now in
     IfOk-weaker _ (λ k. Pushed b c.push.new.self (Do Present c.look.result 0 0) k) _

@@ -11,8 +11,8 @@ use Rattle.mpp_inline.proofs.BeginLemmas.{last-answer, last-known, whole-run, st
 use Rattle.mpp_inline.proofs.OrderLemmas.{run-same}
 use Rattle.mpp_inline.proofs.pass.emit_driver.Goals as goal
 
-pub returns : goal.returns
-returns c =
+pub returns-clause-answers : goal.returns-clause-answers
+returns-clause-answers c =
     let core = c.args.core.now in
     let base = c.args.ordered.now.base in
     let sequence = c.args.ordered.now.sequence in
@@ -26,9 +26,9 @@ returns c =
     let next = called (rules_in_turn base sequence) core.bodies (length core.bodies + 1) core.main in
     IfOk-weaker c.outputs_of.result _ _
     (λ outputs given. λ (literal : HasLiterals base.labels b0).
-    let begun : Begun b0 b1 (λ inputs. start_from inputs 0 vars) e = c.in_ok-env.ensures literal.sane in
+    let begun : Begun b0 b1 (λ inputs. start_from inputs 0 vars) e = c.in_ok-env.ensures.step literal.sane in
     let ready : Ready base.labels b1 e 2 = record { placed = record { sane = begun.grows.base.sane; known = begun.known; guard = omega (arith, begun.grows.base.sane.three) }; labelled = faces-on begun.grows.base literal.labelled } in
-    let step : Step b1 b2 2 e f next = c.in_ok-emit_all.ensures ready in
+    let step : Step b1 b2 2 e f next = c.in_ok-emit_all.ensures.step ready in
     let outs : outputs.items ≡ map (λ x. get_or f x 0) requests = given ∙ ap (λ l. map (λ x. get_or l x 0) requests) c.deref.ensures.value in
     record {
       sane = step.base.sane;
@@ -42,3 +42,10 @@ returns c =
           ∙ run-same core base sequence (start_from inputs 0 vars) c.requires.base c.requires.order (start-long inputs 0 0 vars ∙ sym c.requires.cells));
     })
     c.outputs_of.ensures
+
+pub emit_all-requires : goal.emit_all-requires
+emit_all-requires c = record {
+  valid = c.requires.base;
+  order = c.requires.order;
+  room = omega (arith, c.requires.room, c.requires.cells, c.in_ok-env.ensures.size);
+}

@@ -1,8 +1,17 @@
-use Rattle.std.proofs.lemmas.Result.{IfOk-weaker}
+use Rattle.std.proofs.Common.{arith, ◌∙◌}
 use Rattle.mpp_inline.proofs.pass.whole_program.Goals as goal
+
+pub emit_driver-requires : goal.emit_driver-requires
+emit_driver-requires c = record {
+  base = c.requires.base;
+  order = c.requires.order;
+  cells = c.requires.cells;
+  placed = c.requires.placed;
+  inputs = c.in_ok-b.ensures.inputs ∙ c.inputs.ensures;
+  room = omega (arith, c.requires.few_cells, c.requires.few_labels, c.requires.light, c.in_ok-b.ensures.size);
+}
 
 pub returns : goal.returns
 returns c =
-    IfOk-weaker c.finished.result _ _
-    (λ made whole. whole c.args.core.now c.args.symbols.now c.args.requests.now (c.in_ok-outputs.ensures c.in_ok-b.ensures.literals))
-    c.finished.ensures
+    c.finished.ensures c.args.core.now c.args.ordered.now.base c.args.symbols.now c.args.requests.now (c.in_ok-outputs.ensures.answers c.in_ok-b.ensures.literals)
+    c.requires.few_cells c.requires.light (omega (arith, c.in_ok-b.ensures.size, c.in_ok-outputs.ensures.size))

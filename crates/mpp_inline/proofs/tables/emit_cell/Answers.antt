@@ -6,8 +6,8 @@ use Rattle.mpp_inline.specs.inner.Growth.{Pushed}
 use Rattle.mpp_inline.proofs.TableLemmas.{cell-chosen}
 use Rattle.mpp_inline.proofs.tables.emit_cell.Goals as goal
 
-pub returns : goal.returns
-returns c =
+pub returns-clause-step : goal.returns-clause-step
+returns-clause-step c =
     let b = c.args.b.now in
     IfOk-weaker _ (λ k. Pushed c.push-2.new.self c.push-3.new.self (Do Choose c.in_ok-test.test c.args.cell c.args.other) k) _
     (λ k p s hi hc ho.

@@ -1,0 +1,74 @@
+//! The key under which nodes are hashed.
+
+use flat_code::Node;
+use m_fixed::Value;
+use sha2::{Digest, Sha256};
+use std::hash::{BuildHasher, DefaultHasher, Hasher};
+
+/// A key that nodes are hashed under: each hash goes on from where the key left the hasher.
+#[derive(Clone, Copy)]
+pub struct Key {
+    start: DefaultHasher,
+}
+
+/// The digest of nodes, one taken after the other, of which a key is made.
+///
+/// Whoever chose the nodes chose them before the key was, so they can't be chosen to collide under it.
+#[derive(Drop)]
+pub struct NodesDigest {
+    digest: Sha256,
+}
+
+impl NodesDigest {
+    /// The digest of no nodes.
+    pub fn new() -> NodesDigest {
+        NodesDigest {
+            digest: Sha256::new(),
+        }
+    }
+
+    /// Takes a further node.
+    pub fn take(&mut self, node: Node) {
+        match node {
+            Node::Input(n) => self.take_numbers(0, n, 0, 0),
+            Node::Lit(value) => self.take_value(value),
+            Node::Do(op, a, b, c) => self.take_numbers(4 + op as u8, a, b, c),
+        }
+    }
+
+    fn take_value(&mut self, value: Value) {
+        match value {
+            Value::Undef => self.digest.update(&[1]),
+            Value::Over => self.digest.update(&[2]),
+            Value::Num(amount) => {
+                self.digest.update(&[3]);
+                self.digest.update(&amount.millionths().to_le_bytes());
+            }
+        }
+    }
+
+    fn take_numbers(&mut self, kind: u8, a: u32, b: u32, c: u32) {
+        self.digest.update(&[kind]);
+        self.digest.update(&a.to_le_bytes());
+        self.digest.update(&b.to_le_bytes());
+        self.digest.update(&c.to_le_bytes());
+    }
+
+    /// The key that is made of the nodes so far.
+    pub fn key(self) -> Key {
+        let NodesDigest { digest } = self;
+        let mut start = DefaultHasher::new();
+        start.write(&digest.finalize());
+        Key { start }
+    }
+}
+
+impl BuildHasher for Key {
+    type Hasher = DefaultHasher;
+
+    ghost build_hasher = { λ key. key.start };
+
+    fn build_hasher(&self) -> DefaultHasher {
+        self.start
+    }
+}

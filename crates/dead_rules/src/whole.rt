@@ -1,0 +1,49 @@
+//! The tidy form.
+ghost use Rattle.std.specs.Prelude.{◌≡◌, ◌≤◌, length, IfOk};
+ghost use Rattle.flat_code.specs.Runs.{IsFlat};
+ghost use Rattle.flat_code.specs.Passes.{Becomes};
+ghost use Rattle.flat_code.specs.Tidy.{IsFolded, IsTidy};
+
+use crate::compact::compacted;
+use crate::fold::folded;
+use crate::mark::marked;
+use crate::moved::{Ends, moved_ends};
+use flat_code::{Flat, Tidy};
+use m_places::Seq;
+use std::alloc::{AllocError, Global};
+
+// The program without the nodes that nothing reads.
+fn removed(alloc: Global, flat: &Flat) -> Result<Flat, AllocError>
+    requires valid { IsFlat flat.now }
+    requires few { length flat.now.nodes ≤ 4_294_967_295 }
+    requires folded { IsFolded flat.now.nodes }
+    ensures becomes { IfOk result (Becomes flat.now) }
+    ensures tidy { IfOk result IsTidy }
+{
+    let live = marked(alloc, flat)?;
+    let kept = compacted(alloc, flat, &live)?;
+    let Ends { checks, outputs } = moved_ends(alloc, &kept.numbers, flat)?;
+    Ok(Flat {
+        inputs: flat.inputs,
+        nodes: Seq::from_vec(kept.nodes),
+        checks: Seq::from_vec(checks),
+        outputs: Seq::from_vec(outputs),
+    })
+}
+
+/// The program in the tidy form. It answers the same for each list of values that programs are asked for,
+/// has as many inputs and outputs, no more nodes and checks, and no other labels. Its only error is want of
+/// memory. It takes one step for each node, check and output of the program, which has fewer nodes than a
+/// `u32` counts.
+///
+/// Of the nodes `Input(0)`, `Lit(1 unit)` and `Do(Op::Mul, 0, 1, 0)` with the last as output the first is left.
+pub fn tidy(alloc: Global, flat: &Flat) -> Result<Tidy, AllocError>
+    requires valid { IsFlat flat.now }
+    requires few { length flat.now.nodes ≤ 4_294_967_295 }
+    ensures becomes { IfOk result (Becomes flat.now) }
+    ensures tidy { IfOk result IsTidy }
+{
+    let folded = folded(alloc, flat)?;
+    let flat = removed(alloc, &folded)?;
+    Ok(Tidy::new(flat))
+}

@@ -1,0 +1,9 @@
+pub mod Between
+pub mod Beyond
+pub mod Cuts
+pub mod Exact
+pub mod FactLaws
+pub mod Holding
+pub mod Quotients
+pub mod Rounded
+pub mod Wholes

@@ -1,0 +1,4 @@
+pub mod Facts
+pub mod Ranges
+pub mod Results
+pub mod inner

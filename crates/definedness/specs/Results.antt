@@ -1,0 +1,110 @@
+-- Which numbers an operator may give where its arguments are numbers of intervals, by the ends of the intervals.
+use Rattle.std.specs.Prelude.{◌≡◌, Bool, true, not, ◌&&◌, ◌||◌, ℤ, pos, neg_ℤ, ◌*ℤ◌, int_lt, int_le, if◌then◌else◌}
+use Rattle.std.specs.Int.{int_min, int_max}
+use Rattle.m_fixed.specs.declared.operator.Op.{Op}
+use Rattle.m_fixed.specs.declared.operator.Op.TheVariants.{Add, Sub, Mul, Div, Neg, Eq, Ne, Lt, Le, Gt, Ge, And, Or, Not, Present, Abs, Positive, PositiveOrNull, Null, Arr, Inf, Max, Min, Truth, Choose, At}
+use Rattle.m_fixed.specs.Amounts.{unit}
+use Rattle.m_fixed.specs.Operators.{result_of, truth, cut}
+use Rattle.definedness.specs.Ranges.{InRange, alone, has_zero, has_other}
+
+-- ---- tests
+
+-- the truth of a test that may pass, and that may fail: 1, 0, or 0 to 1
+abbrev pub truths : Bool → Bool → ℤ × ℤ
+truths passes fails = (truth (not fails), truth passes)
+
+-- a number of the first interval may be below one of the second
+abbrev pub may_be_less : ℤ × ℤ → ℤ × ℤ → Bool
+may_be_less r s = int_lt r.0 s.1
+
+-- a number of the first interval may be at most one of the second
+abbrev pub may_be_at_most : ℤ × ℤ → ℤ × ℤ → Bool
+may_be_at_most r s = int_le r.0 s.1
+
+-- the two may be one number
+abbrev pub may_be_equal : ℤ × ℤ → ℤ × ℤ → Bool
+may_be_equal r s = may_be_at_most r s && may_be_at_most s r
+
+-- the two may be two numbers
+abbrev pub may_differ : ℤ × ℤ → ℤ × ℤ → Bool
+may_differ r s = may_be_less r s || may_be_less s r
+
+-- whole units, cut toward zero, of all its numbers
+abbrev pub cut_range : ℤ × ℤ → ℤ × ℤ
+cut_range r = (cut r.0, cut r.1)
+
+-- ---- numbers
+
+unfoldable pub least_of : ℤ → ℤ → ℤ → ℤ → ℤ
+least_of p q r s = int_min (int_min p q) (int_min r s)
+
+unfoldable pub greatest_of : ℤ → ℤ → ℤ → ℤ → ℤ
+greatest_of p q r s = int_max (int_max p q) (int_max r s)
+
+-- from the least to the greatest of what the operator gives of the ends
+abbrev pub corners : Op → ℤ × ℤ → ℤ × ℤ → ℤ × ℤ
+corners op r s =
+    (least_of (result_of op r.0 s.0) (result_of op r.0 s.1) (result_of op r.1 s.0) (result_of op r.1 s.1), greatest_of (result_of op r.0 s.0) (result_of op r.0 s.1) (result_of op r.1 s.0) (result_of op r.1 s.1))
+
+-- the greatest absolute value of its numbers
+abbrev pub greatest_size : ℤ × ℤ → ℤ
+greatest_size r = int_max (neg_ℤ r.0) r.1
+
+-- the least absolute value of its numbers
+abbrev pub least_size : ℤ × ℤ → ℤ
+least_size r = int_max (int_max r.0 (neg_ℤ r.1)) (pos 0)
+
+-- the absolute values of its numbers
+abbrev pub sizes : ℤ × ℤ → ℤ × ℤ
+sizes r = (least_size r, greatest_size r)
+
+-- quotients: of divisors other than 0 the corners, and of 0 alone 0. Where 0 is one of several divisors, no
+-- quotient is greater than that by a millionth
+unfoldable pub quotients : ℤ × ℤ → ℤ × ℤ → ℤ × ℤ
+quotients r s =
+    if has_zero s
+    then (if has_other s then (neg_ℤ (greatest_size r *ℤ pos unit), greatest_size r *ℤ pos unit) else alone (pos 0))
+    else corners Div r s
+
+-- From the least to the greatest of what the operator gives of numbers of the two intervals, without a
+-- bound; one of one argument looks at the first. Of the operators that select it says nothing of use.
+abbrev pub results_of : Op → ℤ × ℤ → ℤ × ℤ → ℤ × ℤ
+results_of Add r s = (result_of Add r.0 s.0, result_of Add r.1 s.1)
+results_of Sub r s = (result_of Sub r.0 s.1, result_of Sub r.1 s.0)
+results_of Mul r s = corners Mul r s
+results_of Div r s = quotients r s
+results_of Neg r _ = (neg_ℤ r.1, neg_ℤ r.0)
+results_of Eq r s = truths (may_be_equal r s) (may_differ r s)
+results_of Ne r s = truths (may_differ r s) (may_be_equal r s)
+results_of Lt r s = truths (may_be_less r s) (may_be_at_most s r)
+results_of Le r s = truths (may_be_at_most r s) (may_be_less s r)
+results_of Gt r s = truths (may_be_less s r) (may_be_at_most r s)
+results_of Ge r s = truths (may_be_at_most s r) (may_be_less r s)
+results_of And r s = truths (has_other r && has_other s) (has_zero r || has_zero s)
+results_of Or r s = truths (has_other r || has_other s) (has_zero r && has_zero s)
+results_of Not r _ = truths (has_zero r) (has_other r)
+results_of Present _ _ = alone (pos unit)
+results_of Abs r _ = sizes r
+results_of Positive r _ = truths (may_be_less (alone (pos 0)) r) (may_be_at_most r (alone (pos 0)))
+results_of PositiveOrNull r _ = truths (may_be_at_most (alone (pos 0)) r) (may_be_less r (alone (pos 0)))
+results_of Null r _ = truths (has_zero r) (has_other r)
+results_of Arr r _ = (result_of Arr r.0 (pos 0), result_of Arr r.1 (pos 0))
+results_of Inf r _ = (result_of Inf r.0 (pos 0), result_of Inf r.1 (pos 0))
+results_of Max r s = (int_max r.0 s.0, int_max r.1 s.1)
+results_of Min r s = (int_min r.0 s.0, int_min r.1 s.1)
+results_of Truth r _ = truths (has_other r) (has_zero r)
+results_of Choose _ s = s
+results_of At r s = truths (may_be_equal (cut_range r) (cut_range s)) (may_differ (cut_range r) (cut_range s))
+
+-- z is what the operator gives of some number of each interval
+pub record IsResult (op : Op) (r s : ℤ × ℤ) (z : ℤ) : Type 0 where
+  pub first : ℤ
+  pub second : ℤ
+  pub in_first : InRange r first
+  pub in_second : InRange s second
+  pub is : result_of op first second ≡ z
+
+-- the least and the greatest result are known exactly: of all but quotients by numbers some of which are 0
+abbrev pub is_exact : Op → ℤ × ℤ → Bool
+is_exact Div s = not (has_zero s && has_other s)
+is_exact _ s = true

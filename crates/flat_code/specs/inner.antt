@@ -1,0 +1,2 @@
+pub mod Renumber
+pub mod Hashing

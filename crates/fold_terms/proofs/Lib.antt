@@ -1,0 +1,3 @@
+pub mod GrowLemmas
+pub mod ValueLemmas
+pub mod StandLemmas

@@ -1,0 +1,150 @@
+//! The builder.
+ghost use Rattle.std.specs.Prelude.{◌≡◌, ◌<◌, ◌≤◌, [], length, IfOk, OnErr};
+ghost use Rattle.std.specs.List.{AllByRecursion};
+ghost use Rattle.definedness.specs.Facts.{IsFact, one_value, fact_of_value};
+ghost use Rattle.flat_code.specs.Runs.{IsNode, IsCheck, IsFlat};
+ghost use Rattle.flat_code.specs.Tidy.{IsFolded};
+ghost use Rattle.fold_terms.specs.Drafts.{Draft, Grows, StandsFor};
+ghost use Rattle.fold_terms.specs.inner.Built.{IsBuilt, Longer};
+
+use crate::parts::{Parts, opened};
+use crate::simple::normalised;
+use common_terms::{Key, NodeTable};
+use definedness::{Fact, fact_of_value};
+use flat_code::{Check, Flat, Node};
+use m_fixed::Value;
+use m_places::Seq;
+use std::alloc::{AllocError, Global};
+use std::marker::Model;
+
+// The value, where one alone is possible.
+fn value_alone(fact: &Fact) -> Option<Value>
+    ensures { result ≡ one_value fact.now }
+{
+    let fact = *fact;
+    fact.one_value()
+}
+
+// What is known of a literal.
+fn literal_fact(value: &Value) -> Fact
+    ensures is { result ≡ fact_of_value value.now }
+    ensures fact { IsFact result }
+{
+    opened(fact_of_value(*value))
+}
+
+impl Parts {
+    // A node with the value of this one.
+    fn push(&mut self, node: Node) -> Result<u32, AllocError>
+        requires built { IsBuilt self.old.inputs self.old.nodes.items self.old.facts.items }
+        requires shared { self.old.table ≡ self.old.nodes.items }
+        requires room { length self.old.nodes.items < 4_294_967_295 }
+        requires node { IsNode self.old.inputs (length self.old.nodes.items) node }
+        ensures inputs { self.new.inputs ≡ self.old.inputs }
+        ensures built { IsBuilt self.old.inputs self.new.nodes.items self.new.facts.items }
+        ensures shared { self.new.table ≡ self.new.nodes.items }
+        ensures grows { Longer self.old.nodes.items self.new.nodes.items }
+        ensures err { OnErr result (self.new.nodes.items ≡ self.old.nodes.items) }
+        ensures stands { IfOk result (StandsFor self.new.nodes.items node) }
+    {
+        let node = normalised(node);
+        let fact = self.fact_of_node(&node);
+        if let Some(value) = value_alone(&fact) {
+            let alone = literal_fact(&value);
+            return self.enter(Node::Lit(value), alone);
+        }
+        if let Some(number) = self.simple(&node) {
+            return Ok(number);
+        }
+        self.enter(node, fact)
+    }
+}
+
+/// A flat program that grows node by node, and is folded and shared at each moment, also after an error.
+/// Contracts see how many inputs it has, and its nodes.
+#[derive(Drop)]
+pub struct Builder {
+    parts: Parts,
+}
+
+impl Model for Builder {
+    ghost use Rattle.std.specs.Prelude.{◌≡◌};
+    ghost use Rattle.fold_terms.specs.Drafts.{Draft};
+    ghost use Rattle.fold_terms.specs.inner.Built.{IsBuilt};
+
+    ghost Value = { Draft };
+
+    ghost view = { λ b. record { inputs = b.parts.inputs; nodes = b.parts.nodes.items } };
+
+    ghost invariant = { λ b. IsBuilt b.parts.inputs b.parts.nodes.items b.parts.facts.items × (b.parts.table ≡ b.parts.nodes.items) };
+}
+
+impl Builder {
+    /// A builder of a program with so many inputs, without nodes. Takes no memory.
+    ///
+    /// Where strangers choose the nodes, `Builder::under` is given a key that was made of them.
+    pub fn new(alloc: Global, inputs: u32) -> Builder
+        ensures { result ≡ record { inputs = inputs; nodes = [] } }
+    {
+        Builder {
+            parts: Parts {
+                inputs,
+                nodes: Vec::new(alloc),
+                facts: Vec::new(alloc),
+                table: NodeTable::new(alloc),
+            },
+        }
+    }
+
+    /// The same, with nodes that are hashed under this key. Takes no memory.
+    pub fn under(alloc: Global, inputs: u32, key: Key) -> Builder
+        ensures { result ≡ record { inputs = inputs; nodes = [] } }
+    {
+        Builder {
+            parts: Parts {
+                inputs,
+                nodes: Vec::new(alloc),
+                facts: Vec::new(alloc),
+                table: NodeTable::under(alloc, key),
+            },
+        }
+    }
+
+    /// How many nodes there are. Takes no memory.
+    pub fn count(&self) -> u32
+        ensures count { result ≡ length self.now.nodes }
+        ensures folded { IsFolded self.now.nodes }
+    {
+        self.parts.table.count()
+    }
+
+    /// The number of a node with the value of this one, for each list of values that programs are asked
+    /// for. At most one node is added, and the nodes that were there stay. Its only error is want of memory.
+    pub fn push(&mut self, node: Node) -> Result<u32, AllocError>
+        requires node { IsNode self.old.inputs (length self.old.nodes) node }
+        requires room { length self.old.nodes < 4_294_967_295 }
+        ensures stands { IfOk result (StandsFor self.new.nodes node) }
+        ensures grows { Grows self.old self.new }
+        ensures err { OnErr result (self.new ≡ self.old) }
+        ensures folded { IsFolded self.new.nodes }
+    {
+        self.parts.push(node)
+    }
+
+    /// The program of these nodes, with these checks and outputs, as they are. Takes no memory.
+    pub fn finish(self, checks: Vec<Check>, outputs: Vec<u32>) -> Flat
+        requires checks { AllByRecursion (IsCheck (length self.nodes)) checks.items }
+        requires outputs { AllByRecursion (λ output. output < length self.nodes) outputs.items }
+        ensures program { result ≡ record { inputs = self.inputs; nodes = self.nodes; checks = checks.items; outputs = outputs.items } }
+        ensures valid { IsFlat result }
+        ensures folded { IsFolded result.nodes }
+    {
+        let Builder { parts } = self;
+        Flat {
+            inputs: parts.inputs,
+            nodes: Seq::from_vec(parts.nodes),
+            checks: Seq::from_vec(checks),
+            outputs: Seq::from_vec(outputs),
+        }
+    }
+}

@@ -1,0 +1,129 @@
+//! The nodes of a builder, with what is known of each, and the table that shares them.
+ghost use Rattle.std.specs.Prelude.{◌≡◌, ◌<◌, false, [], ◌∷◌, ◌++◌, length, take, IfOk, OnOk, OnErr};
+ghost use Rattle.definedness.specs.Facts.{IsFact};
+ghost use Rattle.flat_code.specs.Runs.{entry_of, entries_of, IsNode};
+ghost use Rattle.flat_code.specs.Entries.{node_at, entry_at};
+ghost use Rattle.flat_code.specs.Facts.{facts};
+ghost use Rattle.flat_code.specs.Tidy.{IsNormal, IsOpen, has_form};
+ghost use Rattle.common_terms.specs.Numbers.{IsEntered};
+ghost use Rattle.fold_terms.specs.inner.Built.{IsBuilt, Longer, Extends};
+
+use common_terms::NodeTable;
+use definedness::{Fact, fact_of, fact_of_input, fact_of_value};
+use flat_code::Node;
+use std::alloc::AllocError;
+
+/// Nodes that are folded, what is known of each, and the table in which each stands once.
+#[derive(Drop)]
+pub struct Parts {
+    pub inputs: u32,
+    pub nodes: Vec<Node>,
+    pub facts: Vec<Fact>,
+    pub table: NodeTable,
+}
+
+// Adds a value at the end.
+fn append<T: Copy>(list: &mut Vec<T>, value: &T) -> Result<(), AllocError>
+    ensures ok { OnOk result (list.new.items ≡ list.old.items ++ value.now ∷ []) }
+    ensures err { OnErr result (list.new.items ≡ list.old.items) }
+{
+    list.push(*value)?;
+    Ok(())
+}
+
+/// The fact, of which it is told that it is one.
+pub fn opened(fact: Fact) -> Fact
+    ensures is { result ≡ fact }
+    ensures fact { IsFact result }
+{
+    let _possible = fact.undef;
+    fact
+}
+
+impl Parts {
+    /// A node.
+    pub fn node_at(&self, k: u32) -> Node
+        requires { k < length self.now.nodes.items }
+        ensures { result ≡ node_at self.now.nodes.items k }
+    {
+        self.nodes[k as usize]
+    }
+
+    /// What is known of a node.
+    pub fn fact_at(&self, k: u32) -> Fact
+        requires built { IsBuilt self.now.inputs self.now.nodes.items self.now.facts.items }
+        requires within { k < length self.now.nodes.items }
+        ensures { result ≡ entry_at facts self.now.nodes.items k }
+    {
+        self.facts[k as usize]
+    }
+
+    /// What is known of a new node.
+    pub fn fact_of_node(&self, node: &Node) -> Fact
+        requires built { IsBuilt self.now.inputs self.now.nodes.items self.now.facts.items }
+        requires node { IsNode self.now.inputs (length self.now.nodes.items) node.now }
+        ensures is { result ≡ entry_of facts (entries_of facts self.now.nodes.items) node.now }
+        ensures fact { IsFact result }
+    {
+        match *node {
+            Node::Input(_) => opened(fact_of_input()),
+            Node::Lit(value) => opened(fact_of_value(value)),
+            Node::Do(op, a, b, c) => {
+                opened(fact_of(op, self.fact_at(a), self.fact_at(b), self.fact_at(c)))
+            }
+        }
+    }
+
+    // The number of the equal node that is there, or else of this node, which is added. Behind the nodes
+    // of the table one may be left over.
+    fn note(&mut self, node: Node, fact: Fact) -> Result<u32, AllocError>
+        requires room { length self.old.table < 4_294_967_295 }
+        ensures inputs { self.new.inputs ≡ self.old.inputs }
+        ensures nodes { Extends self.old.nodes.items self.new.nodes.items node }
+        ensures facts { Extends self.old.facts.items self.new.facts.items fact }
+        ensures all_nodes { OnOk result (self.new.nodes.items ≡ self.old.nodes.items ++ node ∷ []) }
+        ensures all_facts { OnOk result (self.new.facts.items ≡ self.old.facts.items ++ fact ∷ []) }
+        ensures entered { IfOk result (IsEntered self.old.table self.new.table node) }
+        ensures same { OnErr result (self.new.table ≡ self.old.table) }
+    {
+        append(&mut self.nodes, &node)?;
+        append(&mut self.facts, &fact)?;
+        self.table.find_or_add(node)
+    }
+
+    // What the table doesn't count is cut off.
+    fn cut(&mut self)
+        ensures inputs { self.new.inputs ≡ self.old.inputs }
+        ensures nodes { self.new.nodes.items ≡ take (length self.old.table) self.old.nodes.items }
+        ensures facts { self.new.facts.items ≡ take (length self.old.table) self.old.facts.items }
+        ensures table { self.new.table ≡ self.old.table }
+    {
+        let count = self.table.count() as usize;
+        self.nodes.truncate(count);
+        self.facts.truncate(count);
+    }
+
+    /// The number of the equal node that is there, or else of this node, which is added.
+    pub fn enter(&mut self, node: Node, fact: Fact) -> Result<u32, AllocError>
+        requires built { IsBuilt self.old.inputs self.old.nodes.items self.old.facts.items }
+        requires shared { self.old.table ≡ self.old.nodes.items }
+        requires room { length self.old.nodes.items < 4_294_967_295 }
+        requires node { IsNode self.old.inputs (length self.old.nodes.items) node }
+        requires fact { fact ≡ entry_of facts (entries_of facts self.old.nodes.items) node }
+        requires possible { IsFact fact }
+        requires normal { IsNormal node }
+        requires unfixed { IsOpen node fact }
+        requires formless { has_form self.old.nodes.items node ≡ false }
+        ensures inputs { self.new.inputs ≡ self.old.inputs }
+        ensures built { IsBuilt self.old.inputs self.new.nodes.items self.new.facts.items }
+        ensures shared { self.new.table ≡ self.new.nodes.items }
+        ensures grows { Longer self.old.nodes.items self.new.nodes.items }
+        ensures err { OnErr result (self.new.nodes.items ≡ self.old.nodes.items) }
+        ensures within { IfOk result (λ k. k < length self.new.nodes.items) }
+        ensures node { IfOk result (λ k. node_at self.new.nodes.items k ≡ node) }
+    {
+        let number = self.note(node, fact);
+        self.cut();
+        number
+    }
+}

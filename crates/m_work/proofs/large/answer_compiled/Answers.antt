@@ -1,4 +1,0 @@
-use Rattle.m_work.proofs.large.answer_compiled.Goals as goal
-
-pub returns-in-Ok : goal.returns-in-Ok
-returns-in-Ok g c = c.print_compiled.ensures

@@ -1,0 +1,61 @@
+-- Programs that are prepared to be run: what they are to households, and what is answered with them.
+use Rattle.std.specs.Prelude.{◌≡◌, ℕ, ℤ, List, ◌++◌, Some, Ok, Err}
+use Rattle.m_fixed.specs.declared.amount.Value.{Value}
+use Rattle.rule_text.specs.declared.Source.{Source}
+use Rattle.observables.specs.Answers.{told_of}
+use Rattle.observables.specs.Inputs.{AreAny, AreValuesOf, codes_of}
+use Rattle.observables.specs.Outputs.{names_of, notes_of}
+use Rattle.flat_code.specs.Runs.{flat_run}
+use Rattle.household.specs.Household.{household_of}
+use Rattle.household.specs.Table.{table_of}
+use Rattle.household.specs.declared.fault.HouseholdFault.{HouseholdFault}
+use Rattle.household.specs.declared.table.Row.{Row}
+use Rattle.tax_print.specs.Lines.{told_lines}
+use Rattle.m_plan.specs.Printing.{Prints}
+use Rattle.m_plan.specs.Views.{InputView, OutputView}
+use Rattle.m_plan.specs.declared.status.Status.{Status}
+use Rattle.m_plan.specs.declared.status.Status.TheVariants.{Done, Memory, Refused}
+use Rattle.m_work.specs.Households.{household_fault_line, told_status}
+use Rattle.m_work.specs.Schemes.{Scheme, scheme_codes, told_to}
+use Rattle.m_work.specs.Serving.{Served}
+use Rattle.m_work.specs.Sessions.{ended_replies, session_replies}
+use Rattle.m_work.specs.Sources.{IsScheme}
+use Rattle.m_work.specs.Tables.{rows_lines}
+use Rattle.m_work.specs.declared.program.Program.{Program}
+
+-- A program is to households what a scheme is: it knows the same codes, it gives what is asked for the same names, and its answers to values that
+-- the inputs may have, read through its face, are what the scheme tells.
+pub record Shows (scheme : Scheme) (program : Program) : Type 0 where
+  pub codes : codes_of program.face.inputs ≡ scheme_codes scheme
+  pub any : AreAny scheme.inputs
+  pub names : names_of program.face.outputs ≡ scheme.names
+  pub answers : (values : List Value) → AreValuesOf scheme.inputs values
+      → told_of program.face.labels (notes_of program.face.outputs) (flat_run program.tidy values) ≡ Some (scheme.tells values)
+
+-- The source is valid, and the program is to households what the source is.
+pub record IsPrepared (source : Source) (program : Program) : Type 0 where
+  pub scheme : Scheme
+  pub valid : IsScheme source scheme
+  pub shows : Shows scheme program
+
+-- What is answered to the household of these bytes: the line by which it is refused; or some bytes in front, and the lines of what is told to it.
+pub data HouseholdReplies (front : List ℕ) (scheme : Scheme) (rows : List ℕ) : List ℕ → Status → Type 0 where
+  is_refused : {line : List ℕ} (fault : HouseholdFault) → household_of (scheme_codes scheme) rows ≡ Err fault → household_fault_line fault ≡ Some line
+      → HouseholdReplies front scheme rows line Refused
+  is_told : (pairs : List (ℕ × ℤ)) → household_of (scheme_codes scheme) rows ≡ Ok pairs
+      → HouseholdReplies front scheme rows (front ++ told_lines scheme.names (told_to scheme pairs)) (told_status (told_to scheme pairs))
+
+-- What is answered to the table of these bytes: the line by which it is refused, or the lines of all its rows.
+pub data TableReplies (scheme : Scheme) (table : List ℕ) : List ℕ → Status → Type 0 where
+  table_is_refused : {line : List ℕ} (fault : HouseholdFault) → table_of (scheme_codes scheme) table ≡ Err fault → household_fault_line fault ≡ Some line
+      → TableReplies scheme table line Refused
+  rows_are_told : (rows : List Row) → table_of (scheme_codes scheme) table ≡ Ok rows → TableReplies scheme table (rows_lines scheme rows) Done
+
+-- A session over an input ended: with a refusal of the household or for want of memory before anything was taken from the input, or it began and had
+-- its lines.
+pub data IsServedBy (scheme : Scheme) (rows : List ℕ) (heard told : InputView) (old new : OutputView) (status : Status) : Type 0 where
+  refused : (line : List ℕ) (fault : HouseholdFault) → household_of (scheme_codes scheme) rows ≡ Err fault → household_fault_line fault ≡ Some line → told ≡ heard
+      → Prints line Refused old new status → IsServedBy scheme rows heard told old new status
+  no_memory : told ≡ heard → new ≡ old → status ≡ Memory → IsServedBy scheme rows heard told old new status
+  served : (pairs : List (ℕ × ℤ)) → household_of (scheme_codes scheme) rows ≡ Ok pairs
+      → Served (session_replies scheme pairs) (ended_replies scheme pairs) heard told old new status → IsServedBy scheme rows heard told old new status

@@ -1,0 +1,4 @@
+pub mod TableLemmas
+pub mod LawLemmas
+pub mod BuilderLemmas
+pub mod CellLemmas

@@ -1,0 +1,45 @@
+# needs the program
+# A threshold of 1,000 that becomes 2,000, and four households with weights. By hand: dupont's 2,500 pay 1,500 and then 500, martin's 500 nothing,
+# durand's 1,500 pay 500 and then nothing, leroy's run stops. Before 2 * 1,500 + 0.5 * 500, after 2 * 500; the difference of -2,250 over the
+# weight 3.5 that was computed is -642.857143. With 1,000 more dupont pays 2,500 and 1,500, martin 500 and 0, durand 1,500 and 500.
+printf 'iliad\na.m\n' > before.list
+cat > a.m <<'M'
+REV : saisie revenu classe = 0 alias 1AJ : "s" ;
+SEUIL : const = 1000 ;
+IRN : calculee restituee : "n" ;
+regle 10 : application : iliad ;
+IRN = max(0, REV - SEUIL) ;
+A20 : anomalie : "A" : "20" : "00" : "below 0" : "N" ;
+verif 2000 : application : iliad ;
+si REV < 0 alors erreur A20 ;
+M
+printf 'name,1AJ,poids,age\ndupont,2500,2,40\nmartin,500,1,30\ndurand,1500,0.5,50\nleroy,-1,1,20\n' > table.csv
+"$ROOT/tools/variant" before.list SEUIL=2000 after
+"$ROOT/tools/reform" before.list after/rules.list - - table.csv --of IRN --weight poids --by age --step 1AJ=1000 --into report; echo "status $?"
+cat report/households.csv report/summary.csv
+python3 - <<'P'
+import html.parser
+class Page(html.parser.HTMLParser):
+    seen, at = {}, None
+    def handle_starttag(self, tag, attributes): self.at = dict(attributes).get("id")
+    def handle_data(self, data):
+        if self.at: self.seen[self.at] = data
+        self.at = None
+page = Page()
+text = open("report/report.html", encoding="utf-8").read()
+page.feed(text)
+print(page.seen, text.count("<svg"), "http" in text, "<script" in text)
+P
+"$ROOT/tools/reform" before.list after/rules.list - - table.csv --of IRN --weight poids --by age --into report; echo "status $?"
+"$ROOT/tools/reform" before.list after/rules.list - - table.csv --of IRN --into other; echo "status $?"
+"$ROOT/tools/reform" before.list after/rules.list - - table.csv --of IRS --weight poids --by age --into other; echo "status $?"
+"$ROOT/tools/reform" before.list gone.list - - table.csv --of IRN --into other; echo "status $?"
+printf 'name,1AJ\ndupont,x\n' > bad.csv
+"$ROOT/tools/reform" before.list after/rules.list - - bad.csv --of IRN --into other; echo "status $?"
+printf 'name,1AJ\ndupont,1,2\n' > bad.csv
+"$ROOT/tools/reform" before.list after/rules.list - - bad.csv --of IRN --into other; echo "status $?"
+printf 'name,1AJ\n' > bad.csv
+"$ROOT/tools/reform" before.list after/rules.list - - bad.csv --of IRN --into other; echo "status $?"
+printf 'name;1AJ\na;1\n' > bad.csv
+"$ROOT/tools/reform" before.list after/rules.list - - bad.csv --of IRN --into other; echo "status $?"
+ls -A
