@@ -1,8 +1,9 @@
 //! A sheet of a program written by hand: the first input less 1000, and the second input times 2; a check of the difference.
-ghost use Rattle.std.specs.Prelude.{◌≡◌, ◌<◌, IfOk, length};
+ghost use Rattle.std.specs.Prelude.{◌≡◌, ◌≤◌, ◌<◌, IfOk, length};
 ghost use Rattle.flat_code.specs.Runs.{IsFlat};
 
-use flat_code::{Check, Flat, Node};
+use dead_rules::tidy;
+use flat_code::{Check, Flat, Node, Tidy};
 use m_fixed::{Amount, Op, Value};
 use m_places::Seq;
 use observables::Stop;
@@ -53,6 +54,14 @@ fn program(alloc: Global) -> Result<Flat, AllocError>
     })
 }
 
+// Its tidy form.
+fn tidied(alloc: Global) -> Result<Tidy, AllocError>
+    ensures { IfOk result (λ tidy. (tidy.inputs ≡ 2) × (length tidy.nodes ≤ 7) × (length tidy.outputs ≡ 2)) }
+{
+    let flat = program(alloc)?;
+    tidy(alloc, &flat)
+}
+
 // Whether what a sheet tells of its program's answers is right, from one settle to the next.
 fn tells<L: Ledger>(sheet: &mut Sheet, blank: Blank) -> bool
     requires name { blank.name ≡ L.name }
@@ -78,7 +87,7 @@ fn tells<L: Ledger>(sheet: &mut Sheet, blank: Blank) -> bool
 
 #[test]
 fn answers(rt: HostRuntime) -> Result<(), Fail> {
-    let mut sheet = Sheet::new(rt.alloc(), program(rt.alloc())?)?;
+    let mut sheet = Sheet::new(rt.alloc(), tidied(rt.alloc())?)?;
     assert!(rt; tells::<Brand>(&mut sheet, Blank::new(1)));
     Ok(())
 }

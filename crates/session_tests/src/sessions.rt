@@ -1,11 +1,12 @@
 //! Sessions of one household, and batches of several, over a program written by hand: REV less 1000, which is over in line 2
 //! of the driver where the square of REV is.
-ghost use Rattle.std.specs.Prelude.{◌≡◌, ◌<◌, IfOk, length};
+ghost use Rattle.std.specs.Prelude.{◌≡◌, ◌≤◌, ◌<◌, IfOk, length};
 ghost use Rattle.std.specs.List.{AllByRecursion};
 ghost use Rattle.observables.specs.Inputs.{codes_of};
 ghost use Rattle.flat_code.specs.Runs.{IsFlat};
 
-use flat_code::{Check, Flat, Node};
+use dead_rules::tidy;
+use flat_code::{Check, Flat, Node, Tidy};
 use household::{Codes, Household, read_table};
 use household_session::Session;
 use m_batch::run_batch;
@@ -30,7 +31,7 @@ fn number(millionths: i128) -> Value {
 
 fn program(alloc: Global) -> Result<Flat, AllocError>
     ensures valid { IfOk result (λ flat. IsFlat flat) }
-    ensures sizes { IfOk result (λ flat. (flat.inputs ≡ 1) × (length flat.outputs ≡ 1)) }
+    ensures sizes { IfOk result (λ flat. (flat.inputs ≡ 1) × (length flat.nodes ≡ 5) × (length flat.outputs ≡ 1)) }
     ensures labels { IfOk result (λ flat. AllByRecursion (λ check. check.label < 1) flat.checks) }
 {
     let thousand = number(1_000_000_000);
@@ -57,6 +58,15 @@ fn program(alloc: Global) -> Result<Flat, AllocError>
         checks: Seq::from_vec(checks),
         outputs: Seq::from_vec(outputs),
     })
+}
+
+// Its tidy form.
+fn tidied(alloc: Global) -> Result<Tidy, AllocError>
+    ensures sizes { IfOk result (λ tidy. (tidy.inputs ≡ 1) × (length tidy.nodes ≤ 5) × (length tidy.outputs ≡ 1)) }
+    ensures labels { IfOk result (λ tidy. AllByRecursion (λ check. check.label < 1) tidy.checks) }
+{
+    let flat = program(alloc)?;
+    tidy(alloc, &flat)
 }
 
 // The list of the name IRN.
@@ -109,10 +119,10 @@ fn started(alloc: Global) -> Result<Session, Fail> {
     let household = Household {
         pairs: Seq::from_vec(Vec::new(alloc)),
     };
-    let flat = program(alloc)?;
+    let tidy = tidied(alloc)?;
     let face = face(alloc)?;
     let codes = codes(alloc, face.inputs.as_slice())?;
-    Ok(Session::start(alloc, flat, face, codes, &household)?)
+    Ok(Session::start(alloc, tidy, face, codes, &household)?)
 }
 
 // Fails, naming the line, where anything but its reply is written.
