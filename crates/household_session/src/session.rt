@@ -4,7 +4,6 @@ ghost use Rattle.std.specs.List.{AllByRecursion};
 ghost use Rattle.text_pieces.specs.Giving.{Gives};
 ghost use Rattle.observables.specs.Inputs.{codes_of};
 ghost use Rattle.flat_code.specs.Faces.{IsFaceOf};
-ghost use Rattle.flat_code.specs.Runs.{IsFlat};
 ghost use Rattle.household.specs.Household.{inputs_of};
 ghost use Rattle.household_session.specs.Sessions.{answered, begun, clear_of, edited, set_of, showing_of, shown};
 ghost use Rattle.household_session.specs.Replies.{after_line, answer_reply, reply_of};
@@ -14,7 +13,7 @@ use crate::EditFault;
 use crate::command::{Asked, asked_by};
 use crate::outputs::print_sheet;
 use crate::seat::put_all;
-use flat_code::Flat;
+use flat_code::Tidy;
 use household::{Codes, Household};
 use m_fixed::{Value, read_amount};
 use m_ports::{Failed, Sink};
@@ -26,7 +25,7 @@ use steps::Steps;
 use text_pieces::give_pieces;
 use value_sheet::Sheet;
 
-/// A household of a flat program, whose amounts can be edited and whose answer can be shown. Contracts see the program,
+/// A household of a tidy program, whose amounts can be edited and whose answer can be shown. Contracts see the program,
 /// what it shows of itself, the value of each input as it is now, and what was put since the last show.
 #[derive(Drop)]
 pub struct Session {
@@ -47,24 +46,23 @@ impl Model for Session {
 }
 
 impl Session {
-    /// A session of a program that begins with a household's amounts. The codes are those of the face's inputs, and the
+    /// A session of a tidy program that begins with a household's amounts. The codes are those of the face's inputs, and the
     /// program's arguments are numbered in 32 bits. Its only error is want of memory, and no later call takes memory.
     pub fn start(
         alloc: Global,
-        flat: Flat,
+        tidy: Tidy,
         face: Face,
         codes: Codes,
         household: &Household,
     ) -> Result<Session, AllocError>
-        requires valid { IsFlat flat }
-        requires few { 3 * length flat.nodes < 4_294_967_295 }
-        requires face { IsFaceOf face flat }
+        requires few { 3 * length tidy.nodes < 4_294_967_295 }
+        requires face { IsFaceOf face tidy }
         requires codes { codes ≡ codes_of face.inputs }
-        requires inputs { AllByRecursion (λ input. input < flat.inputs) (inputs_of household.now.pairs) }
-        ensures sitting { IfOk result (λ session. session.sitting ≡ begun flat face household.now.pairs) }
-        ensures since { IfOk result (λ session. session.since ≡ since_begun flat household.now.pairs) }
+        requires inputs { AllByRecursion (λ input. input < tidy.inputs) (inputs_of household.now.pairs) }
+        ensures sitting { IfOk result (λ session. session.sitting ≡ begun tidy face household.now.pairs) }
+        ensures since { IfOk result (λ session. session.since ≡ since_begun tidy household.now.pairs) }
     {
-        let mut sheet = Sheet::new(alloc, flat)?;
+        let mut sheet = Sheet::new(alloc, tidy)?;
         put_all(&mut sheet, household);
         Ok(Session { sheet, face, codes })
     }

@@ -2,21 +2,24 @@
 //! of the driver where the square of REV is.
 ghost use Rattle.std.specs.Prelude.{◌≡◌, ◌<◌, IfOk, length};
 ghost use Rattle.std.specs.List.{AllByRecursion};
+ghost use Rattle.observables.specs.Inputs.{codes_of};
 ghost use Rattle.flat_code.specs.Runs.{IsFlat};
 
 use flat_code::{Check, Flat, Node};
-use observables::{Answer, Face, FaceLabel, Stop};
 use household::{Codes, Household, read_table};
 use household_session::Session;
 use m_batch::run_batch;
 use m_fixed::{Amount, Op, Value};
-use m_names::Names;
 use m_places::{Name, Seq};
 use m_ports::{MemSink, MemSource};
+use observables::{Answer, Coded, Face, FaceLabel, InputType, Stop, named_face};
 use serve_loop::{ServeEnd, serve};
 use std::alloc::{AllocError, Global};
+use std::marker::Brand;
+use std::sync::ledger::{Blank, Ledger};
 use std::test::Fail;
 use std::thread::Threads;
+use steps::Steps;
 
 fn number(millionths: i128) -> Value {
     match Amount::new(millionths) {
@@ -56,13 +59,25 @@ fn program(alloc: Global) -> Result<Flat, AllocError>
     })
 }
 
-// A list of one name.
-fn one_name(alloc: Global, name: &[u8]) -> Result<Seq<Name>, AllocError>
+// The list of the name IRN.
+fn one_name(alloc: Global) -> Result<Seq<Name>, AllocError>
     ensures { IfOk result (λ names. length names ≡ 1) }
 {
     let mut names = Vec::new(alloc);
-    names.push(Name::new(alloc, name)?)?;
+    names.push(Name::new(alloc, b"IRN")?)?;
     Ok(Seq::from_vec(names))
+}
+
+// The list of the input 1AJ.
+fn one_input(alloc: Global) -> Result<Seq<Coded>, AllocError>
+    ensures { IfOk result (λ inputs. length inputs ≡ 1) }
+{
+    let mut inputs = Vec::new(alloc);
+    inputs.push(Coded {
+        code: Name::new(alloc, b"1AJ")?,
+        kind: InputType::Any,
+    })?;
+    Ok(Seq::from_vec(inputs))
 }
 
 fn one_label(alloc: Global) -> Result<Seq<FaceLabel>, AllocError>
@@ -76,23 +91,17 @@ fn one_label(alloc: Global) -> Result<Seq<FaceLabel>, AllocError>
 fn face(alloc: Global) -> Result<Face, AllocError>
     ensures { IfOk result (λ face. (length face.inputs ≡ 1) × (length face.labels ≡ 1) × (length face.outputs ≡ 1)) }
 {
-    let inputs = one_name(alloc, b"1AJ")?;
+    let inputs = one_input(alloc)?;
     let labels = one_label(alloc)?;
-    let outputs = one_name(alloc, b"IRN")?;
-    Ok(Face {
-        inputs,
-        labels,
-        outputs,
-    })
+    let names = one_name(alloc)?;
+    named_face(alloc, inputs, labels, names)
 }
 
-fn codes_of(alloc: Global, names: &[Name]) -> Result<Codes, Fail>
-    ensures { IfOk result (λ codes. codes ≡ names.now) }
+fn codes(alloc: Global, inputs: &[Coded]) -> Result<Codes, AllocError>
+    requires { length inputs.now ≡ 1 }
+    ensures { IfOk result (λ codes. codes ≡ codes_of inputs.now) }
 {
-    match Names::of(alloc, names) {
-        Ok(names) => Ok(Codes::new(names)),
-        Err(_) => Err(Fail::from("two codes are one")),
-    }
+    Codes::new(alloc, inputs)
 }
 
 // A session of the program without amounts.
@@ -102,14 +111,20 @@ fn started(alloc: Global) -> Result<Session, Fail> {
     };
     let flat = program(alloc)?;
     let face = face(alloc)?;
-    let codes = codes_of(alloc, face.inputs.as_slice())?;
+    let codes = codes(alloc, face.inputs.as_slice())?;
     Ok(Session::start(alloc, flat, face, codes, &household)?)
 }
 
 // Fails, naming the line, where anything but its reply is written.
-fn check_line(alloc: Global, session: &mut Session, line: &[u8], reply: &[u8]) -> Result<(), Fail> {
+fn check_line<L: Ledger>(
+    alloc: Global,
+    session: &mut Session,
+    line: &[u8],
+    reply: &[u8],
+    steps: &mut Steps<L>,
+) -> Result<(), Fail> {
     let mut out = MemSink::new(alloc, 7, Vec::new(alloc))?;
-    let given = session.command(line, &mut out).is_ok();
+    let given = session.command(line, &mut out, steps).is_ok();
     if given && out.written() == reply {
         return Ok(());
     }
@@ -156,13 +171,23 @@ fn rows() -> &'static [(&'static [u8], &'static [u8])] {
     &LINES
 }
 
-#[test]
-fn lines(rt: HostRuntime) -> Result<(), Fail> {
-    let mut session = started(rt.alloc())?;
+// The lines of the table, one after another.
+fn check_lines<L: Ledger>(alloc: Global, blank: Blank) -> Result<(), Fail>
+    requires name { blank.name ≡ L.name }
+    requires parts { blank.parts ≡ L.parts }
+    requires some { 0 < L.parts }
+{
+    let mut session = started(alloc)?;
+    let mut steps = Steps::<L>::begin(blank);
     for (line, reply) in rows() {
-        check_line(rt.alloc(), &mut session, line, reply)?;
+        check_line(alloc, &mut session, line, reply, &mut steps)?;
     }
     Ok(())
+}
+
+#[test]
+fn lines(rt: HostRuntime) -> Result<(), Fail> {
+    check_lines::<Brand>(rt.alloc(), Blank::new(1))
 }
 
 // A line of this byte, with a carriage return at its end.
@@ -180,14 +205,36 @@ const LONG: [(u8, usize, &[u8]); 4] = [
     (b' ', 4_096, b"refused line too long\n"),
 ];
 
-#[test]
-fn long_lines(rt: HostRuntime) -> Result<(), Fail> {
-    let mut session = started(rt.alloc())?;
+fn check_long_lines<L: Ledger>(alloc: Global, blank: Blank) -> Result<(), Fail>
+    requires name { blank.name ≡ L.name }
+    requires parts { blank.parts ≡ L.parts }
+    requires some { 0 < L.parts }
+{
+    let mut session = started(alloc)?;
+    let mut steps = Steps::<L>::begin(blank);
     for (byte, bytes, reply) in LONG {
-        let line = long_line(rt.alloc(), byte, bytes)?;
-        check_line(rt.alloc(), &mut session, &line, reply)?;
+        let line = long_line(alloc, byte, bytes)?;
+        check_line(alloc, &mut session, &line, reply, &mut steps)?;
     }
     Ok(())
+}
+
+#[test]
+fn long_lines(rt: HostRuntime) -> Result<(), Fail> {
+    check_long_lines::<Brand>(rt.alloc(), Blank::new(1))
+}
+
+// Whether an edit whose reply fails is done, and the show behind it is written.
+fn goes_on<L: Ledger>(session: &mut Session, out: &mut MemSink, blank: Blank) -> bool
+    requires name { blank.name ≡ L.name }
+    requires parts { blank.parts ≡ L.parts }
+    requires some { 0 < L.parts }
+{
+    let mut steps = Steps::<L>::begin(blank);
+    let set = session.set(b"1AJ", b"3").is_ok();
+    let failed = session.command(b"set 1AJ 5", out, &mut steps).is_err();
+    let shown = session.show(out, &mut steps).is_ok();
+    set && failed && shown && out.written() == b"oIRN = -995\n.\n".as_slice()
 }
 
 #[test]
@@ -195,11 +242,7 @@ fn failed_writes(rt: HostRuntime) -> Result<(), Fail> {
     let mut session = started(rt.alloc())?;
     let failing = vec![in rt.alloc(); 2]?;
     let mut out = MemSink::new(rt.alloc(), 1, failing)?;
-    let set = session.set(b"1AJ", b"3").is_ok();
-    let failed = session.command(b"set 1AJ 5", &mut out).is_err();
-    let shown = session.show(&mut out).is_ok();
-    assert!(rt; set && failed && shown);
-    assert_eq!(rt; out.written(), b"oIRN = -995\n.\n".as_slice());
+    assert!(rt; goes_on::<Brand>(&mut session, &mut out, Blank::new(1)));
     Ok(())
 }
 
@@ -241,14 +284,20 @@ fn input(alloc: Global, piece: usize, read: u64) -> Result<MemSource, Fail> {
 }
 
 // Whether the loop ends so, and writes so many bytes.
-fn ends(
+fn ends<L: Ledger>(
     session: &mut Session,
     input: &mut MemSource,
     out: &mut MemSink,
     end: ServeEnd,
     written: usize,
-) -> bool {
-    let ended = serve(session, input, out);
+    blank: Blank,
+) -> bool
+    requires name { blank.name ≡ L.name }
+    requires parts { blank.parts ≡ L.parts }
+    requires some { 0 < L.parts }
+{
+    let mut steps = Steps::<L>::begin(blank);
+    let ended = serve(session, input, out, &mut steps);
     let told = out.written();
     ended == end && told.len() == written && WRITTEN.starts_with(told)
 }
@@ -266,7 +315,14 @@ fn serves(
     let mut out = MemSink::new(alloc, 1, failing)?;
     let mut input = input(alloc, piece, read)?;
     let mut session = started(alloc)?;
-    Ok(ends(&mut session, &mut input, &mut out, end, written))
+    Ok(ends::<Brand>(
+        &mut session,
+        &mut input,
+        &mut out,
+        end,
+        written,
+        Blank::new(1),
+    ))
 }
 
 #[test]
@@ -308,7 +364,7 @@ fn told(alloc: Global, answers: &[Answer]) -> Result<Vec<u8>, Fail> {
 fn batch<R: Threads + Sync>(rt: &R, alloc: Global, bytes: &[u8]) -> Result<Vec<u8>, Fail> {
     let flat = program(alloc)?;
     let face = face(alloc)?;
-    let codes = codes_of(alloc, face.inputs.as_slice())?;
+    let codes = codes(alloc, face.inputs.as_slice())?;
     let rows = read_table(alloc, bytes, &codes)?;
     let answers = run_batch(rt, alloc, &flat, rows.as_slice())?;
     told(alloc, answers.as_slice())

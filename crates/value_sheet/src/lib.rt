@@ -1,9 +1,10 @@
-//! Kept values: the values of all nodes of a flat program, of which a change of inputs evaluates only those it touches.
+//! Kept values: the values of all nodes of a tidy program, of which a change of inputs evaluates only those it touches.
 //!
 //! This crate knows nothing of households, codes or printed lines. Nothing but the making of a sheet takes memory.
 #![tactic(auto)]
 
 mod build;
+mod program;
 mod settle;
 mod sheet;
 

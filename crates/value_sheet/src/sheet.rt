@@ -1,15 +1,16 @@
 //! The sheet.
 ghost use Rattle.std.specs.Prelude.{◌≡◌, ◌+◌, ◌*◌, ◌<◌, ◌↔◌, false, true, IsTrue, IfOk, length, replicate, slice_set};
 ghost use Rattle.m_fixed.specs.declared.amount.Value.{Value};
-ghost use Rattle.flat_code.specs.Runs.{IsFlat, first_stop, node_values, value_at};
+ghost use Rattle.flat_code.specs.Runs.{first_stop, node_values, value_at};
 ghost use Rattle.flat_code.specs.Touched.{touched};
 ghost use Rattle.value_sheet.specs.Held.{fresh, output_value};
 
 use crate::build::{input_rows_of, readers_of, values_of};
+use crate::program::{checks_of, inputs_of, nodes_of, outputs_of};
 use crate::settle::settle_all;
 use dirty_set::Bits;
 use edge_rows::Rows;
-use flat_code::{Flat, stop_among};
+use flat_code::{Tidy, stop_among};
 use m_fixed::Value;
 use observables::Stop;
 use std::alloc::{AllocError, Global};
@@ -22,7 +23,7 @@ use steps::Steps;
 /// were put since then; nothing of values, marks or edges.
 #[derive(Drop)]
 pub struct Sheet {
-    flat: Flat,
+    tidy: Tidy,
     inputs: Vec<Value>,
     puts: Bits,
     // the value of each node in the last settled state
@@ -44,29 +45,29 @@ impl Model for Sheet {
 
     ghost use Rattle.value_sheet.specs.inner.Sound.{IsSheet};
 
-    ghost view = { λ s. record { flat = s.flat; settled = s.last.value.items; now = s.inputs.items; put = s.puts } };
+    ghost view = { λ s. record { flat = s.tidy; settled = s.last.value.items; now = s.inputs.items; put = s.puts } };
 
-    ghost invariant = { λ s. IsSheet s.flat s.last.value.items s.inputs.items s.puts s.kept.items s.marks s.readers s.input_rows };
+    ghost invariant = { λ s. IsSheet s.tidy s.last.value.items s.inputs.items s.puts s.kept.items s.marks s.readers s.input_rows };
 }
 
 impl Sheet {
-    /// The sheet of a program, of which all inputs are undefined. It is settled. The program's arguments are numbered in 32 bits.
+    /// The sheet of a tidy program, of which all inputs are undefined. It is settled. The program's arguments are numbered in 32 bits.
     /// Its only error is want of memory; no later call takes memory.
-    pub fn new(alloc: Global, flat: Flat) -> Result<Sheet, AllocError>
-        requires valid { IsFlat flat }
-        requires few { 3 * length flat.nodes < 4_294_967_295 }
-        ensures { IfOk result (λ sheet. sheet ≡ fresh flat) }
+    pub fn new(alloc: Global, tidy: Tidy) -> Result<Sheet, AllocError>
+        requires { 3 * length tidy.nodes < 4_294_967_295 }
+        ensures { IfOk result (λ sheet. sheet ≡ fresh tidy) }
     {
-        let nodes = flat.nodes.as_slice();
+        let count = inputs_of(&tidy);
+        let nodes = nodes_of(&tidy);
         let readers = readers_of(alloc, nodes)?;
-        let input_rows = input_rows_of(alloc, nodes, flat.inputs)?;
-        let inputs = vec![in alloc; Value::Undef; flat.inputs as usize]?;
+        let input_rows = input_rows_of(alloc, nodes, count)?;
+        let inputs = vec![in alloc; Value::Undef; count as usize]?;
         let kept = values_of(alloc, nodes, &inputs)?;
         let marks = Bits::new(alloc, nodes.len() as u32)?;
-        let puts = Bits::new(alloc, flat.inputs)?;
+        let puts = Bits::new(alloc, count)?;
         let last = Snapshot::of(&inputs);
         Ok(Sheet {
-            flat,
+            tidy,
             inputs,
             puts,
             kept,
@@ -93,7 +94,7 @@ impl Sheet {
         ensures cost { steps.new ≡ steps.old + touched self.old.flat.nodes self.old.put self.old.settled self.old.now }
     {
         settle_all(
-            self.flat.nodes.as_slice(),
+            nodes_of(&self.tidy),
             &self.inputs,
             &self.puts,
             &self.readers,
@@ -132,7 +133,7 @@ impl Sheet {
         requires output { k < length self.now.flat.outputs }
         ensures { result ≡ output_value self.now.flat self.now.now k }
     {
-        let node = self.flat.outputs.as_slice()[k as usize];
+        let node = outputs_of(&self.tidy)[k as usize];
         self.kept[node as usize]
     }
 
@@ -141,6 +142,6 @@ impl Sheet {
         requires { self.now.settled ≡ self.now.now }
         ensures { result ≡ first_stop (node_values self.now.now self.now.flat.nodes) self.now.flat.checks }
     {
-        stop_among(self.flat.checks.as_slice(), &self.kept)
+        stop_among(checks_of(&self.tidy), &self.kept)
     }
 }

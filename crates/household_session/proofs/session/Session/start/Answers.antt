@@ -8,7 +8,7 @@ use Rattle.household_session.proofs.session.Session.start.Goals as goal
 
 pub put_all-requires-clause-none : goal.put_all-requires-clause-none
 put_all-requires-clause-none c =
-    subst (λ (held : Held). held.now ≡ values_of [] held.flat.inputs) (sym c.in_ok-sheet.ensures) (values_of-none c.args.flat.inputs)
+    subst (λ (held : Held). held.now ≡ values_of [] held.flat.inputs) (sym c.in_ok-sheet.ensures) (values_of-none c.args.tidy.inputs)
 
 pub put_all-requires-clause-inputs : goal.put_all-requires-clause-inputs
 put_all-requires-clause-inputs c =

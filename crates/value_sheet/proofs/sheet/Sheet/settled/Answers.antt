@@ -12,5 +12,5 @@ pub returns-in-None-clause-settled : goal.returns-in-None-clause-settled
 returns-in-None-clause-settled c h =
     let s = c.self.inside in
     rw (← c.self.view_is)
-    (unput_same s.flat.inputs s.last.value.items s.inputs.items s.puts c.self.invariant.before c.self.invariant.given c.self.invariant.same
+    (unput_same s.tidy.inputs s.last.value.items s.inputs.items s.puts c.self.invariant.before c.self.invariant.given c.self.invariant.same
     (λ k. c.in-None.ensures.next k))

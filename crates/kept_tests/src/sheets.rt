@@ -1,0 +1,84 @@
+//! A sheet of a program written by hand: the first input less 1000, and the second input times 2; a check of the difference.
+ghost use Rattle.std.specs.Prelude.{◌≡◌, ◌<◌, IfOk, length};
+ghost use Rattle.flat_code.specs.Runs.{IsFlat};
+
+use flat_code::{Check, Flat, Node};
+use m_fixed::{Amount, Op, Value};
+use m_places::Seq;
+use observables::Stop;
+use std::alloc::{AllocError, Global};
+use std::marker::Brand;
+use std::sync::ledger::{Blank, Ledger};
+use std::test::Fail;
+use steps::Steps;
+use value_sheet::Sheet;
+
+fn number(units: i128) -> Value {
+    match Amount::new(units.wrapping_mul(1_000_000)) {
+        Some(amount) => Value::Num(amount),
+        None => Value::Over,
+    }
+}
+
+fn program(alloc: Global) -> Result<Flat, AllocError>
+    ensures valid { IfOk result (λ flat. IsFlat flat) }
+    ensures sizes { IfOk result (λ flat. (flat.inputs ≡ 2) × (length flat.nodes ≡ 7) × (length flat.outputs ≡ 2)) }
+{
+    let thousand = number(1_000);
+    let two = number(2);
+    let one = number(1);
+    let nodes = vec![in alloc;
+        Node::Input(0),
+        Node::Lit(thousand),
+        Node::Do(Op::Sub, 0, 1, 0),
+        Node::Input(1),
+        Node::Lit(two),
+        Node::Do(Op::Mul, 3, 4, 3),
+        Node::Lit(one),
+    ]?;
+    let checks = vec![in alloc;
+        Check {
+            guard: 6,
+            condition: 2,
+            over_only: false,
+            label: 3
+        },
+    ]?;
+    let outputs = vec![in alloc; 2, 5]?;
+    Ok(Flat {
+        inputs: 2,
+        nodes: Seq::from_vec(nodes),
+        checks: Seq::from_vec(checks),
+        outputs: Seq::from_vec(outputs),
+    })
+}
+
+// Whether what a sheet tells of its program's answers is right, from one settle to the next.
+fn tells<L: Ledger>(sheet: &mut Sheet, blank: Blank) -> bool
+    requires name { blank.name ≡ L.name }
+    requires parts { blank.parts ≡ L.parts }
+    requires some { 0 < L.parts }
+    requires inputs { sheet.old.flat.inputs ≡ 2 }
+    requires outputs { length sheet.old.flat.outputs ≡ 2 }
+{
+    let mut steps = Steps::<L>::begin(blank);
+    let fresh = sheet.settled();
+    sheet.put(0, number(1_000));
+    sheet.put(1, number(21));
+    let put = !sheet.settled() && sheet.input_value(1) == number(21);
+    sheet.settle(&mut steps);
+    let passed = sheet.stop().is_none();
+    let shown = sheet.output(0) == number(0) && sheet.output(1) == number(42);
+    sheet.put(0, number(5_000));
+    sheet.settle(&mut steps);
+    let stopped = sheet.stop() == Some(Stop::Failed(3));
+    let kept = sheet.output(0) == number(4_000) && sheet.output(1) == number(42);
+    fresh && put && passed && shown && stopped && kept
+}
+
+#[test]
+fn answers(rt: HostRuntime) -> Result<(), Fail> {
+    let mut sheet = Sheet::new(rt.alloc(), program(rt.alloc())?)?;
+    assert!(rt; tells::<Brand>(&mut sheet, Blank::new(1)));
+    Ok(())
+}
