@@ -1,16 +1,14 @@
 -- A text that was printed into an empty room is what is held, and what is given of it is that text.
-use Rattle.std.proofs.Common.{◌≡◌, ℕ, List, [], ◌++◌, Option, Some, Result, ◌∙◌, ap, subst}
+use Rattle.std.proofs.Common.{◌≡◌, ℕ, List, [], Option, Some, Result, ◌∙◌, ap, subst}
 use Rattle.std.specs.Io.KnownBytes.{append_known}
-use Rattle.held_text.specs.Texts.{TextIn}
 use Rattle.text_pieces.specs.Giving.{Gives}
 
 same : (one other : List ℕ) → Some one ≡ Some other → one ≡ other
 same one other is = cc is
 
 -- the whole text is held
-pub held_whole : (empty before after : TextIn) (text given : List ℕ) → before ≡ empty → empty.bytes ≡ [] → Some after.bytes ≡ append_known (Some before.bytes) text → given ≡ after.bytes → given ≡ text
-held_whole empty before after text given start none all is =
-    is ∙ same after.bytes text (all ∙ ap (λ (t : TextIn). append_known (Some t.bytes) text) start ∙ ap (λ front. append_known (Some front) text) none)
+pub held_whole : (before after text given : List ℕ) → before ≡ [] → Some after ≡ append_known (Some before) text → given ≡ after → given ≡ text
+held_whole before after text given none all is = is ∙ same after text (all ∙ ap (λ front. append_known (Some front) text) none)
 
 -- and given
 pub gives_whole : {S T E : Type 0} (written : S → Option (List ℕ)) (faults : S → ℕ) (old new : S) (result : Result T E) (given text : List ℕ) → given ≡ text

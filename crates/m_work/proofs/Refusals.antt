@@ -1,5 +1,5 @@
 -- Refusals that were told.
-use Rattle.std.proofs.Common.{◌≡◌, ◌⊎◌, ℕ, List, Option, None, Some, Result, Err, refl, ap, subst, inl, inr}
+use Rattle.std.proofs.Common.{◌≡◌, ◌⊎◌, ℕ, List, Option, None, Some, Result, refl, ap, inl, inr}
 use Rattle.std.specs.Prelude.{◌≢◌}
 use Rattle.rule_text.specs.declared.Source.{Source}
 use Rattle.household.specs.declared.fault.HouseholdFault.{HouseholdFault}

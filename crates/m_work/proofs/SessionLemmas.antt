@@ -1,5 +1,5 @@
 -- A session of a program replies as its scheme says.
-use Rattle.std.proofs.Common.{◌≡◌, ℕ, ℤ, length, List, [], ◌∷◌, ◌++◌, Option, None, Some, Result, Ok, Err, refl, sym, ◌∙◌, ap, subst}
+use Rattle.std.proofs.Common.{◌≡◌, ℕ, ℤ, List, [], ◌∷◌, ◌++◌, Option, None, Some, Result, Ok, Err, refl, ◌∙◌, ap}
 use Rattle.std.specs.Prelude.{codes}
 use Rattle.m_fixed.specs.declared.amount.Value.{Value}
 use Rattle.m_fixed.specs.declared.amount.Value.TheVariants.{Num}
@@ -10,8 +10,8 @@ use Rattle.observables.specs.declared.inputs.Coded.{Coded}
 use Rattle.observables.specs.Inputs.{AreAny, AreValuesOf}
 use Rattle.observables.proofs.InputLemmas.{read_amount, set-value}
 use Rattle.household_session.specs.Commands.{SessionCommand, no_words, sets, clears, shows, too_long, bad, session_command}
-use Rattle.household_session.specs.Replies.{answer_reply, command_reply, command_values, lines_replies}
-use Rattle.household_session.specs.Sessions.{Showing, answered, clear_of, clear_said, line, set_of, set_said, shown, values_edited}
+use Rattle.household_session.specs.Replies.{command_reply, command_values, lines_replies}
+use Rattle.household_session.specs.Sessions.{Showing, clear_said, line, set_said, values_edited}
 
 -- ---- the values stay such that a program may be asked for them
 

@@ -1,10 +1,10 @@
 -- What a program that shows a scheme answers.
-use Rattle.std.proofs.Common.{◌≡◌, ℕ, ℤ, length, List, [], Option, None, Some, Ok, refl, sym, ◌∙◌, ap, subst}
+use Rattle.std.proofs.Common.{◌≡◌, ℕ, length, List, [], Option, None, Some, Ok, sym, ◌∙◌, ap, subst}
 use Rattle.std.specs.Prelude.{option_map, slice_get}
 use Rattle.std.specs.Option.{option_map_or}
 use Rattle.std.proofs.lemmas.List.{length-map}
 use Rattle.m_fixed.specs.declared.amount.Value.{Value}
-use Rattle.observables.specs.Answers.{Told, values, stopped, cause_of, label_number, told_of}
+use Rattle.observables.specs.Answers.{Told, stopped, cause_of, label_number, told_of}
 use Rattle.observables.specs.Inputs.{AreValuesOf, codes_of}
 use Rattle.observables.specs.Outputs.{names_of, notes_of}
 use Rattle.observables.specs.declared.answer.Answer.{Answer}

@@ -1,5 +1,5 @@
 -- From what was told and written to how a command ended.
-use Rattle.std.proofs.Common.{◌≡◌, ℕ, ℤ, length, List, [], ◌∷◌, ◌++◌, Result, Ok, Err, refl, sym, ◌∙◌, ap, subst, inl, inr}
+use Rattle.std.proofs.Common.{◌≡◌, ℕ, length, List, [], ◌∷◌, ◌++◌, Result, Ok, Err, refl, sym, ◌∙◌, ap, subst, inl, inr}
 use Rattle.std.specs.Prelude.{Option, Some, map}
 use Rattle.rule_text.specs.declared.Source.{Source}
 use Rattle.fault_lines.specs.Lines.{input_too_long_line, unreadable_input_line}
@@ -16,7 +16,7 @@ use Rattle.household_session.specs.Replies.{ended_lines, input_lines, replies_of
 use Rattle.household_session.specs.Sessions.{Sitting, begun, showing_of}
 use Rattle.m_large.specs.Large.{household_text}
 use Rattle.tax_print.specs.Lines.{answer_lines, told_lines}
-use Rattle.m_compile.specs.Compiled.{IsCompiled, IsRunnable, input_said, inputs_said}
+use Rattle.m_compile.specs.Compiled.{IsCompiled, IsRunnable, input_said}
 use Rattle.m_compile.specs.declared.compiling.Compiled.{Compiled}
 use Rattle.m_plan.specs.Printing.{Appends, Breaks, IsAnswered, Prints, printed, no_memory}
 use Rattle.m_plan.specs.Status.{IsOfEnd}
@@ -55,14 +55,14 @@ of_end (stopped cause) = tt
 -- an answer by one way to reply is an answer by another that replies the same
 answered_as : (One Other : List ℕ → Status → Type 0) (old new : OutputView) (status : Status) → ((text : List ℕ) (own : Status) → One text own → Other text own)
     → IsAnswered One old new status → IsAnswered Other old new status
-answered_as One Other old new status as (printed text own replied end shown) = printed text own (as text own replied) end shown
-answered_as One Other old new status as (no_memory same memory) = no_memory same memory
+answered_as One Other old new status turn (printed text own replied end shown) = printed text own (turn text own replied) end shown
+answered_as One Other old new status turn (no_memory same memory) = no_memory same memory
 
 parts_as : (One Other : List ℕ → Status → Type 0) (old new : OutputView) (status : Status) → ((text : List ℕ) (own : Status) → One text own → Other text own)
     → IsWrittenInParts One old new status → IsWrittenInParts Other old new status
-parts_as One Other old new status as (batch.printed text own replied end shown) = batch.printed text own (as text own replied) end shown
-parts_as One Other old new status as (batch.no_memory same memory) = batch.no_memory same memory
-parts_as One Other old new status as (broke_off text own replied prefix none memory) = broke_off text own (as text own replied) prefix none memory
+parts_as One Other old new status turn (batch.printed text own replied end shown) = batch.printed text own (turn text own replied) end shown
+parts_as One Other old new status turn (batch.no_memory same memory) = batch.no_memory same memory
+parts_as One Other old new status turn (broke_off text own replied prefix none memory) = broke_off text own (turn text own replied) prefix none memory
 
 -- ---- households
 

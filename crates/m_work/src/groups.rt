@@ -11,11 +11,11 @@ ghost use Rattle.m_work.specs.declared.groups.GroupFault.TheVariants.{Memory as 
 
 use crate::texts::{GROUP_ROOM, give_answers};
 use flat_code::Flat;
-use observables::{Answer, Face};
 use held_text::FixedText;
 use household::Row;
 use m_batch::run_batch;
 use m_ports::{Failed, Sink};
+use observables::{Answer, Face};
 use std::alloc::{AllocError, Global};
 use std::thread::Threads;
 use tax_print::print_household;

@@ -1,5 +1,5 @@
 //! Programs that are prepared to be run.
-ghost use Rattle.std.specs.Prelude.{IfOk};
+ghost use Rattle.std.specs.Prelude.{◌≡◌, IfOk};
 ghost use Rattle.m_places.specs.Refusals.{Outcome};
 ghost use Rattle.rule_text.specs.Limits.{SourceKeepsLimits};
 ghost use Rattle.m_compile.specs.Compiled.{IsRunnable};

@@ -39,7 +39,12 @@ pub fn run_source<K: Sink>(alloc: Global, source: &Source, household: &[u8], out
 }
 
 /// Prints what a program answers to the household of these bytes, or the line by which that is refused.
-pub fn answer_run<K: Sink>(alloc: Global, program: &Program, household: &[u8], out: &mut K) -> Status
+pub fn answer_run<K: Sink>(
+    alloc: Global,
+    program: &Program,
+    household: &[u8],
+    out: &mut K,
+) -> Status
     requires { IsRunnable program.now.face program.now.tidy }
     ensures { (scheme : Scheme) → Shows scheme program.now
         → IsAnswered (HouseholdReplies [] scheme household.now) (output_view K.written K.faults out.old) (output_view K.written K.faults out.new) result }

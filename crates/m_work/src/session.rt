@@ -9,6 +9,7 @@ use household_session::Session;
 use m_plan::{Status, print_fault};
 use m_ports::{Sink, Source};
 use serve_loop::{ServeEnd, serve};
+use std::marker::Brand;
 use std::sync::ledger::{Blank, Ledger};
 use steps::Steps;
 

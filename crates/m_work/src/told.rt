@@ -7,10 +7,10 @@ ghost use Rattle.m_work.specs.Households.{answer_status, household_fault_line};
 ghost use Rattle.m_work.specs.inner.Refusals.{TellsLine};
 
 use fault_lines::{Fault, RowFault};
-use observables::Answer;
 use household::HouseholdFault;
 use m_plan::{Status, print_fault};
 use m_ports::Sink;
+use observables::Answer;
 
 /// Tells what refuses the input, or of want of memory nothing, and answers the status.
 pub(crate) fn tell_refusal<K: Sink>(out: &mut K, told: Option<Fault<'_>>) -> Status

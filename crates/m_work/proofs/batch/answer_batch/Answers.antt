@@ -12,18 +12,18 @@ use Rattle.m_work.proofs.batch.answer_batch.Goals as goal
 
 pub print_rows-requires-clause-inputs : goal.print_rows-requires-clause-inputs
 print_rows-requires-clause-inputs g c = λ κs held.
-    rw (c.as_slice.ensures, c.flat.ensures.program)
+    rw (c.as_slice.ensures, c.flat-flat.ensures.program)
     (rw (as_many_codes c.args.program.now c.requires) at (rows_below (length (codes_of c.args.program.now.face.inputs)) c.in-Ok.rows c.in-Ok.ensures.inputs))
 
 pub print_rows-requires-clause-face : goal.print_rows-requires-clause-face
-print_rows-requires-clause-face g c = λ κs held. rw c.flat.ensures.program c.requires.shown
+print_rows-requires-clause-face g c = λ κs held. rw c.flat-flat.ensures.program c.requires.shown
 
 pub returns-in-Ok : goal.returns-in-Ok
 returns-in-Ok g c = λ scheme shown.
     let given = subst (λ codes. table_of codes c.args.table.now ≡ Ok c.in-Ok.rows) shown.codes c.in-Ok.ensures.outcome in
     batch_written _ _ _ _ _ _ (TableReplies scheme c.args.table.now) _ (rows_are_told c.in-Ok.rows given)
     c.status_of_rows.ensures
-    (rw (rows_told scheme c.args.program.now c.in-Ok.rows shown (as_many scheme c.args.program.now c.requires shown) (table_gives scheme.inputs c.args.table.now c.in-Ok.rows shown.any given)) at (rw (c.as_slice.ensures, c.flat.ensures.program) at c.print_rows.ensures))
+    (rw (rows_told scheme c.args.program.now c.in-Ok.rows shown (as_many scheme c.args.program.now c.requires shown) (table_gives scheme.inputs c.args.table.now c.in-Ok.rows shown.any given)) at (rw (c.as_slice.ensures, c.flat-flat.ensures.program) at c.print_rows.ensures))
 
 pub returns-in-Err : goal.returns-in-Err
 returns-in-Err g c = λ scheme shown.

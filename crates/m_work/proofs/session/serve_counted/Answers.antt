@@ -25,8 +25,8 @@ returns-in-WriteFault g c =
     let end = c.in-WriteFault.ensures.end in
     unwritten end.0 end.1 end.2 end.3 c.in-WriteFault.ensures.counts.0 (end.4, c.in-WriteFault.ensures.counts.1) refl
 
-pub returns-in-TooLong : goal.returns-in-TooLong
-returns-in-TooLong g c =
+pub returns : goal.returns
+returns g c =
     let end = c.in-TooLong.ensures.end in
     too_long end.0 end.2.moved end.1 c.in-TooLong.ensures.counts.0
     (prints_behind (output_view g.K.Sink.written g.K.Sink.faults c.args.out.now) (output_view g.K.Sink.written g.K.Sink.faults c.serve.new.out)
