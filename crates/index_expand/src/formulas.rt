@@ -1,8 +1,8 @@
 //! Formulas: a definition for each instance of their loops, and for each cell of a table.
-ghost use Rattle.std.specs.Prelude.{◌≡◌, ◌≢◌, ◌∷◌, ◌≤◌, [], IfSome, OnOk, length, map};
+ghost use Rattle.std.specs.Prelude.{◌≡◌, ◌+◌, ◌∷◌, ◌≤◌, [], IfSome, OnOk, length, map};
 ghost use Rattle.std.specs.List.{flat_map, range_with_len};
 ghost use Rattle.m_places.specs.Refusals.{Outcome};
-ghost use Rattle.plain_rules.specs.Plain.{table_size};
+ghost use Rattle.plain_rules.specs.Plain.{table_size, TablesHaveCells};
 ghost use Rattle.m_symbols.specs.Declarations.{Declared};
 ghost use Rattle.loop_values.specs.Headers.{instances};
 ghost use Rattle.loop_values.specs.Letters.{bind, no_letters};
@@ -33,7 +33,8 @@ pub(crate) fn take_formula(
     total: u64,
 ) -> Result<u64, ExpandFault>
     requires letters { letters.old ≡ no_letters }
-    requires total { total ≤ 2000000 }
+    requires total { total ≤ MOST }
+    requires tables { TablesHaveCells symbols.now }
     ensures outcome { Outcome ExpandFault.Memory result
         (λ after. IsTaken definitions.old.items definitions.new.items
         (formula_definitions symbols.now formula.now) (formula_parts symbols.now formula.now) total after)
@@ -58,28 +59,15 @@ pub(crate) fn take_formula(
     )
 }
 
-// With more headers than this, a formula whose instances are too many isn't looked at further.
-const MANY_HEADERS: usize = 1_000;
-
-// The fault of a formula with more instances than there may be parts. Where it is for each cell of a table, only its making
-// shows how many definitions it has. With very many headers that isn't tried.
+// The fault of a formula with more instances than there may be parts: each instance is a definition at least, since a table
+// has a cell. So what is looked at further has few indexes with two values or more.
 fn refusal(item: Place, formula: &Formula) -> Option<ExpandFault>
-    ensures { IfSome result (λ fault. fault ≢ ExpandFault.Memory → (declared : Declared) → IsTooMuch (formula_parts declared formula.now) 0 item fault) }
+    ensures { IfSome result (λ fault. (declared : Declared) → TablesHaveCells declared → IsTooMuch (formula_parts declared formula.now) 0 item fault) }
 {
-    let headers = formula.loops.as_slice();
-    if headers_count(headers) <= MOST {
-        return None;
-    }
-    match formula.slot {
-        Slot::Whole => Some(ExpandFault::TooManyParts(item)),
-        Slot::Cell(_) => Some(ExpandFault::TooManyParts(item)),
-        Slot::Every => {
-            if headers.len() > MANY_HEADERS {
-                Some(ExpandFault::Memory)
-            } else {
-                None
-            }
-        }
+    if headers_count(formula.loops.as_slice()) <= MOST {
+        None
+    } else {
+        Some(ExpandFault::TooManyParts(item))
     }
 }
 
@@ -97,8 +85,8 @@ fn take_instances(
     total: u64,
 ) -> Result<u64, ExpandFault>
     requires letters { length letters.old ≡ 256 }
-    requires weight { weight ≤ 2000001 }
-    requires total { total ≤ 2000000 }
+    requires weight { weight ≤ MOST + 1 }
+    requires total { total ≤ MOST }
     ensures outcome { let these = flat_map (definitions_at symbols.now formula.now formula.now.slot) (instances indexes.now letters.old) in
         Outcome ExpandFault.Memory result
         (λ after. IsTaken definitions.old.items definitions.new.items these (weighed these weight) total after)
@@ -146,8 +134,8 @@ fn take_index(
     total: u64,
 ) -> Result<u64, ExpandFault>
     requires letters { length letters.old ≡ 256 }
-    requires weight { weight ≤ 2000001 }
-    requires total { total ≤ 2000000 }
+    requires weight { weight ≤ MOST + 1 }
+    requires total { total ≤ MOST }
     ensures outcome { let these = flat_map (definitions_at symbols.now formula.now formula.now.slot) (instances (index.now ∷ indexes.now) letters.old) in
         Outcome ExpandFault.Memory result
         (λ after. IsTaken definitions.old.items definitions.new.items these (weighed these weight) total after)
@@ -190,8 +178,8 @@ fn take_bound(
     total: u64,
 ) -> Result<u64, ExpandFault>
     requires letters { length letters.old ≡ 256 }
-    requires weight { weight ≤ 2000001 }
-    requires total { total ≤ 2000000 }
+    requires weight { weight ≤ MOST + 1 }
+    requires total { total ≤ MOST }
     ensures outcome { let these = flat_map (definitions_at symbols.now formula.now formula.now.slot) (instances indexes.now (bind letters.old letter value.now)) in
         Outcome ExpandFault.Memory result
         (λ after. IsTaken definitions.old.items definitions.new.items these (weighed these weight) total after)
@@ -227,8 +215,8 @@ fn take_instance(
     total: u64,
 ) -> Result<u64, ExpandFault>
     requires letters { length letters.old ≡ 256 }
-    requires weight { weight ≤ 2000001 }
-    requires total { total ≤ 2000000 }
+    requires weight { weight ≤ MOST + 1 }
+    requires total { total ≤ MOST }
     ensures outcome { let these = definitions_at symbols.now formula.now formula.now.slot letters.old in
         Outcome ExpandFault.Memory result
         (λ after. IsTaken definitions.old.items definitions.new.items these (weighed these weight) total after)
@@ -283,8 +271,8 @@ fn take_every(
     total: u64,
 ) -> Result<u64, ExpandFault>
     requires letters { length letters.old ≡ 256 }
-    requires weight { weight ≤ 2000001 }
-    requires total { total ≤ 2000000 }
+    requires weight { weight ≤ MOST + 1 }
+    requires total { total ≤ MOST }
     ensures outcome { let these = definitions_at symbols.now formula.now Slot.Every letters.old in
         Outcome ExpandFault.Memory result
         (λ after. IsTaken definitions.old.items definitions.new.items these (weighed these weight) total after)
@@ -329,8 +317,8 @@ fn take_cells(
     total: u64,
 ) -> Result<u64, ExpandFault>
     requires letters { length letters.old ≡ 256 }
-    requires weight { weight ≤ 2000001 }
-    requires total { total ≤ 2000000 }
+    requires weight { weight ≤ MOST + 1 }
+    requires total { total ≤ MOST }
     ensures outcome { let these = map (defined_cell formula.now letters.old) (range_with_len 0 size) in
         Outcome ExpandFault.Memory result
         (λ after. IsTaken definitions.old.items definitions.new.items these (weighed these weight) total after)
@@ -367,8 +355,8 @@ fn take_definition(
     total: u64,
 ) -> Result<u64, ExpandFault>
     requires letters { length letters.old ≡ 256 }
-    requires weight { weight ≤ 2000001 }
-    requires total { total ≤ 2000000 }
+    requires weight { weight ≤ MOST + 1 }
+    requires total { total ≤ MOST }
     ensures outcome { let these = defined formula.now slot cell letters.old ∷ [] in
         Outcome ExpandFault.Memory result
         (λ after. IsTaken definitions.old.items definitions.new.items these (weighed these weight) total after)

@@ -4,7 +4,7 @@ ghost use Rattle.std.specs.List.{flat_map, list_any, sum_by};
 ghost use Rattle.std.specs.Str.{bytes_eq};
 ghost use Rattle.m_places.specs.Refusals.{Outcome};
 ghost use Rattle.m_ast.specs.Whole.{IsWholeItem};
-ghost use Rattle.plain_rules.specs.Plain.{IsPlain};
+ghost use Rattle.plain_rules.specs.Plain.{IsPlain, TablesHaveCells};
 ghost use Rattle.loop_values.specs.Letters as spec;
 ghost use Rattle.index_expand.specs.Expansion.{expansion, counts_in, formula_definitions, item_definitions, item_conditions, condition_of};
 ghost use Rattle.index_expand.specs.Faults.{expand_fault, formula_parts, check_parts, item_parts, item_place, too_many};
@@ -25,7 +25,7 @@ use std::alloc::{AllocError, Global};
 
 /// The rules and verifications of an application without loops, or the fault of the items.
 ///
-/// The items are whole, as the reader of rule files gives them. A chained rule, and an item of another application, count
+/// The items are whole, as the reader of rule files gives them, and each table has a cell, as `declare` gives them. A chained rule, and an item of another application, count
 /// for nothing.
 pub fn expand(
     alloc: Global,
@@ -33,7 +33,8 @@ pub fn expand(
     application: &[u8],
     symbols: &Symbols,
 ) -> Result<Plain, ExpandFault>
-    requires { All IsWholeItem items.now }
+    requires whole { All IsWholeItem items.now }
+    requires tables { TablesHaveCells symbols.now }
     ensures outcome { Outcome ExpandFault.Memory result
         (λ plain. (expand_fault items.now application.now symbols.now ≡ None)
         × (plain ≡ expansion items.now application.now symbols.now))
@@ -122,6 +123,7 @@ fn take_items(
     application: &[u8],
     symbols: &Symbols,
 ) -> Result<Plain, ExpandFault>
+    requires { TablesHaveCells symbols.now }
     ensures { Outcome ExpandFault.Memory result
         (λ plain. (too_many symbols.now 0 (filter (counts_in application.now) items.now) ≡ None)
         × (plain ≡ expansion items.now application.now symbols.now))
@@ -154,7 +156,8 @@ fn take_each(
     definitions: &mut Vec<Definition>,
     conditions: &mut Vec<Condition>,
 ) -> Result<(), ExpandFault>
-    requires { letters.old ≡ spec.no_letters }
+    requires letters { letters.old ≡ spec.no_letters }
+    requires tables { TablesHaveCells symbols.now }
     ensures { let counted = filter (counts_in application.now) items.now in
         Outcome ExpandFault.Memory result
         (λ done. AreTaken definitions.old.items definitions.new.items (flat_map (item_definitions symbols.now) counted)
@@ -189,7 +192,8 @@ fn take_item(
     total: u64,
 ) -> Result<u64, ExpandFault>
     requires letters { letters.old ≡ spec.no_letters }
-    requires total { total ≤ 2000000 }
+    requires total { total ≤ MOST }
+    requires tables { TablesHaveCells symbols.now }
     ensures outcome { Outcome ExpandFault.Memory result
         (λ after. IsTaken definitions.old.items definitions.new.items (item_definitions symbols.now item.now) (item_parts symbols.now item.now) total after
         × (conditions.new.items ≡ conditions.old.items ++ item_conditions item.now))
@@ -225,7 +229,8 @@ fn take_formulas(
     total: u64,
 ) -> Result<u64, ExpandFault>
     requires letters { letters.old ≡ spec.no_letters }
-    requires total { total ≤ 2000000 }
+    requires total { total ≤ MOST }
+    requires tables { TablesHaveCells symbols.now }
     ensures outcome { Outcome ExpandFault.Memory result
         (λ after. IsTaken definitions.old.items definitions.new.items
         (flat_map (formula_definitions symbols.now) formulas.now) (sum_by (formula_parts symbols.now) formulas.now) total after)
@@ -247,7 +252,7 @@ fn take_checks(
     total: u64,
 ) -> Result<u64, ExpandFault>
     requires letters { letters.old ≡ spec.no_letters }
-    requires total { total ≤ 2000000 }
+    requires total { total ≤ MOST }
     ensures outcome { Outcome ExpandFault.Memory result
         (λ after. IsTaken conditions.old.items conditions.new.items
         (map (condition_of verif.now) verif.now.checks) (sum_by check_parts verif.now.checks) total after)
@@ -273,7 +278,7 @@ fn take_check(
 ) -> Result<u64, ExpandFault>
     requires number { number.now ≡ verif.now.number }
     requires letters { letters.old ≡ spec.no_letters }
-    requires total { total ≤ 2000000 }
+    requires total { total ≤ MOST }
     ensures outcome { Outcome ExpandFault.Memory result
         (λ after. IsTaken conditions.old.items conditions.new.items
         (condition_of verif.now check.now ∷ []) (check_parts check.now) total after)

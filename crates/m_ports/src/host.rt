@@ -60,7 +60,7 @@ fn next_piece(room: u64) -> usize
 
 /// Takes to the end, or one byte past the limit. Where the source tells what is left, `Ok` gives all of that. It fails only
 /// where the source did.
-fn read_whole<S: Source>(
+pub fn read_whole<S: Source>(
     source: &mut S,
     alloc: Global,
     limit: u64,
