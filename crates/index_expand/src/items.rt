@@ -16,11 +16,12 @@ use crate::faults::{with_check, with_formula};
 use crate::formulas::take_formula;
 use crate::parts::{MOST, parts};
 use crate::terms::expanded;
+use crate::words::Words;
 use loop_values::no_letters;
-use m_ast::{CheckItem, Formula, Item, Term, VerifItem};
+use m_ast::{CheckItem, Formula, Item, VerifItem};
 use m_places::{Name, Place, Seq, SharedName};
 use m_symbols::Symbols;
-use plain_rules::{Condition, Definition, Plain};
+use plain_rules::{Condition, Definition, PTerm, Plain};
 use std::alloc::{AllocError, Global};
 
 /// The rules and verifications of an application without loops, or the fault of the items.
@@ -129,11 +130,13 @@ fn take_items(
         × (plain ≡ expansion items.now application.now symbols.now))
         (λ fault. too_many symbols.now 0 (filter (counts_in application.now) items.now) ≡ Some fault) }
 {
+    let mut words = Words::new(alloc, symbols)?;
     let mut letters = no_letters(alloc)?;
     let mut definitions = Vec::new(alloc);
     let mut conditions = Vec::new(alloc);
     take_each(
         alloc,
+        &mut words,
         symbols,
         items,
         application,
@@ -149,6 +152,7 @@ fn take_items(
 
 fn take_each(
     alloc: Global,
+    words: &mut Words<'_>,
     symbols: &Symbols,
     items: &[Item],
     application: &[u8],
@@ -170,6 +174,7 @@ fn take_each(
         if counts_in(item, application) {
             count = take_item(
                 alloc,
+                words,
                 symbols,
                 item,
                 letters,
@@ -184,6 +189,7 @@ fn take_each(
 
 fn take_item(
     alloc: Global,
+    words: &mut Words<'_>,
     symbols: &Symbols,
     item: &Item,
     letters: &mut [Option<Name>],
@@ -204,6 +210,7 @@ fn take_item(
         Item::Rule(rule) => {
             take_formulas(
                 alloc,
+                words,
                 symbols,
                 rule.place,
                 rule.formulas.as_slice(),
@@ -212,7 +219,7 @@ fn take_item(
                 total,
             )
         }
-        Item::Verif(verif) => take_checks(alloc, verif, letters, conditions, total),
+        Item::Verif(verif) => take_checks(alloc, words, verif, letters, conditions, total),
         Item::Variable(_) => Ok(total),
         Item::Error(_) => Ok(total),
         Item::Silent(_) => Ok(total),
@@ -221,6 +228,7 @@ fn take_item(
 
 fn take_formulas(
     alloc: Global,
+    words: &mut Words<'_>,
     symbols: &Symbols,
     item: Place,
     formulas: &[Formula],
@@ -239,13 +247,23 @@ fn take_formulas(
 {
     let mut count = total;
     for formula in formulas {
-        count = take_formula(alloc, symbols, item, formula, letters, definitions, count)?;
+        count = take_formula(
+            alloc,
+            words,
+            symbols,
+            item,
+            formula,
+            letters,
+            definitions,
+            count,
+        )?;
     }
     Ok(count)
 }
 
 fn take_checks(
     alloc: Global,
+    words: &mut Words<'_>,
     verif: &VerifItem,
     letters: &mut [Option<Name>],
     conditions: &mut Vec<Condition>,
@@ -262,13 +280,16 @@ fn take_checks(
     let number = SharedName::new(alloc, verif.number.copy(alloc)?)?;
     let mut count = total;
     for check in verif.checks.as_slice() {
-        count = take_check(alloc, verif, &number, check, letters, conditions, count)?;
+        count = take_check(
+            alloc, words, verif, &number, check, letters, conditions, count,
+        )?;
     }
     Ok(count)
 }
 
 fn take_check(
     alloc: Global,
+    words: &mut Words<'_>,
     verif: &VerifItem,
     number: &SharedName,
     check: &CheckItem,
@@ -289,7 +310,7 @@ fn take_check(
     if count > MOST {
         return Err(ExpandFault::TooManyParts(verif.place));
     }
-    let term = expanded(alloc, letters, None, &check.condition)?;
+    let term = expanded(alloc, words, letters, None, &check.condition)?;
     push_condition(alloc, number, check, term, conditions)?;
     Ok(count)
 }
@@ -298,7 +319,7 @@ fn push_condition(
     alloc: Global,
     number: &SharedName,
     check: &CheckItem,
-    term: Term,
+    term: PTerm,
     conditions: &mut Vec<Condition>,
 ) -> Result<(), AllocError>
     ensures { OnOk result (conditions.new.items ≡ conditions.old.items
