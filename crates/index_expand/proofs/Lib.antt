@@ -1,5 +1,6 @@
 pub mod DeclaredLemmas
 pub mod FaultLemmas
+pub mod FewLemmas
 pub mod Loads
 pub mod ManyLemmas
 pub mod PlainLemmas

@@ -1,5 +1,5 @@
 //! The items of an application.
-ghost use Rattle.std.specs.Prelude.{◌≡◌, ◌∷◌, ◌++◌, ◌≤◌, [], All, None, Some, IfOk, OnOk, filter, map};
+ghost use Rattle.std.specs.Prelude.{◌≡◌, ◌∷◌, ◌++◌, ◌≤◌, [], All, None, Some, IfOk, OnOk, filter, length, map};
 ghost use Rattle.std.specs.List.{flat_map, list_any, sum_by};
 ghost use Rattle.std.specs.Str.{bytes_eq};
 ghost use Rattle.m_places.specs.Refusals.{Outcome};
@@ -41,6 +41,7 @@ pub fn expand(
         × (plain ≡ expansion items.now application.now symbols.now))
         (λ fault. expand_fault items.now application.now symbols.now ≡ Some fault) }
     ensures plain { IfOk result (λ plain. IsPlain symbols.now plain) }
+    ensures few { IfOk result (λ plain. length plain.conditions ≤ MOST) }
 {
     if let Some(fault) = first_fault(items, application) {
         return Err(fault);

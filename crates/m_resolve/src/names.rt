@@ -34,7 +34,10 @@ pub(crate) fn cell_of(
         return Err(ResolveFault::UnknownName(Name::new(alloc, name.bytes())?, place));
     };
     match &variable.item.role {
-        Role::Computed(Some(_)) => Err(ResolveFault::IsATable(Name::new(alloc, name.bytes())?, place)),
+        Role::Computed(Some(_)) => Err(ResolveFault::IsATable(
+            Name::new(alloc, name.bytes())?,
+            place,
+        )),
         Role::Computed(None) => Ok(variable.first_cell),
         Role::Input(_) => Ok(variable.first_cell),
         Role::Constant(_) => Ok(variable.first_cell),
@@ -55,7 +58,10 @@ pub(crate) fn table_of(
     };
     match &variable.item.role {
         Role::Computed(Some(size)) => Ok((variable.first_cell, *size)),
-        Role::Computed(None) => Err(ResolveFault::NotATable(Name::new(alloc, name.bytes())?, place)),
+        Role::Computed(None) => Err(ResolveFault::NotATable(
+            Name::new(alloc, name.bytes())?,
+            place,
+        )),
         Role::Input(_) => Err(ResolveFault::NotATable(Name::new(alloc, name.bytes())?, place)),
         Role::Constant(_) => Err(ResolveFault::NotATable(Name::new(alloc, name.bytes())?, place)),
     }

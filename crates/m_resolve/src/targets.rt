@@ -27,7 +27,10 @@ pub(crate) fn target(
     ensures known { IfOk result (λ cell. cell < length (owners_from 0 symbols.now.variables)) }
 {
     let Some(variable) = variable_named(symbols, &definition.target) else {
-        return Err(ResolveFault::UnknownName(Name::new(alloc, definition.target.bytes())?, definition.place));
+        return Err(ResolveFault::UnknownName(
+            Name::new(alloc, definition.target.bytes())?,
+            definition.place,
+        ));
     };
     target_in(alloc, definition, variable, symbols.cells())
 }
@@ -64,7 +67,12 @@ fn target_in(
 }
 
 // The fault of a target that is an input or a constant.
-fn unsettable(alloc: Global, name: &SharedName, place: Place, slot: Slot) -> Result<u32, ResolveFault>
+fn unsettable(
+    alloc: Global,
+    name: &SharedName,
+    place: Place,
+    slot: Slot,
+) -> Result<u32, ResolveFault>
     ensures { Outcome Memory result (λ cell. ⊥) (λ fault. fault ≡ unsettable_fault name.now place slot) }
 {
     match slot {
