@@ -1,15 +1,15 @@
 //! Terms without their loops.
-ghost use Rattle.std.specs.Prelude.{◌≡◌, ◌∷◌, ◌++◌, ◌<◌, ◌≤◌, IfOk, OnOk, IsTrue, length, map};
+ghost use Rattle.std.specs.Prelude.{◌≡◌, ◌∷◌, ◌++◌, ◌<◌, ◌≤◌, All, IfOk, OnOk, IsTrue, length, map, take};
 ghost use Rattle.std.specs.Bool.{OnTrue};
 ghost use Rattle.m_fixed.specs.Text.{only_digits};
 ghost use Rattle.plain_rules.specs.View.{syntax_of};
-ghost use Rattle.loop_values.specs.Headers.{instances};
+ghost use Rattle.loop_values.specs.Headers.{IsSingle, instances};
 ghost use Rattle.loop_values.specs.Letters.{bind, replaced};
 ghost use Rattle.index_expand.specs.Terms as spec;
 ghost use Rattle.index_expand.specs.inner.Operands.{link_expanded, member_expanded, instance_link, links_sum, chain_of};
 
 use crate::words::Words;
-use loop_values::{index_values, is_digits, number, replaced};
+use loop_values::{bound_by, index_values, is_digits, number, replaced, single_count};
 use m_ast::{Index, Link, Member, Node, Term};
 use m_fixed::{Amount, Op, Value};
 use m_places::{Name, Place, SharedName};
@@ -237,6 +237,10 @@ fn expand_instances(
         ≡ links.old.items ++ map (instance_link cell body.now) (instances indexes.now letters.old)) }
     ensures letters { OnOk result (letters.new ≡ letters.old) }
 {
+    let singles = single_count(indexes);
+    if singles > 1 {
+        return expand_singles(alloc, words, letters, cell, singles, indexes, body, links);
+    }
     match indexes {
         [] => {
             let term = expanded_box(alloc, words, letters, cell, body)?;
@@ -247,6 +251,32 @@ fn expand_instances(
         }
         [index, rest @ ..] => expand_index(alloc, words, letters, cell, index, rest, body, links)?,
     }
+    Ok(())
+}
+
+// The same where several indexes of one value come first. Their letters are bound together, so that a header of many of these
+// is no deeper than one of a single index.
+#[cycle(expanded)]
+fn expand_singles(
+    alloc: Global,
+    words: &mut Words<'_>,
+    letters: &[Option<Name>],
+    cell: Option<u32>,
+    singles: usize,
+    indexes: &[Index],
+    body: &Term,
+    links: &mut Vec<PLink>,
+) -> Result<(), AllocError>
+    requires letters { length letters.now ≡ 256 }
+    requires some { 0 < singles }
+    requires within { singles ≤ length indexes.now }
+    requires single { All IsSingle (take singles indexes.now) }
+    ensures { OnOk result (links.new.items
+        ≡ links.old.items ++ map (instance_link cell body.now) (instances indexes.now letters.now)) }
+{
+    let mut inner = bound_by(alloc, letters, &indexes[..singles])?;
+    let rest = &indexes[singles..];
+    expand_instances(alloc, words, inner.as_mut_slice(), cell, rest, body, links)?;
     Ok(())
 }
 
