@@ -10,10 +10,12 @@ Of an entry the first line is `@ FUNCTION FILE`, the second `# ` and what is wro
 may be proved. Then come the lines that stand in the file, each behind `-`, and the lines in their place, each behind `+`. The
 first and the last may be parts of lines.
 
-The verdicts are `refused`: a goal of the function isn't proved, by the search or by the answer that stands in proofs/, which may
-be an answer that no longer fits; `PROVED`, which is a clause to strengthen; `allowed`, for those in brackets that are proved; and
-`not judged`, with the reason. --stands says which entries no longer stand in their files, and how many do, and checks nothing. --page
-prints docs/MUTANTS.md, which lists all entries and the edits of crates/*/must-fail. The status is 1 where one is proved or doesn't stand.
+The verdicts are `refused`: the search doesn't prove a goal of the function; `hint`: an answer that stands in proofs/ no longer fits, as
+a name that it cites is gone, and the search alone doesn't decide, which says nothing of the clause before somebody has looked at the
+goal; `PROVED`, which is a clause to strengthen; `allowed`, for those in brackets that are proved; and `not judged`, with the reason.
+Where an answer doesn't fit, the body is tried once more without the function's answers. --stands says which entries no longer stand in their
+files, and how many do, and checks nothing. --page prints docs/MUTANTS.md, which lists all entries and the edits of crates/*/must-fail. The
+status is 1 where one is proved or doesn't stand.
 """
 import re
 import shutil
@@ -84,6 +86,14 @@ def module_of(body):
     return "" if module == "lib" else module + "::"
 
 
+def answers_of(crate_folder, body):
+    """Returns the file with the answers to the goals of a body's function, where there is one file that is its alone."""
+    module = body.file.removeprefix("src/").removesuffix(".rt").removesuffix("/mod")
+    name = body.function.rpartition("::")[2]
+    found = [path for path in (crate_folder / "proofs").glob(f"**/{name}/Answers.antt") if module == "lib" or f"proofs/{module}/" in path.as_posix()]
+    return found[0] if len(found) == 1 else None
+
+
 def check(crate_folder, texts, bodies):
     """Checks the functions of these bodies, and returns the lines that the check prints, and where it found errors."""
     changed = dict(texts)
@@ -129,14 +139,34 @@ def verdict(crate, body, lines, is_alone):
     if ": no holes" in line:
         return "allowed" if body.is_allowed else "PROVED"
     if is_alone and ": not proved" in line:
-        return "refused"
+        return "hint: an answer in proofs/ doesn't fit"
     if "one proof of its cycle" in line or "of this cycle" in line or "/+" in line or ".+" in line:
         # functions that call one another have one proof: only a goal with the function's own name speaks of it
         goals = re.findall(r"[`.]([\w.+-]+)`", line)
         return "refused" if any(goal.split(".")[-1].startswith(name + "-") for goal in goals) else "not judged: another of its cycle is refused"
-    if "did not prove" in line or "antt refuses" in line:
+    if "antt refuses" in line:
+        return "hint: an answer in proofs/ doesn't fit"
+    if "did not prove" in line:
         return "refused"
     return "not judged: " + line.partition(": ")[2]
+
+
+def without_answers(crate_folder, crate, texts, body, told):
+    """Returns the verdict on a body whose function's answers don't fit, without them: the search alone decides, if it can."""
+    answers = answers_of(crate_folder, body)
+    if answers is None:
+        return told
+    kept = answers.read_text(encoding="utf-8")
+    answers.unlink()
+    try:
+        lines, errors, _ = check(crate_folder, texts, [body])
+    finally:
+        answers.write_text(kept, encoding="utf-8")
+    if errors:
+        return told
+    alone = verdict(crate, body, lines, True)
+    is_false = any("allow values at which this goal is false" in line for line in lines)
+    return alone if alone in ("PROVED", "allowed") or (alone == "refused" and is_false) else told
 
 
 def tried(crate_folder, crate):
@@ -154,13 +184,14 @@ def tried(crate_folder, crate):
             lines, errors, changed = check(crate_folder, texts, bodies) if bodies else ([], [], {})
         for body in bodies:
             told = verdict(crate, body, lines, len(bodies) == 1)
-            if told.startswith("not judged") and len(bodies) > 1:
+            if (told.startswith("not judged") and len(bodies) > 1) or told.startswith("hint"):
                 alone.append(body)
             else:
                 yield body, told
     for body in alone:
         lines, errors, _ = check(crate_folder, texts, [body])
-        yield body, "not judged: it doesn't compile" if errors else verdict(crate, body, lines, True)
+        told = "not judged: it doesn't compile" if errors else verdict(crate, body, lines, True)
+        yield body, without_answers(crate_folder, crate, texts, body, told) if told.startswith("hint") else told
 
 
 HEAD = """# All mutants

@@ -321,6 +321,32 @@ def _(n):
     return case([ONE, RULE, *many("pour i=1..10000:", n), "A = 1 ;"], refused("too many parts", line=2, byte=len(ONE)), 1)
 
 
+TABLE = 'T : tableau[2] calculee : "" ;\n'
+
+
+@shape("pour headers of two over each cell of a table", 1_001, stacks=DEEP)
+def _(n):
+    return case([TABLE, RULE, *many("pour i = 1..2 : ", n), "T[X] = 1 ;"], refused("too many parts", line=2, byte=len(TABLE)), 1)
+
+
+@shape("pour headers of 13 letters over each cell of a table", 1_000, stacks=DEEP)
+def _(n):
+    header = "pour " + ";".join(f"{chr(97 + k)} = 1..2" for k in range(13)) + " : "
+    return case([TABLE, RULE, *many(header, n), "T[X] = 1 ;"], refused("too many parts", line=2, byte=len(TABLE)), 1)
+
+
+@shape("one long name in each instance of a sum", 40_000)
+def _(n):
+    name = "B" * n
+    return case([ONE, f'{name} : calculee : "" ;\n', RULE, f"A = somme(i=1..10000: {name}) ;\n", f"{name} = 2 ;\n"], "A = 20000\n")
+
+
+@shape("255 sums in one another, of 26 letters each", 255, grows=False, stacks=DEEP)
+def _(n):
+    header = ";".join(f"{chr(97 + k)}=1" for k in range(26))
+    return case([ONE, RULE, "A = ", *many(f"somme({header}: ", n), "1", ")" * n, " ;"], "A = 1\n")
+
+
 @shape("pour headers of one letter", 200_000, stacks=DEEP)
 def _(n):
     return case(['A1 : calculee restituee : "" ;\n', RULE, *many("pour i=1:", n), "Ai = 1 ;"], "A1 = 1\n")

@@ -3,7 +3,7 @@
 use m_places::Name;
 use m_ports::{
     FetchFault, Files, HostFiles, HostSink, HostSource, MemFiles, MemSink, MemSource, Sink, Source,
-    give_all,
+    give_all, read_whole,
 };
 use std::alloc::{AllocError, Global};
 use std::io::{ErrorKind, Read, Write};
@@ -95,6 +95,37 @@ fn input_in_memory(rt: HostRuntime) -> Result<(), Fail> {
     Ok(())
 }
 
+// So many bytes, of which neighbours and pieces differ.
+fn varied(alloc: Global, count: u32) -> Result<Vec<u8>, AllocError> {
+    let mut bytes = Vec::new(alloc);
+    for number in 0..count {
+        bytes.push((number % 251) as u8)?;
+    }
+    Ok(bytes)
+}
+
+/// A limit, the take that fails, how many of 3,000 bytes that come one at a time are given, and how many are counted.
+const WHOLES: [(u64, u64, Result<usize, FetchFault>, u64); 5] = [
+    (3_000, 9_999, Ok(3_000), 3_000),
+    (u64::MAX, 9_999, Ok(3_000), 3_000),
+    (2_999, 9_999, Err(FetchFault::TooLong), 3_000),
+    (3_000, 2, Err(FetchFault::Failed), 1),
+    (3_000, 3_001, Err(FetchFault::Failed), 3_000),
+];
+
+#[test]
+fn wholes_of_single_bytes(rt: HostRuntime) -> Result<(), Fail> {
+    let alloc = rt.alloc();
+    for (limit, failing, want, counted) in WHOLES {
+        let mut source = MemSource::new(varied(alloc, 3_000)?, 1, vec![in alloc; failing]?);
+        let mut taken = 0;
+        let got = read_whole(&mut source, alloc, limit, &mut taken).map(|bytes| bytes.len());
+        assert_eq!(rt; got, want, "at {limit}, {failing}");
+        assert_eq!(rt; taken, counted, "at {limit}, {failing}");
+    }
+    Ok(())
+}
+
 /// How long a piece is, the write that fails, whether all is given, and what is written.
 const OUTPUTS: [(usize, u64, bool, &str); 4] = [
     (1, 3, false, "IR"),
@@ -121,6 +152,16 @@ fn output_in_memory(rt: HostRuntime) -> Result<(), Fail> {
 }
 
 #[test]
+fn output_in_memory_goes_on(rt: HostRuntime) -> Result<(), Fail> {
+    let alloc = rt.alloc();
+    let mut out = MemSink::new(alloc, 2, vec![in alloc; 1u64]?)?;
+    assert!(rt; out.give(b"abc").is_err());
+    assert_eq!(rt; out.give(b"abc"), Ok(2), "behind a fault");
+    assert_eq!(rt; out.written(), b"ab".as_slice());
+    Ok(())
+}
+
+#[test]
 fn output_in_memory_is_full(rt: HostRuntime) -> Result<(), Fail> {
     let alloc = rt.alloc();
     let text = vec![in alloc; 7u8; 1_048_577]?;
@@ -130,15 +171,6 @@ fn output_in_memory_is_full(rt: HostRuntime) -> Result<(), Fail> {
     assert!(rt; out.give(b"x").is_err());
     assert_eq!(rt; out.give(b""), Ok(0));
     Ok(())
-}
-
-// So many bytes, of which neighbours and pieces differ.
-fn varied(alloc: Global, count: u32) -> Result<Vec<u8>, AllocError> {
-    let mut bytes = Vec::new(alloc);
-    for number in 0..count {
-        bytes.push((number % 251) as u8)?;
-    }
-    Ok(bytes)
 }
 
 #[test]
@@ -172,7 +204,21 @@ fn files_of_the_system(rt: HostRuntime) -> Result<(), Fail> {
     Ok(())
 }
 
-/// A reader that fails at its second call.
+#[test]
+fn many_files_of_the_system(rt: HostRuntime) -> Result<(), Fail> {
+    let alloc = rt.alloc();
+    let mut files = HostFiles::new(alloc, &rt);
+    let mut given = 0u32;
+    for _ in 0..1_028u32 {
+        if fetched(&mut files, alloc, b"/dev/null", 0).is_ok() {
+            given = given.saturating_add(1);
+        }
+    }
+    assert_eq!(rt; given, 1_028);
+    Ok(())
+}
+
+/// A reader that gives two bytes at most, and fails at its second call.
 #[derive(Drop)]
 struct Failing<'a> {
     rest: &'a [u8],
@@ -185,7 +231,8 @@ impl Read for Failing<'_> {
         if self.calls == 2 {
             return Err(io::Error::new(ErrorKind::Other, "the second read"));
         }
-        self.rest.read(piece)
+        let count = piece.len().min(2);
+        self.rest.read(&mut piece[..count])
     }
 }
 
@@ -246,5 +293,20 @@ fn output_of_the_system(rt: HostRuntime) -> Result<(), Fail> {
         drop(out);
         assert_eq!(rt; taken.as_slice(), want.as_bytes(), "at {text}");
     }
+    Ok(())
+}
+
+#[test]
+fn output_of_the_system_goes_on(rt: HostRuntime) -> Result<(), Fail> {
+    let alloc = rt.alloc();
+    let mut taken = Vec::new(alloc);
+    let mut out = HostSink::new(Tired {
+        taken: &mut taken,
+        calls: 0,
+    });
+    assert!(rt; give_all(&mut out, b"IRN = 1").is_err());
+    assert_eq!(rt; out.give(b"x"), Ok(1), "behind a fault");
+    drop(out);
+    assert_eq!(rt; taken.as_slice(), b"IRN x".as_slice());
     Ok(())
 }

@@ -1,7 +1,9 @@
-pub mod Loads
+pub mod DeclaredLemmas
 pub mod FaultLemmas
-pub mod TermLemmas
-pub mod TakenLemmas
-pub mod TableLemmas
+pub mod FewLemmas
+pub mod Loads
 pub mod ManyLemmas
 pub mod PlainLemmas
+pub mod TableLemmas
+pub mod TakenLemmas
+pub mod TermLemmas

@@ -6,6 +6,7 @@ use Rattle.std.proofs.lemmas.List.FromFn.{length-map-range_with_len, map-range_w
 use Rattle.std.proofs.Math.Nat.{mul-le-mul_left}
 use Rattle.std.proofs.lemmas.List.Sums.{sum_by_more, sum_by_more_le}
 use Rattle.std.specs.List.{flat_map, range_with_len, sum_by}
+use Rattle.m_places.specs.declared.limits.TheConstants.{PARTS}
 use Rattle.m_places.specs.declared.place.Place.{Place}
 use Rattle.index_expand.specs.declared.fault.ExpandFault.{ExpandFault}
 use Rattle.index_expand.specs.inner.Taken.{IsTaken, IsTooMuch, weighed}
@@ -15,7 +16,7 @@ append_none : {A : Type 0} (xs : List A) → xs ++ [] ≡ xs
 append_none [] = refl
 append_none (x ∷ xs) = ap (λ r. x ∷ r) (append_none xs)
 
-pub taken_none : {A : Type 0} (list : List A) (t : ℕ) → t ≤ 2000000 → IsTaken list list [] 0 t t
+pub taken_none : {A : Type 0} (list : List A) (t : ℕ) → t ≤ PARTS → IsTaken list list [] 0 t t
 taken_none list t few = record { list = sym (append_none list); sum = omega arith; few = few }
 
 pub taken_both : {A : Type 0} (a b c xs ys : List A) (m n s t u : ℕ) → IsTaken a b xs m s t → IsTaken b c ys n t u → IsTaken a c (xs ++ ys) (m + n) s u
@@ -36,7 +37,7 @@ weighed_append xs ys w = ap (λ n. n * w) (length-append xs ys) ∙ spread (leng
     spread : (m n v : ℕ) → (m + n) * v ≡ m * v + n * v
     spread m n v = omega arith
 
-pub weighed_none : {A : Type 0} (list : List A) (w t : ℕ) → t ≤ 2000000 → IsTaken list list [] (weighed {A = A} [] w) t t
+pub weighed_none : {A : Type 0} (list : List A) (w t : ℕ) → t ≤ PARTS → IsTaken list list [] (weighed {A = A} [] w) t t
 weighed_none list w t few = record { list = sym (append_none list); sum = omega arith; few = few }
 
 weighed_both : {A : Type 0} (a b c xs ys : List A) (w s t u : ℕ) → IsTaken a b xs (weighed xs w) s t → IsTaken b c ys (weighed ys w) t u → IsTaken a c (xs ++ ys) (weighed (xs ++ ys) w) s u

@@ -9,6 +9,7 @@ use Rattle.m_ast.specs.declared.term.Link.{Link}
 use Rattle.m_ast.specs.declared.term.Member.{Member}
 use Rattle.m_ast.specs.Syntax.{Syntax, chain}
 use Rattle.m_ast.specs.View.{terms_of, links_of, members_of}
+use Rattle.plain_rules.specs.View.{links_of as plain_links_of, members_of as plain_members_of}
 use Rattle.loop_values.specs.Headers.{instances}
 use Rattle.loop_values.specs.Letters.{Letters}
 use Rattle.index_expand.specs.Terms.{expanded, expanded_terms, expanded_links, expanded_members, added, summed}
@@ -40,15 +41,15 @@ pub terms_map : (k : Option ℕ) (letters : Letters) (all : List Syntax) → ter
 terms_map k letters [] = refl
 terms_map k letters (x ∷ xs) = rw (terms_map k letters xs) refl
 
-pub links_map : (k : Option ℕ) (letters : Letters) (all : List Link) → links_of (map (link_expanded k letters) all) ≡ expanded_links k letters (links_of all)
+pub links_map : (k : Option ℕ) (letters : Letters) (all : List Link) → plain_links_of (map (link_expanded k letters) all) ≡ expanded_links k letters (links_of all)
 links_map k letters [] = refl
 links_map k letters (x ∷ xs) = rw (links_map k letters xs) refl
 
-pub members_map : (k : Option ℕ) (letters : Letters) (all : List Member) → members_of (map (member_expanded k letters) all) ≡ expanded_members k letters (members_of all)
+pub members_map : (k : Option ℕ) (letters : Letters) (all : List Member) → plain_members_of (map (member_expanded k letters) all) ≡ expanded_members k letters (members_of all)
 members_map k letters [] = refl
 members_map k letters (x ∷ xs) = rw (members_map k letters xs) refl
 
-links_added : (k : Option ℕ) (body : Syntax) (bounds : List Letters) → links_of (map (instance_link k body) bounds) ≡ added (map (λ bound. expanded k bound body) bounds)
+links_added : (k : Option ℕ) (body : Syntax) (bounds : List Letters) → plain_links_of (map (instance_link k body) bounds) ≡ added (map (λ bound. expanded k bound body) bounds)
 links_added k body [] = refl
 links_added k body (b ∷ bs) = rw (links_added k body bs) refl
 

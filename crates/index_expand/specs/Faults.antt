@@ -2,6 +2,7 @@
 use Rattle.std.specs.Prelude.{ℕ, ◌+◌, ◌*◌, List, [], ◌∷◌, filter, length, Option, None, Some, nat_lt, if◌then◌else◌}
 use Rattle.std.specs.List.{flat_map, sum_by}
 use Rattle.std.specs.Option.{option_or}
+use Rattle.m_places.specs.declared.limits.TheConstants.{PARTS}
 use Rattle.m_places.specs.declared.place.Place.{Place}
 use Rattle.m_ast.specs.declared.item.Formula.{Formula}
 use Rattle.m_ast.specs.declared.item.CheckItem.{CheckItem}
@@ -40,7 +41,7 @@ item_place (Silent p) = p
 abbrev pub too_many : Declared → ℕ → List Item → Option ExpandFault
 too_many declared before [] = None
 too_many declared before (item ∷ items) =
-    if nat_lt 2000000 (before + item_parts declared item) then Some (TooManyParts (item_place item))
+    if nat_lt PARTS (before + item_parts declared item) then Some (TooManyParts (item_place item))
     else too_many declared (before + item_parts declared item) items
 
 -- Why items have no expansion. Of faulty ranges, loops that are too large and unbound letters the one with the least place is

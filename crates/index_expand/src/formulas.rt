@@ -1,20 +1,21 @@
-//! Formulas: a definition for each instance of their loops, and for each cell of a table.
-ghost use Rattle.std.specs.Prelude.{◌≡◌, ◌≢◌, ◌∷◌, ◌≤◌, [], IfSome, OnOk, length, map};
-ghost use Rattle.std.specs.List.{flat_map, range_with_len};
+//! Formulas: the definitions of each instance of their loops.
+ghost use Rattle.std.specs.Prelude.{◌≡◌, ◌+◌, ◌∷◌, ◌≤◌, IfSome, OnOk, length};
+ghost use Rattle.std.specs.List.{flat_map};
 ghost use Rattle.m_places.specs.Refusals.{Outcome};
-ghost use Rattle.plain_rules.specs.Plain.{table_size};
+ghost use Rattle.plain_rules.specs.Plain.{TablesHaveCells};
 ghost use Rattle.m_symbols.specs.Declarations.{Declared};
 ghost use Rattle.loop_values.specs.Headers.{instances};
 ghost use Rattle.loop_values.specs.Letters.{bind, no_letters};
-ghost use Rattle.index_expand.specs.Expansion.{defined, defined_cell, definitions_at, formula_definitions};
+ghost use Rattle.index_expand.specs.Expansion.{definitions_at, formula_definitions};
 ghost use Rattle.index_expand.specs.Faults.{formula_parts};
 ghost use Rattle.index_expand.specs.inner.Taken.{IsTaken, IsTooMuch, weighed};
 
 use crate::ExpandFault;
+use crate::definitions::take_instance;
 use crate::parts::{MOST, parts};
-use crate::terms::expanded;
-use loop_values::{headers_count, index_values, kept_indexes, replaced};
-use m_ast::{Formula, Index, Role, Slot};
+use crate::words::Words;
+use loop_values::{headers_count, index_values, kept_indexes};
+use m_ast::{Formula, Index};
 use m_places::{Name, Place};
 use m_symbols::Symbols;
 use plain_rules::Definition;
@@ -25,6 +26,7 @@ use std::mem::replace;
 /// are with these. The place is that of the formula's item.
 pub(crate) fn take_formula(
     alloc: Global,
+    words: &mut Words<'_>,
     symbols: &Symbols,
     item: Place,
     formula: &Formula,
@@ -33,7 +35,8 @@ pub(crate) fn take_formula(
     total: u64,
 ) -> Result<u64, ExpandFault>
     requires letters { letters.old ≡ no_letters }
-    requires total { total ≤ 2000000 }
+    requires total { total ≤ MOST }
+    requires tables { TablesHaveCells symbols.now }
     ensures outcome { Outcome ExpandFault.Memory result
         (λ after. IsTaken definitions.old.items definitions.new.items
         (formula_definitions symbols.now formula.now) (formula_parts symbols.now formula.now) total after)
@@ -47,6 +50,7 @@ pub(crate) fn take_formula(
     let indexes = kept_indexes(alloc, formula.loops.as_slice())?;
     take_instances(
         alloc,
+        words,
         symbols,
         item,
         formula,
@@ -58,28 +62,15 @@ pub(crate) fn take_formula(
     )
 }
 
-// With more headers than this, a formula whose instances are too many isn't looked at further.
-const MANY_HEADERS: usize = 1_000;
-
-// The fault of a formula with more instances than there may be parts. Where it is for each cell of a table, only its making
-// shows how many definitions it has. With very many headers that isn't tried.
+// The fault of a formula with more instances than there may be parts: each instance is a definition at least, since a table
+// has a cell. So what is looked at further has few indexes with two values or more.
 fn refusal(item: Place, formula: &Formula) -> Option<ExpandFault>
-    ensures { IfSome result (λ fault. fault ≢ ExpandFault.Memory → (declared : Declared) → IsTooMuch (formula_parts declared formula.now) 0 item fault) }
+    ensures { IfSome result (λ fault. (declared : Declared) → TablesHaveCells declared → IsTooMuch (formula_parts declared formula.now) 0 item fault) }
 {
-    let headers = formula.loops.as_slice();
-    if headers_count(headers) <= MOST {
-        return None;
-    }
-    match formula.slot {
-        Slot::Whole => Some(ExpandFault::TooManyParts(item)),
-        Slot::Cell(_) => Some(ExpandFault::TooManyParts(item)),
-        Slot::Every => {
-            if headers.len() > MANY_HEADERS {
-                Some(ExpandFault::Memory)
-            } else {
-                None
-            }
-        }
+    if headers_count(formula.loops.as_slice()) <= MOST {
+        None
+    } else {
+        Some(ExpandFault::TooManyParts(item))
     }
 }
 
@@ -87,6 +78,7 @@ fn refusal(item: Place, formula: &Formula) -> Option<ExpandFault>
 #[cycle(take_instances)]
 fn take_instances(
     alloc: Global,
+    words: &mut Words<'_>,
     symbols: &Symbols,
     item: Place,
     formula: &Formula,
@@ -97,8 +89,8 @@ fn take_instances(
     total: u64,
 ) -> Result<u64, ExpandFault>
     requires letters { length letters.old ≡ 256 }
-    requires weight { weight ≤ 2000001 }
-    requires total { total ≤ 2000000 }
+    requires weight { weight ≤ MOST + 1 }
+    requires total { total ≤ MOST }
     ensures outcome { let these = flat_map (definitions_at symbols.now formula.now formula.now.slot) (instances indexes.now letters.old) in
         Outcome ExpandFault.Memory result
         (λ after. IsTaken definitions.old.items definitions.new.items these (weighed these weight) total after)
@@ -108,6 +100,7 @@ fn take_instances(
     match indexes {
         [] => take_instance(
             alloc,
+            words,
             symbols,
             item,
             formula,
@@ -118,6 +111,7 @@ fn take_instances(
         ),
         [index, rest @ ..] => take_index(
             alloc,
+            words,
             symbols,
             item,
             formula,
@@ -135,6 +129,7 @@ fn take_instances(
 #[cycle(take_instances)]
 fn take_index(
     alloc: Global,
+    words: &mut Words<'_>,
     symbols: &Symbols,
     item: Place,
     formula: &Formula,
@@ -146,8 +141,8 @@ fn take_index(
     total: u64,
 ) -> Result<u64, ExpandFault>
     requires letters { length letters.old ≡ 256 }
-    requires weight { weight ≤ 2000001 }
-    requires total { total ≤ 2000000 }
+    requires weight { weight ≤ MOST + 1 }
+    requires total { total ≤ MOST }
     ensures outcome { let these = flat_map (definitions_at symbols.now formula.now formula.now.slot) (instances (index.now ∷ indexes.now) letters.old) in
         Outcome ExpandFault.Memory result
         (λ after. IsTaken definitions.old.items definitions.new.items these (weighed these weight) total after)
@@ -159,6 +154,7 @@ fn take_index(
     for value in &values {
         count = take_bound(
             alloc,
+            words,
             symbols,
             item,
             formula,
@@ -178,6 +174,7 @@ fn take_index(
 #[cycle(take_instances)]
 fn take_bound(
     alloc: Global,
+    words: &mut Words<'_>,
     symbols: &Symbols,
     item: Place,
     formula: &Formula,
@@ -190,8 +187,8 @@ fn take_bound(
     total: u64,
 ) -> Result<u64, ExpandFault>
     requires letters { length letters.old ≡ 256 }
-    requires weight { weight ≤ 2000001 }
-    requires total { total ≤ 2000000 }
+    requires weight { weight ≤ MOST + 1 }
+    requires total { total ≤ MOST }
     ensures outcome { let these = flat_map (definitions_at symbols.now formula.now formula.now.slot) (instances indexes.now (bind letters.old letter value.now)) in
         Outcome ExpandFault.Memory result
         (λ after. IsTaken definitions.old.items definitions.new.items these (weighed these weight) total after)
@@ -202,6 +199,7 @@ fn take_bound(
     let outer = replace(&mut letters[letter as usize], Some(value));
     let count = take_instances(
         alloc,
+        words,
         symbols,
         item,
         formula,
@@ -213,192 +211,4 @@ fn take_bound(
     )?;
     letters[letter as usize] = outer;
     Ok(count)
-}
-
-// The definitions of one instance of a formula.
-fn take_instance(
-    alloc: Global,
-    symbols: &Symbols,
-    item: Place,
-    formula: &Formula,
-    weight: u64,
-    letters: &mut [Option<Name>],
-    definitions: &mut Vec<Definition>,
-    total: u64,
-) -> Result<u64, ExpandFault>
-    requires letters { length letters.old ≡ 256 }
-    requires weight { weight ≤ 2000001 }
-    requires total { total ≤ 2000000 }
-    ensures outcome { let these = definitions_at symbols.now formula.now formula.now.slot letters.old in
-        Outcome ExpandFault.Memory result
-        (λ after. IsTaken definitions.old.items definitions.new.items these (weighed these weight) total after)
-        (λ fault. IsTooMuch (weighed these weight) total item fault) }
-    ensures letters { OnOk result (letters.new ≡ letters.old) }
-{
-    match formula.slot {
-        Slot::Whole => take_definition(
-            alloc,
-            item,
-            formula,
-            weight,
-            letters,
-            Slot::Whole,
-            None,
-            definitions,
-            total,
-        ),
-        Slot::Cell(k) => take_definition(
-            alloc,
-            item,
-            formula,
-            weight,
-            letters,
-            Slot::Cell(k),
-            None,
-            definitions,
-            total,
-        ),
-        Slot::Every => take_every(
-            alloc,
-            symbols,
-            item,
-            formula,
-            weight,
-            letters,
-            definitions,
-            total,
-        ),
-    }
-}
-
-// A definition for each cell of the target, if it is a table.
-fn take_every(
-    alloc: Global,
-    symbols: &Symbols,
-    item: Place,
-    formula: &Formula,
-    weight: u64,
-    letters: &mut [Option<Name>],
-    definitions: &mut Vec<Definition>,
-    total: u64,
-) -> Result<u64, ExpandFault>
-    requires letters { length letters.old ≡ 256 }
-    requires weight { weight ≤ 2000001 }
-    requires total { total ≤ 2000000 }
-    ensures outcome { let these = definitions_at symbols.now formula.now Slot.Every letters.old in
-        Outcome ExpandFault.Memory result
-        (λ after. IsTaken definitions.old.items definitions.new.items these (weighed these weight) total after)
-        (λ fault. IsTooMuch (weighed these weight) total item fault) }
-    ensures letters { OnOk result (letters.new ≡ letters.old) }
-{
-    let target = replaced(alloc, letters, formula.target.bytes())?;
-    match size_of(symbols, target.bytes()) {
-        None => take_definition(
-            alloc,
-            item,
-            formula,
-            weight,
-            letters,
-            Slot::Every,
-            None,
-            definitions,
-            total,
-        ),
-        Some(size) => take_cells(
-            alloc,
-            item,
-            formula,
-            weight,
-            letters,
-            size,
-            definitions,
-            total,
-        ),
-    }
-}
-
-// A definition for each cell of a table of this size.
-fn take_cells(
-    alloc: Global,
-    item: Place,
-    formula: &Formula,
-    weight: u64,
-    letters: &mut [Option<Name>],
-    size: u32,
-    definitions: &mut Vec<Definition>,
-    total: u64,
-) -> Result<u64, ExpandFault>
-    requires letters { length letters.old ≡ 256 }
-    requires weight { weight ≤ 2000001 }
-    requires total { total ≤ 2000000 }
-    ensures outcome { let these = map (defined_cell formula.now letters.old) (range_with_len 0 size) in
-        Outcome ExpandFault.Memory result
-        (λ after. IsTaken definitions.old.items definitions.new.items these (weighed these weight) total after)
-        (λ fault. IsTooMuch (weighed these weight) total item fault) }
-    ensures letters { OnOk result (letters.new ≡ letters.old) }
-{
-    let mut count = total;
-    for k in 0..size {
-        count = take_definition(
-            alloc,
-            item,
-            formula,
-            weight,
-            letters,
-            Slot::Cell(k),
-            Some(k),
-            definitions,
-            count,
-        )?;
-    }
-    Ok(count)
-}
-
-// A definition of a formula, where `X` stands for the number of a cell, if it does.
-fn take_definition(
-    alloc: Global,
-    item: Place,
-    formula: &Formula,
-    weight: u64,
-    letters: &mut [Option<Name>],
-    slot: Slot,
-    cell: Option<u32>,
-    definitions: &mut Vec<Definition>,
-    total: u64,
-) -> Result<u64, ExpandFault>
-    requires letters { length letters.old ≡ 256 }
-    requires weight { weight ≤ 2000001 }
-    requires total { total ≤ 2000000 }
-    ensures outcome { let these = defined formula.now slot cell letters.old ∷ [] in
-        Outcome ExpandFault.Memory result
-        (λ after. IsTaken definitions.old.items definitions.new.items these (weighed these weight) total after)
-        (λ fault. IsTooMuch (weighed these weight) total item fault) }
-    ensures letters { OnOk result (letters.new ≡ letters.old) }
-{
-    if total + weight > MOST {
-        return Err(ExpandFault::TooManyParts(item));
-    }
-    let term = expanded(alloc, letters, cell, &formula.term)?;
-    let target = replaced(alloc, letters, formula.target.bytes())?;
-    definitions.push(Definition {
-        target,
-        slot,
-        term,
-        place: formula.place,
-    })?;
-    Ok(total + weight)
-}
-
-// The size of a declared table.
-fn size_of(symbols: &Symbols, name: &[u8]) -> Option<u32>
-    ensures { result ≡ table_size symbols.now name.now }
-{
-    match symbols.find(name) {
-        None => None,
-        Some(v) => match &symbols.variable(v).item.role {
-            Role::Computed(size) => *size,
-            Role::Input(_) => None,
-            Role::Constant(_) => None,
-        },
-    }
 }

@@ -1,10 +1,10 @@
 //! The items of an application.
-ghost use Rattle.std.specs.Prelude.{◌≡◌, ◌∷◌, ◌++◌, ◌≤◌, [], All, None, Some, IfOk, OnOk, filter, map};
+ghost use Rattle.std.specs.Prelude.{◌≡◌, ◌∷◌, ◌++◌, ◌≤◌, [], All, None, Some, IfOk, OnOk, filter, length, map};
 ghost use Rattle.std.specs.List.{flat_map, list_any, sum_by};
 ghost use Rattle.std.specs.Str.{bytes_eq};
 ghost use Rattle.m_places.specs.Refusals.{Outcome};
 ghost use Rattle.m_ast.specs.Whole.{IsWholeItem};
-ghost use Rattle.plain_rules.specs.Plain.{IsPlain};
+ghost use Rattle.plain_rules.specs.Plain.{IsPlain, TablesHaveCells};
 ghost use Rattle.loop_values.specs.Letters as spec;
 ghost use Rattle.index_expand.specs.Expansion.{expansion, counts_in, formula_definitions, item_definitions, item_conditions, condition_of};
 ghost use Rattle.index_expand.specs.Faults.{expand_fault, formula_parts, check_parts, item_parts, item_place, too_many};
@@ -16,16 +16,17 @@ use crate::faults::{with_check, with_formula};
 use crate::formulas::take_formula;
 use crate::parts::{MOST, parts};
 use crate::terms::expanded;
+use crate::words::Words;
 use loop_values::no_letters;
-use m_ast::{CheckItem, Formula, Item, Term, VerifItem};
+use m_ast::{CheckItem, Formula, Item, VerifItem};
 use m_places::{Name, Place, Seq, SharedName};
 use m_symbols::Symbols;
-use plain_rules::{Condition, Definition, Plain};
+use plain_rules::{Condition, Definition, PTerm, Plain};
 use std::alloc::{AllocError, Global};
 
 /// The rules and verifications of an application without loops, or the fault of the items.
 ///
-/// The items are whole, as the reader of rule files gives them. A chained rule, and an item of another application, count
+/// The items are whole, as the reader of rule files gives them, and each table has a cell, as `declare` gives them. A chained rule, and an item of another application, count
 /// for nothing.
 pub fn expand(
     alloc: Global,
@@ -33,12 +34,14 @@ pub fn expand(
     application: &[u8],
     symbols: &Symbols,
 ) -> Result<Plain, ExpandFault>
-    requires { All IsWholeItem items.now }
+    requires whole { All IsWholeItem items.now }
+    requires tables { TablesHaveCells symbols.now }
     ensures outcome { Outcome ExpandFault.Memory result
         (λ plain. (expand_fault items.now application.now symbols.now ≡ None)
         × (plain ≡ expansion items.now application.now symbols.now))
         (λ fault. expand_fault items.now application.now symbols.now ≡ Some fault) }
     ensures plain { IfOk result (λ plain. IsPlain symbols.now plain) }
+    ensures few { IfOk result (λ plain. length plain.conditions ≤ MOST) }
 {
     if let Some(fault) = first_fault(items, application) {
         return Err(fault);
@@ -122,16 +125,19 @@ fn take_items(
     application: &[u8],
     symbols: &Symbols,
 ) -> Result<Plain, ExpandFault>
+    requires { TablesHaveCells symbols.now }
     ensures { Outcome ExpandFault.Memory result
         (λ plain. (too_many symbols.now 0 (filter (counts_in application.now) items.now) ≡ None)
         × (plain ≡ expansion items.now application.now symbols.now))
         (λ fault. too_many symbols.now 0 (filter (counts_in application.now) items.now) ≡ Some fault) }
 {
+    let mut words = Words::new(alloc, symbols)?;
     let mut letters = no_letters(alloc)?;
     let mut definitions = Vec::new(alloc);
     let mut conditions = Vec::new(alloc);
     take_each(
         alloc,
+        &mut words,
         symbols,
         items,
         application,
@@ -147,6 +153,7 @@ fn take_items(
 
 fn take_each(
     alloc: Global,
+    words: &mut Words<'_>,
     symbols: &Symbols,
     items: &[Item],
     application: &[u8],
@@ -154,7 +161,8 @@ fn take_each(
     definitions: &mut Vec<Definition>,
     conditions: &mut Vec<Condition>,
 ) -> Result<(), ExpandFault>
-    requires { letters.old ≡ spec.no_letters }
+    requires letters { letters.old ≡ spec.no_letters }
+    requires tables { TablesHaveCells symbols.now }
     ensures { let counted = filter (counts_in application.now) items.now in
         Outcome ExpandFault.Memory result
         (λ done. AreTaken definitions.old.items definitions.new.items (flat_map (item_definitions symbols.now) counted)
@@ -167,6 +175,7 @@ fn take_each(
         if counts_in(item, application) {
             count = take_item(
                 alloc,
+                words,
                 symbols,
                 item,
                 letters,
@@ -181,6 +190,7 @@ fn take_each(
 
 fn take_item(
     alloc: Global,
+    words: &mut Words<'_>,
     symbols: &Symbols,
     item: &Item,
     letters: &mut [Option<Name>],
@@ -189,7 +199,8 @@ fn take_item(
     total: u64,
 ) -> Result<u64, ExpandFault>
     requires letters { letters.old ≡ spec.no_letters }
-    requires total { total ≤ 2000000 }
+    requires total { total ≤ MOST }
+    requires tables { TablesHaveCells symbols.now }
     ensures outcome { Outcome ExpandFault.Memory result
         (λ after. IsTaken definitions.old.items definitions.new.items (item_definitions symbols.now item.now) (item_parts symbols.now item.now) total after
         × (conditions.new.items ≡ conditions.old.items ++ item_conditions item.now))
@@ -200,6 +211,7 @@ fn take_item(
         Item::Rule(rule) => {
             take_formulas(
                 alloc,
+                words,
                 symbols,
                 rule.place,
                 rule.formulas.as_slice(),
@@ -208,7 +220,7 @@ fn take_item(
                 total,
             )
         }
-        Item::Verif(verif) => take_checks(alloc, verif, letters, conditions, total),
+        Item::Verif(verif) => take_checks(alloc, words, verif, letters, conditions, total),
         Item::Variable(_) => Ok(total),
         Item::Error(_) => Ok(total),
         Item::Silent(_) => Ok(total),
@@ -217,6 +229,7 @@ fn take_item(
 
 fn take_formulas(
     alloc: Global,
+    words: &mut Words<'_>,
     symbols: &Symbols,
     item: Place,
     formulas: &[Formula],
@@ -225,7 +238,8 @@ fn take_formulas(
     total: u64,
 ) -> Result<u64, ExpandFault>
     requires letters { letters.old ≡ spec.no_letters }
-    requires total { total ≤ 2000000 }
+    requires total { total ≤ MOST }
+    requires tables { TablesHaveCells symbols.now }
     ensures outcome { Outcome ExpandFault.Memory result
         (λ after. IsTaken definitions.old.items definitions.new.items
         (flat_map (formula_definitions symbols.now) formulas.now) (sum_by (formula_parts symbols.now) formulas.now) total after)
@@ -234,20 +248,30 @@ fn take_formulas(
 {
     let mut count = total;
     for formula in formulas {
-        count = take_formula(alloc, symbols, item, formula, letters, definitions, count)?;
+        count = take_formula(
+            alloc,
+            words,
+            symbols,
+            item,
+            formula,
+            letters,
+            definitions,
+            count,
+        )?;
     }
     Ok(count)
 }
 
 fn take_checks(
     alloc: Global,
+    words: &mut Words<'_>,
     verif: &VerifItem,
     letters: &mut [Option<Name>],
     conditions: &mut Vec<Condition>,
     total: u64,
 ) -> Result<u64, ExpandFault>
     requires letters { letters.old ≡ spec.no_letters }
-    requires total { total ≤ 2000000 }
+    requires total { total ≤ MOST }
     ensures outcome { Outcome ExpandFault.Memory result
         (λ after. IsTaken conditions.old.items conditions.new.items
         (map (condition_of verif.now) verif.now.checks) (sum_by check_parts verif.now.checks) total after)
@@ -257,13 +281,16 @@ fn take_checks(
     let number = SharedName::new(alloc, verif.number.copy(alloc)?)?;
     let mut count = total;
     for check in verif.checks.as_slice() {
-        count = take_check(alloc, verif, &number, check, letters, conditions, count)?;
+        count = take_check(
+            alloc, words, verif, &number, check, letters, conditions, count,
+        )?;
     }
     Ok(count)
 }
 
 fn take_check(
     alloc: Global,
+    words: &mut Words<'_>,
     verif: &VerifItem,
     number: &SharedName,
     check: &CheckItem,
@@ -273,7 +300,7 @@ fn take_check(
 ) -> Result<u64, ExpandFault>
     requires number { number.now ≡ verif.now.number }
     requires letters { letters.old ≡ spec.no_letters }
-    requires total { total ≤ 2000000 }
+    requires total { total ≤ MOST }
     ensures outcome { Outcome ExpandFault.Memory result
         (λ after. IsTaken conditions.old.items conditions.new.items
         (condition_of verif.now check.now ∷ []) (check_parts check.now) total after)
@@ -284,7 +311,7 @@ fn take_check(
     if count > MOST {
         return Err(ExpandFault::TooManyParts(verif.place));
     }
-    let term = expanded(alloc, letters, None, &check.condition)?;
+    let term = expanded(alloc, words, letters, None, &check.condition)?;
     push_condition(alloc, number, check, term, conditions)?;
     Ok(count)
 }
@@ -293,7 +320,7 @@ fn push_condition(
     alloc: Global,
     number: &SharedName,
     check: &CheckItem,
-    term: Term,
+    term: PTerm,
     conditions: &mut Vec<Condition>,
 ) -> Result<(), AllocError>
     ensures { OnOk result (conditions.new.items ≡ conditions.old.items

@@ -4,12 +4,14 @@
 //! This crate stands on loops as lists of instances and on the declared names, and knows nothing of cells' numbers.
 #![tactic(auto)]
 
+mod definitions;
 mod fault;
 mod faults;
 mod formulas;
 mod items;
 mod parts;
 mod terms;
+mod words;
 
 pub use fault::ExpandFault;
 pub use items::expand;

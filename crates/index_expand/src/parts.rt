@@ -14,7 +14,7 @@ pub(crate) const MOST: u64 = PARTS as u64;
 /// How many parts a term has once its loops are replaced, or the most where it has more.
 #[cycle(parts)]
 pub(crate) fn parts(term: &Term) -> u64
-    ensures { result ≡ min (spec.parts term.now) 2000000 }
+    ensures { result ≡ min (spec.parts term.now) PARTS }
 {
     match &term.node {
         Node::Lit(_) | Node::Named(_, _) | Node::X(_) => 1,
@@ -32,7 +32,7 @@ pub(crate) fn parts(term: &Term) -> u64
 
 #[cycle(parts)]
 fn terms_parts(terms: &[Term]) -> u64
-    ensures { result ≡ min (spec.terms_parts (terms_of terms.now)) 2000000 }
+    ensures { result ≡ min (spec.terms_parts (terms_of terms.now)) PARTS }
 {
     let mut count = 0;
     for term in terms {
@@ -43,8 +43,8 @@ fn terms_parts(terms: &[Term]) -> u64
 
 #[cycle(parts)]
 fn links_parts(first: u64, links: &[Link]) -> u64
-    requires { first ≤ 2000000 }
-    ensures { result ≡ min (first + spec.links_parts (links_of links.now)) 2000000 }
+    requires { first ≤ PARTS }
+    ensures { result ≡ min (first + spec.links_parts (links_of links.now)) PARTS }
 {
     let mut count = first;
     for link in links {
@@ -57,8 +57,8 @@ fn links_parts(first: u64, links: &[Link]) -> u64
 // one part fewer.
 #[cycle(parts)]
 fn members_parts(first: u64, members: &[Member]) -> u64
-    requires { first ≤ 2000000 }
-    ensures { (x : ℕ) → first ≡ min x 2000000 → result ≡ min (spec.members_parts x (members_of members.now)) 2000001 }
+    requires { first ≤ PARTS }
+    ensures { (x : ℕ) → first ≡ min x PARTS → result ≡ min (spec.members_parts x (members_of members.now)) (PARTS + 1) }
 {
     let mut count = 0;
     for member in members {
@@ -71,9 +71,9 @@ fn members_parts(first: u64, members: &[Member]) -> u64
 }
 
 fn member_parts(single: bool, first: u64, low: u64, high: u64) -> u64
-    requires first_in { first ≤ 2000000 }
-    requires low_in { low ≤ 2000000 }
-    requires high_in { high ≤ 2000000 }
+    requires first_in { first ≤ PARTS }
+    requires low_in { low ≤ PARTS }
+    requires high_in { high ≤ PARTS }
     ensures { result ≡ spec.member_parts single first low high + 1 }
 {
     if single {
@@ -84,25 +84,25 @@ fn member_parts(single: bool, first: u64, low: u64, high: u64) -> u64
 }
 
 fn membership_parts(negated: bool, members: u64) -> u64
-    requires { members ≤ 2000001 }
-    ensures { result ≡ min (spec.negation_parts negated + (members - 1)) 2000000 }
+    requires { members ≤ PARTS + 1 }
+    ensures { result ≡ min (spec.negation_parts negated + (members - 1)) PARTS }
 {
     let joined = members.saturating_sub(1);
     if negated { plus(1, joined) } else { joined }
 }
 
 fn loop_parts(instances: u64, body: u64) -> u64
-    requires instances_in { instances ≤ 2000001 }
-    requires body_in { body ≤ 2000000 }
-    ensures { result ≡ min (instances * (body + 1) - 1) 2000000 }
+    requires instances_in { instances ≤ PARTS + 1 }
+    requires body_in { body ≤ PARTS }
+    ensures { result ≡ min (instances * (body + 1) - 1) PARTS }
 {
     (instances * (body + 1)).saturating_sub(1).min(MOST)
 }
 
 fn plus(a: u64, b: u64) -> u64
-    requires first { a ≤ 2000000 }
-    requires second { b ≤ 2000000 }
-    ensures { result ≡ min (a + b) 2000000 }
+    requires first { a ≤ PARTS }
+    requires second { b ≤ PARTS }
+    ensures { result ≡ min (a + b) PARTS }
 {
     (a + b).min(MOST)
 }

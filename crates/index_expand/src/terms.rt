@@ -1,61 +1,84 @@
 //! Terms without their loops.
-ghost use Rattle.std.specs.Prelude.{◌≡◌, ◌∷◌, ◌++◌, ◌<◌, ◌≤◌, IfOk, OnOk, IsTrue, length, map};
+ghost use Rattle.std.specs.Prelude.{◌≡◌, ◌∷◌, ◌++◌, ◌<◌, ◌≤◌, All, IfOk, OnOk, IsTrue, length, map, take};
 ghost use Rattle.std.specs.Bool.{OnTrue};
 ghost use Rattle.m_fixed.specs.Text.{only_digits};
-ghost use Rattle.m_ast.specs.View.{syntax_of};
-ghost use Rattle.loop_values.specs.Headers.{instances};
-ghost use Rattle.loop_values.specs.Letters.{bind};
+ghost use Rattle.plain_rules.specs.View.{syntax_of};
+ghost use Rattle.loop_values.specs.Headers.{IsSingle, instances};
+ghost use Rattle.loop_values.specs.Letters.{bind, replaced};
 ghost use Rattle.index_expand.specs.Terms as spec;
 ghost use Rattle.index_expand.specs.inner.Operands.{link_expanded, member_expanded, instance_link, links_sum, chain_of};
 
-use loop_values::{index_values, is_digits, number, replaced};
-use m_ast::{Index, Link, Member, Node, Term, made};
+use crate::words::Words;
+use loop_values::{bound_by, index_values, is_digits, number, replaced, single_count};
+use m_ast::{Index, Link, Member, Node, Term};
 use m_fixed::{Amount, Op, Value};
-use m_places::{Name, Place};
+use m_places::{Name, Place, SharedName};
+use plain_rules::{PLink, PMember, PNode, PTerm, plain};
 use std::alloc::{AllocError, Global};
 use std::mem::replace;
 
 /// A term where letters stand for words, and `X` for the number of a cell, if it does. Its only error is want of memory.
 pub(crate) fn expanded(
     alloc: Global,
+    words: &mut Words<'_>,
     letters: &mut [Option<Name>],
     cell: Option<u32>,
     term: &Term,
-) -> Result<Term, AllocError>
+) -> Result<PTerm, AllocError>
     requires { length letters.old ≡ 256 }
     ensures term { IfOk result (λ t. t ≡ spec.expanded cell letters.old term.now) }
     ensures letters { OnOk result (letters.new ≡ letters.old) }
 {
-    let term = expanded_box(alloc, letters, cell, term)?;
+    let term = expanded_box(alloc, words, letters, cell, term)?;
     Ok(Box::into_inner(term))
 }
 
 // A node in a box.
-fn boxed(alloc: Global, node: Node) -> Result<Box<Term>, AllocError>
+fn boxed(alloc: Global, node: PNode) -> Result<Box<PTerm>, AllocError>
     ensures { IfOk result (λ t. t.value ≡ syntax_of node) }
 {
-    Ok(Box::new(alloc, made(node))?)
+    Ok(Box::new(alloc, plain(node))?)
 }
 
 // A literal of so many whole units.
-fn number_node(n: u64) -> Node
+fn number_node(n: u64) -> PNode
     requires { n < 1000000000000 }
     ensures { syntax_of result ≡ spec.number_term n }
 {
     match Amount::new(n as i128 * 1_000_000) {
-        Some(amount) => Node::Lit(Value::Num(amount)),
+        Some(amount) => PNode::Lit(Value::Num(amount)),
         None => unreachable!(),
     }
 }
 
-fn word_node(word: Name, place: Place) -> Node
-    ensures { syntax_of result ≡ spec.word_term word place }
+// What a word without letters is.
+fn word_node(
+    alloc: Global,
+    words: &mut Words<'_>,
+    word: &[u8],
+    place: Place,
+) -> Result<PNode, AllocError>
+    ensures { IfOk result (λ node. syntax_of node ≡ spec.word_term word.now place) }
 {
-    if is_number_word(word.bytes()) {
-        number_node(number(word.bytes()))
+    if is_number_word(word) {
+        Ok(number_node(number(word)))
     } else {
-        Node::Named(word, place)
+        Ok(PNode::Named(words.shared(alloc, word)?, place))
     }
+}
+
+/// A word where letters stand for words. Its only error is want of memory.
+pub(crate) fn word_with(
+    alloc: Global,
+    words: &mut Words<'_>,
+    letters: &[Option<Name>],
+    word: &Name,
+) -> Result<SharedName, AllocError>
+    requires { length letters.now ≡ 256 }
+    ensures { IfOk result (λ name. name ≡ replaced letters.now word.now) }
+{
+    let word = replaced(alloc, letters, word.bytes())?;
+    words.shared(alloc, word.bytes())
 }
 
 fn is_number_word(word: &[u8]) -> bool
@@ -66,66 +89,66 @@ fn is_number_word(word: &[u8]) -> bool
     is_digits(word) && word.len() <= 12
 }
 
-fn x_node(cell: Option<u32>, place: Place) -> Node
+fn x_node(cell: Option<u32>, place: Place) -> PNode
     ensures { syntax_of result ≡ spec.x_term cell place }
 {
     match cell {
         Some(k) => number_node(k as u64),
-        None => Node::X(place),
+        None => PNode::X(place),
     }
 }
 
 #[cycle(expanded)]
 fn expanded_box(
     alloc: Global,
+    words: &mut Words<'_>,
     letters: &mut [Option<Name>],
     cell: Option<u32>,
     term: &Term,
-) -> Result<Box<Term>, AllocError>
+) -> Result<Box<PTerm>, AllocError>
     requires { length letters.old ≡ 256 }
     ensures term { IfOk result (λ t. t.value ≡ spec.expanded cell letters.old term.now) }
     ensures letters { OnOk result (letters.new ≡ letters.old) }
 {
     match &term.node {
-        Node::Lit(value) => boxed(alloc, Node::Lit(*value)),
+        Node::Lit(value) => boxed(alloc, PNode::Lit(*value)),
         Node::Named(word, place) => {
             let word = replaced(alloc, letters, word.bytes())?;
-            boxed(alloc, word_node(word, *place))
+            let node = word_node(alloc, words, word.bytes(), *place)?;
+            boxed(alloc, node)
         }
         Node::X(place) => boxed(alloc, x_node(cell, *place)),
         Node::Cell(word, index, place) => {
-            let index = expanded_box(alloc, letters, cell, index)?;
-            boxed(
-                alloc,
-                Node::Cell(replaced(alloc, letters, word.bytes())?, index, *place),
-            )
+            let index = expanded_box(alloc, words, letters, cell, index)?;
+            let word = word_with(alloc, words, letters, word)?;
+            boxed(alloc, PNode::Cell(word, index, *place))
         }
         Node::Apply(op, arguments) => boxed(
             alloc,
-            Node::Apply(*op, expanded_terms(alloc, letters, cell, arguments)?),
+            PNode::Apply(*op, expanded_terms(alloc, words, letters, cell, arguments)?),
         ),
         Node::Chain(first, links) => {
-            let first = expanded_box(alloc, letters, cell, first)?;
+            let first = expanded_box(alloc, words, letters, cell, first)?;
             boxed(
                 alloc,
-                Node::Chain(first, expanded_links(alloc, letters, cell, links)?),
+                PNode::Chain(first, expanded_links(alloc, words, letters, cell, links)?),
             )
         }
         Node::Among(negated, first, members) => {
-            let first = expanded_box(alloc, letters, cell, first)?;
+            let first = expanded_box(alloc, words, letters, cell, first)?;
             boxed(
                 alloc,
-                Node::Among(
+                PNode::Among(
                     *negated,
                     first,
-                    expanded_members(alloc, letters, cell, members)?,
+                    expanded_members(alloc, words, letters, cell, members)?,
                 ),
             )
         }
         Node::Loop(header, body) => {
             let mut links = Vec::new(alloc);
             let indexes = header.indexes.as_slice();
-            expand_instances(alloc, letters, cell, indexes, body, &mut links)?;
+            expand_instances(alloc, words, letters, cell, indexes, body, &mut links)?;
             summed(alloc, links)
         }
     }
@@ -134,17 +157,18 @@ fn expanded_box(
 #[cycle(expanded)]
 fn expanded_terms(
     alloc: Global,
+    words: &mut Words<'_>,
     letters: &mut [Option<Name>],
     cell: Option<u32>,
     terms: &[Term],
-) -> Result<Vec<Term>, AllocError>
+) -> Result<Vec<PTerm>, AllocError>
     requires { length letters.old ≡ 256 }
     ensures terms { IfOk result (λ v. v.items ≡ map (spec.expanded cell letters.old) terms.now) }
     ensures letters { OnOk result (letters.new ≡ letters.old) }
 {
     let mut copies = Vec::with_capacity(alloc, terms.len())?;
     for term in terms {
-        let copy = expanded_box(alloc, letters, cell, term)?;
+        let copy = expanded_box(alloc, words, letters, cell, term)?;
         copies.push(Box::into_inner(copy))?;
     }
     Ok(copies)
@@ -153,18 +177,19 @@ fn expanded_terms(
 #[cycle(expanded)]
 fn expanded_links(
     alloc: Global,
+    words: &mut Words<'_>,
     letters: &mut [Option<Name>],
     cell: Option<u32>,
     links: &[Link],
-) -> Result<Vec<Link>, AllocError>
+) -> Result<Vec<PLink>, AllocError>
     requires { length letters.old ≡ 256 }
     ensures links { IfOk result (λ v. v.items ≡ map (link_expanded cell letters.old) links.now) }
     ensures letters { OnOk result (letters.new ≡ letters.old) }
 {
     let mut copies = Vec::with_capacity(alloc, links.len())?;
     for link in links {
-        let term = expanded_box(alloc, letters, cell, &link.term)?;
-        copies.push(Link {
+        let term = expanded_box(alloc, words, letters, cell, &link.term)?;
+        copies.push(PLink {
             op: link.op,
             term: Box::into_inner(term),
         })?;
@@ -175,19 +200,20 @@ fn expanded_links(
 #[cycle(expanded)]
 fn expanded_members(
     alloc: Global,
+    words: &mut Words<'_>,
     letters: &mut [Option<Name>],
     cell: Option<u32>,
     members: &[Member],
-) -> Result<Vec<Member>, AllocError>
+) -> Result<Vec<PMember>, AllocError>
     requires { length letters.old ≡ 256 }
     ensures members { IfOk result (λ v. v.items ≡ map (member_expanded cell letters.old) members.now) }
     ensures letters { OnOk result (letters.new ≡ letters.old) }
 {
     let mut copies = Vec::with_capacity(alloc, members.len())?;
     for member in members {
-        let low = expanded_box(alloc, letters, cell, &member.low)?;
-        let high = expanded_box(alloc, letters, cell, &member.high)?;
-        copies.push(Member {
+        let low = expanded_box(alloc, words, letters, cell, &member.low)?;
+        let high = expanded_box(alloc, words, letters, cell, &member.high)?;
+        copies.push(PMember {
             low: Box::into_inner(low),
             high: Box::into_inner(high),
         })?;
@@ -199,27 +225,58 @@ fn expanded_members(
 #[cycle(expanded)]
 fn expand_instances(
     alloc: Global,
+    words: &mut Words<'_>,
     letters: &mut [Option<Name>],
     cell: Option<u32>,
     indexes: &[Index],
     body: &Term,
-    links: &mut Vec<Link>,
+    links: &mut Vec<PLink>,
 ) -> Result<(), AllocError>
     requires { length letters.old ≡ 256 }
     ensures links { OnOk result (links.new.items
         ≡ links.old.items ++ map (instance_link cell body.now) (instances indexes.now letters.old)) }
     ensures letters { OnOk result (letters.new ≡ letters.old) }
 {
+    let singles = single_count(indexes);
+    if singles > 1 {
+        return expand_singles(alloc, words, letters, cell, singles, indexes, body, links);
+    }
     match indexes {
         [] => {
-            let term = expanded_box(alloc, letters, cell, body)?;
-            links.push(Link {
+            let term = expanded_box(alloc, words, letters, cell, body)?;
+            links.push(PLink {
                 op: Op::Add,
                 term: Box::into_inner(term),
             })?;
         }
-        [index, rest @ ..] => expand_index(alloc, letters, cell, index, rest, body, links)?,
+        [index, rest @ ..] => expand_index(alloc, words, letters, cell, index, rest, body, links)?,
     }
+    Ok(())
+}
+
+// The same where several indexes of one value come first. Their letters are bound together, so that a header of many of these
+// is no deeper than one of a single index.
+#[cycle(expanded)]
+fn expand_singles(
+    alloc: Global,
+    words: &mut Words<'_>,
+    letters: &[Option<Name>],
+    cell: Option<u32>,
+    singles: usize,
+    indexes: &[Index],
+    body: &Term,
+    links: &mut Vec<PLink>,
+) -> Result<(), AllocError>
+    requires letters { length letters.now ≡ 256 }
+    requires some { 0 < singles }
+    requires within { singles ≤ length indexes.now }
+    requires single { All IsSingle (take singles indexes.now) }
+    ensures { OnOk result (links.new.items
+        ≡ links.old.items ++ map (instance_link cell body.now) (instances indexes.now letters.now)) }
+{
+    let mut inner = bound_by(alloc, letters, &indexes[..singles])?;
+    let rest = &indexes[singles..];
+    expand_instances(alloc, words, inner.as_mut_slice(), cell, rest, body, links)?;
     Ok(())
 }
 
@@ -227,12 +284,13 @@ fn expand_instances(
 #[cycle(expanded)]
 fn expand_index(
     alloc: Global,
+    words: &mut Words<'_>,
     letters: &mut [Option<Name>],
     cell: Option<u32>,
     index: &Index,
     indexes: &[Index],
     body: &Term,
-    links: &mut Vec<Link>,
+    links: &mut Vec<PLink>,
 ) -> Result<(), AllocError>
     requires { length letters.old ≡ 256 }
     ensures links { OnOk result (links.new.items
@@ -243,6 +301,7 @@ fn expand_index(
     for value in &values {
         expand_bound(
             alloc,
+            words,
             letters,
             cell,
             index.letter,
@@ -259,13 +318,14 @@ fn expand_index(
 #[cycle(expanded)]
 fn expand_bound(
     alloc: Global,
+    words: &mut Words<'_>,
     letters: &mut [Option<Name>],
     cell: Option<u32>,
     letter: u8,
     value: &Name,
     indexes: &[Index],
     body: &Term,
-    links: &mut Vec<Link>,
+    links: &mut Vec<PLink>,
 ) -> Result<(), AllocError>
     requires { length letters.old ≡ 256 }
     ensures links { OnOk result (links.new.items
@@ -274,18 +334,18 @@ fn expand_bound(
 {
     let value = value.copy(alloc)?;
     let outer = replace(&mut letters[letter as usize], Some(value));
-    expand_instances(alloc, letters, cell, indexes, body, links)?;
+    expand_instances(alloc, words, letters, cell, indexes, body, links)?;
     letters[letter as usize] = outer;
     Ok(())
 }
 
 // The sum of terms in order, each of which is a further operand: one term is that term itself.
-fn summed(alloc: Global, links: Vec<Link>) -> Result<Box<Term>, AllocError>
+fn summed(alloc: Global, links: Vec<PLink>) -> Result<Box<PTerm>, AllocError>
     ensures { IfOk result (λ t. t.value ≡ links_sum links.items) }
 {
     let mut links = links;
     if links.is_empty() {
-        return boxed(alloc, Node::Lit(Value::Undef));
+        return boxed(alloc, PNode::Lit(Value::Undef));
     }
     let first = links.remove(0);
     let first = Box::new(alloc, first.term)?;
@@ -293,12 +353,12 @@ fn summed(alloc: Global, links: Vec<Link>) -> Result<Box<Term>, AllocError>
 }
 
 // A chain, or its first operand where there are no more.
-fn with_links(alloc: Global, first: Box<Term>, links: Vec<Link>) -> Result<Box<Term>, AllocError>
+fn with_links(alloc: Global, first: Box<PTerm>, links: Vec<PLink>) -> Result<Box<PTerm>, AllocError>
     ensures { IfOk result (λ t. t.value ≡ chain_of first.value links.items) }
 {
     if links.is_empty() {
         Ok(first)
     } else {
-        boxed(alloc, Node::Chain(first, links))
+        boxed(alloc, PNode::Chain(first, links))
     }
 }

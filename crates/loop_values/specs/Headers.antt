@@ -1,5 +1,5 @@
 -- Headers of loops: how many instances they have, which, and which of their indexes are faulty.
-use Rattle.std.specs.Prelude.{ℕ, ◌*◌, Bool, ◌||◌, ◌==◌, List, [], ◌∷◌, length, nat_lt, count_by}
+use Rattle.std.specs.Prelude.{◌≡◌, ℕ, ◌*◌, Bool, ◌||◌, ◌==◌, List, [], ◌∷◌, length, nat_lt, count_by}
 use Rattle.std.specs.List.{flat_map, list_any}
 use Rattle.m_ast.specs.declared.header.Header.{Header}
 use Rattle.m_ast.specs.declared.header.Index.{Index}
@@ -16,6 +16,10 @@ instances (index ∷ rest) letters = flat_map (λ value. instances rest (bind le
 abbrev pub instance_count : List Index → ℕ
 instance_count [] = 1
 instance_count (index ∷ rest) = length (index_values index) * instance_count rest
+
+-- an index has one value
+abbrev pub IsSingle : Index → Type 0
+IsSingle index = length (index_values index) ≡ 1
 
 -- the indexes of all headers, from the outermost to the innermost
 abbrev pub all_indexes : List Header → List Index

@@ -1,2 +1,3 @@
 pub mod FileLemmas
 pub mod SinkLemmas
+pub mod SourceLemmas

@@ -2,7 +2,7 @@
 //!
 //! A fetch names a limit and is noted down as an attempt, so that a caller's contract can say which
 //! names were fetched and which of them failed, also where nothing is known of what files hold.
-ghost use Rattle.std.specs.Prelude.{◌≡◌, ◌⊎◌, ℕ, ◌+◌, ◌≤◌, List, ◌++◌, Option, length, IfOk, IsErrOf};
+ghost use Rattle.std.specs.Prelude.{◌≡◌, ℕ, ◌+◌, ◌<◌, ◌≤◌, List, ◌++◌, Option, length, IfOk, IsErrOf, vec_len, vec_capacity};
 ghost use Rattle.m_ports.specs.declared.files.Attempt.{Attempt};
 ghost use Rattle.m_ports.specs.declared.files.FetchFault.TheVariants.{Memory};
 ghost use Rattle.m_ports.specs.Counts.{RoseBy, RoseByMore};
@@ -79,20 +79,20 @@ pub trait Files {
         ensures bounded { taken self.new ≤ taken self.old + (limit + 1) };
 }
 
-/// Notes down the attempt that a fetch of this name with this answer is, and hands the answer on. If
-/// there is no memory to note it down, the answer is want of memory.
-pub fn note(
-    attempts: &mut Vec<Attempt>,
-    name: Name,
-    answer: Result<Vec<u8>, FetchFault>,
-) -> Result<Vec<u8>, FetchFault>
-    ensures attempt { attempts.new.items ≡ attempts.old.items ++ attempt_of name result }
-    ensures answer { (result ≡ answer) ⊎ (result ≡ Err FetchFault.Memory) }
+/// Notes down the attempt that a fetch of this name with this answer is. There is room for it, so it takes no memory: the
+/// room is made before the fetch, and a fetch that was made keeps its answer.
+pub fn note(attempts: &mut Vec<Attempt>, name: Name, answer: &Result<Vec<u8>, FetchFault>)
+    requires { vec_len attempts.old < vec_capacity attempts.old }
+    ensures { attempts.new.items ≡ attempts.old.items ++ attempt_of name answer.now }
 {
-    if matches!(answer, Err(FetchFault::Memory)) {
-        return answer;
+    let failed = match answer {
+        Ok(_) => false,
+        Err(FetchFault::TooLong) => false,
+        Err(FetchFault::Failed) => true,
+        Err(FetchFault::Memory) => return,
+    };
+    match attempts.push(Attempt { name, failed }) {
+        Ok(()) => {}
+        Err(_) => unreachable!(),
     }
-    let failed = matches!(answer, Err(FetchFault::Failed));
-    attempts.push(Attempt { name, failed })?;
-    answer
 }

@@ -8,7 +8,7 @@ ghost use Rattle.std.specs.Prelude.{◌≡◌, ◌<◌, ◌≤◌, ◌+◌, [], 
 ghost use Rattle.std.specs.Str.{is_utf8};
 ghost use Rattle.std.specs.Io.KnownBytes.{ReadConsumes, WriteAppends};
 ghost use Rattle.m_ports.specs.Files.{attempt_of, Holds, IsMissing, IsRefused};
-ghost use Rattle.m_ports.specs.Counts.{Rose, RoseBy, RoseByMore, faults_after};
+ghost use Rattle.m_ports.specs.Counts.{Rose, RoseBy, RoseByMore, RoseByMoved, faults_after};
 
 use crate::counts::count_up;
 use crate::files::note;
@@ -58,17 +58,19 @@ fn next_piece(room: u64) -> usize
     }
 }
 
-/// Reads to the end, or one byte past the limit. Where the reader tells what is left, `Ok` gives all
-/// of that.
-fn read_whole<R: Read>(
-    reader: &mut R,
+/// Takes to the end, or one byte past the limit. Where the source tells what is left, `Ok` gives all of that. It fails only
+/// where the source did.
+pub fn read_whole<S: Source>(
+    source: &mut S,
     alloc: Global,
     limit: u64,
     taken: &mut u64,
 ) -> Result<Vec<u8>, FetchFault>
-    ensures whole { IfOk result (λ bytes. IfSome (R.remaining reader.old) (λ content. bytes.items ≡ content)) }
+    ensures whole { IfOk result (λ bytes. IfSome (S.left source.old) (λ content. bytes.items ≡ content)) }
     ensures within { IfOk result (λ bytes. length bytes.items ≤ limit) }
-    ensures too_long { IsErrOf result FetchFault.TooLong → IfSome (R.remaining reader.old) (λ content. limit < length content) }
+    ensures too_long { IsErrOf result FetchFault.TooLong → IfSome (S.left source.old) (λ content. limit < length content) }
+    ensures failed { IsErrOf result FetchFault.Failed → Rose (S.faults source.old) (S.faults source.new) }
+    ensures moved { RoseByMoved (S.left source.old) (S.left source.new) taken.old taken.new }
     ensures took_more { IsErrOf result FetchFault.TooLong → RoseByMore limit taken.old taken.new }
     ensures counted_whole { IfOk result (λ bytes. RoseBy (length bytes.items) taken.old taken.new) }
     ensures counted { taken.old ≤ taken.new }
@@ -77,12 +79,12 @@ fn read_whole<R: Read>(
     let before = *taken;
     let mut bytes = Vec::new(alloc);
     let mut piece = [0; PIECE];
-    for _ in 0..u64::MAX {
+    loop {
         let room = limit - bytes.len() as u64;
-        let count = match reader.read(&mut piece[..next_piece(room)]) {
+        let count = match source.take(&mut piece[..next_piece(room)]) {
             Ok(0) => return Ok(bytes),
             Ok(count) => count,
-            Err(_) => return Err(FetchFault::Failed),
+            Err(Failed) => return Err(FetchFault::Failed),
         };
         *taken = before
             .saturating_add(bytes.len() as u64)
@@ -92,7 +94,6 @@ fn read_whole<R: Read>(
         }
         bytes.extend_from_slice(&piece[..count])?;
     }
-    Err(FetchFault::Failed)
 }
 
 /// Opens the file of this name and reads it.
@@ -114,7 +115,7 @@ fn read_file<H: rt::Files>(
         return Err(FetchFault::Failed);
     };
     match File::open(rt, path) {
-        Ok(mut file) => read_whole(&mut file, alloc, limit, taken),
+        Ok(file) => read_whole(&mut HostSource::new(file), alloc, limit, taken),
         Err(_) => Err(FetchFault::Failed),
     }
 }
@@ -142,8 +143,10 @@ impl<'a, H: rt::Files> Files for HostFiles<'a, H> {
         ensures bounded { self.new.taken ≤ self.old.taken + (limit + 1) }
     {
         let copy = name.copy(alloc)?;
+        self.attempts.reserve(1)?;
         let answer = read_file(self.rt, alloc, name.bytes(), limit, &mut self.taken);
-        note(&mut self.attempts, copy, answer)
+        note(&mut self.attempts, copy, &answer);
+        answer
     }
 }
 

@@ -14,7 +14,7 @@ mod sink;
 mod source;
 
 pub use files::{Attempt, FetchFault, Files};
-pub use host::{HostFiles, HostSink, HostSource};
+pub use host::{HostFiles, HostSink, HostSource, read_whole};
 pub use mem_files::MemFiles;
 pub use mem_sink::MemSink;
 pub use mem_source::MemSource;

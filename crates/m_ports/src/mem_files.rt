@@ -109,9 +109,10 @@ impl Files for MemFiles {
     {
         let taken = self.taken;
         let copy = name.copy(alloc)?;
+        self.attempts.reserve(1)?;
         let answer = self.answer(alloc, name.bytes(), limit);
-        let noted = note(&mut self.attempts, copy, answer);
-        self.taken = taken.saturating_add(taken_by(&noted, limit));
-        noted
+        note(&mut self.attempts, copy, &answer);
+        self.taken = taken.saturating_add(taken_by(&answer, limit));
+        answer
     }
 }

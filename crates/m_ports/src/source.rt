@@ -16,7 +16,7 @@ pub trait Source {
     ghost faults: { Self → ℕ };
 
     /// Moves the first bytes that are left into the front of the piece, and answers how many; 0 is
-    /// the end of the input. What stands behind them in the piece is left open. It takes no memory.
+    /// the end of the input. What stands behind them in the piece is left open. It can't fail for want of memory.
     fn take(&mut self, piece: &mut [u8]) -> Result<usize, Failed>
         requires { 0 < length piece.old }
 

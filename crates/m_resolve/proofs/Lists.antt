@@ -2,9 +2,10 @@
 use Rattle.std.proofs.Common.{◌≡◌, ◌<◌, ◌+◌, ℕ, suc, List, [], ◌∷◌, ◌++◌, length, drop, get_or, Result, Ok, Err, sym, ap, ◌∙◌, arith}
 use Rattle.std.proofs.Math.Seq.{drop-cons}
 use Rattle.m_ast.specs.Syntax.{Syntax}
-use Rattle.m_ast.specs.View.{terms_of, links_of, members_of}
-use Rattle.m_ast.specs.declared.term.Link.{Link}
-use Rattle.m_ast.specs.declared.term.Member.{Member}
+use Rattle.m_ast.specs.View.{terms_of}
+use Rattle.plain_rules.specs.View.{links_of, members_of}
+use Rattle.plain_rules.specs.declared.term.PLink.{PLink}
+use Rattle.plain_rules.specs.declared.term.PMember.{PMember}
 use Rattle.m_symbols.specs.Declarations.{Declared}
 use Rattle.micro_m.specs.Trees.{Tree, chain}
 use Rattle.micro_m.specs.Views.{steps_of}
@@ -26,14 +27,14 @@ pub terms_fault : (d : Declared) (before : List Tree) (all : List Syntax) (i : �
 terms_fault d before all i a whole fault h e s f =
     sym s ∙ ap (λ l. terms_said d before (terms_of l)) (drop_next all i a h e) ∙ ap (if_said (λ t. terms_said d (before ++ t ∷ []) (terms_of (drop (i + 1) all)))) f
 
-links_fault : (d : Declared) (before : List Step) (all : List Link) (i : ℕ) (a : Link) (whole : Result (List Step) ResolveFault) (fault : ResolveFault) → i < length all → a ≡ get_or all i a
+links_fault : (d : Declared) (before : List Step) (all : List PLink) (i : ℕ) (a : PLink) (whole : Result (List Step) ResolveFault) (fault : ResolveFault) → i < length all → a ≡ get_or all i a
     → links_said d before (links_of (drop i all)) ≡ whole → term_said d a.term ≡ Err fault → whole ≡ Err fault
 links_fault d before all i a whole fault h e s f =
     sym s ∙ ap (λ l. links_said d before (links_of l)) (drop_next all i a h e)
     ∙ ap (if_said (λ t. links_said d (before ++ record { op = a.op; term = t } ∷ []) (links_of (drop (i + 1) all)))) f
 
 -- a fault in a link of a left fold whose first operand has none
-pub chain_fault : (d : Declared) (first : Syntax) (before : List Step) (all : List Link) (i : ℕ) (a : Link) (f : Tree) (fault : ResolveFault) → term_said d first ≡ Ok f → i < length all → a ≡ get_or all i a
+pub chain_fault : (d : Declared) (first : Syntax) (before : List Step) (all : List PLink) (i : ℕ) (a : PLink) (f : Tree) (fault : ResolveFault) → term_said d first ≡ Ok f → i < length all → a ≡ get_or all i a
     → links_said d before (links_of (drop i all)) ≡ links_said d [] (links_of all) → term_said d a.term ≡ Err fault
     → if_said (λ g. if_said (λ steps. Ok (chain g (steps_of steps))) (links_said d [] (links_of all))) (term_said d first) ≡ Err fault
 chain_fault d first before all i a f fault o h e s k =

@@ -1,21 +1,22 @@
 -- What stands in a list is no greater than the list.
 use Rattle.std.proofs.Common.{◌≡◌, ◌≤◌, ◌<◌, ◌+◌, ℕ, zero, suc, List, [], ◌∷◌, length, get_or, ap, arith}
 use Rattle.m_ast.specs.Syntax.{Syntax, nodes, nodes_of_terms, nodes_of_links, nodes_of_members}
-use Rattle.m_ast.specs.View.{terms_of, links_of, members_of}
-use Rattle.m_ast.specs.declared.term.Link.{Link}
-use Rattle.m_ast.specs.declared.term.Member.{Member}
+use Rattle.m_ast.specs.View.{terms_of}
+use Rattle.plain_rules.specs.View.{links_of, members_of}
+use Rattle.plain_rules.specs.declared.term.PLink.{PLink}
+use Rattle.plain_rules.specs.declared.term.PMember.{PMember}
 
 pub term_size : (all : List Syntax) (i : ℕ) (a : Syntax) → i < length all → a ≡ get_or all i a → nodes a ≤ nodes_of_terms (terms_of all)
 term_size [] i a h e = absurd (omega arith)
 term_size (b ∷ all) zero a h e = omega (arith, ap nodes e)
 term_size (b ∷ all) (suc i) a h e = let k = term_size all i a (omega (arith, h)) e in omega (arith, k)
 
-pub link_size : (all : List Link) (i : ℕ) (a : Link) → i < length all → a ≡ get_or all i a → nodes a.term ≤ nodes_of_links (links_of all)
+pub link_size : (all : List PLink) (i : ℕ) (a : PLink) → i < length all → a ≡ get_or all i a → nodes a.term ≤ nodes_of_links (links_of all)
 link_size [] i a h e = absurd (omega arith)
-link_size (b ∷ all) zero a h e = omega (arith, ap (λ (l : Link). nodes l.term) e)
+link_size (b ∷ all) zero a h e = omega (arith, ap (λ (l : PLink). nodes l.term) e)
 link_size (b ∷ all) (suc i) a h e = let k = link_size all i a (omega (arith, h)) e in omega (arith, k)
 
-pub member_size : (all : List Member) (i : ℕ) (a : Member) → i < length all → a ≡ get_or all i a → nodes a.low + nodes a.high + 1 ≤ nodes_of_members (members_of all)
+pub member_size : (all : List PMember) (i : ℕ) (a : PMember) → i < length all → a ≡ get_or all i a → nodes a.low + nodes a.high + 1 ≤ nodes_of_members (members_of all)
 member_size [] i a h e = absurd (omega arith)
-member_size (b ∷ all) zero a h e = omega (arith, ap (λ (m : Member). nodes m.low) e, ap (λ (m : Member). nodes m.high) e)
+member_size (b ∷ all) zero a h e = omega (arith, ap (λ (m : PMember). nodes m.low) e, ap (λ (m : PMember). nodes m.high) e)
 member_size (b ∷ all) (suc i) a h e = let k = member_size all i a (omega (arith, h)) e in omega (arith, k)

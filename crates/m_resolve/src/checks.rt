@@ -1,8 +1,9 @@
 //! Checks over cells, and what they tell.
 
-ghost use Rattle.std.specs.Prelude.{◌≡◌, ◌++◌, ◌<◌, [], drop, Some, Ok, Err, IfOk, OnOk, length, map, slice_get};
+ghost use Rattle.std.specs.Prelude.{◌≡◌, ◌++◌, ◌<◌, ◌≤◌, [], drop, Some, Ok, Err, IfOk, OnOk, length, map, slice_get};
 ghost use Rattle.std.specs.Option.{option_copied, option_map};
 ghost use Rattle.m_places.specs.Refusals.{Outcome};
+ghost use Rattle.m_places.specs.declared.limits.TheConstants.{PARTS};
 ghost use Rattle.m_resolve.specs.Bases.{conditions_said, label_said, error_named, error_text, behind_colon, printable};
 ghost use Rattle.m_resolve.specs.inner.Words.{words_of, label_with, said_with};
 ghost use Rattle.m_resolve.specs.declared.fault.ResolveFault.TheVariants.{Memory};
@@ -31,12 +32,13 @@ struct ErrorWords {
     text: SharedName,
 }
 
-/// Checks over cells, in order, or the fault of the first condition that has one.
+/// Checks over cells, in order, or the fault of the first condition that has one. There are no more than parts.
 pub(crate) fn checks(
     alloc: Global,
     all: &[Condition],
     symbols: &Symbols,
 ) -> Result<Checked, ResolveFault>
+    requires { length all.now ≤ PARTS }
     ensures { Outcome Memory result (λ made. conditions_said symbols.now ([], []) all.now ≡ Ok (made.checks.items, made.labels.items)) (λ fault. conditions_said symbols.now ([], []) all.now ≡ Err fault) }
 {
     let errors = errors(alloc, symbols)?;
@@ -73,7 +75,8 @@ fn checks_with(
     symbols: &Symbols,
     errors: &[ErrorWords],
 ) -> Result<Checked, ResolveFault>
-    requires { errors.now ≡ map words_of symbols.now.errors }
+    requires errors { errors.now ≡ map words_of symbols.now.errors }
+    requires few { length all.now ≤ PARTS }
     ensures { Outcome Memory result (λ made. conditions_said symbols.now ([], []) all.now ≡ Ok (made.checks.items, made.labels.items)) (λ fault. conditions_said symbols.now ([], []) all.now ≡ Err fault) }
 {
     let mut checks = Vec::with_capacity(alloc, all.len())?;
@@ -81,21 +84,11 @@ fn checks_with(
     for one in all {
         let tree = term(alloc, &one.term, symbols)?;
         let label = label(alloc, one, symbols, errors)?;
-        let number = number_of(labels.len())?;
+        let number = labels.len() as u32;
         checks.push((Box::into_inner(tree), number, one.place))?;
         labels.push(label)?;
     }
     Ok(Checked { checks, labels })
-}
-
-// The number of a label behind so many. There is no room for more labels than a `u32` counts.
-fn number_of(count: usize) -> Result<u32, ResolveFault>
-    ensures { Outcome Memory result (λ number. number ≡ count) (λ _. ⊥) }
-{
-    match u32::try_from(count) {
-        Ok(number) => Ok(number),
-        Err(_) => Err(ResolveFault::Memory),
-    }
 }
 
 // What a check tells that fails.

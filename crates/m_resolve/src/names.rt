@@ -9,12 +9,12 @@ ghost use Rattle.m_resolve.specs.declared.fault.ResolveFault.TheVariants.{Memory
 
 use crate::ResolveFault;
 use m_ast::Role;
-use m_places::{Name, Place};
+use m_places::{Name, Place, SharedName};
 use m_symbols::{Symbols, Variable};
 use std::alloc::Global;
 
 /// The variable of a name.
-pub(crate) fn variable_named<'a>(symbols: &'a Symbols, name: &Name) -> Option<&'a Variable>
+pub(crate) fn variable_named<'a>(symbols: &'a Symbols, name: &SharedName) -> Option<&'a Variable>
     ensures { option_copied result ≡ variable_named symbols.now name.now }
 {
     let number = symbols.find(name.bytes())?;
@@ -25,16 +25,19 @@ pub(crate) fn variable_named<'a>(symbols: &'a Symbols, name: &Name) -> Option<&'
 pub(crate) fn cell_of(
     alloc: Global,
     symbols: &Symbols,
-    name: &Name,
+    name: &SharedName,
     place: Place,
 ) -> Result<u32, ResolveFault>
     ensures { Outcome Memory result (λ cell. cell_said symbols.now name.now place ≡ Ok cell) (λ fault. cell_said symbols.now name.now place ≡ Err fault) }
 {
     let Some(variable) = variable_named(symbols, name) else {
-        return Err(ResolveFault::UnknownName(name.copy(alloc)?, place));
+        return Err(ResolveFault::UnknownName(Name::new(alloc, name.bytes())?, place));
     };
     match &variable.item.role {
-        Role::Computed(Some(_)) => Err(ResolveFault::IsATable(name.copy(alloc)?, place)),
+        Role::Computed(Some(_)) => Err(ResolveFault::IsATable(
+            Name::new(alloc, name.bytes())?,
+            place,
+        )),
         Role::Computed(None) => Ok(variable.first_cell),
         Role::Input(_) => Ok(variable.first_cell),
         Role::Constant(_) => Ok(variable.first_cell),
@@ -45,18 +48,21 @@ pub(crate) fn cell_of(
 pub(crate) fn table_of(
     alloc: Global,
     symbols: &Symbols,
-    name: &Name,
+    name: &SharedName,
     place: Place,
 ) -> Result<(u32, u32), ResolveFault>
     ensures { Outcome Memory result (λ table. table_said symbols.now name.now place ≡ Ok table) (λ fault. table_said symbols.now name.now place ≡ Err fault) }
 {
     let Some(variable) = variable_named(symbols, name) else {
-        return Err(ResolveFault::UnknownName(name.copy(alloc)?, place));
+        return Err(ResolveFault::UnknownName(Name::new(alloc, name.bytes())?, place));
     };
     match &variable.item.role {
         Role::Computed(Some(size)) => Ok((variable.first_cell, *size)),
-        Role::Computed(None) => Err(ResolveFault::NotATable(name.copy(alloc)?, place)),
-        Role::Input(_) => Err(ResolveFault::NotATable(name.copy(alloc)?, place)),
-        Role::Constant(_) => Err(ResolveFault::NotATable(name.copy(alloc)?, place)),
+        Role::Computed(None) => Err(ResolveFault::NotATable(
+            Name::new(alloc, name.bytes())?,
+            place,
+        )),
+        Role::Input(_) => Err(ResolveFault::NotATable(Name::new(alloc, name.bytes())?, place)),
+        Role::Constant(_) => Err(ResolveFault::NotATable(Name::new(alloc, name.bytes())?, place)),
     }
 }

@@ -1,8 +1,9 @@
 //! The whole base.
 
-ghost use Rattle.std.specs.Prelude.{◌≡◌, ◌++◌, [], Ok, Err, IfOk, OnOk};
+ghost use Rattle.std.specs.Prelude.{◌≡◌, ◌++◌, ◌≤◌, [], Ok, Err, IfOk, OnOk, length};
 ghost use Rattle.std.specs.List.{cons_option};
 ghost use Rattle.m_places.specs.Refusals.{Outcome};
+ghost use Rattle.m_places.specs.declared.limits.TheConstants.{PARTS};
 ghost use Rattle.micro_m.specs.Bases.{IsValidBase};
 ghost use Rattle.m_requests.specs.Placed.{IsPlaced};
 ghost use Rattle.m_resolve.specs.Bases.{resolved, constants_of, constant_in};
@@ -24,7 +25,8 @@ use std::alloc::{AllocError, Global};
 ///
 /// `IRN = REV - 1000` over the input `REV` and the variable `IRN` becomes the definition of cell 1 by the cell 0 less 1000.
 pub fn resolve(alloc: Global, plain: &Plain, symbols: &Symbols) -> Result<Base, ResolveFault>
-    requires { IsPlaced symbols.now }
+    requires placed { IsPlaced symbols.now }
+    requires few { length plain.now.conditions ≤ PARTS }
     ensures outcome { Outcome Memory result (λ base. resolved symbols.now plain.now ≡ Ok base) (λ fault. resolved symbols.now plain.now ≡ Err fault) }
     ensures valid { IfOk result IsValidBase }
 {

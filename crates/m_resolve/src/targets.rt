@@ -11,7 +11,7 @@ ghost use Rattle.m_resolve.specs.declared.fault.ResolveFault.TheVariants.{Memory
 use crate::ResolveFault;
 use crate::names::variable_named;
 use m_ast::{Role, Slot};
-use m_places::{Name, Place};
+use m_places::{Name, Place, SharedName};
 use m_symbols::{Symbols, Variable};
 use plain_rules::Definition;
 use std::alloc::Global;
@@ -27,7 +27,10 @@ pub(crate) fn target(
     ensures known { IfOk result (λ cell. cell < length (owners_from 0 symbols.now.variables)) }
 {
     let Some(variable) = variable_named(symbols, &definition.target) else {
-        return Err(ResolveFault::UnknownName(definition.target.copy(alloc)?, definition.place));
+        return Err(ResolveFault::UnknownName(
+            Name::new(alloc, definition.target.bytes())?,
+            definition.place,
+        ));
     };
     target_in(alloc, definition, variable, symbols.cells())
 }
@@ -49,14 +52,14 @@ fn target_in(
     let place = definition.place;
     match &variable.item.role {
         Role::Computed(Some(size)) => match definition.slot {
-            Slot::Whole => Err(ResolveFault::IsATable(name.copy(alloc)?, place)),
+            Slot::Whole => Err(ResolveFault::IsATable(Name::new(alloc, name.bytes())?, place)),
             Slot::Cell(k) => table_target(alloc, name, place, variable.first_cell, *size, k),
-            Slot::Every => Err(ResolveFault::BadTarget(name.copy(alloc)?, place)),
+            Slot::Every => Err(ResolveFault::BadTarget(Name::new(alloc, name.bytes())?, place)),
         },
         Role::Computed(None) => match definition.slot {
             Slot::Whole => Ok(variable.first_cell),
-            Slot::Cell(_) => Err(ResolveFault::NotATable(name.copy(alloc)?, place)),
-            Slot::Every => Err(ResolveFault::NotATable(name.copy(alloc)?, place)),
+            Slot::Cell(_) => Err(ResolveFault::NotATable(Name::new(alloc, name.bytes())?, place)),
+            Slot::Every => Err(ResolveFault::NotATable(Name::new(alloc, name.bytes())?, place)),
         },
         Role::Input(_) => unsettable(alloc, name, place, definition.slot),
         Role::Constant(_) => unsettable(alloc, name, place, definition.slot),
@@ -64,20 +67,25 @@ fn target_in(
 }
 
 // The fault of a target that is an input or a constant.
-fn unsettable(alloc: Global, name: &Name, place: Place, slot: Slot) -> Result<u32, ResolveFault>
+fn unsettable(
+    alloc: Global,
+    name: &SharedName,
+    place: Place,
+    slot: Slot,
+) -> Result<u32, ResolveFault>
     ensures { Outcome Memory result (λ cell. ⊥) (λ fault. fault ≡ unsettable_fault name.now place slot) }
 {
     match slot {
-        Slot::Whole => Err(ResolveFault::BadTarget(name.copy(alloc)?, place)),
-        Slot::Cell(_) => Err(ResolveFault::NotATable(name.copy(alloc)?, place)),
-        Slot::Every => Err(ResolveFault::NotATable(name.copy(alloc)?, place)),
+        Slot::Whole => Err(ResolveFault::BadTarget(Name::new(alloc, name.bytes())?, place)),
+        Slot::Cell(_) => Err(ResolveFault::NotATable(Name::new(alloc, name.bytes())?, place)),
+        Slot::Every => Err(ResolveFault::NotATable(Name::new(alloc, name.bytes())?, place)),
     }
 }
 
 // The cell of a table with this number.
 fn table_target(
     alloc: Global,
-    name: &Name,
+    name: &SharedName,
     place: Place,
     first: u32,
     size: u32,
@@ -89,6 +97,6 @@ fn table_target(
     if k < size {
         Ok(first + k)
     } else {
-        Err(ResolveFault::BadTarget(name.copy(alloc)?, place))
+        Err(ResolveFault::BadTarget(Name::new(alloc, name.bytes())?, place))
     }
 }

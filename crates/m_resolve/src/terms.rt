@@ -4,18 +4,18 @@ ghost use Rattle.std.specs.Prelude.{◌≡◌, ◌∷◌, Ok, Err, [], false, If
 ghost use Rattle.m_places.specs.Refusals.{Outcome};
 ghost use Rattle.micro_m.specs.Trees.{cell as cell_tree, pick, apply, chain, none, more};
 ghost use Rattle.micro_m.specs.Views.{tree_of, trees_of, steps_of};
-ghost use Rattle.m_ast.specs.View.{terms_of, links_of, members_of};
+ghost use Rattle.m_ast.specs.View.{terms_of};
+ghost use Rattle.plain_rules.specs.View.{links_of, members_of};
 ghost use Rattle.m_resolve.specs.Terms.{cell_said, table_said, term_said, terms_said, links_said, members_said, member_said, member_by, membership, any_of, x_name, if_said};
 ghost use Rattle.m_resolve.specs.declared.fault.ResolveFault.TheVariants.{Memory};
 
 use crate::ResolveFault;
 use crate::names::{cell_of, table_of};
-use m_ast::{Link, Member, Node, Term};
 use m_fixed::{Op, Value};
-use m_places::{Name, Place};
+use m_places::{Name, Place, SharedName};
 use m_symbols::Symbols;
 use micro_m::{MNode, MTerm, Step};
-use plain_rules::is_single;
+use plain_rules::{PLink, PMember, PNode, PTerm, is_plain_single};
 use std::alloc::{AllocError, Global};
 
 // The name that `X` is in a term.
@@ -25,20 +25,19 @@ const X: &[u8] = b"X";
 #[cycle(term)]
 pub(crate) fn term(
     alloc: Global,
-    term: &Term,
+    term: &PTerm,
     symbols: &Symbols,
 ) -> Result<Box<MTerm>, ResolveFault>
     ensures { Outcome Memory result (λ tree. term_said symbols.now term.now ≡ Ok tree.value) (λ fault. term_said symbols.now term.now ≡ Err fault) }
 {
     match &term.node {
-        Node::Lit(value) => Ok(boxed(alloc, MNode::Lit(*value))?),
-        Node::Named(name, place) => named(alloc, name, *place, symbols),
-        Node::X(place) => Err(ResolveFault::UnknownName(Name::new(alloc, X)?, *place)),
-        Node::Cell(name, index, place) => table_read(alloc, name, index, *place, symbols),
-        Node::Apply(op, arguments) => applied(alloc, *op, arguments, symbols),
-        Node::Chain(first, links) => chained(alloc, first, links, symbols),
-        Node::Among(negated, x, members) => among(alloc, *negated, x, members, symbols),
-        Node::Loop(_, _) => Ok(boxed(alloc, MNode::Lit(Value::Undef))?),
+        PNode::Lit(value) => Ok(boxed(alloc, MNode::Lit(*value))?),
+        PNode::Named(name, place) => named(alloc, name, *place, symbols),
+        PNode::X(place) => Err(ResolveFault::UnknownName(Name::new(alloc, X)?, *place)),
+        PNode::Cell(name, index, place) => table_read(alloc, name, index, *place, symbols),
+        PNode::Apply(op, arguments) => applied(alloc, *op, arguments, symbols),
+        PNode::Chain(first, links) => chained(alloc, first, links, symbols),
+        PNode::Among(negated, x, members) => among(alloc, *negated, x, members, symbols),
     }
 }
 
@@ -52,7 +51,7 @@ fn boxed(alloc: Global, node: MNode) -> Result<Box<MTerm>, AllocError>
 // A name without an index.
 fn named(
     alloc: Global,
-    name: &Name,
+    name: &SharedName,
     place: Place,
     symbols: &Symbols,
 ) -> Result<Box<MTerm>, ResolveFault>
@@ -66,8 +65,8 @@ fn named(
 #[cycle(term)]
 fn table_read(
     alloc: Global,
-    name: &Name,
-    index: &Term,
+    name: &SharedName,
+    index: &PTerm,
     place: Place,
     symbols: &Symbols,
 ) -> Result<Box<MTerm>, ResolveFault>
@@ -85,7 +84,7 @@ fn table_read(
 fn applied(
     alloc: Global,
     op: Op,
-    arguments: &[Term],
+    arguments: &[PTerm],
     symbols: &Symbols,
 ) -> Result<Box<MTerm>, ResolveFault>
     ensures { Outcome Memory result
@@ -98,7 +97,7 @@ fn applied(
 
 // Terms one after the other.
 #[cycle(term)]
-fn terms(alloc: Global, all: &[Term], symbols: &Symbols) -> Result<Vec<MTerm>, ResolveFault>
+fn terms(alloc: Global, all: &[PTerm], symbols: &Symbols) -> Result<Vec<MTerm>, ResolveFault>
     ensures { Outcome Memory result (λ trees. terms_said symbols.now [] (terms_of all.now) ≡ Ok trees.items) (λ fault. terms_said symbols.now [] (terms_of all.now) ≡ Err fault) }
 {
     let mut trees = Vec::with_capacity(alloc, all.len())?;
@@ -113,8 +112,8 @@ fn terms(alloc: Global, all: &[Term], symbols: &Symbols) -> Result<Vec<MTerm>, R
 #[cycle(term)]
 fn chained(
     alloc: Global,
-    first: &Term,
-    links: &[Link],
+    first: &PTerm,
+    links: &[PLink],
     symbols: &Symbols,
 ) -> Result<Box<MTerm>, ResolveFault>
     ensures { Outcome Memory result
@@ -138,8 +137,8 @@ fn chained(
 fn among(
     alloc: Global,
     negated: bool,
-    x: &Term,
-    members: &[Member],
+    x: &PTerm,
+    members: &[PMember],
     symbols: &Symbols,
 ) -> Result<Box<MTerm>, ResolveFault>
     ensures { Outcome Memory result
@@ -158,9 +157,9 @@ fn among(
 #[cycle(term)]
 fn member_steps(
     alloc: Global,
-    x: &Term,
-    first: &Member,
-    others: &[Member],
+    x: &PTerm,
+    first: &PMember,
+    others: &[PMember],
     symbols: &Symbols,
 ) -> Result<Vec<Step>, ResolveFault>
     ensures { Outcome Memory result
@@ -187,8 +186,8 @@ fn member_steps(
 #[cycle(term)]
 fn member(
     alloc: Global,
-    x: &Term,
-    member: &Member,
+    x: &PTerm,
+    member: &PMember,
     symbols: &Symbols,
 ) -> Result<MTerm, ResolveFault>
     ensures { Outcome Memory result
@@ -198,7 +197,7 @@ fn member(
     let first = term(alloc, x, symbols)?;
     let low = term(alloc, &member.low, symbols)?;
     let high = term(alloc, &member.high, symbols)?;
-    if is_single(&member.low, &member.high) {
+    if is_plain_single(&member.low, &member.high) {
         return Ok(two(alloc, Op::Eq, first, low)?);
     }
     let second = term(alloc, x, symbols)?;

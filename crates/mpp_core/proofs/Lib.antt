@@ -5,3 +5,4 @@ pub mod RingLemmas
 pub mod ShownLemmas
 pub mod OneLaws
 pub mod OnceLemmas
+pub mod ValidCore

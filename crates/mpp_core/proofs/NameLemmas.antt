@@ -25,7 +25,7 @@ at_place : (vs : List Variable) (o : Option ℕ) (v : Variable) → option_and_t
 at_place vs None v e = absurd (cc)
 at_place vs (Some i) v e = (i, e)
 
-named_at : (d : Declared) (name : List ℕ) (v : Variable) → variable_named d name ≡ Some v → (i : ℕ) × (slice_get d.variables i ≡ Some v)
+pub named_at : (d : Declared) (name : List ℕ) (v : Variable) → variable_named d name ≡ Some v → (i : ℕ) × (slice_get d.variables i ≡ Some v)
 named_at d name v e = at_place d.variables (index_of name (names_of d.variables)) v e
 
 pub named_fits : (d : Declared) (name : List ℕ) (count : ℕ) (v : Variable) → IsPlaced d → variable_named d name ≡ Some v → count ≡ length (owners_from 0 d.variables) → v.first_cell + v.cells ≤ count

@@ -4,6 +4,7 @@ ghost use Rattle.std.specs.Prelude.{◌≡◌, Ok, Err, IfOk, length};
 ghost use Rattle.m_places.specs.Refusals.{Outcome};
 ghost use Rattle.m_symbols.specs.Declarations.{owners_from};
 ghost use Rattle.m_requests.specs.Placed.{IsPlaced};
+ghost use Rattle.driver_core.specs.Valid.{IsValidCore};
 ghost use Rattle.mpp_core.specs.Cores.{IsCore, IsCoreFault, core_of};
 ghost use Rattle.mpp_core.specs.declared.fault.CoreFault.TheVariants.{Memory};
 
@@ -22,6 +23,7 @@ use std::alloc::Global;
 pub fn resolve_driver(alloc: Global, driver: &Driver, symbols: &Symbols) -> Result<Core, CoreFault>
     requires { IsPlaced symbols.now }
     ensures outcome { Outcome Memory result (IsCore driver.now symbols.now) (IsCoreFault driver.now symbols.now) }
+    ensures valid { IfOk result IsValidCore }
     ensures cells { IfOk result (λ core. core.cells ≡ length (owners_from 0 symbols.now.variables)) }
 {
     let core = resolve_names(alloc, driver, symbols)?;

@@ -1,2 +1,4 @@
+pub mod View
 pub mod Plain
 pub mod Members
+pub mod inner

@@ -1,5 +1,5 @@
 -- Rules without loops, as expansion leaves them.
-use Rattle.std.specs.Prelude.{◌≡◌, ℕ, List, [], ◌∷◌, All, Option, Some, None, if◌then◌else◌}
+use Rattle.std.specs.Prelude.{◌≡◌, ◌≢◌, ℕ, List, [], ◌∷◌, All, Option, Some, None, if◌then◌else◌}
 use Rattle.std.specs.Str.{bytes_eq}
 use Rattle.m_ast.specs.Items.{variable_size}
 use Rattle.m_ast.specs.Whole.{IsWhole, HasNoLoop}
@@ -19,6 +19,14 @@ size_among (v ∷ vs) name = if bytes_eq name v.item.name then variable_size v.i
 -- the size of a declared table
 abbrev pub table_size : Declared → List ℕ → Option ℕ
 table_size declared name = size_among declared.variables name
+
+-- a variable isn't a table without cells
+abbrev pub HasACell : Variable → Type 0
+HasACell v = variable_size v.item ≢ Some 0
+
+-- Each table has a cell: what items declare without a fault is so.
+abbrev pub TablesHaveCells : Declared → Type 0
+TablesHaveCells declared = All HasACell declared.variables
 
 -- a formula for each cell stands only where its target is no declared table
 abbrev pub SlotIsPlain : Declared → List ℕ → Slot → Type 0

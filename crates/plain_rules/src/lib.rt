@@ -5,7 +5,11 @@
 #![tactic(auto)]
 
 mod members;
+mod plain_members;
 mod rules;
+mod term;
 
 pub use members::is_single;
+pub use plain_members::is_plain_single;
 pub use rules::{Condition, Definition, Plain};
+pub use term::{PLink, PMember, PNode, PTerm, plain};

@@ -16,7 +16,7 @@ pub fn is_single(low: &Term, high: &Term) -> bool
         || is_same_word(word_of(low), word_of(high))
 }
 
-fn is_same_amount(a: Option<Amount>, b: Option<Amount>) -> bool
+pub(crate) fn is_same_amount(a: Option<Amount>, b: Option<Amount>) -> bool
     ensures { result ≡ spec.is_same_amount a b }
 {
     match (a, b) {
@@ -25,7 +25,7 @@ fn is_same_amount(a: Option<Amount>, b: Option<Amount>) -> bool
     }
 }
 
-fn is_same_word(a: Option<&[u8]>, b: Option<&[u8]>) -> bool
+pub(crate) fn is_same_word(a: Option<&[u8]>, b: Option<&[u8]>) -> bool
     ensures { result ≡ spec.is_same_word (option_copied a.entry) (option_copied b.entry) }
 {
     match a {
@@ -76,7 +76,7 @@ fn opposite_of(term: &Term) -> Option<Amount>
     }
 }
 
-fn is_negation(op: Op) -> bool
+pub(crate) fn is_negation(op: Op) -> bool
     ensures { result ≡ spec.is_negation op }
 {
     matches!(op, Op::Neg)

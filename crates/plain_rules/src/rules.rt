@@ -1,13 +1,14 @@
-use m_ast::{Slot, Term};
+use crate::PTerm;
+use m_ast::Slot;
 use m_places::{Name, Place, Seq, SharedName};
 
 /// An instance of a formula: what it sets, and to which term.
 #[derive(Drop)]
 pub struct Definition {
-    pub target: Name,
+    /// The name of the variable, one for all its definitions.
+    pub target: SharedName,
     pub slot: Slot,
-    /// A term without loops.
-    pub term: Term,
+    pub term: PTerm,
     /// The place of the formula's target.
     pub place: Place,
 }
@@ -19,8 +20,7 @@ pub struct Condition {
     pub verif: SharedName,
     /// The first word after `erreur`.
     pub error: Name,
-    /// A term without loops.
-    pub term: Term,
+    pub term: PTerm,
     /// The place of the check's `si`.
     pub place: Place,
 }

@@ -5,6 +5,7 @@ ghost use Rattle.std.specs.Prelude.{◌≡◌, ◌≢◌, ◌<◌, All, IfOk, On
 ghost use Rattle.rule_text.specs.Limits.{TextsAreWithin};
 ghost use Rattle.m_ast.specs.Whole.{IsWholeItem};
 ghost use Rattle.m_symbols.specs.Declarations.{owners_from};
+ghost use Rattle.plain_rules.specs.Plain.{TablesHaveCells};
 ghost use Rattle.m_requests.specs.Cells.{cell_name};
 ghost use Rattle.m_requests.specs.Placed.{IsPlaced};
 ghost use Rattle.micro_m.specs.Bases.{IsValidBase};
@@ -64,6 +65,7 @@ fn base_over(
 ) -> Result<Base, RuleFault>
     requires whole { All IsWholeItem items.now }
     requires placed { IsPlaced symbols.now }
+    requires tables { TablesHaveCells symbols.now }
     ensures outcome { Outcome Memory result (IsBaseOver items.now application.now symbols.now) (IsOverFault items.now application.now symbols.now) }
     ensures valid { IfOk result IsValidBase }
     ensures cells { IfOk result (λ base. base.cells ≡ length (owners_from 0 symbols.now.variables)) }

@@ -2,12 +2,12 @@
 ghost use Rattle.std.specs.Prelude.{◌≤◌, length};
 
 use index_expand::{ExpandFault, expand};
-use m_ast::{Node, Slot, Term};
+use m_ast::Slot;
 use m_fixed::Value;
 use m_items::parse;
 use m_lexer::lex;
 use m_symbols::declare;
-use plain_rules::{Condition, Definition, Plain};
+use plain_rules::{Condition, Definition, PNode, PTerm, Plain};
 use std::alloc::{AllocError, Global};
 use std::test::Fail;
 
@@ -114,22 +114,22 @@ fn add_value(alloc: Global, text: &mut Vec<u8>, value: Value) -> Result<(), Allo
 }
 
 #[cycle(add_term)]
-fn add_term(alloc: Global, text: &mut Vec<u8>, term: &Term) -> Result<(), AllocError> {
+fn add_term(alloc: Global, text: &mut Vec<u8>, term: &PTerm) -> Result<(), AllocError> {
     match &term.node {
-        Node::Lit(value) => add_value(alloc, text, *value),
-        Node::Named(word, _) => text.extend_from_slice(word.bytes()),
-        Node::X(_) => {
+        PNode::Lit(value) => add_value(alloc, text, *value),
+        PNode::Named(word, _) => text.extend_from_slice(word.bytes()),
+        PNode::X(_) => {
             text.push(b'?')?;
             Ok(())
         }
-        Node::Cell(word, index, _) => {
+        PNode::Cell(word, index, _) => {
             text.extend_from_slice(word.bytes())?;
             text.push(b'[')?;
             add_term(alloc, text, index)?;
             text.push(b']')?;
             Ok(())
         }
-        Node::Apply(_, arguments) => {
+        PNode::Apply(_, arguments) => {
             text.push(b'(')?;
             for argument in arguments {
                 add_operand(alloc, text, argument)?;
@@ -137,7 +137,7 @@ fn add_term(alloc: Global, text: &mut Vec<u8>, term: &Term) -> Result<(), AllocE
             text.push(b')')?;
             Ok(())
         }
-        Node::Chain(first, links) => {
+        PNode::Chain(first, links) => {
             text.push(b'(')?;
             add_term(alloc, text, first)?;
             for link in links {
@@ -146,14 +146,13 @@ fn add_term(alloc: Global, text: &mut Vec<u8>, term: &Term) -> Result<(), AllocE
             text.push(b')')?;
             Ok(())
         }
-        Node::Among(_, _, _) => text.extend_from_slice(b"among"),
-        Node::Loop(_, _) => text.extend_from_slice(b"loop"),
+        PNode::Among(_, _, _) => text.extend_from_slice(b"among"),
     }
 }
 
 // An operand, and a comma before it where it isn't the first.
 #[cycle(add_term)]
-fn add_operand(alloc: Global, text: &mut Vec<u8>, term: &Term) -> Result<(), AllocError> {
+fn add_operand(alloc: Global, text: &mut Vec<u8>, term: &PTerm) -> Result<(), AllocError> {
     if text.last() != Some(&b'(') {
         text.push(b',')?;
     }

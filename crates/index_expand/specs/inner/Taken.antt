@@ -1,5 +1,6 @@
 -- What a call did that puts instances behind a list and counts their parts, or why it refused.
 use Rattle.std.specs.Prelude.{◌≡◌, ℕ, ◌+◌, ◌*◌, ◌<◌, ◌≤◌, List, ◌++◌, length, Option, None}
+use Rattle.m_places.specs.declared.limits.TheConstants.{PARTS}
 use Rattle.m_places.specs.declared.place.Place.{Place}
 use Rattle.index_expand.specs.declared.fault.ExpandFault.{ExpandFault}
 use Rattle.index_expand.specs.declared.fault.ExpandFault.TheVariants.{TooManyParts}
@@ -8,12 +9,12 @@ use Rattle.index_expand.specs.declared.fault.ExpandFault.TheVariants.{TooManyPar
 pub record IsTaken {A : Type 0} (old new : List A) (these : List A) (parts before after : ℕ) : Type 0 where
   pub list : new ≡ old ++ these
   pub sum : after ≡ before + parts
-  pub few : after ≤ 2000000
+  pub few : after ≤ PARTS
 
 -- so many parts more are too many, and the fault says so at the item
 pub record IsTooMuch (parts before : ℕ) (item : Place) (fault : ExpandFault) : Type 0 where
   pub told : fault ≡ TooManyParts item
-  pub many : 2000000 < before + parts
+  pub many : PARTS < before + parts
 
 -- the parts of instances that have so many each
 abbrev pub weighed : {A : Type 0} → List A → ℕ → ℕ

@@ -2,7 +2,8 @@ use Rattle.std.proofs.Common.{◌≡◌, arith, ap, sym, subst, ◌∙◌, lengt
 use Rattle.std.proofs.Math.ListN.{set}
 use Rattle.std.specs.Prelude.{IfOk}
 use Rattle.m_ast.specs.Syntax.{Syntax, apply, chain, among}
-use Rattle.m_ast.specs.View.{syntax_of, terms_of, links_of, members_of}
+use Rattle.m_ast.specs.View.{syntax_of, terms_of}
+use Rattle.plain_rules.specs.View.{links_of as plain_links_of, members_of as plain_members_of}
 use Rattle.loop_values.specs.Headers.{instances}
 use Rattle.loop_values.specs.Letters.{bind}
 use Rattle.index_expand.specs.Terms.{expanded}
@@ -41,7 +42,7 @@ expanded_box-returns-in_ok-expanded_links-in-Chain-clause-term t c =
     let whole = sym (ap syntax_of c.in-Chain.is) ∙ c.term.view_is in
     let first = c.in_ok-first-in-Chain.ensures.term ∙ ap (expanded cell letters) c.deref-in-Chain.ensures in
     let items = c.in_ok-expanded_links-in-Chain.ensures.links ∙ (λ k. map (link_expanded cell (c.in_ok-first-in-Chain.ensures.letters k)) (c.deref-in-Chain-2.ensures.value k)) in
-    let rest = ap links_of items ∙ links_map cell letters c.in-Chain.links.items in
+    let rest = ap plain_links_of items ∙ links_map cell letters c.in-Chain.links.items in
     let P : Syntax → Type 0 = λ s. IfOk c.boxed-in-Chain.result (λ made. made.value ≡ s) in
     subst P ((λ k. chain (first k) (rest k)) ∙ ap (expanded cell letters) whole) c.boxed-in-Chain.ensures
 
@@ -52,7 +53,7 @@ expanded_box-returns-in_ok-expanded_members-in-Among-clause-term t c =
     let whole = sym (ap syntax_of c.in-Among.is) ∙ c.term.view_is in
     let first = c.in_ok-first-in-Among.ensures.term ∙ ap (expanded cell letters) c.deref-in-Among.ensures in
     let items = c.in_ok-expanded_members-in-Among.ensures.members ∙ (λ k. map (member_expanded cell (c.in_ok-first-in-Among.ensures.letters k)) (c.deref-in-Among-2.ensures.value k)) in
-    let rest = ap members_of items ∙ members_map cell letters c.in-Among.members.items in
+    let rest = ap plain_members_of items ∙ members_map cell letters c.in-Among.members.items in
     let P : Syntax → Type 0 = λ s. IfOk c.boxed-in-Among.result (λ made. made.value ≡ s) in
     subst P ((λ k. among c.in-Among.negated (first k) (rest k)) ∙ ap (expanded cell letters) whole) c.boxed-in-Among.ensures
 

@@ -23,6 +23,9 @@ decreases-expanded_members l = members_load (members_of l.members.now)
 abbrev pub decreases-expand_instances : goal.decreases-expand_instances
 decreases-expand_instances l = load l.body.now + 3 * length l.indexes.now + 1
 
+abbrev pub decreases-expand_singles : goal.decreases-expand_singles
+decreases-expand_singles l = load l.body.now + 3 * length l.indexes.now
+
 abbrev pub decreases-expand_index : goal.decreases-expand_index
 decreases-expand_index l = load l.body.now + 3 * length l.indexes.now + 3
 

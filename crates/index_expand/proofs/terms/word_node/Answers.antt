@@ -5,8 +5,6 @@ use Rattle.index_expand.proofs.terms.word_node.Goals as goal
 
 pub number_node-requires : goal.number_node-requires
 number_node-requires c =
-    let short : length c.bytes.result.now ≤ 12 = OnTrue_at c.if-is_number_word.true c.is_number_word.ensures.short in
-    let same = ap length c.bytes.ensures in
-    let again = ap length c.bytes-then-is_number_word.ensures in
-    let power : 10 ^ length c.bytes-then-is_number_word.result.now ≤ 10 ^ 12 = pow-le-pow_right {n = 10} (omega arith) {i = length c.bytes-then-is_number_word.result.now} {j = 12} (omega arith) in
+    let short : length c.args.word.now ≤ 12 = OnTrue_at c.if-is_number_word.true c.is_number_word.ensures.short in
+    let power : 10 ^ length c.args.word.now ≤ 10 ^ 12 = pow-le-pow_right {n = 10} (omega arith) {i = length c.args.word.now} {j = 12} (omega arith) in
     omega arith

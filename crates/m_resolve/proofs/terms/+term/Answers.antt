@@ -1,6 +1,6 @@
 use Rattle.std.proofs.Common.{arith, ap, sym}
 use Rattle.m_ast.specs.Syntax.{nodes}
-use Rattle.m_ast.specs.View.{syntax_of}
+use Rattle.plain_rules.specs.View.{syntax_of}
 use Rattle.m_resolve.proofs.Sizes.{term_size, link_size, member_size}
 use Rattle.m_requests.proofs.Outcomes.{told}
 use Rattle.m_resolve.proofs.Lists.{terms_fault, chain_fault}

@@ -1,4 +1,5 @@
 use Rattle.m_requests.proofs.Outcomes.{told}
+use Rattle.index_expand.proofs.DeclaredLemmas.{tables_have_cells}
 use Rattle.rule_base.specs.Faults.{of_a_file}
 use Rattle.rule_base.proofs.Steps.{declare_told, over_told, finished, declared_placed, placed_after}
 use Rattle.rule_base.proofs.base.rule_base.Goals as goal
@@ -24,6 +25,10 @@ returns-clause-outcome c =
 
 pub base_over-requires-clause-placed : goal.base_over-requires-clause-placed
 base_over-requires-clause-placed c = declared_placed c.in_ok-items.items.items _ (rw c.deref.ensures.value at c.in_ok-symbols.ensures.outcome).1
+
+pub base_over-requires-clause-tables : goal.base_over-requires-clause-tables
+base_over-requires-clause-tables c =
+    let said = rw c.deref.ensures.value at c.in_ok-symbols.ensures.outcome in tables_have_cells c.in_ok-items.items.items _ said.0 said.1
 
 pub returns-clause-placed : goal.returns-clause-placed
 returns-clause-placed c = placed_after _ _ _ _ (declared_placed c.in_ok-items.items.items _ (rw c.deref.ensures.value at c.in_ok-symbols.ensures.outcome).1) c.ordered_base.ensures.outcome

@@ -1,7 +1,7 @@
 use Rattle.std.proofs.Common.{ap, sym, ◌∙◌}
 use Rattle.m_ast.specs.Items.{size_in}
 use Rattle.index_expand.proofs.TableLemmas.{size_none, size_some}
-use Rattle.index_expand.proofs.formulas.size_of.Goals as goal
+use Rattle.index_expand.proofs.definitions.size_of.Goals as goal
 
 pub returns-in-None : goal.returns-in-None
 returns-in-None c = sym (size_none c.args.name.now c.args.symbols.now.variables (sym c.in-None.ensures.number))

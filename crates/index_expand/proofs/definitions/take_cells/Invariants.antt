@@ -2,7 +2,7 @@ use Rattle.std.proofs.Common.{◌≡◌, map}
 use Rattle.std.specs.List.{range_with_len}
 use Rattle.index_expand.specs.Expansion.{defined_cell}
 use Rattle.index_expand.specs.inner.Taken.{IsTaken, weighed}
-use Rattle.index_expand.proofs.formulas.take_cells.Given as goal
+use Rattle.index_expand.proofs.definitions.take_cells.Given as goal
 
 abbrev pub invariant-loop-k : goal.invariant-loop-k
 invariant-loop-k l = record {

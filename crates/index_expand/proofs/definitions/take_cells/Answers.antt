@@ -4,7 +4,7 @@ use Rattle.std.proofs.lemmas.Result.{err_from_is_err_and}
 use Rattle.m_ast.specs.declared.item.Slot.TheVariants.{Cell}
 use Rattle.index_expand.specs.Expansion.{defined, defined_cell}
 use Rattle.index_expand.proofs.TakenLemmas.{cells_next, cells_too_much}
-use Rattle.index_expand.proofs.formulas.take_cells.Goals as goal
+use Rattle.index_expand.proofs.definitions.take_cells.Goals as goal
 
 pub loop-k-preserved : goal.loop-k-preserved
 loop-k-preserved c = record {
