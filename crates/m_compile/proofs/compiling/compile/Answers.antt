@@ -9,4 +9,4 @@ pub program-requires-clause-rules : goal.program-requires-clause-rules
 program-requires-clause-rules c = rules_made c.args.source.now _ _ _ _ c.as_slice.ensures c.bytes.ensures c.in_ok-made.ensures.outcome.0 c.in_ok-made.ensures.no_cycle
 
 pub returns-clause-runnable : goal.returns-clause-runnable
-returns-clause-runnable c = c.in_ok-flat.ensures.runnable
+returns-clause-runnable c = c.in_ok-tidy.ensures.runnable

@@ -18,9 +18,3 @@ faced-requires-clause-few_labels c = few-labels c.requires.rules.made
 pub returns : goal.returns
 returns c =
     finished c.args.source.now c.args.made.now.symbols c.args.made.now.ordered.base _ _ _ c.requires.rules c.in_ok-core.ensures.outcome (rw c.as_slice.ensures at c.faced.ensures)
-
-pub faced-requires-clause-few_cells : goal.faced-requires-clause-few_cells
-faced-requires-clause-few_cells c = few-cells c.requires.rules.made
-
-pub faced-requires-clause-few_labels : goal.faced-requires-clause-few_labels
-faced-requires-clause-few_labels c = few-labels c.requires.rules.made
