@@ -28,7 +28,7 @@ module _ (r r' cells : ℕ) (t u : ℕ → ℕ) (P : ℕ → Type 0) (same_rules
     capped-one (call line names xs f) h = capped-sum (t f) cells (u f) cells (same f h) refl
     capped-one (solve line names xs) h = same_rules
 
-    capped-all : (b : Block) → CallsOnly P b → capped (block_weight r cells t b) ≡ capped (block_weight r' cells u b)
+    pub capped-all : (b : Block) → CallsOnly P b → capped (block_weight r cells t b) ≡ capped (block_weight r' cells u b)
     capped-all no_actions h = refl
     capped-all (an_action a rest) h = capped-sum (action_weight r cells t a) (block_weight r cells t rest) (action_weight r' cells u a) (block_weight r' cells u rest) (capped-one a h.0) (capped-all rest h.1)
 

@@ -1,5 +1,5 @@
 -- What is known of weights while functions are weighed.
-use Rattle.std.specs.Prelude.{◌≡◌, ℕ, ◌≤◌, Bool, true, false, List, length, slice_index_or}
+use Rattle.std.specs.Prelude.{◌≡◌, ℕ, suc, ◌≤◌, Bool, true, false, List, length, slice_index_or}
 use Rattle.micro_m.specs.declared.base.Base.{Base}
 use Rattle.driver_core.specs.declared.program.Core.{Core}
 use Rattle.driver_core.specs.Actions.{Action, assign, clear, branch, partition, call, solve, Block, no_actions, an_action}
@@ -32,3 +32,7 @@ weight_in core base turns f = body_weight (base_weight base) base.cells core.bod
 pub record IsTable (core : Core) (base : Base) (weights : List ℕ) (done : List Bool) (count : ℕ) : Type 0 where
   pub size : length weights ≡ length done
   pub weighed : (f : ℕ) → IsDone done f → (turns : ℕ) → count ≤ turns → slice_index_or weights f 0 ≡ capped (weight_in core base turns f)
+
+-- each function that is done has its weight, as the driver's weight has it
+pub record IsFound (core : Core) (base : Base) (weights : List ℕ) (done : List Bool) : Type 0 where
+  pub weighed : (f : ℕ) → IsDone done f → slice_index_or weights f 0 ≡ capped (weight_in core base (suc (length core.bodies)) f)

@@ -20,7 +20,7 @@ pub fn weigh_formula(term: &CTerm) -> u64
         CNode::Cell(_) => 1,
         CNode::Apply(_, arguments) => weigh_formulas(arguments).saturating_add(1),
         CNode::Chain(first, steps) => weigh_formula(first).saturating_add(weigh_further(steps)),
-        CNode::Exists(cells) => (cells.len() as u64).saturating_mul(2).saturating_add(1),
+        CNode::Exists(cells) => cells.len().saturating_mul(2).saturating_add(1),
     }
 }
 

@@ -42,7 +42,7 @@ fn weigh_command(command: &CCommand, rules: u64, cells: u64, table: &[u64]) -> u
 }
 
 /// The weight of a function. One that isn't there weighs nothing.
-fn entry(table: &[u64], function: u32) -> u64
+pub fn entry(table: &[u64], function: u32) -> u64
     ensures { result ≡ slice_index_or table.now function 0 }
 {
     match table.get(function as usize) {

@@ -1,14 +1,15 @@
 //! The weight of a driver.
 
-ghost use Rattle.std.specs.Prelude.{◌≡◌, ◌≤◌, min, IfOk, OnOk, length, false, replicate};
+ghost use Rattle.std.specs.Prelude.{◌≡◌, ◌≤◌, min, IfOk, OnOk, length};
 ghost use Rattle.micro_m.specs.declared.base.Base.{Base};
 ghost use Rattle.driver_core.specs.Weights.{base_weight, weight_of};
 ghost use Rattle.driver_weight.specs.Capped.{capped};
-ghost use Rattle.driver_weight.specs.Table.{IsTable};
+ghost use Rattle.driver_weight.specs.Table.{IsTable, IsFound};
 
 use crate::base::weigh_base;
-use crate::blocks::is_done;
+use crate::blocks::{entry, is_done};
 use crate::calls::Calls;
+use crate::levels::weigh_by_levels;
 use crate::table::Table;
 use driver_core::Core;
 use micro_m::Base;
@@ -16,9 +17,23 @@ use std::alloc::{AllocError, Global};
 
 /// The weight of a driver over the rules of a base, where sums stop at 18,446,744,073,709,551,615. Each function that `main`
 /// reaches is weighed once, behind those that it calls, from a list of what is left: no call is as deep as a chain of
-/// functions. The only error is want of memory; where functions call each other in a ring, it gives up in the same way.
+/// functions. Where functions call each other in a ring, as they do in no valid driver, each is weighed once for each level of
+/// calls. The only error is want of memory.
 pub fn weight(alloc: Global, core: &Core, base: &Base) -> Result<u64, AllocError>
     ensures { IfOk result (λ w. w ≡ min (weight_of core.now base.now) 18_446_744_073_709_551_615) }
+{
+    let rules = weigh_base(base);
+    let table = table_of(alloc, core, rules, base.cells)?;
+    if is_done(&table.done, core.main) {
+        return Ok(entry(&table.weights, core.main));
+    }
+    weigh_by_levels(alloc, core, rules, base.cells)
+}
+
+/// The weights of `main` and the functions that it reaches, but for those that call each other in a ring.
+fn table_of(alloc: Global, core: &Core, rules: u64, cells: u32) -> Result<Table, AllocError>
+    ensures { IfOk result (λ table. (base : Base) → rules ≡ capped (base_weight base) → cells ≡ base.cells
+        → IsFound core.now base table.weights.items table.done.items) }
 {
     let count = core.bodies.as_slice().len();
     let mut table = Table {
@@ -26,15 +41,8 @@ pub fn weight(alloc: Global, core: &Core, base: &Base) -> Result<u64, AllocError
         done: vec![in alloc; false; count]?,
         count: 0,
     };
-    let rules = weigh_base(base);
-    weigh_reached(alloc, core, rules, base.cells, &mut table)?;
-    if !is_done(&table.done, core.main) {
-        return Err(AllocError);
-    }
-    match table.weights.get(core.main as usize) {
-        Some(weight) => Ok(*weight),
-        None => Err(AllocError),
-    }
+    weigh_reached(alloc, core, rules, cells, &mut table)?;
+    Ok(table)
 }
 
 /// Weighs `main` and the functions that it reaches, each behind those that it calls.
@@ -60,7 +68,7 @@ fn weigh_reached(
         .saturating_add(core.bodies.as_slice().len());
     while let Some((function, place)) = left.pop() {
         if turns == 0 {
-            return Err(AllocError);
+            return Ok(());
         }
         turns -= 1;
         match calls.at(function as usize, place) {
@@ -70,7 +78,7 @@ fn weigh_reached(
                     left.push((called, calls.start(called as usize)))?;
                 }
             }
-            None => table.weigh(core, function, rules, cells)?,
+            None => table.weigh(core, function, rules, cells),
         }
     }
     Ok(())

@@ -7,6 +7,7 @@ mod base;
 mod blocks;
 mod calls;
 mod driver;
+mod levels;
 mod table;
 
 pub use driver::weight;

@@ -1,6 +1,6 @@
 //! The cells of a kind.
 
-ghost use Rattle.std.specs.Prelude.{◌≡◌, ◌++◌, ◌||◌, ℕ, ℤ, [], IfOk, OnOk, length, if◌then◌else◌};
+ghost use Rattle.std.specs.Prelude.{◌≡◌, ◌++◌, ◌||◌, ℕ, ℤ, [], IfOk, OnOk, length, min, if◌then◌else◌};
 ghost use Rattle.std.specs.BTreeSet.{contains};
 ghost use Rattle.std.specs.Ordering.{int_cmp, int_eq};
 ghost use Rattle.input_kinds.specs.Groups.{group_at, joined, groups_at, groups_in};
@@ -22,12 +22,12 @@ pub struct KindCells {
     attribute: u32,
     /// The values, each once. Those that no input has are left out.
     values: Vec<Amount>,
-    /// How many cells there are.
-    count: usize,
+    /// How many cells there are, as far as 64 bits count.
+    count: u64,
 }
 
 impl Model for KindCells {
-    ghost use Rattle.std.specs.Prelude.{◌≡◌, ℕ, List, length};
+    ghost use Rattle.std.specs.Prelude.{◌≡◌, ℕ, List, length, min};
 
     ghost Value = { List ℕ };
 
@@ -36,7 +36,7 @@ impl Model for KindCells {
 
     ghost view = { λ k. ascending (joined k.index.value k.attribute k.values.items) };
 
-    ghost invariant = { λ k. k.count ≡ length (joined k.index.value k.attribute k.values.items) };
+    ghost invariant = { λ k. k.count ≡ min (length (joined k.index.value k.attribute k.values.items)) 18_446_744_073_709_551_615 };
 }
 
 impl KindCells {
@@ -55,9 +55,9 @@ impl KindCells {
         }
     }
 
-    /// How many cells there are. Takes no memory.
-    pub fn len(&self) -> usize
-        ensures { result ≡ length self.now }
+    /// How many cells there are, as far as 64 bits count. Takes no memory.
+    pub fn len(&self) -> u64
+        ensures { result ≡ min (length self.now) 18_446_744_073_709_551_615 }
     {
         self.count
     }
@@ -120,9 +120,9 @@ fn kept_values(
     index: &KindIndex,
     attribute: u32,
     values: &[Amount],
-) -> Result<(Vec<Amount>, usize), AllocError>
+) -> Result<(Vec<Amount>, u64), AllocError>
     ensures values { IfOk result (λ kept. (cell : ℕ) → times cell (joined index.now attribute kept.0.items) ≡ times cell (groups_at index.now attribute values.now)) }
-    ensures count { IfOk result (λ kept. kept.1 ≡ length (joined index.now attribute kept.0.items)) }
+    ensures count { IfOk result (λ kept. kept.1 ≡ min (length (joined index.now attribute kept.0.items)) 18_446_744_073_709_551_615) }
 {
     let mut seen = BTreeSet::new(alloc);
     let mut kept = Vec::new(alloc);
@@ -140,15 +140,15 @@ fn keep_once(
     index: &KindIndex,
     attribute: u32,
     value: Amount,
-    count: usize,
+    count: u64,
     seen: &mut BTreeSet<i128>,
     kept: &mut Vec<Amount>,
-) -> Result<usize, AllocError>
-    requires { count ≡ length (joined index.now attribute kept.old.items) }
+) -> Result<u64, AllocError>
+    requires { count ≡ min (length (joined index.now attribute kept.old.items)) 18_446_744_073_709_551_615 }
     ensures kept { OnOk result (joined index.now attribute kept.new.items
         ≡ joined index.now attribute kept.old.items ++ (if contains int_cmp seen.old value then [] else group_at index.now attribute value)) }
     ensures seen { OnOk result ((v : ℤ) → contains int_cmp seen.new v ≡ (int_eq v value || contains int_cmp seen.old v)) }
-    ensures count { IfOk result (λ n. n ≡ length (joined index.now attribute kept.new.items)) }
+    ensures count { IfOk result (λ n. n ≡ min (length (joined index.now attribute kept.new.items)) 18_446_744_073_709_551_615) }
 {
     if !seen.insert(value.millionths())? {
         return Ok(count);
@@ -157,26 +157,23 @@ fn keep_once(
     Ok(more)
 }
 
-// Keeps a value, if an input has it, and counts the cells. There is no room for more cells than a `usize` counts.
+// Keeps a value, if an input has it, and counts the cells, as far as 64 bits do.
 fn keep(
     index: &KindIndex,
     attribute: u32,
     value: Amount,
-    count: usize,
+    count: u64,
     kept: &mut Vec<Amount>,
-) -> Result<usize, AllocError>
-    requires { count ≡ length (joined index.now attribute kept.old.items) }
+) -> Result<u64, AllocError>
+    requires { count ≡ min (length (joined index.now attribute kept.old.items)) 18_446_744_073_709_551_615 }
     ensures kept { OnOk result (joined index.now attribute kept.new.items ≡ joined index.now attribute kept.old.items ++ group_at index.now attribute value) }
-    ensures count { IfOk result (λ n. n ≡ length (joined index.now attribute kept.new.items)) }
+    ensures count { IfOk result (λ n. n ≡ min (length (joined index.now attribute kept.new.items)) 18_446_744_073_709_551_615) }
 {
     let Some(group) = index.groups.get(&(attribute, value.millionths())) else {
         return Ok(count);
     };
-    let Some(more) = count.checked_add(group.len()) else {
-        return Err(AllocError);
-    };
     kept.push(value)?;
-    Ok(more)
+    Ok(count.saturating_add(group.len() as u64))
 }
 
 // The cells that have these values of an attribute, one value after the other.

@@ -23,4 +23,4 @@ returns-clause-count c =
     let there = ap cells_of c.in-Some.ensures.value ∙ key in
     let all = ap length (ap (joined c.args.index.now c.args.attribute) c.in_ok-push.ensures.items ∙ joined-push c.args.index.now c.args.attribute c.args.kept.now.items c.args.value ∙ ap (λ l. before ++ l) (sym there)) in
     let two = length-append before group in
-    omega (arith, c.requires, c.in-Some-checked_add.ensures.1, c.len.ensures, c.in-Some.group.now.ok.0, all, two)
+    omega (arith, c.requires, c.saturating_add.ensures, c.len.ensures, c.in-Some.group.now.ok.0, all, two)

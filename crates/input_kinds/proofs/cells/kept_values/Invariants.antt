@@ -1,4 +1,5 @@
 use Rattle.std.proofs.Common.{◌≡◌, ◌≤◌, ℕ, ℤ, length, drop}
+use Rattle.std.specs.Prelude.{min}
 use Rattle.std.specs.BTreeSet.{contains}
 use Rattle.std.specs.Ordering.{int_cmp}
 use Rattle.m_symbols.specs.Kinds.{has_amount}
@@ -11,7 +12,7 @@ invariant-loop-left l = record {
   within : l.left ≤ length l.values;
   seen : (v : ℤ) → contains int_cmp l.seen v ≡ has_amount v (drop l.left l.values);
   kept : (cell : ℕ) → times cell (joined l.index l.attribute l.kept.items) ≡ times cell (groups_at l.index l.attribute (drop l.left l.values));
-  count : l.count ≡ length (joined l.index l.attribute l.kept.items);
+  count : l.count ≡ min (length (joined l.index l.attribute l.kept.items)) 18_446_744_073_709_551_615;
 }
 
 abbrev pub decreases-loop-left : goal.decreases-loop-left
