@@ -309,7 +309,7 @@ core_in_range driver d core p e =
     let same : length k.0 ≡ length b.0 = omega (arith, count, named) in
     let main = number_within (index_of (codes "main") k.0) _ (length k.0) m.0 (index_within (codes "main") k.0) m.1 in
     subst IsInRange (value_of_ok _ core b.2) (record {
-      names = omega (arith, count, length-map name_in driver.functions);
+      names = omega (arith, count, length-map driver.functions name_in);
       main = omega (arith, main, same);
       bodies = all_of (BodyIsWithin cells (length b.0)) b.0 (subst (λ n. AllByRecursion (BodyIsWithin cells n) b.0) same (bodies_within d k.0 [] driver.functions b.0 p tt b.1));
     })
