@@ -4,7 +4,7 @@ use Rattle.flat_code.specs.declared.program.Flat.{Flat}
 use Rattle.reg_machine.specs.Flow.{Listing}
 use Rattle.register_alloc.specs.inner.Sound.{Sound, given_part}
 use Rattle.register_alloc.specs.inner.Chain.{IsNext}
-use Rattle.register_alloc.proofs.SoundLemmas.{part-other}
+use Rattle.register_alloc.proofs.OutputLemmas.{part-other}
 
 -- outputs of other nodes are passed over
 part-skip : (p d k j : ℕ) (outputs : List ℕ) → k + d ≡ j → j ≤ length outputs → ((i : ℕ) → k ≤ i → i < j → get_or outputs i 0 ≢ p) → given_part p k outputs ≡ given_part p j outputs

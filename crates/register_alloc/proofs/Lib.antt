@@ -4,5 +4,7 @@ pub mod CountLemmas
 pub mod IndexLemmas
 pub mod LastLemmas
 pub mod LiveLemmas
+pub mod OutputLemmas
 pub mod SoundLemmas
+pub mod StepLemmas
 pub mod TableLemmas

@@ -22,7 +22,7 @@ use Rattle.reg_machine.specs.declared.wrong.Wrong.TheVariants.{Number as NumberW
 use Rattle.reg_machine.specs.Flow.{Counts, Listing, State, put, start, step, with_node, with_instr, with_slots, has_numbers, moved, reading, wrong_at, wrong_behind, repeats_first, loads_of}
 use Rattle.reg_machine.proofs.BuilderLemmas.{reads-on, wrong-is}
 use Rattle.register_alloc.specs.declared.moment.TheConstants.{MOST}
-use Rattle.register_alloc.specs.declared.room.Sources.{Sources}
+use Rattle.register_alloc.specs.declared.sources.Sources.{Sources}
 use Rattle.register_alloc.specs.Width.{reads, check_reads, reads_by, tests_by, one_if, width_of, is_held, moment_from}
 use Rattle.register_alloc.specs.Allocation.{is_spill, spills_of}
 use Rattle.register_alloc.specs.inner.Tables.{look, In, is_live, is_busy}
@@ -31,38 +31,8 @@ use Rattle.register_alloc.specs.inner.Sound.{Once, Few, Sound, Counted, Spells, 
 use Rattle.register_alloc.proofs.CountLemmas.{places-and, held-width, width-nodes}
 use Rattle.register_alloc.proofs.LiveLemmas.{live-parts, live-held, live-read, dies-read, live-checked, dies-checked, live-made, live-still, moment-rises, moment-reads}
 use Rattle.register_alloc.proofs.TableLemmas.{none≢some, put-same, put-other, put-cases, in-other, look-set, tables-store, tables-write, tables-pass}
-
--- An instruction that may stand behind code of which `before` is known, where it has `count` slots or more; `after` is known
--- behind it.
-pub record Next (code : Listing) (count : ℕ) (before : State) (i : Instr) (after : State) : Type 0 where
-  pub has : (n : ℕ) → count ≤ n → has_numbers (with_slots code n).counts before i ≡ true
-  pub moves : moved i before ≡ Some after
-
--- one more instruction is read
-reading-push : (code : Listing) (i : Instr) (count more : ℕ) (s t : State) → ((n : ℕ) → count ≤ n → reading (with_slots code n) ≡ Some s) → count ≤ more → Next code more s i t → (n : ℕ) → more ≤ n → reading (with_slots (with_instr code i) n) ≡ Some t
-reading-push code i count more s t read le next n le' =
-    let all : count ≤ n = omega arith in
-    reads-on (with_slots code n) i s t (read n all) (next.has n le') next.moves
-
--- nothing is wrong with it
-right-push : (code : Listing) (i : Instr) (count more : ℕ) (s t : State) → ((n : ℕ) → count ≤ n → reading (with_slots code n) ≡ Some s) → count ≤ more → more ≤ code.counts.slots → Next code more s i t → wrong_behind code i ≡ None
-right-push code i count more s t read le fits next =
-    let all : count ≤ code.counts.slots = omega arith in
-    wrong-is code i s (read code.counts.slots all)
-    ∙ ap (λ b. if b then (if is_none (moved i s) then Some OrderWrong else None) else Some NumberWrong) (next.has code.counts.slots fits)
-    ∙ ap (λ o. if is_none o then Some OrderWrong else None) next.moves
-
--- how often nodes are loaded, by what is known
-loads-read : (code : Listing) (count : ℕ) (s : State) → ((n : ℕ) → count ≤ n → reading (with_slots code n) ≡ Some s) → count ≤ code.counts.slots → (y : ℕ) → loads_of y code ≡ s.loaded y
-loads-read code count s read fits y = ap (λ (o : Option State). option_map_or (λ (s : State). s.loaded y) o 0) (read code.counts.slots fits)
-
-spills-push : (code : Listing) (i : Instr) → is_spill i ≡ false → spills_of (with_instr code i) ≡ spills_of code
-spills-push code i e =
-    let none : spills_of code + 0 ≡ spills_of code = omega arith in
-    sum_by_push (λ i. cond (is_spill i) 1 0) code.instrs i ∙ ap (λ b. spills_of code + cond b 1 0) e ∙ none
-
-few-push : (flat : Flat) (code : Listing) (n : ℕ) (i : Instr) → Few flat code n → is_spill i ≡ false → Few flat (with_instr code i) n
-few-push flat code n i few e = record { within = few.within; direct = λ h. ((few.direct h).0, spills-push code i e ∙ (few.direct h).1) }
+use Rattle.register_alloc.proofs.StepLemmas.{Next, reading-push, right-push, loads-read, spills-push, few-push, next-store, next-load, next-node, next-test, next-give, put-suc, spill-node}
+use Rattle.register_alloc.proofs.OutputLemmas.{part-at, part-next, part-other, part-this, part-free, length-part, part-none, part-all, count-set, count-gave, count-least, given-least, part-least}
 
 -- any number of slots that the allocator comes to may stand in the code
 pub slots-fit : {flat : Flat} {made read checked : ℕ} {given : List (Option ℕ)} {code : Listing} {r s : ℕ → Option ℕ} {n : ℕ} → Sound flat made read checked given code r s n → (m : ℕ) → m ≤ width_of flat → m ≤ code.counts.slots
@@ -125,53 +95,6 @@ once-store stored x k made live s once lives lt free away y =
     let same = put-other stored x (suc (stored x)) y ne in
     ⊎_elim (λ z. inl (same ∙ z)) (λ p. inr (same ∙ p.0, p.1, λ l. in-other s k x y free (p.2 l))) (once y))
     (cases_eq y x)
-
--- ---- the instructions
-
-next-store : (code : Listing) (m k i x : ℕ) (t : State) → k < m → i < REGISTERS → t.registers i ≡ Some x → Next code m t (Store k i) (record t { slots = put t.slots k (Some x); stored = put t.stored x (suc (t.stored x)) })
-next-store code m k i x t lt below holds = record {
-  has = λ n le. and_from (ltb k n) (ltb i REGISTERS) (lt-ltb k n (omega arith)) (lt-ltb i REGISTERS below);
-  moves = ap (option_map (λ (x : ℕ). record t { slots = put t.slots k (Some x); stored = put t.stored x (suc (t.stored x)) })) holds;
-}
-
-next-load : (code : Listing) (m k i x : ℕ) (t : State) → i < m → k < REGISTERS → t.slots i ≡ Some x → Next code m t (Load k i) (record t { registers = put t.registers k (Some x); loaded = put t.loaded x (suc (t.loaded x)) })
-next-load code m k i x t lt below holds = record {
-  has = λ n le. and_from (ltb k REGISTERS) (ltb i n) (lt-ltb k REGISTERS below) (lt-ltb i n (omega arith));
-  moves = ap (option_map (λ (x : ℕ). record t { registers = put t.registers k (Some x); loaded = put t.loaded x (suc (t.loaded x)) })) holds;
-}
-
--- the instruction of a node makes it
-next-node : (code : Listing) (m k : ℕ) (node : Node) (q : Sources) (t : State) → k < REGISTERS → IsInput code.counts.inputs node → HasSources t.registers node q → Next code m t (instr_of node k q) (with_node k node t)
-next-node code m k (Input n) q t below inputs has = record {
-  has = λ _ le. and_from (ltb k REGISTERS) (ltb n code.counts.inputs) (lt-ltb k REGISTERS below) (lt-ltb n code.counts.inputs inputs);
-  moves = refl;
-}
-next-node code m k (Number v) q t below inputs has = record { has = λ _ le. lt-ltb k REGISTERS below; moves = refl }
-next-node code m k (Work op a b c) q t below inputs has = record {
-  has = λ _ le.
-      and_from (ltb k REGISTERS) _ (lt-ltb k REGISTERS below)
-      (and_from (ltb q.first REGISTERS) _ (lt-ltb q.first REGISTERS has.3)
-      (and_from (ltb q.second REGISTERS) _ (lt-ltb q.second REGISTERS has.4)
-      (and_from (ltb q.third REGISTERS) (repeats_first op q.first q.second q.third) (lt-ltb q.third REGISTERS has.5) has.6)));
-  moves =
-      ap (option_and_then (λ (x : ℕ). option_and_then (λ (y : ℕ). option_map (λ (z : ℕ). with_node k (Work op x y z) t) (t.registers q.third)) (t.registers q.second))) has.0
-      ∙ ap (option_and_then (λ (y : ℕ). option_map (λ (z : ℕ). with_node k (Work op a y z) t) (t.registers q.third))) has.1
-      ∙ ap (option_map (λ (z : ℕ). with_node k (Work op a b z) t)) has.2;
-}
-
-next-test : (code : Listing) (m g k : ℕ) (check : Check) (t : State) → g < REGISTERS → k < REGISTERS → check.label < code.counts.labels → t.registers g ≡ Some check.guard → t.registers k ≡ Some check.condition → Next code m t (Test g k check.over_only check.label) (record t { checks = t.checks ++ check ∷ [] })
-next-test code m g k check t below below' label guard condition = record {
-  has = λ _ le. and_from (ltb g REGISTERS) _ (lt-ltb g REGISTERS below) (and_from (ltb k REGISTERS) (ltb check.label code.counts.labels) (lt-ltb k REGISTERS below') (lt-ltb check.label code.counts.labels label));
-  moves =
-      ap (option_and_then (λ (x : ℕ). option_map (λ (y : ℕ). record t { checks = t.checks ++ record { guard = x; condition = y; over_only = check.over_only; label = check.label } ∷ [] }) (t.registers k))) guard
-      ∙ ap (option_map (λ (y : ℕ). record t { checks = t.checks ++ record { guard = check.guard; condition = y; over_only = check.over_only; label = check.label } ∷ [] })) condition;
-}
-
-next-give : (code : Listing) (m j k x : ℕ) (t : State) → j < code.counts.outputs → k < REGISTERS → get_or t.outputs j None ≡ None → t.registers k ≡ Some x → Next code m t (Output j k) (record t { outputs = set t.outputs j (Some x) })
-next-give code m j k x t lt below free holds = record {
-  has = λ _ le. and_from (ltb j code.counts.outputs) _ (lt-ltb j code.counts.outputs lt) (and_from (ltb k REGISTERS) (is_none (get_or t.outputs j None)) (lt-ltb k REGISTERS below) (ap is_none free));
-  moves = ap (option_map (λ (x : ℕ). record t { outputs = set t.outputs j (Some x) })) holds;
-}
 
 -- what a register holds, by the table
 held-by : {flat : Flat} {made read checked : ℕ} {given : List (Option ℕ)} {code : Listing} {r s : ℕ → Option ℕ} {n : ℕ} → (h : Sound flat made read checked given code r s n) → (i x : ℕ) → r i ≡ Some x → h.spelled.state.registers i ≡ Some x
@@ -250,30 +173,12 @@ pub right-load : {flat : Flat} {made read checked : ℕ} {given : List (Option �
 right-load {flat} {made} {read} {checked} {given} {code} {r} {s} {n} h k i x lt at =
     right-next h n (Load k i) _ (omega arith) h.few.within (next-load code n k i x h.spelled.state (h.spelled.within i x at) lt (h.spelled.slots i x at))
 
--- one more load of x, and none of another node
-put-suc : (f : ℕ → ℕ) (x y : ℕ) → put f x (suc (f x)) y ≤ f y + one_if (eqb x y)
-put-suc f x y =
-    ⊎_elim
-    (λ (e : x ≡ y).
-    let same : put f x (suc (f x)) y ≡ suc (f y) = subst (λ z. put f x (suc (f x)) z ≡ suc (f z)) e (put-same f x (suc (f x))) in
-    let one : one_if (eqb x y) ≡ 1 = ap one_if (eq-eqb x y e) in
-    omega arith)
-    (λ (ne : x ≢ y).
-    let same : put f x (suc (f x)) y ≡ f y = put-other f x (suc (f x)) y (λ e. ne (sym e)) in
-    omega arith)
-    (cases_eq x y)
-
 pub loads-load : {flat : Flat} {made read checked : ℕ} {given : List (Option ℕ)} {code : Listing} {r s : ℕ → Option ℕ} {n : ℕ} → Sound flat made read checked given code r s n → (k i x : ℕ) → k < REGISTERS → s i ≡ Some x → (y : ℕ) → loads_of y (with_instr code (Load k i)) ≤ loads_of y code + one_if (eqb x y)
 loads-load {flat} {made} {read} {checked} {given} {code} {r} {s} {n} h k i x lt at y =
     let t = h.spelled.state in
     let now = loads-now h y in
     let after = loads-next h n (Load k i) _ (omega arith) h.few.within (next-load code n k i x t (h.spelled.within i x at) lt (h.spelled.slots i x at)) y in
     omega (arith, put-suc t.loaded x y)
-
-spill-node : (node : Node) (k : ℕ) (q : Sources) → is_spill (instr_of node k q) ≡ false
-spill-node (Input n) k q = refl
-spill-node (Number v) k q = refl
-spill-node (Work op a b c) k q = refl
 
 -- the next node may be made
 next-made : {flat : Flat} {made read checked : ℕ} {given : List (Option ℕ)} {code : Listing} {r s : ℕ → Option ℕ} {n : ℕ} → (h : Sound flat made read checked given code r s n) → (k : ℕ) (node : Node) (q : Sources) → made < read → node ≡ node_at flat.nodes made → k < REGISTERS → HasSources r node q → Next code n h.spelled.state (instr_of node k q) (with_node k node h.spelled.state)
@@ -515,64 +420,6 @@ pub tests-more : (flat : Flat) (checked : ℕ) (check : Check) → checked < len
 tests-more flat checked check below is y =
     ap (sum_by (tests_by y)) (take-suc flat.checks checked check below) ∙ sum_by_push (tests_by y) (take checked flat.checks) (get_or flat.checks checked check) ∙ ap (λ x. checks_read flat checked y + tests_by y x) (sym is)
 
--- the outputs at place k of those that were looked at
-part-at : (p k : ℕ) (outputs : List ℕ) → k < length outputs → given_part p k outputs ≡ given_before (suc p) (take k outputs) ++ (given_before p (get_or outputs k 0 ∷ []) ++ given_before p (drop (suc k) outputs))
-part-at p k outputs lt = ap (λ xs. given_before (suc p) (take k outputs) ++ given_before p xs) (drop-cons outputs k 0 lt)
-
-part-next : (p k : ℕ) (outputs : List ℕ) → k < length outputs → given_part p (suc k) outputs ≡ given_before (suc p) (take k outputs) ++ (given_before (suc p) (get_or outputs k 0 ∷ []) ++ given_before p (drop (suc k) outputs))
-part-next p k outputs lt =
-    ap (λ xs. given_before (suc p) xs ++ given_before p (drop (suc k) outputs)) (take-suc outputs k 0 lt)
-    ∙ ap (λ xs. xs ++ given_before p (drop (suc k) outputs)) (map-append (λ x. if ltb x (suc p) then Some x else None) (take k outputs) (get_or outputs k 0 ∷ []))
-    ∙ append_assoc (given_before (suc p) (take k outputs)) (given_before (suc p) (get_or outputs k 0 ∷ [])) (given_before p (drop (suc k) outputs))
-
--- an output of another node
-pub part-other : (p k : ℕ) (outputs : List ℕ) → k < length outputs → get_or outputs k 0 ≢ p → given_part p k outputs ≡ given_part p (suc k) outputs
-part-other p k outputs lt ne =
-    let y = get_or outputs k 0 in
-    let same : ltb y p ≡ ltb y (suc p) = ⊎_elim (λ a. lt-ltb y p a ∙ sym (lt-ltb y (suc p) (omega arith))) (λ a. let more : suc p ≤ y = omega arith in le-ltb y p a ∙ sym (le-ltb y (suc p) more)) (cases_lt y p) in
-    part-at p k outputs lt
-    ∙ ap (λ (b : Bool). given_before (suc p) (take k outputs) ++ (((if b then Some y else None) ∷ []) ++ given_before p (drop (suc k) outputs))) same
-    ∙ sym (part-next p k outputs lt)
-
--- an output of this node
-pub part-this : (p k : ℕ) (outputs : List ℕ) → k < length outputs → get_or outputs k 0 ≡ p → set (given_part p k outputs) k (Some p) ≡ given_part p (suc k) outputs
-part-this p k outputs lt is =
-    let y = get_or outputs k 0 in
-    let size : length (given_before (suc p) (take k outputs)) ≡ k = length-map (take k outputs) (λ x. if ltb x (suc p) then Some x else None) ∙ length-take-le k outputs (omega arith) in
-    let here : ltb y (suc p) ≡ true = lt-ltb y (suc p) (omega arith) in
-    ap (λ xs. set xs k (Some p)) (part-at p k outputs lt)
-    ∙ set_at (given_before (suc p) (take k outputs)) (if ltb y p then Some y else None) (given_before p (drop (suc k) outputs)) (Some p) k size
-    ∙ ap (λ (x : ℕ). given_before (suc p) (take k outputs) ++ Some x ∷ given_before p (drop (suc k) outputs)) (sym is)
-    ∙ ap (λ (b : Bool). given_before (suc p) (take k outputs) ++ (((if b then Some y else None) ∷ []) ++ given_before p (drop (suc k) outputs))) (sym here)
-    ∙ sym (part-next p k outputs lt)
-
--- it wasn't given before
-part-free : (p k : ℕ) (outputs : List ℕ) → k < length outputs → get_or outputs k 0 ≡ p → get_or (given_part p k outputs) k None ≡ None
-part-free p k outputs lt is =
-    let y = get_or outputs k 0 in
-    let size : length (given_before (suc p) (take k outputs)) ≡ k = length-map (take k outputs) (λ x. if ltb x (suc p) then Some x else None) ∙ length-take-le k outputs (omega arith) in
-    ap (λ xs. get_or xs k None) (part-at p k outputs lt)
-    ∙ get_or_at (given_before (suc p) (take k outputs)) (if ltb y p then Some y else None) (given_before p (drop (suc k) outputs)) None k size
-    ∙ ap (λ b. if b then Some y else None) (le-ltb y p (omega arith))
-
--- each output has an entry
-pub length-part : (p k : ℕ) (outputs : List ℕ) → length (given_part p k outputs) ≡ length outputs
-length-part p k outputs =
-    let front : length (given_before (suc p) (take k outputs)) ≡ length (take k outputs) = length-map (take k outputs) (λ x. if ltb x (suc p) then Some x else None) in
-    let back : length (given_before p (drop k outputs)) ≡ length (drop k outputs) = length-map (drop k outputs) (λ x. if ltb x p then Some x else None) in
-    let all : length (take k outputs) + length (drop k outputs) ≡ length outputs = sym (length-append (take k outputs) (drop k outputs)) ∙ ap length (take-append-drop k outputs) in
-    length-append (given_before (suc p) (take k outputs)) (given_before p (drop k outputs)) ∙ (let whole : length (given_before (suc p) (take k outputs)) + length (given_before p (drop k outputs)) ≡ length outputs = omega arith in whole)
-
--- before the first output is looked at, and after the last
-pub part-none : (p : ℕ) (outputs : List ℕ) → given_before p outputs ≡ given_part p 0 outputs
-part-none p outputs = refl
-
-pub part-all : (p k : ℕ) (outputs : List ℕ) → length outputs ≤ k → given_part p k outputs ≡ given_before (suc p) outputs
-part-all p k outputs le =
-    ap (λ xs. given_before (suc p) xs ++ given_before p (drop k outputs)) (take_all k outputs le)
-    ∙ ap (λ xs. given_before (suc p) outputs ++ given_before p xs) (drop_all k outputs le)
-    ∙ append-nil (given_before (suc p) outputs)
-
 -- the next check isn't ready
 pub settled-from : (flat : Flat) (made checked : ℕ) (check : Check) → check ≡ get_or flat.checks checked check → made ≤ max check.guard check.condition → checked < length flat.checks → made ≤ moment_from 0 flat.checks checked
 settled-from flat made checked check is le lt =
@@ -592,34 +439,6 @@ right-gave {flat} p j h k lt lt' at is = right-give h j k p lt lt' (part-free p 
 
 pub loads-gave : {flat : Flat} {made read checked : ℕ} {code : Listing} {r s : ℕ → Option ℕ} {n : ℕ} (p j : ℕ) → Sound flat made read checked (given_part p j flat.outputs) code r s n → (k : ℕ) → j < length flat.outputs → k < REGISTERS → r k ≡ Some p → get_or flat.outputs j 0 ≡ p → (y : ℕ) → loads_of y (with_instr code (Output j k)) ≡ loads_of y code
 loads-gave {flat} p j h k lt lt' at is y = loads-give h j k p lt lt' (part-free p j flat.outputs lt is) at y
-
--- one more output is given
-count-set : (xs : List (Option ℕ)) (j x : ℕ) → j < length xs → get_or xs j None ≡ None → count_some (set xs j (Some x)) ≡ suc (count_some xs)
-count-set [] j x lt free = absurd (omega arith)
-count-set (None ∷ xs) zero x lt free = refl
-count-set (Some y ∷ xs) zero x lt free = absurd (none≢some y (sym free))
-count-set (None ∷ xs) (suc j) x lt free = count-set xs j x (omega arith) free
-count-set (Some y ∷ xs) (suc j) x lt free = ap suc (count-set xs j x (omega arith) free)
-
-pub count-gave : (p j j' : ℕ) (outputs : List ℕ) → suc j ≡ j' → j < length outputs → get_or outputs j 0 ≡ p → count_some (given_part p j' outputs) ≡ suc (count_some (given_part p j outputs))
-count-gave p j j' outputs e lt is =
-    ap (λ m. count_some (given_part p m outputs)) (sym e)
-    ∙ ap (count_some) (sym (part-this p j outputs lt is))
-    ∙ count-set (given_part p j outputs) j p (omega (arith, length-part p j outputs)) (part-free p j outputs lt is)
-
--- no more outputs are given than there are
-count-least : (xs : List (Option ℕ)) → count_some xs ≤ length xs
-count-least [] = omega arith
-count-least (None ∷ xs) = omega (arith, count-least xs)
-count-least (Some x ∷ xs) = omega (arith, count-least xs)
-
-pub given-least : (p : ℕ) (outputs : List ℕ) → count_given p outputs ≤ length outputs
-given-least p outputs =
-    let size : length (given_before p outputs) ≡ length outputs = length-map outputs (λ x. if ltb x p then Some x else None) in
-    omega (arith, count-least (given_before p outputs))
-
-pub part-least : (p k : ℕ) (outputs : List ℕ) → count_some (given_part p k outputs) ≤ length outputs
-part-least p k outputs = omega (arith, count-least (given_part p k outputs), length-part p k outputs)
 
 -- slots are fewer than numbers of 32 bits
 pub slots-small : {flat : Flat} {made read checked : ℕ} {given : List (Option ℕ)} {code : Listing} {r s : ℕ → Option ℕ} {n : ℕ} → Sound flat made read checked given code r s n → n ≤ 200000000

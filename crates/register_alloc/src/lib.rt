@@ -4,9 +4,11 @@
 #![tactic(auto)]
 
 mod chain;
+mod clear;
 mod moment;
 mod room;
 mod slots;
+mod sources;
 mod table;
 mod task;
 mod turn;

@@ -10,22 +10,16 @@ ghost use Rattle.register_alloc.specs.inner.Tables.{look, In, is_live, is_busy};
 ghost use Rattle.register_alloc.specs.inner.Valid.{IsValid};
 ghost use Rattle.register_alloc.specs.inner.Sound.{IsSound, live_at, AllBusy, IsKept, IsSpare, HasSources, instr_of, Order, Cleared, IsSoundWith, given_before, given_part, IsSettled, nodes_read, checks_read, count_given, IsShort};
 
+use crate::clear::{clear_arguments, clear_tested};
 use crate::moment::Moment;
 use crate::slots::Slots;
+use crate::sources::{Sources, instr_of, other_than};
 use crate::table::find;
 use crate::task::Task;
 use flat_code::{Check, Node};
 use m_fixed::arity;
 use reg_machine::{CodeBuilder, Instr, REGISTERS};
 use std::alloc::{AllocError, Global};
-
-/// The registers of a node's arguments.
-#[derive(Clone, Copy)]
-pub struct Sources {
-    pub first: u8,
-    pub second: u8,
-    pub third: u8,
-}
 
 /// The code so far, and which node each register and each slot stands for.
 #[derive(Drop)]
@@ -44,64 +38,6 @@ fn is_busy(flat: &Task, at: Moment, entry: Option<usize>) -> bool
         Some(x) => flat.is_live(at, x),
         None => false,
     }
-}
-
-/// The instruction that makes a node.
-fn instr_of(node: Node, register: u8, sources: Sources) -> Instr
-    ensures { result ≡ instr_of node register sources }
-{
-    match node {
-        Node::Input(n) => Instr::Take(register, n),
-        Node::Lit(v) => Instr::Lit(register, v),
-        Node::Do(op, _, _, _) => {
-            Instr::Do(op, register, sources.first, sources.second, sources.third)
-        }
-    }
-}
-
-/// A register other than these two.
-fn other_than(one: u8, two: u8) -> u8
-    ensures within { result < REGISTERS }
-    ensures one { result ≡ one → ⊥ }
-    ensures two { result ≡ two → ⊥ }
-{
-    if one != 0 && two != 0 {
-        0
-    } else if one != 1 && two != 1 {
-        1
-    } else {
-        2
-    }
-}
-
-/// Takes a node's arguments that are dead at this moment out of the slots.
-fn clear_arguments(slots: &mut Slots, flat: &Task, at: Moment, node: Node) -> Result<(), AllocError>
-    requires { at.made ≤ length flat.now.nodes }
-    ensures cleared { OnOk result (Cleared (λ x. reads x node) (live_at flat.now at) (look slots.old) (look slots.new)) }
-    ensures len { OnOk result (length slots.new ≡ length slots.old) }
-{
-    match node {
-        Node::Input(_) | Node::Lit(_) => Ok(()),
-        Node::Do(_, a, b, c) => {
-            slots.clear_dead(a as usize, flat.is_live(at, a as usize))?;
-            slots.clear_dead(b as usize, flat.is_live(at, b as usize))?;
-            slots.clear_dead(c as usize, flat.is_live(at, c as usize))?;
-            Ok(())
-        }
-    }
-}
-
-/// Takes what a check read and is dead at this moment out of the slots.
-fn clear_tested(slots: &mut Slots, flat: &Task, at: Moment, check: Check) -> Result<(), AllocError>
-    requires { at.made ≤ length flat.now.nodes }
-    ensures cleared { OnOk result (Cleared (λ x. check_reads x check) (live_at flat.now at) (look slots.old) (look slots.new)) }
-    ensures len { OnOk result (length slots.new ≡ length slots.old) }
-{
-    let guard = check.guard as usize;
-    let condition = check.condition as usize;
-    slots.clear_dead(guard, flat.is_live(at, guard))?;
-    slots.clear_dead(condition, flat.is_live(at, condition))?;
-    Ok(())
 }
 
 impl Room {

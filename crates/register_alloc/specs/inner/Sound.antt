@@ -11,7 +11,7 @@ use Rattle.reg_machine.specs.declared.instr.Instr.TheVariants.{Take, Lit as Take
 use Rattle.reg_machine.specs.Flow.{Counts, Listing, State, reading, with_slots, repeats_first}
 use Rattle.register_alloc.specs.declared.moment.TheConstants.{MOST}
 use Rattle.register_alloc.specs.declared.moment.Moment.{Moment}
-use Rattle.register_alloc.specs.declared.room.Sources.{Sources}
+use Rattle.register_alloc.specs.declared.sources.Sources.{Sources}
 use Rattle.register_alloc.specs.declared.room.Room.{Room}
 use Rattle.register_alloc.specs.Width.{width_of, moment_from, reads_by, tests_by}
 use Rattle.register_alloc.specs.Allocation.{spills_of}

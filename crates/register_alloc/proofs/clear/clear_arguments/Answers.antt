@@ -4,7 +4,7 @@ use Rattle.register_alloc.specs.Width.{reads}
 use Rattle.register_alloc.specs.inner.Tables.{look}
 use Rattle.register_alloc.specs.inner.Sound.{live_at, Cleared}
 use Rattle.register_alloc.proofs.TableLemmas.{clears, cleared-arguments}
-use Rattle.register_alloc.proofs.room.clear_arguments.Goals as goal
+use Rattle.register_alloc.proofs.clear.clear_arguments.Goals as goal
 
 pub returns-in_ok-clear_dead-in-Do-3-clause-cleared : goal.returns-in_ok-clear_dead-in-Do-3-clause-cleared
 returns-in_ok-clear_dead-in-Do-3-clause-cleared c =
