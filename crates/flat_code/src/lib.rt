@@ -7,8 +7,8 @@ mod hash;
 mod laws;
 mod program;
 mod run;
-pub mod touched;
 mod tidy;
+pub mod touched;
 
 pub use laws::{facts_hold, passes_compose};
 pub use program::{Check, Flat, Node};
