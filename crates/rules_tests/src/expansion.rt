@@ -13,7 +13,7 @@ use std::test::Fail;
 
 // Items, and what the application iliad has of them. A number is shown as `#` and its whole units, `X` that stays as `?`, an
 // operator as brackets round its operands.
-const EXPANSIONS: [(&[u8], &[u8]); 22] = [
+const EXPANSIONS: [(&[u8], &[u8]); 23] = [
     (b"R = somme(i = 8..10 : i) ;", b"R = (#8,#9,#10)"),
     (b"R = somme(i = 08..10 : Ui) ;", b"R = (U08,U09,U10)"),
     (b"R = somme(i = 98..101 : Ui) ;", b"R = (U98,U99,U100,U101)"),
@@ -25,6 +25,10 @@ const EXPANSIONS: [(&[u8], &[u8]); 22] = [
     (
         b"R = somme(i = A,B ; j = 1..2 : ij) ;",
         b"R = (A1,A2,B1,B2)",
+    ),
+    (
+        b"R = somme(i = 1 ; j = Y ; k = A,B : Uijk + somme(i = 2 ; l = 3 : Tkil[i])) + Q ;",
+        b"R = (((U1YA,TA23[#2]),(U1YB,TB23[#2])),Q)",
     ),
     (
         b"pour un i dans (V,C) et un j dans 1..2 : Uij = 0 ;",
@@ -75,7 +79,7 @@ const EXPANSIONS: [(&[u8], &[u8]); 22] = [
 ];
 
 // Items with a fault, and how it is told. The first rule's formula begins at byte 32.
-const FAULTS: [(&[u8], &[u8]); 13] = [
+const FAULTS: [(&[u8], &[u8]); 14] = [
     (b"R = somme(i = 3..1 : 1) ;", b"bad range 42"),
     (b"R = somme(i = 1..X : 1) ;", b"bad range 42"),
     (b"R = somme(i = 1,AB..AC : 1) ;", b"bad range 42"),
@@ -97,6 +101,10 @@ const FAULTS: [(&[u8], &[u8]); 13] = [
     (
         b"R = 1 ; regle 2 : application : iliad ; pour i=1..10000: R = somme(j=1..101: 1) ;",
         b"too many 40",
+    ),
+    (
+        b"pour i=1..10000: pour j=1..10000: T[X] = 1 ;",
+        b"too many 0",
     ),
 ];
 
