@@ -67,12 +67,7 @@ fn face(alloc: Global) -> Result<Face, Fail> {
         names.push(Name::new(alloc, name.as_bytes())?)?;
     }
     let inputs = Seq::from_vec(Vec::new(alloc));
-    Ok(named_face(
-        alloc,
-        inputs,
-        labels(alloc)?,
-        Seq::from_vec(names),
-    )?)
+    Ok(named_face(alloc, inputs, labels(alloc)?, Seq::from_vec(names))?)
 }
 
 fn number(millionths: i128) -> Value {

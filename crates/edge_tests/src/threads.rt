@@ -1,6 +1,6 @@
 //! Types that may be sent to other threads and shared with them. That this compiles is the test.
-use observables::{Answer, Face, FaceLabel, Stop};
 use household::{Household, HouseholdFault, Row};
+use observables::{Answer, Face, FaceLabel, Stop};
 
 fn crosses_threads<T: Send + Sync>() {}
 

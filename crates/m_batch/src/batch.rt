@@ -5,9 +5,9 @@ ghost use Rattle.flat_code.specs.Runs.{IsFlat};
 ghost use Rattle.m_batch.specs.Batch.{HasInputsBelow, row_answer, answers_of};
 
 use flat_code::{Flat, run_flat};
-use observables::Answer;
 use household::{Row, values};
 use m_places::Seq;
+use observables::Answer;
 use std::alloc::{AllocError, Global};
 use std::thread::Threads;
 

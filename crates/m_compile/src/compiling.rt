@@ -16,16 +16,16 @@ ghost use Rattle.m_compile.specs.declared.fault.SourceFault.TheVariants.{Memory}
 
 use crate::SourceFault;
 use crate::face::face_of;
-use driver_core::Core;
 use dead_rules::tidy;
+use driver_core::Core;
 use flat_code::Tidy;
-use observables::Face;
 use m_places::Seq;
 use m_requests::read_requests;
 use m_symbols::Symbols;
 use mpp_core::{plain_driver, resolve_driver};
 use mpp_inline::inline;
 use mpp_parser::parse_driver;
+use observables::Face;
 use rule_base::{RuleBase, rule_base};
 use rule_text::Source;
 use std::alloc::{AllocError, Global};

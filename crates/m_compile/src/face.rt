@@ -45,11 +45,7 @@ fn inputs_of(alloc: Global, symbols: &Symbols) -> Result<Seq<Coded>, AllocError>
 }
 
 // Adds a variable, if it is an input.
-fn add_input(
-    alloc: Global,
-    variable: &Variable,
-    inputs: &mut Vec<Coded>,
-) -> Result<(), AllocError>
+fn add_input(alloc: Global, variable: &Variable, inputs: &mut Vec<Coded>) -> Result<(), AllocError>
     ensures { OnOk result (inputs.new.items ≡ inputs.old.items ++ cons_option (option_map input_said (code_of variable.now)) []) }
 {
     match &variable.item.role {

@@ -12,12 +12,12 @@ ghost use Rattle.mpp_inline.specs.inner.Sizes.{load};
 use crate::builder::{Builder, UNDEF};
 use crate::cells::look;
 use flat_code::Node;
-use observables::FaceLabel;
 use m_ast::Role;
 use m_fixed::{Amount, Value};
 use m_places::Label;
 use m_symbols::Symbols;
 use micro_m::Base;
+use observables::FaceLabel;
 use std::alloc::{AllocError, Global};
 
 /// The three literals, and the labels of the rules.

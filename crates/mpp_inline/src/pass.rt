@@ -23,10 +23,10 @@ use crate::ruleless::{is_ruleless, without_rules};
 use driver_core::Core;
 use driver_weight::weight;
 use flat_code::Flat;
-use observables::FaceLabel;
 use m_places::Seq;
 use m_places::limits::DRIVER_WEIGHT;
 use m_symbols::Symbols;
+use observables::FaceLabel;
 use rule_order::Ordered;
 use std::alloc::{AllocError, Global};
 

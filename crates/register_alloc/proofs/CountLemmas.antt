@@ -91,7 +91,6 @@ below-width flat q (suc n) lt =
 pub held-width : (flat : Flat) (q : ℕ) → q < length flat.nodes → count_below (is_held flat q) (length flat.nodes) ≤ width_of flat
 held-width flat q lt = below-width flat q (length flat.nodes) lt
 
-
 count-least : (test : ℕ → Bool) (n : ℕ) → count_below test n ≤ n
 count-least test zero = omega arith
 count-least test (suc n) = one (test n) (count-least test n)

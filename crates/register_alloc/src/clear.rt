@@ -12,7 +12,12 @@ use flat_code::{Check, Node};
 use std::alloc::AllocError;
 
 /// Takes a node's arguments that are dead at this moment out of the slots.
-pub fn clear_arguments(slots: &mut Slots, flat: &Task, at: Moment, node: Node) -> Result<(), AllocError>
+pub fn clear_arguments(
+    slots: &mut Slots,
+    flat: &Task,
+    at: Moment,
+    node: Node,
+) -> Result<(), AllocError>
     requires { at.made ≤ length flat.now.nodes }
     ensures cleared { OnOk result (Cleared (λ x. reads x node) (live_at flat.now at) (look slots.old) (look slots.new)) }
     ensures len { OnOk result (length slots.new ≡ length slots.old) }
@@ -29,7 +34,12 @@ pub fn clear_arguments(slots: &mut Slots, flat: &Task, at: Moment, node: Node) -
 }
 
 /// Takes what a check read and is dead at this moment out of the slots.
-pub fn clear_tested(slots: &mut Slots, flat: &Task, at: Moment, check: Check) -> Result<(), AllocError>
+pub fn clear_tested(
+    slots: &mut Slots,
+    flat: &Task,
+    at: Moment,
+    check: Check,
+) -> Result<(), AllocError>
     requires { at.made ≤ length flat.now.nodes }
     ensures cleared { OnOk result (Cleared (λ x. check_reads x check) (live_at flat.now at) (look slots.old) (look slots.new)) }
     ensures len { OnOk result (length slots.new ≡ length slots.old) }

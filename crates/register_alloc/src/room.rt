@@ -228,8 +228,7 @@ impl Room {
             }),
             Node::Do(op, a, b, c) => {
                 let first = self.fetch(flat, at, a as usize, REGISTERS, REGISTERS)?;
-                let second =
-                    self.fetch_if(flat, at, arity(op) > 1, b as usize, first, REGISTERS)?;
+                let second = self.fetch_if(flat, at, arity(op) > 1, b as usize, first, REGISTERS)?;
                 let third = self.fetch_if(flat, at, arity(op) > 2, c as usize, first, second)?;
                 Ok(Sources {
                     first,
@@ -287,13 +286,7 @@ impl Room {
     }
 
     /// Gives the outputs that are the node of this register.
-    fn give(
-        &mut self,
-        flat: &Task,
-        at: Moment,
-        node: usize,
-        register: u8,
-    ) -> Result<(), AllocError>
+    fn give(&mut self, flat: &Task, at: Moment, node: usize, register: u8) -> Result<(), AllocError>
         requires sound { IsSoundWith flat.now at (given_before node flat.now.outputs) self.old }
         requires made { at.made ≡ suc node }
         requires here { look self.old.registers register ≡ Some node }
@@ -357,8 +350,7 @@ impl Room {
     {
         let guard = self.fetch(flat, at, check.guard as usize, REGISTERS, REGISTERS)?;
         let condition = self.fetch(flat, at, check.condition as usize, guard, REGISTERS)?;
-        self.code
-            .add(Instr::Check(guard, condition, check.over_only, check.label))?;
+        self.code.add(Instr::Check(guard, condition, check.over_only, check.label))?;
         let next = Moment {
             made: at.made,
             read: at.read,

@@ -98,7 +98,7 @@ abbrev pub HasSources : (ℕ → Option ℕ) → Node → Sources → Type 0
 HasSources r (Input n) s = Unit {0}
 HasSources r (Lit v) s = Unit {0}
 HasSources r (Do op a b c) s = (r s.first ≡ Some a) × (r s.second ≡ Some b) × (r s.third ≡ Some c)
-  × (s.first < REGISTERS) × (s.second < REGISTERS) × (s.third < REGISTERS) × (repeats_first op s.first s.second s.third ≡ true)
+    × (s.first < REGISTERS) × (s.second < REGISTERS) × (s.third < REGISTERS) × (repeats_first op s.first s.second s.third ≡ true)
 
 -- the instruction that makes a node in register k
 abbrev pub instr_of : Node → ℕ → Sources → Instr

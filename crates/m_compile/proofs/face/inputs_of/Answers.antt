@@ -29,5 +29,5 @@ returns c =
     c.from_vec.ensures
     ∙ c.loop-number.invariant
     ∙ ap (λ (vs : List Variable). filter_map (λ v. option_map input_said (code_of v)) vs)
-        (take_all c.loop-number.number c.args.symbols.now.variables (omega (arith, c.loop-number-test.false, c.count-number-end.ensures)))
+    (take_all c.loop-number.number c.args.symbols.now.variables (omega (arith, c.loop-number-test.false, c.count-number-end.ensures)))
     ∙ said c.args.symbols.now.variables
