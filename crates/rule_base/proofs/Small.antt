@@ -28,13 +28,14 @@ use Rattle.micro_m.specs.declared.base.Base.{Base}
 use Rattle.micro_m.specs.Trees.{Tree}
 use Rattle.m_resolve.specs.declared.fault.ResolveFault.{ResolveFault}
 use Rattle.m_resolve.specs.Terms.{if_said, term_said}
-use Rattle.m_resolve.specs.Bases.{Checks, CellDefinition, error_named, label_said, with_condition, conditions_said, definitions_said, base_with, resolved}
+use Rattle.micro_m.specs.Bases.{Definition as CellDefinition}
+use Rattle.m_resolve.specs.Bases.{Checks, error_named, label_said, with_condition, conditions_said, definitions_said, base_with, resolved}
 use Rattle.rule_base.specs.Base.{IsBaseOf}
 
 -- ---- cells
 
 -- the cells of the variables among items
-cells_in_items : List Item → ℕ
+abbrev cells_in_items : List Item → ℕ
 cells_in_items [] = 0
 cells_in_items (Variable v ∷ items) = variable_cells v + cells_in_items items
 cells_in_items (Rule r ∷ items) = cells_in_items items
@@ -55,7 +56,7 @@ owned n m (Error e ∷ items) = owned n m items
 owned n m (Silent p ∷ items) = owned n m items
 
 cells-more : (items others : List Item) → cells_in_items (items ++ others) ≡ cells_in_items items + cells_in_items others
-cells-more [] others = refl
+cells-more [] others = omega arith
 cells-more (Variable v ∷ items) others = omega (arith, cells-more items others)
 cells-more (Rule r ∷ items) others = cells-more items others
 cells-more (Verif v ∷ items) others = cells-more items others
@@ -103,11 +104,11 @@ labels-are : (declared : Declared) (before said : Checks) (conditions : List Con
 labels-are declared before said [] e =
     let same : before ≡ said = cc in
     omega (arith, ap (λ (c : Checks). length c.1) same)
-labels-are declared before said (condition ∷ conditions) e = by (with_condition declared before condition) refl e
+labels-are declared before said (condition ∷ conditions) e = by (with_condition declared before condition) refl (λ next h. labels-are declared next said conditions h) e
   where
-    by : (r : Result Checks ResolveFault) → with_condition declared before condition ≡ r → if_said (λ next. conditions_said declared next conditions) r ≡ Ok said → length said.1 ≡ length before.1 + length (condition ∷ conditions)
-    by (Err f) is h = absurd (cc)
-    by (Ok next) is h = omega (arith, label-more declared before next condition is, labels-are declared next said conditions h)
+    by : (r : Result Checks ResolveFault) → with_condition declared before condition ≡ r → ((next : Checks) → conditions_said declared next conditions ≡ Ok said → length said.1 ≡ length next.1 + length conditions) → if_said (λ next. conditions_said declared next conditions) r ≡ Ok said → length said.1 ≡ length before.1 + length (condition ∷ conditions)
+    by (Err f) is rest h = absurd (cc)
+    by (Ok next) is rest h = omega (arith, label-more declared before next condition is, rest next h)
 
 base-labels : (declared : Declared) (conditions : List Condition) (d : Result (List CellDefinition) ResolveFault) (c : Result Checks ResolveFault) (base : Base) → conditions_said declared ([], []) conditions ≡ c → if_said (λ definitions. if_said (λ checks. Ok (base_with declared definitions checks)) c) d ≡ Ok base → length base.labels ≡ length conditions
 base-labels declared conditions (Err f) c base is e = absurd (cc)
