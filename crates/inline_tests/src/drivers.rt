@@ -229,6 +229,7 @@ fn core(alloc: Global, driver: u32) -> Result<Core, AllocError> {
     })
 }
 
+#[tactic(auto, using(crate::proofs::Placing::placed))]
 fn found(alloc: Global, driver: u32, a: Value) -> Result<Told, AllocError> {
     let all = items(alloc)?;
     let Ok(symbols) = declare(alloc, &all) else {
@@ -367,6 +368,7 @@ fn many_rules(alloc: Global) -> Result<Core, AllocError> {
 }
 
 // What it tells of C for this value of A.
+#[tactic(auto, using(crate::proofs::Placing::placed))]
 fn many_told(alloc: Global, a: Value) -> Result<Told, AllocError> {
     let all = items(alloc)?;
     let Ok(symbols) = declare(alloc, &all) else {
