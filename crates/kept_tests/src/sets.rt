@@ -9,7 +9,8 @@ use std::test::Fail;
 fn empty(alloc: Global, count: u32) -> Result<Bits, AllocError>
     ensures { IfOk result (λ set. length set ≡ count) }
 {
-    Bits::new(alloc, count)
+    let set = Bits::new(alloc, count)?;
+    Ok(set)
 }
 
 // Makes a number a member.

@@ -59,7 +59,8 @@ fn tidied(alloc: Global) -> Result<Tidy, AllocError>
     ensures { IfOk result (λ tidy. (tidy.inputs ≡ 2) × (length tidy.nodes ≤ 7) × (length tidy.outputs ≡ 2)) }
 {
     let flat = program(alloc)?;
-    tidy(alloc, &flat)
+    let form = tidy(alloc, &flat)?;
+    Ok(form)
 }
 
 // Whether what a sheet tells of its program's answers is right, from one settle to the next.

@@ -66,7 +66,8 @@ fn tidied(alloc: Global) -> Result<Tidy, AllocError>
     ensures labels { IfOk result (λ tidy. AllByRecursion (λ check. check.label < 1) tidy.checks) }
 {
     let flat = program(alloc)?;
-    tidy(alloc, &flat)
+    let form = tidy(alloc, &flat)?;
+    Ok(form)
 }
 
 // The list of the name IRN.
