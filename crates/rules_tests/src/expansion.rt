@@ -1,12 +1,13 @@
 //! Rules and verifications without loops, shown as texts, and faults of loops with their places.
-ghost use Rattle.std.specs.Prelude.{◌≤◌, length};
+ghost use Rattle.std.specs.Prelude.{◌≤◌, IfSome, length};
+ghost use Rattle.plain_rules.specs.Plain.{TablesHaveCells};
 
 use index_expand::{ExpandFault, expand};
-use m_ast::Slot;
+use m_ast::{Item, Slot};
 use m_fixed::Value;
 use m_items::parse;
 use m_lexer::lex;
-use m_symbols::declare;
+use m_symbols::{Symbols, declare};
 use plain_rules::{Condition, Definition, PNode, PTerm, Plain};
 use std::alloc::{AllocError, Global};
 use std::test::Fail;
@@ -241,6 +242,16 @@ fn source(alloc: Global, formulas: &[u8]) -> Result<Vec<u8>, AllocError> {
     Ok(text)
 }
 
+// What items declare, if they have no fault.
+fn declared(alloc: Global, items: &[Item]) -> Option<Symbols>
+    ensures { IfSome result TablesHaveCells }
+{
+    match declare(alloc, items) {
+        Ok(symbols) => Some(symbols),
+        Err(_) => None,
+    }
+}
+
 fn answer(alloc: Global, text: &[u8]) -> Result<Vec<u8>, Fail>
     requires { length text.now ≤ 4096 }
 {
@@ -248,7 +259,7 @@ fn answer(alloc: Global, text: &[u8]) -> Result<Vec<u8>, Fail>
     let Ok(items) = parse(alloc, &tokens) else {
         return Ok(Vec::from_slice(alloc, b"no items")?);
     };
-    let Ok(symbols) = declare(alloc, items.as_slice()) else {
+    let Some(symbols) = declared(alloc, items.as_slice()) else {
         return Ok(Vec::from_slice(alloc, b"not declared")?);
     };
     match expand(alloc, items.as_slice(), b"iliad", &symbols) {
