@@ -1,0 +1,13 @@
+use Rattle.std.proofs.Common.{◌≡◌, List, [], ◌∷◌, length, refl, arith}
+use Rattle.m_names.specs.Names.{AreDistinct}
+use Rattle.observables.specs.declared.inputs.Coded.{Coded}
+use Rattle.observables.specs.Inputs.{codes_of}
+use Rattle.session_tests.proofs.sessions.codes.Goals as goal
+
+one_is_distinct : (inputs : List Coded) → length inputs ≡ 1 → AreDistinct (codes_of inputs)
+one_is_distinct [] h = absurd (omega arith)
+one_is_distinct (input ∷ []) h = (refl, tt)
+one_is_distinct (input ∷ another ∷ inputs) h = absurd (omega arith)
+
+pub new-requires : goal.new-requires
+new-requires c = one_is_distinct c.args.inputs.now c.requires
