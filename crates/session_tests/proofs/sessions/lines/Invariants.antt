@@ -1,4 +1,4 @@
 use Rattle.session_tests.proofs.sessions.lines.Given as goal
 
 abbrev pub ghosts-check_lines : goal.ghosts-check_lines
-ghosts-check_lines g a = record { name = a.blank.name; parts = a.blank.parts }
+ghosts-check_lines a = record { name = a.blank.name; parts = a.blank.parts }
