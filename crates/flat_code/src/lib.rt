@@ -12,5 +12,5 @@ pub mod touched;
 
 pub use laws::{facts_hold, passes_compose};
 pub use program::{Check, Flat, Node};
-pub use run::{run_flat, stop_among, value_of};
+pub use run::{is_one, run_flat, stop_among, stop_at, value_of, values_of};
 pub use tidy::Tidy;

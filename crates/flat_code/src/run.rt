@@ -1,8 +1,8 @@
 //! A flat program's run.
-ghost use Rattle.std.specs.Prelude.{◌≡◌, ◌<◌, length, map, IfOk};
+ghost use Rattle.std.specs.Prelude.{◌≡◌, ◌<◌, length, map, IfOk, None, if◌then◌else◌};
 ghost use Rattle.std.specs.List.{AllByRecursion};
 ghost use Rattle.m_fixed.specs.declared.amount.Value.{Value};
-ghost use Rattle.flat_code.specs.Runs.{IsFlat, IsNode, AreNodes, IsCheck, entry_of, values_for, node_values, value_at, is_one, stop_of, check_stop, first_stop, flat_run};
+ghost use Rattle.flat_code.specs.Runs.{IsFlat, IsNode, AreNodes, IsCheck, entry_of, values_for, node_values, value_at, is_one, stop_of, first_stop, flat_run};
 
 use crate::{Check, Flat, Node};
 use m_fixed::{Amount, Value, apply};
@@ -30,12 +30,12 @@ pub fn run_flat(alloc: Global, flat: &Flat, inputs: &[Value]) -> Result<Answer, 
     }
 }
 
-// The values of all nodes.
-fn values_of(alloc: Global, nodes: &[Node], inputs: &[Value]) -> Result<Vec<Value>, AllocError>
+/// The values of all nodes, in a list that has room for these alone. Its only error is want of memory.
+pub fn values_of(alloc: Global, nodes: &[Node], inputs: &[Value]) -> Result<Vec<Value>, AllocError>
     requires { AreNodes (length inputs.now) 0 nodes.now }
     ensures { IfOk result (λ values. values.items ≡ node_values inputs.now nodes.now) }
 {
-    let mut values = Vec::new(alloc);
+    let mut values = Vec::with_capacity(alloc, nodes.len())?;
     for node in nodes {
         let value = value_of(*node, &values, inputs);
         values.push(value)?;
@@ -66,34 +66,33 @@ pub fn stop_among(checks: &[Check], values: &[Value]) -> Option<Stop>
     ensures { result ≡ first_stop values.now checks.now }
 {
     for check in checks {
-        if let Some(stop) = stop_at(*check, values) {
+        let guard = values[check.guard as usize];
+        let condition = values[check.condition as usize];
+        if let Some(stop) = stop_at(guard, check.over_only, check.label, condition) {
             return Some(stop);
         }
     }
     None
 }
 
-fn stop_at(check: Check, values: &[Value]) -> Option<Stop>
-    requires { IsCheck (length values.now) check }
-    ensures { result ≡ check_stop values.now check }
+/// What ends a run at a check whose guard and condition have these values. It takes no memory.
+pub fn stop_at(guard: Value, over_only: bool, label: u32, condition: Value) -> Option<Stop>
+    ensures { result ≡ (if is_one guard then stop_of over_only label condition else None) }
 {
-    if !is_one(values[check.guard as usize]) {
-        return None;
+    if is_one(guard) {
+        stop_of(over_only, label, condition)
+    } else {
+        None
     }
-    stop_of(
-        check.over_only,
-        check.label,
-        values[check.condition as usize],
-    )
 }
 
-fn is_one(value: Value) -> bool
+/// Whether a value is the number 1.
+pub fn is_one(value: Value) -> bool
     ensures { result ≡ is_one value }
 {
     match value {
-        Value::Undef => false,
         Value::Num(amount) => amount.millionths() == 1_000_000,
-        Value::Over => false,
+        Value::Undef | Value::Over => false,
     }
 }
 

@@ -1,15 +1,15 @@
 //! The registers, slots and outputs of a run.
-ghost use Rattle.std.specs.Prelude.{◌≡◌, length, replicate, map, IfOk, None, if◌then◌else◌};
+ghost use Rattle.std.specs.Prelude.{◌≡◌, length, replicate, map, IfOk};
 ghost use Rattle.std.specs.List.{AllByRecursion};
-ghost use Rattle.m_fixed.specs.declared.amount.Value.TheVariants.{Undef, Num};
-ghost use Rattle.flat_code.specs.Runs.{is_one, stop_of};
+ghost use Rattle.m_fixed.specs.declared.amount.Value.TheVariants.{Undef};
 ghost use Rattle.reg_machine.specs.Machine.{fresh, answer_of, answer_behind};
 ghost use Rattle.reg_machine.specs.inner.Packed.{IsPacked, AreDistinct, unpacked};
 ghost use Rattle.reg_machine.specs.inner.Cells.{registers_behind, slots_behind, outputs_behind, stop_behind, Mirrors};
 
 use crate::code::Packed;
 use crate::instr::REGISTERS;
-use m_fixed::{Amount, Value, apply};
+use flat_code::stop_at;
+use m_fixed::{Value, apply};
 use observables::Stop;
 use std::alloc::{AllocError, Global};
 
@@ -27,48 +27,6 @@ fn clear(values: &mut [Value])
 {
     for value in values.iter_mut() {
         *value = Value::Undef;
-    }
-}
-
-// Whether a value is the number 1.
-fn is_one(value: Value) -> bool
-    ensures { result ≡ is_one value }
-{
-    match value {
-        Value::Num(amount) => amount.millionths() == 1_000_000,
-        Value::Undef | Value::Over => false,
-    }
-}
-
-// What ends a run at a condition with this value.
-fn stop_of(over_only: bool, label: u32, value: Value) -> Option<Stop>
-    ensures { result ≡ stop_of over_only label value }
-{
-    match value {
-        Value::Undef => None,
-        Value::Num(amount) => failure_of(over_only, label, amount),
-        Value::Over => Some(Stop::Over(label)),
-    }
-}
-
-fn failure_of(over_only: bool, label: u32, amount: Amount) -> Option<Stop>
-    ensures { result ≡ stop_of over_only label (Num amount) }
-{
-    if over_only || amount.millionths() == 0 {
-        None
-    } else {
-        Some(Stop::Failed(label))
-    }
-}
-
-// What ends a run at a check with these values.
-fn stop_at(guard: Value, over_only: bool, label: u32, condition: Value) -> Option<Stop>
-    ensures { result ≡ (if is_one guard then stop_of over_only label condition else None) }
-{
-    if is_one(guard) {
-        stop_of(over_only, label, condition)
-    } else {
-        None
     }
 }
 

@@ -1,30 +1,12 @@
-//! What a sheet is made from: the first values, and which nodes read which.
+//! What a sheet is made from: which nodes read which.
 ghost use Rattle.std.specs.Prelude.{◌≡◌, ◌*◌, ◌<◌, IfOk, length, map};
 ghost use Rattle.std.specs.List.{flat_map};
-ghost use Rattle.flat_code.specs.Runs.{AreNodes, node_values};
 ghost use Rattle.value_sheet.specs.inner.Readers.{argument_sources, input_source, IsReaders, IsInputRows};
 
 use edge_rows::Rows;
-use flat_code::{Node, value_of};
-use m_fixed::{Value, arity};
+use flat_code::Node;
+use m_fixed::arity;
 use std::alloc::{AllocError, Global};
-
-/// The values of all nodes.
-pub(crate) fn values_of(
-    alloc: Global,
-    nodes: &[Node],
-    inputs: &[Value],
-) -> Result<Vec<Value>, AllocError>
-    requires { AreNodes (length inputs.now) 0 nodes.now }
-    ensures { IfOk result (λ values. values.items ≡ node_values inputs.now nodes.now) }
-{
-    let mut values = Vec::with_capacity(alloc, nodes.len())?;
-    for node in nodes {
-        let value = value_of(*node, &values, inputs);
-        values.push(value)?;
-    }
-    Ok(values)
-}
 
 /// For each node the nodes that look at it.
 pub(crate) fn readers_of(alloc: Global, nodes: &[Node]) -> Result<Rows, AllocError>

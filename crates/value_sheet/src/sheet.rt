@@ -5,12 +5,12 @@ ghost use Rattle.flat_code.specs.Runs.{first_stop, node_values, value_at};
 ghost use Rattle.flat_code.specs.Touched.{touched};
 ghost use Rattle.value_sheet.specs.Held.{fresh, output_value};
 
-use crate::build::{input_rows_of, readers_of, values_of};
+use crate::build::{input_rows_of, readers_of};
 use crate::program::{checks_of, inputs_of, nodes_of, outputs_of};
 use crate::settle::settle_all;
 use dirty_set::Bits;
 use edge_rows::Rows;
-use flat_code::{Tidy, stop_among};
+use flat_code::{Tidy, stop_among, values_of};
 use m_fixed::Value;
 use observables::Stop;
 use std::alloc::{AllocError, Global};
