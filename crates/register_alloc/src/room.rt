@@ -56,6 +56,31 @@ impl Room {
         None
     }
 
+    /// Where the node of a register is read by a node for the last time, or 0.
+    fn last_read(&self, flat: &Task, register: u8) -> usize
+        requires { register < REGISTERS }
+    {
+        match self.registers[register as usize] {
+            Some(x) => flat.last_read(x),
+            None => 0,
+        }
+    }
+
+    /// A register other than these two: the one whose node is read last, since the others are needed before it.
+    fn victim(&self, flat: &Task, one: u8, two: u8) -> u8
+        ensures within { result < REGISTERS }
+        ensures one { result ≡ one → ⊥ }
+        ensures two { result ≡ two → ⊥ }
+    {
+        let mut latest = other_than(one, two);
+        for i in 0..REGISTERS {
+            if i != one && i != two && self.last_read(flat, i) > self.last_read(flat, latest) {
+                latest = i;
+            }
+        }
+        latest
+    }
+
     /// Stores the node of a register, unless it is in a slot.
     fn spill(&mut self, flat: &Task, at: Moment, register: u8) -> Result<(), AllocError>
         requires sound { IsSound flat.now at self.old }
@@ -103,7 +128,7 @@ impl Room {
         match self.idle(flat, at) {
             Some(register) => Ok(register),
             None => {
-                let register = other_than(one, two);
+                let register = self.victim(flat, one, two);
                 self.spill(flat, at, register)?;
                 Ok(register)
             }

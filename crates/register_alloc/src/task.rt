@@ -183,6 +183,14 @@ impl<'a> Task<'a> {
         ready(self.flat, at)
     }
 
+    /// The place behind the last one at which a node is read by a node, or 0. A hint: nothing is promised of it.
+    pub fn last_read(&self, x: usize) -> usize {
+        match self.by_node.get(x) {
+            Some(place) => *place,
+            None => 0,
+        }
+    }
+
     /// Whether a node is still to be read.
     pub fn is_live(&self, at: Moment, x: usize) -> bool
         requires { at.made ≤ length self.now.nodes }
