@@ -7,6 +7,7 @@ ghost use Rattle.flat_code.specs.Tidy.{IsFolded};
 ghost use Rattle.fold_terms.specs.Drafts.{Draft, Grows, StandsFor};
 ghost use Rattle.fold_terms.specs.inner.Built.{IsBuilt, Longer};
 
+use crate::known::KnownFacts;
 use crate::parts::{Parts, opened};
 use crate::simple::normalised;
 use common_terms::{Key, NodeTable};
@@ -36,12 +37,12 @@ fn literal_fact(value: &Value) -> Fact
 impl Parts {
     // A node with the value of this one.
     fn push(&mut self, node: Node) -> Result<u32, AllocError>
-        requires built { IsBuilt self.old.inputs self.old.nodes.items self.old.facts.items }
+        requires built { IsBuilt self.old.inputs self.old.nodes.items self.old.facts }
         requires shared { self.old.table ≡ self.old.nodes.items }
         requires room { length self.old.nodes.items < 4_294_967_295 }
         requires node { IsNode self.old.inputs (length self.old.nodes.items) node }
         ensures inputs { self.new.inputs ≡ self.old.inputs }
-        ensures built { IsBuilt self.old.inputs self.new.nodes.items self.new.facts.items }
+        ensures built { IsBuilt self.old.inputs self.new.nodes.items self.new.facts }
         ensures shared { self.new.table ≡ self.new.nodes.items }
         ensures grows { Longer self.old.nodes.items self.new.nodes.items }
         ensures err { OnErr result (self.new.nodes.items ≡ self.old.nodes.items) }
@@ -76,7 +77,7 @@ impl Model for Builder {
 
     ghost view = { λ b. record { inputs = b.parts.inputs; nodes = b.parts.nodes.items } };
 
-    ghost invariant = { λ b. IsBuilt b.parts.inputs b.parts.nodes.items b.parts.facts.items × (b.parts.table ≡ b.parts.nodes.items) };
+    ghost invariant = { λ b. IsBuilt b.parts.inputs b.parts.nodes.items b.parts.facts × (b.parts.table ≡ b.parts.nodes.items) };
 }
 
 impl Builder {
@@ -90,7 +91,7 @@ impl Builder {
             parts: Parts {
                 inputs,
                 nodes: Vec::new(alloc),
-                facts: Vec::new(alloc),
+                facts: KnownFacts::new(alloc),
                 table: NodeTable::new(alloc),
             },
         }
@@ -104,7 +105,7 @@ impl Builder {
             parts: Parts {
                 inputs,
                 nodes: Vec::new(alloc),
-                facts: Vec::new(alloc),
+                facts: KnownFacts::new(alloc),
                 table: NodeTable::under(alloc, key),
             },
         }

@@ -15,7 +15,7 @@ use m_fixed::Op;
 impl Parts {
     // A sum with 0.
     fn simple_sum(&self, a: u32, b: u32, c: u32) -> Option<u32>
-        requires built { IsBuilt self.now.inputs self.now.nodes.items self.now.facts.items }
+        requires built { IsBuilt self.now.inputs self.now.nodes.items self.now.facts }
         requires node { IsNode self.now.inputs (length self.now.nodes.items) (Node.Do Op.Add a b c) }
         ensures some { IfSome result (StandsFor self.now.nodes.items (Node.Do Op.Add a b c)) }
         ensures none { IfNone result (has_form self.now.nodes.items (Node.Do Op.Add a b c) ≡ false) }
@@ -31,7 +31,7 @@ impl Parts {
 
     // A difference of which 0 is taken.
     fn simple_difference(&self, a: u32, b: u32, c: u32) -> Option<u32>
-        requires built { IsBuilt self.now.inputs self.now.nodes.items self.now.facts.items }
+        requires built { IsBuilt self.now.inputs self.now.nodes.items self.now.facts }
         requires node { IsNode self.now.inputs (length self.now.nodes.items) (Node.Do Op.Sub a b c) }
         ensures some { IfSome result (StandsFor self.now.nodes.items (Node.Do Op.Sub a b c)) }
         ensures none { IfNone result (has_form self.now.nodes.items (Node.Do Op.Sub a b c) ≡ false) }
@@ -44,7 +44,7 @@ impl Parts {
 
     // A product with 1.
     fn simple_product(&self, a: u32, b: u32, c: u32) -> Option<u32>
-        requires built { IsBuilt self.now.inputs self.now.nodes.items self.now.facts.items }
+        requires built { IsBuilt self.now.inputs self.now.nodes.items self.now.facts }
         requires node { IsNode self.now.inputs (length self.now.nodes.items) (Node.Do Op.Mul a b c) }
         ensures some { IfSome result (StandsFor self.now.nodes.items (Node.Do Op.Mul a b c)) }
         ensures none { IfNone result (has_form self.now.nodes.items (Node.Do Op.Mul a b c) ≡ false) }
@@ -60,7 +60,7 @@ impl Parts {
 
     // The opposite of an opposite.
     fn simple_opposite(&self, a: u32, b: u32, c: u32) -> Option<u32>
-        requires built { IsBuilt self.now.inputs self.now.nodes.items self.now.facts.items }
+        requires built { IsBuilt self.now.inputs self.now.nodes.items self.now.facts }
         requires node { IsNode self.now.inputs (length self.now.nodes.items) (Node.Do Op.Neg a b c) }
         ensures some { IfSome result (StandsFor self.now.nodes.items (Node.Do Op.Neg a b c)) }
         ensures none { IfNone result (has_form self.now.nodes.items (Node.Do Op.Neg a b c) ≡ false) }
@@ -70,7 +70,7 @@ impl Parts {
 
     // The truth of a test that is a number.
     fn simple_truth(&self, a: u32, b: u32, c: u32) -> Option<u32>
-        requires built { IsBuilt self.now.inputs self.now.nodes.items self.now.facts.items }
+        requires built { IsBuilt self.now.inputs self.now.nodes.items self.now.facts }
         requires node { IsNode self.now.inputs (length self.now.nodes.items) (Node.Do Op.Truth a b c) }
         ensures some { IfSome result (StandsFor self.now.nodes.items (Node.Do Op.Truth a b c)) }
         ensures none { IfNone result (has_form self.now.nodes.items (Node.Do Op.Truth a b c) ≡ false) }
@@ -83,7 +83,7 @@ impl Parts {
 
     // A choice that is decided.
     fn simple_choice(&self, a: u32, b: u32, c: u32) -> Option<u32>
-        requires built { IsBuilt self.now.inputs self.now.nodes.items self.now.facts.items }
+        requires built { IsBuilt self.now.inputs self.now.nodes.items self.now.facts }
         requires node { IsNode self.now.inputs (length self.now.nodes.items) (Node.Do Op.Choose a b c) }
         ensures some { IfSome result (StandsFor self.now.nodes.items (Node.Do Op.Choose a b c)) }
         ensures none { IfNone result (has_form self.now.nodes.items (Node.Do Op.Choose a b c) ≡ false) }
@@ -99,7 +99,7 @@ impl Parts {
 
     // A node with the value of an operator's node that is to be folded.
     fn simple_operator(&self, op: Op, a: u32, b: u32, c: u32) -> Option<u32>
-        requires built { IsBuilt self.now.inputs self.now.nodes.items self.now.facts.items }
+        requires built { IsBuilt self.now.inputs self.now.nodes.items self.now.facts }
         requires node { IsNode self.now.inputs (length self.now.nodes.items) (Node.Do op a b c) }
         ensures some { IfSome result (StandsFor self.now.nodes.items (Node.Do op a b c)) }
         ensures none { IfNone result (has_form self.now.nodes.items (Node.Do op a b c) ≡ false) }
@@ -117,7 +117,7 @@ impl Parts {
 
     /// A node with the value of one that is to be folded.
     pub fn simple(&self, node: &Node) -> Option<u32>
-        requires built { IsBuilt self.now.inputs self.now.nodes.items self.now.facts.items }
+        requires built { IsBuilt self.now.inputs self.now.nodes.items self.now.facts }
         requires node { IsNode self.now.inputs (length self.now.nodes.items) node.now }
         ensures some { IfSome result (StandsFor self.now.nodes.items node.now) }
         ensures none { IfNone result (has_form self.now.nodes.items node.now ≡ false) }

@@ -6,6 +6,7 @@
 
 mod build;
 mod forms;
+mod known;
 mod parts;
 mod simple;
 

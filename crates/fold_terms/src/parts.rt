@@ -8,6 +8,7 @@ ghost use Rattle.flat_code.specs.Tidy.{IsNormal, IsOpen, has_form};
 ghost use Rattle.common_terms.specs.Numbers.{IsEntered};
 ghost use Rattle.fold_terms.specs.inner.Built.{IsBuilt, Longer, Extends};
 
+use crate::known::KnownFacts;
 use common_terms::NodeTable;
 use definedness::{Fact, fact_of, fact_of_input, fact_of_value};
 use flat_code::Node;
@@ -18,7 +19,7 @@ use std::alloc::AllocError;
 pub struct Parts {
     pub inputs: u32,
     pub nodes: Vec<Node>,
-    pub facts: Vec<Fact>,
+    pub facts: KnownFacts,
     pub table: NodeTable,
 }
 
@@ -51,16 +52,16 @@ impl Parts {
 
     /// What is known of a node.
     pub fn fact_at(&self, k: u32) -> Fact
-        requires built { IsBuilt self.now.inputs self.now.nodes.items self.now.facts.items }
+        requires built { IsBuilt self.now.inputs self.now.nodes.items self.now.facts }
         requires within { k < length self.now.nodes.items }
         ensures { result ≡ entry_at facts self.now.nodes.items k }
     {
-        self.facts[k as usize]
+        self.facts.at(k)
     }
 
     /// What is known of a new node.
     pub fn fact_of_node(&self, node: &Node) -> Fact
-        requires built { IsBuilt self.now.inputs self.now.nodes.items self.now.facts.items }
+        requires built { IsBuilt self.now.inputs self.now.nodes.items self.now.facts }
         requires node { IsNode self.now.inputs (length self.now.nodes.items) node.now }
         ensures is { result ≡ entry_of facts (entries_of facts self.now.nodes.items) node.now }
         ensures fact { IsFact result }
@@ -80,14 +81,14 @@ impl Parts {
         requires room { length self.old.table < 4_294_967_295 }
         ensures inputs { self.new.inputs ≡ self.old.inputs }
         ensures nodes { Extends self.old.nodes.items self.new.nodes.items node }
-        ensures facts { Extends self.old.facts.items self.new.facts.items fact }
+        ensures facts { Extends self.old.facts self.new.facts fact }
         ensures all_nodes { OnOk result (self.new.nodes.items ≡ self.old.nodes.items ++ node ∷ []) }
-        ensures all_facts { OnOk result (self.new.facts.items ≡ self.old.facts.items ++ fact ∷ []) }
+        ensures all_facts { OnOk result (self.new.facts ≡ self.old.facts ++ fact ∷ []) }
         ensures entered { IfOk result (IsEntered self.old.table self.new.table node) }
         ensures same { OnErr result (self.new.table ≡ self.old.table) }
     {
         append(&mut self.nodes, &node)?;
-        append(&mut self.facts, &fact)?;
+        self.facts.push(fact)?;
         self.table.find_or_add(node)
     }
 
@@ -95,7 +96,7 @@ impl Parts {
     fn cut(&mut self)
         ensures inputs { self.new.inputs ≡ self.old.inputs }
         ensures nodes { self.new.nodes.items ≡ take (length self.old.table) self.old.nodes.items }
-        ensures facts { self.new.facts.items ≡ take (length self.old.table) self.old.facts.items }
+        ensures facts { self.new.facts ≡ take (length self.old.table) self.old.facts }
         ensures table { self.new.table ≡ self.old.table }
     {
         let count = self.table.count() as usize;
@@ -105,7 +106,7 @@ impl Parts {
 
     /// The number of the equal node that is there, or else of this node, which is added.
     pub fn enter(&mut self, node: Node, fact: Fact) -> Result<u32, AllocError>
-        requires built { IsBuilt self.old.inputs self.old.nodes.items self.old.facts.items }
+        requires built { IsBuilt self.old.inputs self.old.nodes.items self.old.facts }
         requires shared { self.old.table ≡ self.old.nodes.items }
         requires room { length self.old.nodes.items < 4_294_967_295 }
         requires node { IsNode self.old.inputs (length self.old.nodes.items) node }
@@ -115,7 +116,7 @@ impl Parts {
         requires unfixed { IsOpen node fact }
         requires formless { has_form self.old.nodes.items node ≡ false }
         ensures inputs { self.new.inputs ≡ self.old.inputs }
-        ensures built { IsBuilt self.old.inputs self.new.nodes.items self.new.facts.items }
+        ensures built { IsBuilt self.old.inputs self.new.nodes.items self.new.facts }
         ensures shared { self.new.table ≡ self.new.nodes.items }
         ensures grows { Longer self.old.nodes.items self.new.nodes.items }
         ensures err { OnErr result (self.new.nodes.items ≡ self.old.nodes.items) }

@@ -5,7 +5,7 @@ ghost use Rattle.flat_code.specs.Tidy.{is_literal, is_literal_of, is_null, is_ma
 ghost use Rattle.fold_terms.specs.inner.Built.{normalised, IsOpposite, choice_of, is_decided};
 
 use definedness::Fact;
-use flat_code::Node;
+use flat_code::{Node, is_one};
 use m_fixed::{Amount, Op, Value, arity};
 
 /// The node with arguments past the arity that are equal to the first.
@@ -50,16 +50,6 @@ pub fn is_unit_literal(node: Node) -> bool
     match node {
         Node::Lit(value) => is_one(value),
         Node::Input(_) | Node::Do(_, _, _, _) => false,
-    }
-}
-
-fn is_one(value: Value) -> bool
-    ensures { result ≡ is_one value }
-{
-    match value {
-        Value::Undef => false,
-        Value::Num(amount) => amount.millionths() == 1_000_000,
-        Value::Over => false,
     }
 }
 

@@ -1,0 +1,27 @@
+"""Seconds of the processor and bytes a node that `tidy` takes above the program, for each shape: the difference of a run with it and of one without it.
+
+    measure.py PROGRAM
+"""
+import os
+import sys
+
+sys.path.insert(0, os.path.join(os.path.dirname(os.path.abspath(__file__)), ".."))
+from measured import least
+
+NODES = 5_000_000
+SHAPES = [
+    "most operators, over nodes near and far",
+    "one sum, again and again",
+    "a chain of opposites",
+    "literals",
+    "sums of which each may be greater than the one before",
+    "sums of the two nodes before",
+    "choices between the two nodes before and an input",
+]
+
+print("| shape | nodes left | seconds | bytes a node |\n|---|---:|---:|---:|")
+for shape, name in enumerate(SHAPES):
+    words = [os.path.abspath(sys.argv[1]), str(shape), str(NODES)]
+    made, tidy = least([*words, "made"], "."), least(words, ".")
+    left = int(tidy[3].split()[1])
+    print(f"| {name} | {left:,} | {tidy[0] - made[0]:.2f} | {(tidy[1] - made[1]) / NODES:.0f} |", flush=True)
