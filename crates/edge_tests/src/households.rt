@@ -2,7 +2,7 @@
 ghost use Rattle.std.specs.Prelude.{◌≡◌, IfOk};
 ghost use Rattle.observables.specs.Inputs.{codes_of};
 
-use household::{Codes, HouseholdFault, read_household, values};
+use household::{Codes, HouseholdFault, read_household, values, values_into};
 use m_fixed::Value;
 use m_names::Names;
 use m_places::Name;
@@ -184,6 +184,26 @@ fn value_of_each_input(rt: HostRuntime) -> Result<(), Fail> {
         assert_eq!(rt; read, millionths);
     }
     Ok(())
+}
+
+#[test]
+fn values_in_a_list_that_is_there(rt: HostRuntime) -> Result<(), Fail> {
+    let codes = three_codes(rt.alloc())?;
+    let household = read_household(rt.alloc(), b"code,amount\n2AA,3\n", &codes)?;
+    let mut values = vec![in rt.alloc(); Value::Over; codes.len() as usize]?;
+    values_into(&household, &mut values);
+    assert_eq!(rt; values.len(), 3);
+    assert_eq!(rt; values[0], Value::Undef);
+    assert_eq!(rt; values[1], Value::Undef);
+    assert_eq!(rt; millionths_of(values[2]), Some(3_000_000));
+    Ok(())
+}
+
+fn millionths_of(value: Value) -> Option<i128> {
+    match value {
+        Value::Num(amount) => Some(amount.millionths()),
+        Value::Undef | Value::Over => None,
+    }
 }
 
 /// Adds the code of an input, and a row that gives it an amount.

@@ -1,15 +1,14 @@
 -- What a reader has left, from read to read.
-use Rattle.std.proofs.Common.{◌≡◌, ℕ, ◌+◌, ◌<◌, ◌≤◌, zero, suc, List, [], ◌∷◌, ◌++◌, length, Option, Some, None, Bool, true, false, get_or, refl, sym, ap, subst, inl, ◌∙◌, arith, cond}
-use Rattle.std.specs.Borrow.{Bor}
+use Rattle.std.proofs.Common.{◌≡◌, ℕ, ◌+◌, ◌<◌, ◌≤◌, zero, suc, List, [], ◌∷◌, ◌++◌, length, Option, Some, None, Bool, true, false, get_or, drop, refl, sym, ap, subst, ◌∙◌, arith, cond}
+use Rattle.std.proofs.lemmas.Bool.{cond-true, cond-false}
 use Rattle.csv.specs.Machine.{Read, step, is_end, ends_at_end, fields_after, field_after, next_record}
-use Rattle.csv.specs.Reading.{ReadRecord, Reached, default_config, strip_bom, records_from, records_next}
+use Rattle.csv.specs.Reading.{default_config, is_bom, strip_bom, records_from, records_next}
 use Rattle.csv.specs.Records.{field_at}
 use Rattle.csv.specs.declared.parser.State.{State}
 use Rattle.csv.specs.declared.parser.State.TheVariants as st
-use Rattle.csv.specs.declared.reader.Reader.{Reader}
-use Rattle.csv.proofs.ReadFacts.{rows-end, rows-more}
+use Rattle.csv.specs.declared.parser.Action.{Action as CsvAction}
 use Rattle.household.specs.Records.{records_of}
-use Rattle.household.specs.inner.Left.{records_from_state, known_records, IsReading, IsNext}
+use Rattle.household.specs.inner.Left.{records_from_state}
 
 -- the records from a state on
 abbrev behind : State → List ℕ → List (List (List ℕ))
@@ -74,30 +73,55 @@ enough (suc n) s (c ∷ rest) l =
     ∙ sym (next_and_behind s [] [] (c ∷ rest))
 
 -- all records are those behind the byte order mark
-pub records_are_left : (bytes : List ℕ) → known_records st.StartRecord (Some (strip_bom bytes)) ≡ records_of bytes
+pub records_are_left : (bytes : List ℕ) → behind st.StartRecord (strip_bom bytes) ≡ records_of bytes
 records_are_left bytes = sym (enough (length (strip_bom bytes) + 1) st.StartRecord (strip_bom bytes) (omega arith))
 
--- the bytes that a reader of bytes in memory may read
-abbrev bytes_of : Bor (List ℕ) → Option (List ℕ)
-bytes_of bytes = Some bytes.now
+-- ---- the byte order mark
 
--- a record that was read is the next
-read_more : (old new : Reader (Bor (List ℕ))) (fields : List (List ℕ)) → IsReading old → ReadRecord bytes_of old new true fields → new.first ≡ true → IsNext old true fields new
-unfolding Reached
-read_more old new fields is read first =
-    let m = rows-more bytes_of old new fields default_config old.state is.rest is.rest [] is.config is.known (refl, refl) read in (
-      record { trims_nothing = read.3 ∙ is.trims_nothing; ready = inl first; config = read.2 ∙ is.config; rest = m.0; known = m.1 },
-      ap (known_records old.state) is.known ∙ next_and_behind old.state [] [] is.rest ∙ ap (records_next behind) m.2.1 ∙ (λ i. sym m.2.2 i ∷ behind (m.2.3.0 i) (m.2.3.1 i)) ∙ ap (λ (o : Option (List ℕ)). fields ∷ known_records new.state o) (sym m.1),
-    )
+pub mark_there : (bytes : List ℕ) → 2 < length bytes → is_bom (get_or bytes 0 0) (get_or bytes 1 0) (get_or bytes 2 0) ≡ true → drop 3 bytes ≡ strip_bom bytes
+unfolding strip_bom
+mark_there [] l h = absurd (omega arith)
+mark_there (x ∷ []) l h = absurd (omega arith)
+mark_there (x ∷ y ∷ []) l h = absurd (omega arith)
+mark_there (x ∷ y ∷ z ∷ rest) l h = sym (cond-true (is_bom x y z) rest (x ∷ y ∷ z ∷ rest) h)
 
--- and where none was, nothing is left
-read_none : (old new : Reader (Bor (List ℕ))) (fields : List (List ℕ)) → IsReading old → ReadRecord bytes_of old new false fields → IsNext old false fields new
-read_none old new fields is read =
-    ap (known_records old.state) is.known ∙ next_and_behind old.state [] [] is.rest ∙ ap (records_next behind) (rows-end bytes_of old new fields default_config is.rest is.config is.known read)
+-- the first three bytes are not those of a mark
+pub no_mark : (bytes : List ℕ) → (2 < length bytes → is_bom (get_or bytes 0 0) (get_or bytes 1 0) (get_or bytes 2 0) ≡ false) → bytes ≡ strip_bom bytes
+unfolding strip_bom
+no_mark [] h = refl
+no_mark (x ∷ []) h = refl
+no_mark (x ∷ y ∷ []) h = refl
+no_mark (x ∷ y ∷ z ∷ rest) h = sym (cond-false (is_bom x y z) rest (x ∷ y ∷ z ∷ rest) (h (omega arith)))
 
-pub read_next : (old new : Reader (Bor (List ℕ))) (found : Bool) (fields : List (List ℕ)) → IsReading old → ReadRecord bytes_of old new found fields → new.first ≡ true → IsNext old found fields new
-read_next old new true fields is read first = read_more old new fields is read first
-read_next old new false fields is read first = read_none old new fields is read
+-- ---- a byte more
+
+pub byte_joins : (s s2 : State) (a : CsvAction) (fields fields2 : List (List ℕ)) (field field2 : List ℕ) (c : ℕ) (rest : List ℕ)
+    → s2 ≡ (step default_config s c).0 → a ≡ (step default_config s c).1 → fields2 ≡ fields_after a fields field → field2 ≡ field_after a c field → is_end a ≡ false
+    → records_from_state s fields field (c ∷ rest) ≡ records_from_state s2 fields2 field2 rest
+byte_joins s s2 a fields fields2 field field2 c rest hs ha hf hg no_end =
+    let act = (step default_config s c).1 in
+    cond-false (is_end act) (fields_after act fields field ∷ records_from_state (step default_config s c).0 [] [] rest)
+    (records_from_state (step default_config s c).0 (fields_after act fields field) (field_after act c field) rest) (ap is_end (sym ha) ∙ no_end)
+    ∙ (λ i. records_from_state (sym hs i) (fields_after (sym ha i) fields field) (field_after (sym ha i) c field) rest)
+    ∙ (λ i. records_from_state s2 (sym hf i) (sym hg i) rest)
+
+pub byte_ends : (s s2 : State) (a : CsvAction) (fields fields2 : List (List ℕ)) (field : List ℕ) (c : ℕ) (rest : List ℕ)
+    → s2 ≡ (step default_config s c).0 → a ≡ (step default_config s c).1 → fields2 ≡ fields_after a fields field → is_end a ≡ true
+    → records_from_state s fields field (c ∷ rest) ≡ fields2 ∷ records_from_state s2 [] [] rest
+byte_ends s s2 a fields fields2 field c rest hs ha hf ends =
+    let act = (step default_config s c).1 in
+    cond-true (is_end act) (fields_after act fields field ∷ records_from_state (step default_config s c).0 [] [] rest)
+    (records_from_state (step default_config s c).0 (fields_after act fields field) (field_after act c field) rest) (ap is_end (sym ha) ∙ ends)
+    ∙ (λ i. fields_after (sym ha i) fields field ∷ records_from_state (sym hs i) [] [] rest)
+    ∙ ap (λ (fs : List (List ℕ)). fs ∷ records_from_state s2 [] [] rest) (sym hf)
+
+-- ---- the end of the bytes
+
+pub last_ends : (s : State) (fields : List (List ℕ)) (field : List ℕ) → ends_at_end s ≡ true → records_from_state s fields field [] ≡ (fields ++ field ∷ []) ∷ []
+last_ends s fields field e = cond-true (ends_at_end s) ((fields ++ field ∷ []) ∷ []) [] e
+
+pub none_ends : (s : State) (fields : List (List ℕ)) (field : List ℕ) → ends_at_end s ≡ false → records_from_state s fields field [] ≡ []
+none_ends s fields field e = cond-false (ends_at_end s) ((fields ++ field ∷ []) ∷ []) [] e
 
 -- the field at a place, and nothing where there is none
 pub field_there : (fields : List (List ℕ)) (place : ℕ) (field : List ℕ) → field_at fields place ≡ Some field → field ≡ get_or fields place []

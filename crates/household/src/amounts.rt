@@ -1,4 +1,4 @@
-ghost use Rattle.std.specs.Prelude.{◌≡◌, ◌<◌, IfOk};
+ghost use Rattle.std.specs.Prelude.{◌≡◌, ◌<◌, [], length, IfOk};
 ghost use Rattle.std.specs.List.{AllByRecursion};
 ghost use Rattle.household.specs.Household.{inputs_of, values_of};
 
@@ -13,6 +13,28 @@ pub fn values(alloc: Global, household: &Household, inputs: u32) -> Result<Vec<V
     ensures { IfOk result (λ v. v.items ≡ values_of household.now.pairs inputs) }
 {
     let mut values = vec![in alloc; Value::Undef; inputs as usize]?;
+    put_amounts(household, &mut values);
+    Ok(values)
+}
+
+/// The same, put into a given list, which has a place for each input: what stood in it is gone. Takes no
+/// memory, so a batch gives one list to all of its rows.
+///
+/// A household with the pair of 1 and 5 makes of a list of three values `Undef`, `Num 5` and `Undef`.
+pub fn values_into(household: &Household, values: &mut [Value])
+    requires { AllByRecursion (λ input. input < length values.old) (inputs_of household.now.pairs) }
+    ensures { values.new ≡ values_of household.now.pairs (length values.old) }
+{
+    values.fill(Value::Undef);
+    put_amounts(household, values);
+}
+
+// Puts the amounts of a household where nothing stands yet. The first pair of an input decides.
+fn put_amounts(household: &Household, values: &mut [Value])
+    requires inputs { AllByRecursion (λ input. input < length values.old) (inputs_of household.now.pairs) }
+    requires empty { values.old ≡ values_of [] (length values.old) }
+    ensures { values.new ≡ values_of household.now.pairs (length values.old) }
+{
     let pairs = household.pairs.as_slice();
     let mut left = pairs.len();
     while left > 0 {
@@ -20,5 +42,4 @@ pub fn values(alloc: Global, household: &Household, inputs: u32) -> Result<Vec<V
         let pair = pairs[left];
         values[pair.0 as usize] = Value::Num(pair.1);
     }
-    Ok(values)
 }

@@ -1,6 +1,6 @@
 //! Households and tables of households: which input has which amount.
 //!
-//! This crate reads the bytes of a household's or a table's file, on the crate `csv`. It knows the codes
+//! This crate reads the bytes of a household's or a table's file, as the crate `csv` reads them. It knows the codes
 //! of the inputs and what an amount is, and doesn't know what is computed from them.
 #![tactic(auto)]
 
@@ -13,7 +13,7 @@ mod read;
 pub mod records;
 mod table;
 
-pub use amounts::values;
+pub use amounts::{values, values_into};
 pub use codes::Codes;
 pub use fault::HouseholdFault;
 pub use read::{Household, read_household};

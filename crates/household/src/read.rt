@@ -3,13 +3,13 @@ ghost use Rattle.csv.specs.Records.{fields_of};
 ghost use Rattle.m_places.specs.Refusals.{Outcome};
 ghost use Rattle.household.specs.InTurn.{in_turn};
 ghost use Rattle.household.specs.Household.{AreInputs, household_of, is_header, pair_of, row_of};
-ghost use Rattle.household.specs.inner.Left.{IsReading, left_of};
+ghost use Rattle.household.specs.inner.Left.{left_of};
 ghost use Rattle.household.specs.declared.fault.HouseholdFault.TheVariants.{Memory};
 
 use crate::marks::mark;
-use crate::records::{field_at, next_line, next_record, records_of};
+use crate::records::{Records, field_at, next_line, next_record, records_of};
 use crate::{Codes, HouseholdFault};
-use csv::{ByteRecord, Reader};
+use csv::ByteRecord;
 use m_fixed::{Amount, read_amount};
 use m_places::Seq;
 use std::alloc::Global;
@@ -58,11 +58,10 @@ fn is_header(row: &ByteRecord) -> bool
 // The pairs of the rows that are left.
 fn read_rows(
     alloc: Global,
-    records: &mut Reader<&[u8]>,
+    records: &mut Records<'_>,
     row: &mut ByteRecord,
     codes: &Codes,
 ) -> Result<Vec<(u32, Amount)>, HouseholdFault>
-    requires { IsReading records.old }
     ensures { Outcome Memory result (λ pairs. in_turn (row_of codes.now) [] (left_of records.old) ≡ Ok pairs.items) (λ fault. in_turn (row_of codes.now) [] (left_of records.old) ≡ Err fault) }
 {
     let mut marked = vec![in alloc; false; codes.len() as usize]?;

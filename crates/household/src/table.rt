@@ -6,13 +6,13 @@ ghost use Rattle.household.specs.InTurn.{in_turn};
 ghost use Rattle.household.specs.Household.{AreInputs};
 ghost use Rattle.m_fixed.specs.Text.{text_value, amount_read};
 ghost use Rattle.household.specs.Table.{amount_said, cells_read, column_of, is_label, is_table_header, labelled, table_of, table_row};
-ghost use Rattle.household.specs.inner.Left.{IsReading, left_of};
+ghost use Rattle.household.specs.inner.Left.{left_of};
 ghost use Rattle.household.specs.declared.fault.HouseholdFault.TheVariants.{Memory};
 
 use crate::marks::mark;
-use crate::records::{field_at, next_line, next_record, records_of};
+use crate::records::{Records, field_at, next_line, next_record, records_of};
 use crate::{Codes, Household, HouseholdFault};
-use csv::{ByteRecord, Reader};
+use csv::ByteRecord;
 use m_fixed::{Amount, read_amount};
 use m_places::{Name, Seq};
 use std::alloc::Global;
@@ -71,11 +71,10 @@ fn read_columns(alloc: Global, row: &ByteRecord, codes: &Codes) -> Result<Vec<u3
 // The rows that are left.
 fn read_rows(
     alloc: Global,
-    records: &mut Reader<&[u8]>,
+    records: &mut Records<'_>,
     row: &mut ByteRecord,
     columns: &[u32],
 ) -> Result<Vec<Row>, HouseholdFault>
-    requires { IsReading records.old }
     ensures { Outcome Memory result (λ rows. in_turn (table_row columns.now) [] (left_of records.old) ≡ Ok rows.items) (λ fault. in_turn (table_row columns.now) [] (left_of records.old) ≡ Err fault) }
 {
     let mut rows = Vec::new(alloc);

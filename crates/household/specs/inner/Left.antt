@@ -1,11 +1,17 @@
 -- What a reader of records has left.
-use Rattle.std.specs.Prelude.{◌≡◌, ℕ, List, [], ◌∷◌, ◌++◌, Bool, true, false, Option, Some, None, if◌then◌else◌}
-use Rattle.std.specs.Borrow.{Bor}
+use Rattle.std.specs.Prelude.{◌≡◌, ℕ, List, [], ◌∷◌, ◌++◌, drop, Bool, true, false, if◌then◌else◌}
 use Rattle.csv.specs.Machine.{step, is_end, ends_at_end, fields_after, field_after}
-use Rattle.csv.specs.Reading.{Ready, default_config, reader_config, reader_state, reader_trim, source_of}
+use Rattle.csv.specs.Reading.{default_config}
 use Rattle.csv.specs.declared.parser.State.{State}
-use Rattle.csv.specs.declared.reader.Reader.{Reader}
-use Rattle.csv.specs.declared.reader.Trim.TheVariants as trim
+use Rattle.csv.specs.declared.parser.State.TheVariants as st
+use Rattle.csv.specs.declared.parser.Action.{Action as CsvAction}
+use Rattle.csv.specs.declared.parser.Action.TheVariants as act
+use Rattle.household.specs.declared.records.Place.{Place}
+use Rattle.household.specs.declared.records.Place.TheVariants.{Record, Field, Plain, Quoted, Quote, Return}
+use Rattle.household.specs.declared.records.Action.{Action}
+use Rattle.household.specs.declared.records.Action.TheVariants.{Skip, Copy, EndField, EndRecord}
+use Rattle.household.specs.declared.records.Step.{Step}
+use Rattle.household.specs.declared.records.Records.{Records}
 
 -- The records that a text gives from a state of the crate's machine on, with the fields and the bytes of
 -- the record that was begun.
@@ -16,28 +22,36 @@ records_from_state s fields field (c ∷ rest) =
     then fields_after (step default_config s c).1 fields field ∷ records_from_state (step default_config s c).0 [] [] rest
     else records_from_state (step default_config s c).0 (fields_after (step default_config s c).1 fields field) (field_after (step default_config s c).1 c field) rest
 
--- the same of bytes that may not be known
-abbrev pub known_records : State → Option (List ℕ) → List (List (List ℕ))
-known_records s None = []
-known_records s (Some bytes) = records_from_state s [] [] bytes
+-- the state of the crate's machine at a place
+abbrev pub state_of : Place → State
+state_of Record = st.StartRecord
+state_of Field = st.StartField
+state_of Plain = st.InField
+state_of Quoted = st.InQuoted
+state_of Quote = st.AfterQuote
+state_of Return = st.AfterCr
 
--- the bytes that a reader of bytes in memory has left
-abbrev pub bytes_left : Reader (Bor (List ℕ)) → Option (List ℕ)
-bytes_left reader = source_of (λ bytes. Some bytes.now) reader
+-- and what it does
+abbrev pub action_of : Action → CsvAction
+action_of Skip = act.Skip
+action_of Copy = act.Copy
+action_of EndField = act.EndField
+action_of EndRecord = act.EndRecord
+
+-- a step is that of the crate's machine
+abbrev pub Steps : Step → State × CsvAction → Type 0
+Steps step of_machine = (state_of step.place ≡ of_machine.0) × (action_of step.action ≡ of_machine.1)
 
 -- the records that a reader has left
-abbrev pub left_of : Reader (Bor (List ℕ)) → List (List (List ℕ))
-left_of reader = known_records (reader_state reader) (bytes_left reader)
-
--- a reader with no header row and no trimming, whose next read is of one record
-pub record IsReading (reader : Reader (Bor (List ℕ))) : Type 0 where
-  pub trims_nothing : reader_trim reader ≡ trim.None
-  pub ready : Ready reader
-  pub config : reader_config reader ≡ default_config
-  pub rest : List ℕ
-  pub known : bytes_left reader ≡ Some rest
+abbrev pub left_of : Records → List (List (List ℕ))
+left_of records = records_from_state (state_of records.place) [] [] (drop records.at records.bytes.now)
 
 -- What a read did: a record with these fields was the next, and the reader is behind it; or there was none.
-abbrev pub IsNext : Reader (Bor (List ℕ)) → Bool → List (List ℕ) → Reader (Bor (List ℕ)) → Type 0
-IsNext old true fields new = IsReading new × (left_of old ≡ fields ∷ left_of new)
+abbrev pub IsNext : Records → Bool → List (List ℕ) → Records → Type 0
+IsNext old true fields new = left_of old ≡ fields ∷ left_of new
 IsNext old false fields new = left_of old ≡ []
+
+-- What the end of the bytes did, where a record was begun with these fields and these bytes of a field: it is the last one; or none was begun.
+abbrev pub IsLast : State → List (List ℕ) → List ℕ → Bool → List (List ℕ) → Records → Type 0
+IsLast state fields field true read new = (records_from_state state fields field [] ≡ read ∷ []) × (left_of new ≡ [])
+IsLast state fields field false read new = records_from_state state fields field [] ≡ []

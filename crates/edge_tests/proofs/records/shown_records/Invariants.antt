@@ -1,9 +1,6 @@
 use Rattle.std.proofs.Common.{length}
-use Rattle.household.specs.inner.Left.{IsReading, left_of}
+use Rattle.household.specs.inner.Left.{left_of}
 use Rattle.edge_tests.proofs.records.shown_records.Given as goal
-
-abbrev pub invariant-loop-text : goal.invariant-loop-text
-invariant-loop-text l = IsReading l.records
 
 abbrev pub decreases-loop-text : goal.decreases-loop-text
 decreases-loop-text l = length (left_of l.records)
