@@ -36,10 +36,10 @@ use Rattle.mpp_inline.specs.inner.Growth.{count, at, stop_of, stop_read, denoted
 use Rattle.driver_core.specs.Weights.{weight_of}
 use Rattle.mpp_inline.specs.inner.Sizes.{load}
 use Rattle.mpp_inline.specs.inner.Told.{ended, Answers}
-use Rattle.mpp_inline.specs.Inlined.{IsInlined}
+use Rattle.mpp_inline.specs.Inlined.{IsInlined, IsDriverLine}
 use Rattle.mpp_inline.specs.inner.Work.{under, Step}
 use Rattle.mpp_inline.proofs.ListLemmas.{all-append, all-more}
-use Rattle.mpp_inline.proofs.GrowthLemmas.{grows-none, grows-then, known-on, denoted-on, known-get, denoted-get}
+use Rattle.mpp_inline.proofs.GrowthLemmas.{past-line, grows-none, grows-then, known-on, denoted-on, known-get, denoted-get}
 
 -- ---- the first nodes
 
@@ -61,6 +61,7 @@ has-literals labels b e f g =
       labelled = record {
         within = omega (arith, ap length g, length-map labels Verif);
         same = λ i d h. ap (λ ls. get_or ls i (DriverLine 0)) g ∙ get_or-map Verif labels i d (DriverLine 0) h;
+        others = λ l h. past-line b.labels.items l (omega (arith, h, ap length g, length-map labels Verif));
       };
       one = λ inputs. value inputs 2;
       stop = λ inputs. ap (λ cs. stop_read b.labels.items (first_stop (node_values inputs b.nodes.items) cs)) f;
@@ -193,6 +194,13 @@ first-faces [] ls h e = refl
 first-faces (c ∷ cs) [] h e = absurd (omega arith)
 first-faces (c ∷ cs) (l ∷ ls) h e = λ i. e 0 c (omega arith) i ∷ first-faces cs ls (omega arith) (λ k d lt. e (suc k) d (omega arith)) i
 
+-- behind them stand lines
+pub further-faces : (n : ℕ) (ls : List FaceLabel) → ((l : ℕ) → n ≤ l → IsDriverLine (get_or ls l (DriverLine 0))) → AllByRecursion IsDriverLine (drop n ls)
+further-faces zero [] h = tt
+further-faces zero (l ∷ ls) h = (h 0 (omega arith), further-faces zero ls (λ k lt. h (suc k) (omega arith)))
+further-faces (suc n) [] h = tt
+further-faces (suc n) (l ∷ ls) h = further-faces n ls (λ k lt. h (suc k) (omega (arith, lt)))
+
 -- a stop has the label of its check
 abbrev IsAt : ℕ → Option Stop → Type 0
 IsAt l None = Unit {0}
@@ -238,6 +246,7 @@ inlined-plain core base declared requests b outputs n c l a =
       inputs = a.inputs;
       outputs = a.outputs_long;
       first_labels = first-faces base.labels labels a.labelled.within a.labelled.same;
+      further_labels = further-faces (length base.labels) labels a.labelled.others;
       labelled = λ k d h. (every Within b.checks.items a.sane.checks k d h).label;
       nodes_fit = omega (arith, n, c, l, a.labelled.within);
       checks_fit = omega (arith, n, c, l, a.labelled.within);

@@ -1,9 +1,10 @@
 -- A flat program that grows: what stays, and what a node or a check adds.
-use Rattle.std.proofs.Common.{◌≡◌, ℕ, ◌+◌, ◌<◌, ◌≤◌, Bool, List, [], ◌∷◌, ◌++◌, length, get_or, set, refl, sym, ap, ◌∙◌, subst, arith, length-append}
+use Rattle.std.proofs.Common.{◌≡◌, ℕ, zero, suc, ◌+◌, ◌<◌, ◌≤◌, Bool, true, false, nat_lt, List, [], ◌∷◌, ◌++◌, length, get_or, set, refl, sym, ap, ◌∙◌, subst, arith, length-append}
 use Rattle.std.specs.List.{AllByRecursion}
 use Rattle.std.proofs.Math.ListN.{get_or-map, get_or-append}
 use Rattle.std.proofs.Math.Seq.{get_or-append_seam}
-use Rattle.std.proofs.lemmas.List.{map-set}
+use Rattle.std.proofs.lemmas.List.{map-set, get_or_past}
+use Rattle.std.proofs.lemmas.Bool.{ltb-true, ltb-false}
 use Rattle.std.specs.Option.{option_or}
 use Rattle.m_fixed.specs.declared.amount.Value.{Value}
 use Rattle.m_fixed.specs.declared.amount.Value.TheVariants.{Undef}
@@ -16,22 +17,43 @@ use Rattle.observables.specs.declared.face.FaceLabel.TheVariants.{Verif, DriverL
 use Rattle.flat_code.specs.Runs.{IsNode, AreNodes, entry_of, values_for, node_values, first_stop}
 use Rattle.mpp_inline.specs.declared.builder.Builder.{Builder}
 use Rattle.mpp_inline.specs.inner.Growth.{count, faces, face, at, stop_of, stop_read, denoted, outcome_of, run, IsCheckWithin, Sane, Known, Pushed, Checked, CheckedRule, CheckedLine, HasFaces, Longer, Grows, Gives, TermStep}
+use Rattle.mpp_inline.specs.Inlined.{IsDriverLine}
 use Rattle.mpp_inline.specs.inner.Sizes.{load}
 use Rattle.mpp_inline.proofs.ListLemmas.{all-get, all-set, all-more, all-append, map-same}
 use Rattle.mpp_inline.proofs.RunLemmas.{value-kept, value-new, stop-kept, stop-push, read-or, face_fired, read-fired, read-kept}
 
--- longer programs
+-- ---- labels
+
+-- past the labels stands a line
+pub past-line : (labels : List FaceLabel) (l : ℕ) → length labels ≤ l → IsDriverLine (get_or labels l (DriverLine 0))
+past-line labels l h = subst IsDriverLine (sym (get_or_past labels l (DriverLine 0) h)) tt
+
+-- behind labels of which the last is a line
+line-last : (labels more : List FaceLabel) (line l : ℕ) → more ≡ labels ++ DriverLine line ∷ [] → length labels ≤ l → IsDriverLine (get_or more l (DriverLine 0))
+line-last [] more line zero e h = subst (λ ls. IsDriverLine (get_or ls 0 (DriverLine 0))) (sym e) tt
+line-last [] more line (suc l) e h = subst (λ ls. IsDriverLine (get_or ls (suc l) (DriverLine 0))) (sym e) tt
+line-last (f ∷ labels) more line zero e h = absurd (omega (arith, h))
+line-last (f ∷ labels) more line (suc l) e h = subst (λ ls. IsDriverLine (get_or ls (suc l) (DriverLine 0))) (sym e) (line-last labels (labels ++ DriverLine line ∷ []) line l refl (omega (arith, h)))
+
+-- a label behind older ones: it was new then, or it is new now
+new-then : (m l : ℕ) (first second : FaceLabel) → (b : Bool) → nat_lt l m ≡ b → (l < m → second ≡ first) → IsDriverLine first → (m ≤ l → IsDriverLine second) → IsDriverLine second
+new-then m l first second true e kept old new = subst IsDriverLine (sym (kept (ltb-true l m e))) old
+new-then m l first second false e kept old new = new (ltb-false l m e)
+
+-- ---- longer programs
+
 pub longer-none : {b : Builder} → Sane b → Longer b b
-longer-none s = record { sane = s; inputs = refl; longer = omega arith; keeps = λ inputs k h. refl; more_faces = omega arith; keeps_face = λ l h. refl }
+longer-none {b} s = record { sane = s; inputs = refl; longer = omega arith; keeps = λ inputs k h. refl; more_faces = omega arith; keeps_face = λ l h. refl; new_faces = past-line b.labels.items }
 
 pub longer-then : {a b c : Builder} → Longer a b → Longer b c → Longer a c
-longer-then p q = record {
+longer-then {a} {b} {c} p q = record {
   sane = q.sane;
   inputs = q.inputs ∙ p.inputs;
   longer = omega (arith, p.longer, q.longer);
   keeps = λ inputs k h. q.keeps inputs k (omega (arith, p.longer, h)) ∙ p.keeps inputs k h;
   more_faces = omega (arith, p.more_faces, q.more_faces);
   keeps_face = λ l h. q.keeps_face l (omega (arith, p.more_faces, h)) ∙ p.keeps_face l h;
+  new_faces = λ l h. new-then (faces b) l (face b l) (face c l) (nat_lt l (faces b)) refl (q.keeps_face l) (p.new_faces l h) (q.new_faces l);
 }
 
 pub grows-none : {b : Builder} → Sane b → Grows b b
@@ -101,6 +123,7 @@ pushed-grows {b} {c} {n} p w s =
         keeps = pushed-keeps p;
         more_faces = omega (arith, ap length p.labels);
         keeps_face = λ j h. ap (λ ls. get_or ls j (DriverLine 0)) p.labels;
+        new_faces = λ j h. subst (λ ls. IsDriverLine (get_or ls j (DriverLine 0))) (sym p.labels) (past-line b.labels.items j h);
       };
       stop = λ inputs.
           (λ i. stop_read (p.labels i) (first_stop (node_values inputs c.nodes.items) (p.checks i)))
@@ -112,12 +135,14 @@ pub faces-on : {labels : List Label} {b c : Builder} → Longer b c → HasFaces
 faces-on {labels} {b} {c} l f = record {
   within = omega (arith, f.within, l.more_faces);
   same = λ i d h. l.keeps_face i (omega (arith, f.within, h)) ∙ f.same i d h;
+  others = λ k h. new-then (faces b) k (face b k) (face c k) (nat_lt k (faces b)) refl (l.keeps_face k) (f.others k h) (l.new_faces k);
 }
 
--- what a check's label stands for, and that older labels stay
+-- what a check's label stands for, that older labels stay, and that new ones are lines
 pub record Faced (b c : Builder) (l : ℕ) (f : FaceLabel) : Type 0 where
   pub more : faces b ≤ faces c
   pub keeps : (j : ℕ) → j < faces b → face c j ≡ face b j
+  pub further : (j : ℕ) → faces b ≤ j → IsDriverLine (face c j)
   pub within : l < faces c
   pub is : face c l ≡ f
 
@@ -127,6 +152,7 @@ faced-line {b} {c} {g} {k} {line} p =
     record {
       more = omega (arith, more);
       keeps = λ j h. ap (λ ls. get_or ls j (DriverLine 0)) p.labels ∙ get_or-append b.labels.items (DriverLine line ∷ []) (DriverLine 0) j h;
+      further = λ j h. line-last b.labels.items c.labels.items line j p.labels h;
       within = omega (arith, more);
       is = ap (λ ls. get_or ls (faces b) (DriverLine 0)) p.labels ∙ get_or-append_seam b.labels.items (DriverLine line) [] (DriverLine 0);
     }
@@ -135,6 +161,7 @@ pub faced-rule : {labels : List Label} {b c : Builder} {g k : ℕ} (i : ℕ) (d 
 faced-rule {labels} {b} {c} i d h lt p = record {
   more = omega (arith, ap length p.labels);
   keeps = λ j k. ap (λ ls. get_or ls j (DriverLine 0)) p.labels;
+  further = λ j k. subst (λ ls. IsDriverLine (get_or ls j (DriverLine 0))) (sym p.labels) (past-line b.labels.items j k);
   within = omega (arith, ap length p.labels, h.within, lt);
   is = ap (λ ls. get_or ls i (DriverLine 0)) p.labels ∙ h.same i d lt;
 }
@@ -165,6 +192,7 @@ checked-longer {b} {c} {g} {k} {l} {only} {f} p q hg hk s =
       keeps = λ inputs j h. checked-keeps p inputs j;
       more_faces = q.more;
       keeps_face = q.keeps;
+      new_faces = q.further;
     }
 
 pub checked-stop : {b c : Builder} {g k l : ℕ} {only : Bool} {f : FaceLabel} → Checked b c g k only l → Faced b c l f → Sane b → (inputs : List Value) → stop_of c inputs ≡ option_or (stop_of b inputs) (face_fired (at b inputs g) only f (at b inputs k))

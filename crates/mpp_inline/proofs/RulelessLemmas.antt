@@ -169,6 +169,7 @@ inlined-left core made base declared requests flat labels r is h = record {
   inputs = h.inputs;
   outputs = h.outputs;
   first_labels = h.first_labels;
+  further_labels = h.further_labels;
   labelled = h.labelled;
   nodes_fit = h.nodes_fit;
   checks_fit = h.checks_fit;

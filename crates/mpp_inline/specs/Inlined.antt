@@ -1,11 +1,12 @@
 -- What the flat program of a driver is, and when there is none.
-use Rattle.std.specs.Prelude.{◌≡◌, ℕ, ◌+◌, ◌*◌, ◌<◌, ◌≤◌, min, List, [], take, map, length, Some, All}
+use Rattle.std.specs.Prelude.{◌≡◌, ℕ, ◌+◌, ◌*◌, ◌<◌, ◌≤◌, min, List, [], take, drop, map, length, Some, All}
+use Rattle.std.specs.List.{AllByRecursion}
 use Rattle.m_fixed.specs.declared.amount.Value.{Value}
 use Rattle.m_places.specs.declared.limits.TheConstants.{DRIVER_WEIGHT}
 use Rattle.m_symbols.specs.Declarations.{Declared, inputs_from}
 use Rattle.micro_m.specs.declared.base.Base.{Base}
 use Rattle.observables.specs.declared.face.FaceLabel.{FaceLabel}
-use Rattle.observables.specs.declared.face.FaceLabel.TheVariants.{Verif}
+use Rattle.observables.specs.declared.face.FaceLabel.TheVariants.{Verif, DriverLine}
 use Rattle.flat_code.specs.declared.program.Flat.{Flat}
 use Rattle.observables.specs.Answers.{told_of}
 use Rattle.flat_code.specs.Runs.{IsFlat, flat_run}
@@ -19,6 +20,11 @@ use Rattle.mpp_inline.specs.declared.fault.InlineFault.TheVariants.{DriverTooLar
 abbrev pub most_nodes : ℕ
 most_nodes = 100_000_000
 
+-- a label that stands for a line of the driver
+abbrev pub IsDriverLine : FaceLabel → Type 0
+IsDriverLine (Verif label) = ⊥
+IsDriverLine (DriverLine line) = Unit {0}
+
 -- The flat program of a driver with what its labels tell.
 pub record IsInlined (core : Core) (base : Base) (declared : Declared) (requests : List ℕ) (flat : Flat) (labels : List FaceLabel) : Type 0 where
   -- for every list of inputs its answer, read through the labels, is the driver's
@@ -27,8 +33,9 @@ pub record IsInlined (core : Core) (base : Base) (declared : Declared) (requests
   -- it has the inputs that are declared, and an output for each request
   pub inputs : flat.inputs ≡ length (inputs_from 0 declared.variables)
   pub outputs : length flat.outputs ≡ length requests
-  -- the first labels are those of the base, in order, and each check's label is there
+  -- the first labels are those of the base, in order, all others are lines of the driver, and each check's label is there
   pub first_labels : take (length base.labels) labels ≡ map Verif base.labels
+  pub further_labels : AllByRecursion IsDriverLine (drop (length base.labels) labels)
   pub labelled : All (λ check. check.label < length labels) flat.checks
   -- how large it is, which the driver's weight bounds, and how large it may be
   pub size : length flat.nodes + length flat.checks + length labels ≤ 3 + length base.labels + base.cells + 6 * weight_of core base

@@ -22,6 +22,7 @@ use Rattle.flat_code.specs.Runs.{AreNodes, node_values, first_stop}
 use Rattle.driver_core.specs.declared.program.Core.{Core}
 use Rattle.driver_core.specs.Actions.{Action, Block}
 use Rattle.driver_core.specs.Meaning.{Env, RunState, goes, stops, then_do, with_values, unless_stopped, failure_cause, action_run, block_run, called}
+use Rattle.mpp_inline.specs.Inlined.{IsDriverLine}
 use Rattle.mpp_inline.specs.inner.Cells.{written}
 use Rattle.mpp_inline.specs.declared.builder.Builder.{Builder}
 use Rattle.mpp_inline.specs.declared.branches.Branches.{Branches}
@@ -112,16 +113,17 @@ face b l = slice_index_or b.labels.items l (DriverLine 0)
 abbrev pub faces : Builder → ℕ
 faces b = length b.labels.items
 
--- the first labels are those of the rules, in order
+-- the first labels are those of the rules, in order, and all others are lines
 pub record HasFaces (labels : List Label) (b : Builder) : Type 0 where
   pub within : length labels ≤ faces b
   pub same : (i : ℕ) (d : Label) → i < length labels → face b i ≡ Verif (slice_index_or labels i d)
+  pub others : (l : ℕ) → length labels ≤ l → IsDriverLine (face b l)
 
 pub record Ready (labels : List Label) (b : Builder) (env : List ℕ) (g : ℕ) : Type 0 where
   pub placed : Placed b env g
   pub labelled : HasFaces labels b
 
--- more nodes, and the older ones keep their values
+-- more nodes, the older ones keep their values, and new labels are lines
 pub record Longer (b c : Builder) : Type 0 where
   pub sane : Sane c
   pub inputs : c.inputs ≡ b.inputs
@@ -129,6 +131,7 @@ pub record Longer (b c : Builder) : Type 0 where
   pub keeps : (inputs : List Value) (k : ℕ) → k < count b → at c inputs k ≡ at b inputs k
   pub more_faces : faces b ≤ faces c
   pub keeps_face : (l : ℕ) → l < faces b → face c l ≡ face b l
+  pub new_faces : (l : ℕ) → faces b ≤ l → IsDriverLine (face c l)
 
 -- more nodes, and no check
 pub record Grows (b c : Builder) : Type 0 where
