@@ -1,1 +1,17 @@
+pub mod CameLemmas
+pub mod CutLemmas
+pub mod EndLemmas
+pub mod EntryLaws
+pub mod FaceLemmas
+pub mod FormLaws
+pub mod FrontLemmas
+pub mod InstrCompletes
+pub mod InstrLemmas
 pub mod LineLemmas
+pub mod NameLemmas
+pub mod NumberLemmas
+pub mod OpLemmas
+pub mod OptionLemmas
+pub mod RunLemmas
+pub mod StageLemmas
+pub mod VerifLemmas

@@ -1,3 +1,5 @@
 pub mod Loading
 pub mod Printable
+pub mod Reading
 pub mod Text
+pub mod inner

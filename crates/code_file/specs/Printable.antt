@@ -2,6 +2,8 @@
 use Rattle.std.specs.Prelude.{◌≡◌, ◌≢◌, ◌⊎◌, ℕ, ◌<◌, ◌≤◌, List, [], ◌∷◌, length, codes, decimal, slice_index_or}
 use Rattle.std.specs.List.{AllByRecursion}
 use Rattle.m_text.specs.Words.{IsWord, AreDigits}
+use Rattle.m_lexer.specs.declared.token.Key.{Key}
+use Rattle.m_lexer.specs.Spellings.{key_spelling}
 use Rattle.m_places.specs.declared.verification.Label.{Label}
 use Rattle.observables.specs.declared.face.FaceLabel.{FaceLabel}
 use Rattle.observables.specs.declared.face.FaceLabel.TheVariants.{Verif, DriverLine}
@@ -15,9 +17,13 @@ use Rattle.text_pieces.specs.Pieces.{joined}
 abbrev pub IsNoSmallLetter : ℕ → Type 0
 IsNoSmallLetter b = (b < 97) ⊎ (122 < b)
 
--- a name: a word without a letter from a to z
+-- a word of M that isn't reserved
+abbrev pub IsFreeWord : List ℕ → Type 0
+IsFreeWord t = IsWord t × ((k : Key) → t ≢ key_spelling k)
+
+-- a name: a word that isn't reserved, without a letter from a to z
 abbrev pub IsPlainName : List ℕ → Type 0
-IsPlainName t = IsWord t × AllByRecursion IsNoSmallLetter t
+IsPlainName t = IsFreeWord t × AllByRecursion IsNoSmallLetter t
 
 -- a name of a cell: a name, or one with the number of a table's cell, as `T[1]`
 abbrev pub IsCellName : List ℕ → Type 0
@@ -39,10 +45,10 @@ abbrev pub IsPrintableOutput : FaceOutput → Type 0
 IsPrintableOutput (Named name) = IsCellName name
 IsPrintableOutput (Noted number) = Unit {0}
 
--- A face is printable where the codes of its inputs are distinct words, its verifications have numbers of one to nine digits,
+-- A face is printable where the codes of its inputs are distinct words that aren't reserved, its verifications have numbers of one to nine digits,
 -- names of errors and texts, and its outputs have names of cells.
 pub record IsPrintable (face : Face) : Type 0 where
-  pub inputs : AllByRecursion IsWord (codes_of face.inputs)
+  pub inputs : AllByRecursion IsFreeWord (codes_of face.inputs)
   pub apart : AreApart (codes_of face.inputs)
   pub labels : AllByRecursion IsPrintableLabel face.labels
   pub outputs : AllByRecursion IsPrintableOutput face.outputs

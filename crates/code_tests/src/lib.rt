@@ -5,4 +5,6 @@
 #[cfg(test)]
 mod machines;
 #[cfg(test)]
+mod reads;
+#[cfg(test)]
 mod texts;

@@ -13,6 +13,7 @@ mod signs;
 mod token;
 
 pub use fault::LexFault;
+pub use keys::key_of;
 pub use laws::{fault_in_place, no_list_and_fault, one_first_fault, one_list, tokens_in_place};
 pub use scan::lex;
 pub use token::{Key, Kind, Sign, Token};

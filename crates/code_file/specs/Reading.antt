@@ -1,0 +1,181 @@
+-- What a text is as a code file: the code and face of which it is the form, or else its first fault.
+use Rattle.std.specs.Prelude.{◌≡◌, ◌≢◌, ℕ, suc, ◌<◌, ◌==◌, ◌&&◌, not, Bool, IsTrue, is_none, is_some, List, [], ◌∷◌, ◌++◌, length, fold, codes, Some, None}
+use Rattle.std.specs.List.{AllByRecursion}
+use Rattle.m_fixed.specs.declared.amount.Value.{Value}
+use Rattle.m_fixed.specs.declared.amount.Value.TheVariants.{Undef, Num, Over}
+use Rattle.m_fixed.specs.Amounts.{IsAmount}
+use Rattle.m_names.specs.Names.{has}
+use Rattle.observables.specs.declared.inputs.Coded.{Coded}
+use Rattle.observables.specs.declared.face.FaceLabel.{FaceLabel}
+use Rattle.observables.specs.declared.face.FaceLabel.TheVariants.{Verif, DriverLine}
+use Rattle.observables.specs.declared.face.FaceOutput.{FaceOutput}
+use Rattle.observables.specs.declared.face.FaceOutput.TheVariants.{Named, Noted}
+use Rattle.observables.specs.Inputs.{codes_of}
+use Rattle.observables.specs.Outputs.{notes_stand_first}
+use Rattle.reg_machine.specs.declared.instr.Instr.{Instr}
+use Rattle.reg_machine.specs.declared.instr.Instr.TheVariants.{Take, Lit, Do, Store, Load, Check, Output}
+use Rattle.reg_machine.specs.declared.instr.TheConstants.{REGISTERS}
+use Rattle.reg_machine.specs.declared.wrong.Wrong.TheVariants.{Order}
+use Rattle.reg_machine.specs.Flow.{Listing, code_of, with_instr, reading, code_fault, repeats_first, wrong_behind}
+use Rattle.code_file.specs.declared.fault.CodeFault.{CodeFault}
+use Rattle.code_file.specs.declared.fault.CodeFault.TheVariants.{BadHeader, BadLine, BadOrder, Memory}
+use Rattle.code_file.specs.declared.loaded.Loaded.{Loaded}
+use Rattle.code_file.specs.Text.{lines, slots_line, input_line, label_line, output_line, instr_line}
+use Rattle.code_file.specs.Printable.{IsFreeWord, IsPrintable, IsPrintableLabel, IsPrintableOutput}
+use Rattle.code_file.specs.Loading.{text_with}
+
+-- ---- one line
+
+-- what a line says
+pub data Entry : Type 0 where
+  version : Entry
+  slot_count : ℕ → Entry
+  an_input : Coded → Entry
+  a_label : FaceLabel → Entry
+  an_output : FaceOutput → Entry
+  code_start : Entry
+  an_instr : Instr → Entry
+  code_end : Entry
+
+-- the line that says it, with the line feed that ends it
+abbrev pub entry_line : Entry → List ℕ
+entry_line version = codes "mcode 1\n"
+entry_line (slot_count n) = slots_line n
+entry_line (an_input input) = input_line input
+entry_line (a_label label) = label_line label
+entry_line (an_output output) = output_line output
+entry_line code_start = codes "code\n"
+entry_line (an_instr i) = instr_line i
+entry_line code_end = codes "end\n"
+
+-- a number that fits 32 bits
+abbrev pub IsShort : ℕ → Type 0
+IsShort n = n < 4_294_967_296
+
+-- a label whose text consists of bytes, or whose line fits 32 bits
+abbrev pub IsFittingLabel : FaceLabel → Type 0
+IsFittingLabel (Verif label) = AllByRecursion (λ b. b < 256) label.text
+IsFittingLabel (DriverLine line) = IsShort line
+
+-- an output whose number, if it has one, fits 32 bits
+abbrev pub IsFittingOutput : FaceOutput → Type 0
+IsFittingOutput (Named name) = Unit {0}
+IsFittingOutput (Noted number) = IsShort number
+
+-- a literal: undefined, over, or an amount
+abbrev pub IsLiteral : Value → Type 0
+IsLiteral Undef = Unit {0}
+IsLiteral (Num z) = IsAmount z
+IsLiteral Over = Unit {0}
+
+-- A register is below 16, arguments past the operator's arity are the first, other numbers fit 32 bits, and a literal is an
+-- amount or none.
+abbrev pub IsInstr : Instr → Type 0
+IsInstr (Take r n) = (r < REGISTERS) × IsShort n
+IsInstr (Lit r v) = (r < REGISTERS) × IsLiteral v
+IsInstr (Do op r a b c) = (r < REGISTERS) × (a < REGISTERS) × (b < REGISTERS) × (c < REGISTERS) × IsTrue (repeats_first op a b c)
+IsInstr (Store k r) = IsShort k × (r < REGISTERS)
+IsInstr (Load r k) = (r < REGISTERS) × IsShort k
+IsInstr (Check g c over_only number) = (g < REGISTERS) × (c < REGISTERS) × IsShort number
+IsInstr (Output k r) = IsShort k × (r < REGISTERS)
+
+-- its words and numbers have the forms that a code file wants, wherever its line stands
+abbrev pub IsEntry : Entry → Type 0
+IsEntry version = Unit {0}
+IsEntry (slot_count n) = IsShort n
+IsEntry (an_input input) = IsFreeWord input.code
+IsEntry (a_label label) = IsPrintableLabel label × IsFittingLabel label
+IsEntry (an_output output) = IsPrintableOutput output × IsFittingOutput output
+IsEntry code_start = Unit {0}
+IsEntry (an_instr i) = IsInstr i
+IsEntry code_end = Unit {0}
+
+-- ---- the lines so far
+
+-- What the lines so far say. `part` counts those of the lines `mcode 1`, `slots`, `code` and `end` that came.
+pub record Draft : Type 0 where
+  pub part : ℕ
+  pub slots : ℕ
+  pub inputs : List Coded
+  pub labels : List FaceLabel
+  pub outputs : List FaceOutput
+  pub instrs : List Instr
+
+-- before the first line
+abbrev pub blank : Draft
+blank = record { part = 0; slots = 0; inputs = []; labels = []; outputs = []; instrs = [] }
+
+-- the code so far
+abbrev pub code_in : Draft → Listing
+code_in d = code_of (length d.inputs) d.slots (length d.labels) (length d.outputs) d.instrs
+
+-- Whether a line may come next: `mcode 1`, `slots`, then inputs of which no code came before, labels, outputs of which notes
+-- stand first and name verifications, `code`, then instructions with which nothing is wrong, and `end` where each output was
+-- given.
+abbrev pub due : Entry → Draft → Bool
+due version d = d.part == 0
+due (slot_count n) d = d.part == 1
+due (an_input input) d = (d.part == 2) && ((length d.labels == 0) && ((length d.outputs == 0) && not (has input.code (codes_of d.inputs))))
+due (a_label label) d = (d.part == 2) && (length d.outputs == 0)
+due (an_output output) d = (d.part == 2) && notes_stand_first d.labels (d.outputs ++ output ∷ [])
+due code_start d = d.part == 2
+due (an_instr i) d = (d.part == 3) && is_some (reading (with_instr (code_in d) i))
+due code_end d = (d.part == 3) && is_none (code_fault (code_in d))
+
+-- what the lines say with one more
+abbrev pub said : Draft → Entry → Draft
+said d version = record d { part = 1 }
+said d (slot_count n) = record d { part = 2; slots = n }
+said d (an_input input) = record d { inputs = d.inputs ++ input ∷ [] }
+said d (a_label label) = record d { labels = d.labels ++ label ∷ [] }
+said d (an_output output) = record d { outputs = d.outputs ++ output ∷ [] }
+said d code_start = record d { part = 3 }
+said d (an_instr i) = record d { instrs = d.instrs ++ i ∷ [] }
+said d code_end = record d { part = 4 }
+
+-- each of these may come next, in turn
+abbrev pub AreDue : Draft → List Entry → Type 0
+AreDue d [] = Unit {0}
+AreDue d (entry ∷ entries) = IsEntry entry × IsTrue (due entry d) × AreDue (said d entry) entries
+
+-- what they say together
+abbrev pub draft_of : List Entry → Draft
+draft_of entries = fold said blank entries
+
+-- ---- the first fault
+
+-- no line that may come next stands at the front
+abbrev pub Ends : Draft → List ℕ → Type 0
+Ends d rest = (entry : Entry) (behind : List ℕ) → rest ≡ entry_line entry ++ behind → IsEntry entry → IsTrue (due entry d) → ⊥
+
+-- The lines from the first on that may come, each after those before it: behind them something else stands, or nothing though
+-- the code isn't ended.
+pub record Stops (bytes : List ℕ) (entries : List Entry) (rest : List ℕ) : Type 0 where
+  pub text : bytes ≡ lines entry_line entries ++ rest
+  pub due : AreDue blank entries
+  pub ends : Ends (draft_of entries) rest
+  pub open_end : (draft_of entries).part ≡ 4 → rest ≢ []
+
+-- an instruction stands at the front whose numbers may stand there, and which reads a register or a slot that no earlier one wrote
+abbrev pub ReadsUnwritten : Draft → List ℕ → Type 0
+ReadsUnwritten d rest = (i : Instr) × (behind : List ℕ) × (rest ≡ instr_line i ++ behind) × IsInstr i × (d.part ≡ 3) × (wrong_behind (code_in d) i ≡ Some Order)
+
+-- The first fault of a text. With so many lines before it, it is at the next line, also where there is none: the first line isn't
+-- `mcode 1`, or a later one reads before it is written, or is another that can't come there.
+abbrev pub IsCodeFault : List ℕ → CodeFault → Type 0
+IsCodeFault bytes BadHeader = Stops bytes [] bytes
+IsCodeFault bytes (BadLine n) = (entries : List Entry) × (rest : List ℕ) × Stops bytes entries rest × (entries ≢ []) × (n ≡ suc (length entries)) × (ReadsUnwritten (draft_of entries) rest → ⊥)
+IsCodeFault bytes (BadOrder n) = (entries : List Entry) × (rest : List ℕ) × Stops bytes entries rest × (n ≡ suc (length entries)) × ReadsUnwritten (draft_of entries) rest
+IsCodeFault bytes Memory = Unit {0}
+
+-- ---- the form
+
+-- A text is the form of code with a face: the face is printable, nothing is wrong with the code, numbers fit, and it is their text.
+pub record IsFormOf (bytes : List ℕ) (loaded : Loaded) : Type 0 where
+  pub printable : IsPrintable loaded.face
+  pub slots : IsShort loaded.code.counts.slots
+  pub labels : AllByRecursion IsFittingLabel loaded.face.labels
+  pub outputs : AllByRecursion IsFittingOutput loaded.face.outputs
+  pub instrs : AllByRecursion IsInstr loaded.code.instrs
+  pub right : code_fault loaded.code ≡ None
+  pub text : bytes ≡ text_with loaded.code loaded.face

@@ -1,0 +1,4 @@
+-- What the contracts of inner functions speak of. Those of public calls need none of it.
+pub mod Came
+pub mod Faces
+pub mod Spelled
