@@ -1,5 +1,5 @@
 -- The codes of inputs that are declared without a fault are different.
-use Rattle.std.proofs.Common.{◌≡◌, List, [], ◌∷◌, ◌++◌, ℕ, false, Option, None, Some, refl, sym, ◌∙◌, ap, subst, append_assoc}
+use Rattle.std.proofs.Common.{◌≡◌, List, [], ◌∷◌, ◌++◌, ℕ, false, Option, None, Some, refl, sym, ap, subst, append_assoc}
 use Rattle.std.specs.Prelude.{IfSome, map}
 use Rattle.std.specs.List.{cons_option, filter_map}
 use Rattle.std.specs.Option.{option_map}

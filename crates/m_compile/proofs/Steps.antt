@@ -1,11 +1,11 @@
 -- What a step's fault says of the source, and what the program of its rules is.
-use Rattle.std.proofs.Common.{◌≡◌, ◌≢◌, ◌≤◌, ◌<◌, ◌^◌, ℕ, suc, Bool, true, false, List, [], ◌∷◌, All, map, length, Option, None, Some, Result, Ok, Err, nat_lt, cond, refl, sym, ap, ◌∙◌, subst, arith}
+use Rattle.std.proofs.Common.{◌≡◌, ◌≢◌, ◌≤◌, ◌<◌, ◌^◌, ◌+◌, ℕ, Bool, true, false, List, [], All, map, length, Option, None, Some, Result, Ok, Err, nat_lt, cond, refl, sym, ap, ◌∙◌, subst, arith}
 use Rattle.std.proofs.lemmas.Bool.{ltb-false}
 use Rattle.std.proofs.lemmas.List.{length-map}
-use Rattle.std.specs.Prelude.{take}
+use Rattle.std.specs.Prelude.{take, drop}
 use Rattle.std.specs.List.{AllByRecursion}
 use Rattle.m_places.specs.Refusals.{Outcome}
-use Rattle.m_places.specs.declared.limits.TheConstants.{DRIVER_WEIGHT, REQUESTS}
+use Rattle.m_places.specs.declared.limits.TheConstants.{DRIVER_WEIGHT, PARTS, REQUESTS}
 use Rattle.rule_text.specs.declared.Source.{Source}
 use Rattle.rule_text.specs.declared.Text.{Text}
 use Rattle.m_symbols.specs.Declarations.{Declared, inputs_from}
@@ -44,19 +44,22 @@ use Rattle.mpp_core.specs.declared.fault.CoreFault.TheVariants as core
 use Rattle.mpp_core.specs.Cores.{IsCoreFault}
 use Rattle.mpp_inline.specs.declared.fault.InlineFault.{InlineFault}
 use Rattle.mpp_inline.specs.declared.fault.InlineFault.TheVariants as inline
-use Rattle.mpp_inline.specs.Inlined.{HasWeight, IsInlined, IsTooLarge}
+use Rattle.mpp_inline.specs.Inlined.{HasWeight, IsInlined, IsTooLarge, IsDriverLine, most_nodes}
 use Rattle.rule_base.specs.Base.{IsBaseOf}
 use Rattle.rule_base.specs.Faults.{IsRuleFault}
 use Rattle.rule_base.specs.declared.fault.RuleFault.{RuleFault}
 use Rattle.rule_base.specs.declared.fault.RuleFault.TheVariants as rules
+use Rattle.reg_machine.specs.Flow.{Listing}
+use Rattle.register_alloc.specs.Allocation.{IsAllocation}
 use Rattle.m_compile.specs.declared.fault.SourceFault.{SourceFault}
 use Rattle.m_compile.specs.declared.fault.SourceFault.TheVariants.{Memory}
 use Rattle.m_compile.specs.Sources.{HasRules, IsWritten, running}
 use Rattle.m_compile.specs.Faults.{IsSourceFault, of_rules, of_driver, of_core, of_requests, of_weight}
-use Rattle.m_compile.specs.Compiled.{IsCompiled, input_said, inputs_said}
-use Rattle.m_compile.specs.inner.Parts.{IsAsked, IsAskedFault, in_driver, in_requests, IsProgram, IsHeavy, heavy, of_lines, of_names, IsDriverFault, compiled_of}
+use Rattle.m_compile.specs.Compiled.{IsCompiled, IsRunnable, input_said, inputs_said}
+use Rattle.m_compile.specs.inner.Parts.{IsAsked, IsAskedFault, in_driver, in_requests, IsProgram, IsHeavy, heavy, of_lines, of_names, IsDriverFault, IsReady, compiled_of}
 use Rattle.m_compile.proofs.Distinct.{codes_said, distinct_codes}
-use Rattle.m_compile.proofs.Tidied.{plain_values, labels_kept}
+use Rattle.m_compile.proofs.words.Faces.{printable_face}
+use Rattle.m_compile.proofs.Tidied.{plain_values, labels_kept, labels_all}
 use Rattle.m_compile.specs.inner.Steps.{rule_step, driver_step, core_step, request_step, inline_step}
 
 -- the fault of the rule files
@@ -134,9 +137,9 @@ heavy_told : (source : Source) (declared : Declared) (base : Base) (written : Op
 heavy_told source declared base written asked fault r d q (heavy w) = of_weight r d q w
 
 -- the whole
-compiled_when : (source : Source) (declared : Declared) (base : Base) (asked : List ℕ) (core : Core) (flat : Flat) (face : Face) → HasRules source declared base → IsAsked declared source core asked
-    → IsProgram declared base core asked flat face → IsCompiled source (compiled_of flat face)
-compiled_when source declared base asked core flat face r a p =
+compiled_when : (source : Source) (declared : Declared) (base : Base) (asked : List ℕ) (core : Core) (flat : Flat) (face : Face) (runnable : IsRunnable face flat) → HasRules source declared base → IsAsked declared source core asked
+    → IsProgram declared base core asked flat face → (code : Listing) → IsAllocation flat (length face.labels) code → IsCompiled source (compiled_of flat face code)
+compiled_when source declared base asked core flat face runnable r a p code l =
     let no_notes : notes_of face.outputs ≡ [] = ap notes_of p.outputs ∙ notes-named (map (cell_name declared) asked) in
     record {
       declared = declared;
@@ -144,20 +147,47 @@ compiled_when source declared base asked core flat face r a p =
       written = a.written;
       requests = asked;
       valid = record { rules = r; driven = a.driven; requested = a.requested; light = subst (λ c. weight_of c base ≤ DRIVER_WEIGHT) a.runs p.light };
-      runnable = record { valid = p.valid; shown = p.shown; distinct = rw (ap codes_of p.inputs ∙ codes_said declared) (distinct_codes source.texts source.application declared base r.made); nodes_fit = p.nodes_fit };
+      runnable = runnable;
       tidy = p.tidy;
+      allocated = l;
       inputs = p.inputs;
       names = ap names_of p.outputs ∙ names-named (map (cell_name declared) asked);
       notes = subst (AllByRecursion (λ number. number < length base.labels)) (sym no_notes) tt;
       first_labels = p.first_labels;
+      printable = printable_face source.texts source.application source.requests declared base asked face r.made a.requested (distinct_codes source.texts source.application declared base r.made)
+          (ap codes_of p.inputs ∙ codes_said declared) (ap names_of p.outputs ∙ names-named (map (cell_name declared) asked)) p.first_labels p.further_labels;
       answers = λ inputs given. ap (λ notes. told_of face.labels notes (flat_run flat inputs)) no_notes ∙ rw (sym a.runs) (p.answers inputs (plain_values face.inputs inputs given));
     }
 
-pub finished : (source : Source) (declared : Declared) (base : Base) (asked : List ℕ) (core : Core) (result : Result (Flat × Face) SourceFault) → HasRules source declared base
+runnable_when : (source : Source) (declared : Declared) (base : Base) (asked : List ℕ) (core : Core) (flat : Flat) (face : Face) → HasRules source declared base → IsProgram declared base core asked flat face → IsRunnable face flat
+runnable_when source declared base asked core flat face r p =
+    record { valid = p.valid; shown = p.shown; distinct = rw (ap codes_of p.inputs ∙ codes_said declared) (distinct_codes source.texts source.application declared base r.made); nodes_fit = p.nodes_fit }
+
+-- there may be code of a program as small as this
+few_when_fit : (labels base : ℕ) → base ≤ PARTS → labels ≤ base + most_nodes → labels < 2 ^ 32
+few_when_fit labels base b l = omega (arith, b, l)
+
+ready_when : (source : Source) (declared : Declared) (base : Base) (asked : List ℕ) (core : Core) (flat : Flat) (face : Face) → length base.labels ≤ PARTS → HasRules source declared base → IsAsked declared source core asked
+    → IsProgram declared base core asked flat face → IsReady source flat face
+ready_when source declared base asked core flat face few r a p =
+    let runnable = runnable_when source declared base asked core flat face r p in
+    record {
+      few_labels = few_when_fit (length face.labels) (length base.labels) few p.labels_fit;
+      small = record {
+        nodes = omega (arith, p.nodes_fit);
+        checks = omega (arith, p.checks_fit);
+        outputs = omega (arith, p.few_outputs, p.shown.outputs);
+        labelled = labels_all (length face.labels) flat.checks p.shown.labels;
+      };
+      runnable = runnable;
+      compiled = compiled_when source declared base asked core flat face runnable r a p;
+    }
+
+pub finished : (source : Source) (declared : Declared) (base : Base) (asked : List ℕ) (core : Core) (result : Result (Flat × Face) SourceFault) → length base.labels ≤ PARTS → HasRules source declared base
     → IsAsked declared source core asked → Outcome Memory result (λ given. IsProgram declared base core asked given.0 given.1) (IsHeavy core base)
-    → Outcome Memory result (λ given. IsCompiled source (compiled_of given.0 given.1)) (IsSourceFault source)
-finished source declared base asked core (Ok given) r a p = compiled_when source declared base asked core given.0 given.1 r a p
-finished source declared base asked core (Err fault) r a p = λ m. heavy_told source declared base a.written asked fault r a.driven a.requested (subst (λ c. IsHeavy c base fault) a.runs (p m))
+    → Outcome Memory result (λ given. IsReady source given.0 given.1) (IsSourceFault source)
+finished source declared base asked core (Ok given) few r a p = ready_when source declared base asked core given.0 given.1 few r a p
+finished source declared base asked core (Err fault) few r a p = λ m. heavy_told source declared base a.written asked fault r a.driven a.requested (subst (λ c. IsHeavy c base fault) a.runs (p m))
 
 -- ---- the program of a driver
 
@@ -191,6 +221,10 @@ program_made declared base core asked flat tidy face labels w i b t l f o h =
       inputs = f;
       outputs = o;
       first_labels = subst (λ (ls : List FaceLabel). take (length base.labels) ls ≡ map Verif base.labels) (sym l) i.first_labels;
+      further_labels = subst (λ (ls : List FaceLabel). AllByRecursion IsDriverLine (drop (length base.labels) ls)) (sym l) i.further_labels;
       nodes_fit = omega (arith, b.nodes, i.nodes_fit);
+      checks_fit = omega (arith, b.checks, i.checks_fit);
+      labels_fit = subst (λ (ls : List FaceLabel). length ls ≤ length base.labels + most_nodes) (sym l) i.labels_fit;
+      few_outputs = omega (arith, many, h);
       answers = λ inputs plain. rw (l, b.answer inputs plain) (i.answer inputs);
     }

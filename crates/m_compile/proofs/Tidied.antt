@@ -1,5 +1,5 @@
 -- What the tidy form of a program keeps for its face.
-use Rattle.std.proofs.Common.{◌≡◌, ℕ, suc, ◌<◌, false, List, [], ◌∷◌, All, length, sym, subst, arith}
+use Rattle.std.proofs.Common.{ℕ, zero, suc, ◌<◌, false, List, [], ◌∷◌, All, sym, subst, arith}
 use Rattle.std.specs.List.{AllByRecursion}
 use Rattle.m_fixed.specs.declared.amount.Value.{Value}
 use Rattle.m_fixed.specs.declared.amount.Value.TheVariants.{Undef, Num, Over}
@@ -30,3 +30,9 @@ labels_kept n old (c ∷ cs) low same =
     let first = same 0 (omega arith) in
     let there = low first.0 (record { guard = 0; condition = 0; over_only = false; label = 0 }) first.1 in
     (subst (λ (m : ℕ). m < n) (sym first.2) there, labels_kept n old cs low (λ j q. same (suc j) (omega (arith, q))))
+
+-- the same of each place
+pub labels_all : (n : ℕ) (checks : List Check) → AllByRecursion (λ check. check.label < n) checks → All (λ check. check.label < n) checks
+labels_all n [] low k d l = absurd (omega (arith, l))
+labels_all n (c ∷ cs) low zero d l = low.0
+labels_all n (c ∷ cs) low (suc k) d l = labels_all n cs low.1 k d (omega (arith, l))

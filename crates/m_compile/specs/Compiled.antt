@@ -18,9 +18,11 @@ use Rattle.flat_code.specs.declared.program.Flat.{Flat}
 use Rattle.flat_code.specs.Faces.{IsFaceOf}
 use Rattle.flat_code.specs.Runs.{IsFlat, flat_run}
 use Rattle.flat_code.specs.Tidy.{IsTidy}
+use Rattle.register_alloc.specs.Allocation.{IsAllocation}
 use Rattle.driver_core.specs.declared.program.Core.{Core}
 use Rattle.m_requests.specs.Cells.{cell_name}
 use Rattle.mpp_inline.specs.Inlined.{most_nodes}
+use Rattle.code_file.specs.Printable.{IsPrintable}
 use Rattle.m_compile.specs.declared.compiling.Compiled.{Compiled}
 use Rattle.m_compile.specs.Sources.{IsValid}
 use Rattle.m_compile.specs.Answers.{answer_to}
@@ -42,7 +44,8 @@ pub record IsRunnable (face : Face) (flat : Flat) : Type 0 where
 
 -- The source is valid, and it is compiled to this: for every list of values that the inputs may have, the answer of the tidy program, read through its face,
 -- is the answer of the source. The face has the inputs, the labels of the base's checks before all others, and the names of what is asked for, each in its order,
--- and each note is that of a check of the base.
+-- and each note is that of a check of the base. A code file can spell all words of the face. The code spells the tidy program, with a label for each of the face,
+-- in the registers and slots of its width.
 pub record IsCompiled (source : Source) (compiled : Compiled) : Type 0 where
   pub declared : Declared
   pub base : Base
@@ -51,9 +54,11 @@ pub record IsCompiled (source : Source) (compiled : Compiled) : Type 0 where
   pub valid : IsValid source declared base written requests
   pub runnable : IsRunnable compiled.face compiled.tidy
   pub tidy : IsTidy compiled.tidy
+  pub allocated : IsAllocation compiled.tidy (length compiled.face.labels) compiled.code
   pub inputs : compiled.face.inputs ≡ inputs_said declared
   pub names : names_of compiled.face.outputs ≡ map (cell_name declared) requests
   pub notes : AllByRecursion (λ number. number < length base.labels) (notes_of compiled.face.outputs)
   pub first_labels : take (length base.labels) compiled.face.labels ≡ map Verif base.labels
+  pub printable : IsPrintable compiled.face
   pub answers : (inputs : List Value) → AreValuesOf compiled.face.inputs inputs
       → told_of compiled.face.labels (notes_of compiled.face.outputs) (flat_run compiled.tidy inputs) ≡ Some (answer_to declared base written requests inputs)

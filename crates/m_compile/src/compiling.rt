@@ -1,6 +1,6 @@
 //! The steps of the compiler, one behind the other.
 
-ghost use Rattle.std.specs.Prelude.{◌≡◌, ◌<◌, ◌≤◌, All, IfOk, IfSome, Ok, length};
+ghost use Rattle.std.specs.Prelude.{◌≡◌, ◌<◌, ◌≤◌, ◌^◌, All, IfOk, IfSome, IsTrue, Ok, length};
 ghost use Rattle.m_places.specs.Refusals.{Outcome};
 ghost use Rattle.m_places.specs.declared.limits.TheConstants.{CELLS, FILE_BYTES, PARTS, REQUESTS};
 ghost use Rattle.rule_text.specs.Limits.{SourceKeepsLimits, FileIsWithin};
@@ -10,8 +10,11 @@ ghost use Rattle.micro_m.specs.Bases.{IsValidBase};
 ghost use Rattle.rule_order.specs.Orders.{IsOrder};
 ghost use Rattle.m_compile.specs.Sources.{HasRules, IsWritten, running};
 ghost use Rattle.m_compile.specs.Faults.{IsSourceFault};
+ghost use Rattle.flat_code.specs.Faces.{IsFaceOf};
+ghost use Rattle.register_alloc.specs.Allocation.{IsAllocation, IsSmall};
+ghost use Rattle.code_file.specs.Loading.{counts_agree};
 ghost use Rattle.m_compile.specs.Compiled.{IsCompiled, IsRunnable};
-ghost use Rattle.m_compile.specs.inner.Parts.{IsAsked, IsAskedFault, IsProgram, IsHeavy, IsDriverFault, compiled_of};
+ghost use Rattle.m_compile.specs.inner.Parts.{IsAsked, IsAskedFault, IsProgram, IsHeavy, IsDriverFault, IsReady};
 ghost use Rattle.m_compile.specs.declared.fault.SourceFault.TheVariants.{Memory};
 
 use crate::SourceFault;
@@ -26,6 +29,8 @@ use mpp_core::{plain_driver, resolve_driver};
 use mpp_inline::inline;
 use mpp_parser::parse_driver;
 use observables::Face;
+use reg_machine::Code;
+use register_alloc::allocate;
 use rule_base::{RuleBase, rule_base};
 use rule_text::Source;
 use std::alloc::{AllocError, Global};
@@ -37,6 +42,8 @@ pub struct Compiled {
     pub face: Face,
     /// The program, in the tidy form.
     pub tidy: Tidy,
+    /// The program as register code, with a label for each of the face.
+    pub code: Code,
 }
 
 /// Compiles a source, or tells the fault of its earliest step that has one: the rule files, the lines of the driver, its names,
@@ -47,10 +54,31 @@ pub fn compile(alloc: Global, source: &Source) -> Result<Compiled, SourceFault>
     requires { SourceKeepsLimits source.now }
     ensures outcome { Outcome Memory result (IsCompiled source.now) (IsSourceFault source.now) }
     ensures runnable { IfOk result (λ compiled. IsRunnable compiled.face compiled.tidy) }
+    ensures loadable { IfOk result (λ compiled. IsTrue (counts_agree compiled.code compiled.face.inputs compiled.face.labels compiled.face.outputs)) }
+{
+    let (tidy, face) = ready(alloc, source)?;
+    let code = coded(alloc, &tidy, &face)?;
+    Ok(Compiled { face, tidy, code })
+}
+
+// The program of a source, with its face.
+fn ready(alloc: Global, source: &Source) -> Result<(Tidy, Face), SourceFault>
+    requires { SourceKeepsLimits source.now }
+    ensures { Outcome Memory result (λ given. IsReady source.now given.0 given.1) (IsSourceFault source.now) }
 {
     let made = rule_base(alloc, source.texts.as_slice(), source.application.bytes())?;
-    let (tidy, face) = program(alloc, source, &made)?;
-    Ok(Compiled { face, tidy })
+    program(alloc, source, &made)
+}
+
+// The code of a small program, which the face shows. Its only error is want of memory.
+fn coded(alloc: Global, tidy: &Tidy, face: &Face) -> Result<Code, AllocError>
+    requires shown { IsFaceOf face.now tidy.now }
+    requires few { length face.now.labels < 2 ^ 32 }
+    requires small { IsSmall tidy.now (length face.now.labels) }
+    ensures allocated { IfOk result (IsAllocation tidy.now (length face.now.labels)) }
+    ensures loadable { IfOk result (λ code. IsTrue (counts_agree code face.now.inputs face.now.labels face.now.outputs)) }
+{
+    allocate(alloc, tidy, face.labels.as_slice().len() as u32)
 }
 
 // The program of what a source asks for over its rules in an order, with its face.
@@ -61,7 +89,7 @@ fn program(alloc: Global, source: &Source, made: &RuleBase) -> Result<(Tidy, Fac
     requires order { IsOrder made.now.ordered.base made.now.ordered.sequence }
     requires cells { made.now.ordered.base.cells ≡ length (owners_from 0 made.now.symbols.variables) }
     requires placed { IsPlaced made.now.symbols }
-    ensures { Outcome Memory result (λ given. IsCompiled source.now (compiled_of given.0 given.1)) (IsSourceFault source.now) }
+    ensures { Outcome Memory result (λ given. IsReady source.now given.0 given.1) (IsSourceFault source.now) }
 {
     let (core, requests) = asked(alloc, source, &made.symbols)?;
     faced(alloc, made, &core, requests.as_slice())

@@ -1,6 +1,7 @@
 -- The last steps by themselves: from rules in an order and what is asked for to a program with its face.
-use Rattle.std.specs.Prelude.{◌≡◌, ℕ, ◌<◌, ◌≤◌, List, [], Option, length, map, take, Some, Ok, Err}
-use Rattle.m_places.specs.declared.limits.TheConstants.{DRIVER_WEIGHT}
+use Rattle.std.specs.Prelude.{◌≡◌, ℕ, ◌+◌, ◌<◌, ◌≤◌, ◌^◌, List, [], Option, length, map, take, drop, Some, Ok, Err}
+use Rattle.std.specs.List.{AllByRecursion}
+use Rattle.m_places.specs.declared.limits.TheConstants.{DRIVER_WEIGHT, REQUESTS}
 use Rattle.m_fixed.specs.declared.amount.Value.{Value}
 use Rattle.rule_text.specs.declared.Source.{Source}
 use Rattle.m_symbols.specs.Declarations.{Declared}
@@ -14,13 +15,15 @@ use Rattle.flat_code.specs.Facts.{ArePlain}
 use Rattle.flat_code.specs.Runs.{IsFlat, flat_run}
 use Rattle.flat_code.specs.Tidy.{IsTidy}
 use Rattle.observables.specs.Answers.{told_of}
+use Rattle.reg_machine.specs.Flow.{Listing}
+use Rattle.register_alloc.specs.Allocation.{IsAllocation, IsSmall}
 use Rattle.driver_core.specs.declared.program.Core.{Core}
 use Rattle.driver_core.specs.Answers.{answer_of}
 use Rattle.driver_core.specs.Weights.{weight_of}
 use Rattle.m_requests.specs.Cells.{cell_name}
 use Rattle.m_requests.specs.declared.fault.RequestFault.{RequestFault}
 use Rattle.m_requests.specs.Requests.{requests_said}
-use Rattle.mpp_inline.specs.Inlined.{most_nodes}
+use Rattle.mpp_inline.specs.Inlined.{most_nodes, IsDriverLine}
 use Rattle.mpp_lexer.specs.declared.fault.DriverFault.{DriverFault}
 use Rattle.mpp_parser.specs.declared.command.Driver.{Driver}
 use Rattle.mpp_parser.specs.Faults.{IsDriver, IsFault}
@@ -31,7 +34,7 @@ use Rattle.m_compile.specs.declared.fault.SourceFault.{SourceFault}
 use Rattle.m_compile.specs.declared.fault.SourceFault.TheVariants.{Driver as DriverIs, Core as CoreIs, Requests, DriverTooLarge}
 use Rattle.m_compile.specs.Sources.{IsWritten, running}
 use Rattle.m_compile.specs.Faults.{told_weight}
-use Rattle.m_compile.specs.Compiled.{inputs_said}
+use Rattle.m_compile.specs.Compiled.{inputs_said, IsCompiled, IsRunnable}
 
 -- Why a driver is refused over what is declared: its lines, or else its names. Where there is none there is no fault.
 pub data IsDriverFault (declared : Declared) : Option (List ℕ) → SourceFault → Type 0 where
@@ -60,12 +63,23 @@ pub record IsProgram (declared : Declared) (base : Base) (core : Core) (requests
   pub inputs : face.inputs ≡ inputs_said declared
   pub outputs : face.outputs ≡ map Named (map (cell_name declared) requests)
   pub first_labels : take (length base.labels) face.labels ≡ map Verif base.labels
+  pub further_labels : AllByRecursion IsDriverLine (drop (length base.labels) face.labels)
   pub nodes_fit : length flat.nodes ≤ most_nodes
+  pub checks_fit : length flat.checks ≤ most_nodes
+  pub labels_fit : length face.labels ≤ length base.labels + most_nodes
+  pub few_outputs : length face.outputs ≤ REQUESTS
   pub answers : (inputs : List Value) → ArePlain inputs → told_of face.labels [] (flat_run flat inputs) ≡ Some (answer_of core base declared requests inputs)
 
--- a program and its face
-abbrev pub compiled_of : Flat → Face → Compiled
-compiled_of flat face = record { face = face; tidy = flat }
+-- a program, its face and its code
+abbrev pub compiled_of : Flat → Face → Listing → Compiled
+compiled_of flat face code = record { face = face; tidy = flat; code = code }
+
+-- What a source is compiled to, but for code: with any code of the program it is all, and there is such code, since the program is small.
+pub record IsReady (source : Source) (flat : Flat) (face : Face) : Type 0 where
+  pub few_labels : length face.labels < 2 ^ 32
+  pub small : IsSmall flat (length face.labels)
+  pub runnable : IsRunnable face flat
+  pub compiled : (code : Listing) → IsAllocation flat (length face.labels) code → IsCompiled source (compiled_of flat face code)
 
 -- a driver that weighs too much
 pub data IsHeavy (core : Core) (base : Base) : SourceFault → Type 0 where

@@ -17,4 +17,4 @@ faced-requires-clause-few_labels c = few-labels c.requires.rules.made
 
 pub returns : goal.returns
 returns c =
-    finished c.args.source.now c.args.made.now.symbols c.args.made.now.ordered.base _ _ _ c.requires.rules c.in_ok-core.ensures.outcome (rw c.as_slice.ensures at c.faced.ensures)
+    finished c.args.source.now c.args.made.now.symbols c.args.made.now.ordered.base _ _ _ (few-labels c.requires.rules.made) c.requires.rules c.in_ok-core.ensures.outcome (rw c.as_slice.ensures at c.faced.ensures)

@@ -1,0 +1,10 @@
+#!/bin/sh
+# Times `compile` and `exec`. It needs ./build before and python3, and prints a table for RESULTS.md.
+#
+#     sh bench/code/files.sh [PROGRAM]
+set -eu
+here=$(cd "$(dirname "$0")" && pwd)
+root=$(cd "$here/../.." && pwd)
+work=$(mktemp -d "${TMPDIR:-/tmp}/bench_code.XXXXXX")
+trap 'rm -rf "$work"' EXIT
+python3 "$here/files.py" "${1-$root/out/m_tax}" "$work"

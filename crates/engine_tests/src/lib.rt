@@ -1,0 +1,12 @@
+//! Tests of the engine on compiled sources: the slots, stores and loads of register code against what a plain count says, and
+//! the machine's answers against those of the flat program.
+#![tactic(auto)]
+
+#[cfg(test)]
+mod counts;
+#[cfg(test)]
+mod engine;
+#[cfg(test)]
+mod replay;
+#[cfg(test)]
+mod sources;
