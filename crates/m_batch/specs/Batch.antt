@@ -2,8 +2,8 @@
 use Rattle.std.specs.Prelude.{ℕ, ◌<◌, List, map}
 use Rattle.std.specs.List.{AllByRecursion}
 use Rattle.observables.specs.declared.answer.Answer.{Answer}
-use Rattle.flat_code.specs.declared.program.Flat.{Flat}
-use Rattle.flat_code.specs.Runs.{flat_run}
+use Rattle.reg_machine.specs.Flow.{Listing}
+use Rattle.reg_machine.specs.Machine.{machine_run}
 use Rattle.household.specs.declared.table.Row.{Row}
 use Rattle.household.specs.Household.{inputs_of, values_of}
 
@@ -11,10 +11,10 @@ use Rattle.household.specs.Household.{inputs_of, values_of}
 abbrev pub HasInputsBelow : ℕ → Row → Type 0
 HasInputsBelow inputs row = AllByRecursion (λ input. input < inputs) (inputs_of row.household.pairs)
 
--- What a program answers for a row: its run on the row's amounts, undefined where the row has none.
-abbrev pub row_answer : Flat → Row → Answer
-row_answer flat row = flat_run flat (values_of row.household.pairs flat.inputs)
+-- What code answers for a row: its run on the row's amounts, undefined where the row has none.
+abbrev pub row_answer : Listing → Row → Answer
+row_answer code row = machine_run code (values_of row.household.pairs code.counts.inputs)
 
 -- The answers of rows, in their order.
-abbrev pub answers_of : Flat → List Row → List Answer
-answers_of flat rows = map (row_answer flat) rows
+abbrev pub answers_of : Listing → List Row → List Answer
+answers_of code rows = map (row_answer code) rows

@@ -1,5 +1,5 @@
-//! Sessions of one household, and batches of several, over a program written by hand: REV less 1000, which is over in line 2
-//! of the driver where the square of REV is.
+//! Sessions of one household over a program written by hand: REV less 1000, which is over in line 2 of the driver where the
+//! square of REV is.
 ghost use Rattle.std.specs.Prelude.{◌≡◌, ◌≤◌, ◌<◌, IfOk, length};
 ghost use Rattle.std.specs.List.{AllByRecursion};
 ghost use Rattle.observables.specs.Inputs.{codes_of};
@@ -7,22 +7,20 @@ ghost use Rattle.flat_code.specs.Runs.{IsFlat};
 
 use dead_rules::tidy;
 use flat_code::{Check, Flat, Node, Tidy};
-use household::{Codes, Household, read_table};
+use household::{Codes, Household};
 use household_session::Session;
-use m_batch::run_batch;
 use m_fixed::{Amount, Op, Value};
 use m_places::{Name, Seq};
 use m_ports::{MemSink, MemSource};
-use observables::{Answer, Coded, Face, FaceLabel, InputType, Stop, named_face};
+use observables::{Coded, Face, FaceLabel, InputType, named_face};
 use serve_loop::{ServeEnd, serve};
 use std::alloc::{AllocError, Global};
 use std::marker::Brand;
 use std::sync::ledger::{Blank, Ledger};
 use std::test::Fail;
-use std::thread::Threads;
 use steps::Steps;
 
-fn number(millionths: i128) -> Value {
+pub(crate) fn number(millionths: i128) -> Value {
     match Amount::new(millionths) {
         Some(amount) => Value::Num(amount),
         None => Value::Over,
@@ -99,7 +97,7 @@ fn one_label(alloc: Global) -> Result<Seq<FaceLabel>, AllocError>
     Ok(Seq::from_vec(labels))
 }
 
-fn face(alloc: Global) -> Result<Face, AllocError>
+pub(crate) fn face(alloc: Global) -> Result<Face, AllocError>
     ensures { IfOk result (λ face. (length face.inputs ≡ 1) × (length face.labels ≡ 1) × (length face.outputs ≡ 1)) }
 {
     let inputs = one_input(alloc)?;
@@ -108,7 +106,7 @@ fn face(alloc: Global) -> Result<Face, AllocError>
     named_face(alloc, inputs, labels, names)
 }
 
-fn codes(alloc: Global, inputs: &[Coded]) -> Result<Codes, AllocError>
+pub(crate) fn codes(alloc: Global, inputs: &[Coded]) -> Result<Codes, AllocError>
     requires { length inputs.now ≡ 1 }
     ensures { IfOk result (λ codes. codes ≡ codes_of inputs.now) }
 {
@@ -343,56 +341,5 @@ fn served(rt: HostRuntime) -> Result<(), Fail> {
             return Err(Fail::from(format!(in rt.alloc(); "pieces of {piece}")?));
         }
     }
-    Ok(())
-}
-
-// A value by its millionths, or -1 where it has none.
-fn millionths(value: Value) -> i128 {
-    match value {
-        Value::Num(amount) => amount.millionths(),
-        _ => -1,
-    }
-}
-
-// The answers in one text: the millionths of each value, or what ended the run.
-fn told(alloc: Global, answers: &[Answer]) -> Result<Vec<u8>, Fail> {
-    let mut text = Vec::new(alloc);
-    for answer in answers {
-        match answer {
-            Answer::Values(values) => {
-                for value in values.as_slice() {
-                    let shown = format!(in alloc; "{};", millionths(*value))?;
-                    text.extend_from_slice(shown.as_bytes())?;
-                }
-            }
-            Answer::Stopped(Stop::Over(0)) => text.extend_from_slice(b"over;")?,
-            Answer::Stopped(_) => text.extend_from_slice(b"stopped;")?,
-        }
-    }
-    Ok(text)
-}
-
-fn batch<R: Threads + Sync>(rt: &R, alloc: Global, bytes: &[u8]) -> Result<Vec<u8>, Fail> {
-    let flat = program(alloc)?;
-    let face = face(alloc)?;
-    let codes = codes(alloc, face.inputs.as_slice())?;
-    let rows = read_table(alloc, bytes, &codes)?;
-    let answers = run_batch(rt, alloc, &flat, rows.as_slice())?;
-    told(alloc, answers.as_slice())
-}
-
-#[test]
-fn batches(rt: HostRuntime) -> Result<(), Fail> {
-    let text = batch(
-        &rt,
-        rt.alloc(),
-        b"name,1AJ\na,2500.5\nb,10000000000000\nc,\nd,-7\n",
-    )?;
-    assert_eq!(rt;
-        text.as_slice(),
-        b"1500500000;over;-1000000000;-1007000000;".as_slice()
-    );
-    let text = batch(&rt, rt.alloc(), b"name,1AJ\n")?;
-    assert!(rt; text.is_empty());
     Ok(())
 }
