@@ -18,7 +18,11 @@ regle 10 : application : iliad ;
 }
 
 /// A file of this name.
-fn file(alloc: Global, name: &[u8], bytes: &[u8]) -> Result<(Name, Vec<u8>), AllocError> {
+pub(crate) fn file(
+    alloc: Global,
+    name: &[u8],
+    bytes: &[u8],
+) -> Result<(Name, Vec<u8>), AllocError> {
     Ok((Name::new(alloc, name)?, Vec::from_slice(alloc, bytes)?))
 }
 
@@ -52,7 +56,7 @@ fn run_files(alloc: Global, rules: Vec<u8>, rows: &str) -> Result<MemFiles, Allo
 
 /// Does a command over files in memory, and gives its status. Where it had no memory and wrote nothing,
 /// that is the error, as it is where the test itself has none.
-fn done<R: Threads + Sync>(
+pub(crate) fn done<R: Threads + Sync>(
     rt: &R,
     alloc: Global,
     line: &str,
@@ -81,10 +85,10 @@ fn files_with(alloc: Global, name: &str, bytes: Vec<u8>) -> Result<MemFiles, All
 /// What a command is to print, its status, and the names that it tries: each with a space behind it, and
 /// with a `!` before that where the fetch fails.
 #[derive(Clone, Copy)]
-struct Wanted<'a> {
-    text: &'a str,
-    status: Status,
-    tried: &'a str,
+pub(crate) struct Wanted<'a> {
+    pub(crate) text: &'a str,
+    pub(crate) status: Status,
+    pub(crate) tried: &'a str,
 }
 
 /// The names that were tried, as a `Wanted` has them.
@@ -101,7 +105,7 @@ fn tried(alloc: Global, files: &MemFiles) -> Result<Vec<u8>, AllocError> {
 }
 
 /// Does a command over these files, and fails, naming the row, where it does anything but what is wanted.
-fn check<R: Threads + Sync>(
+pub(crate) fn check<R: Threads + Sync>(
     rt: &R,
     alloc: Global,
     row: &str,
@@ -130,7 +134,7 @@ const RUN: &str = "run l.txt - - h.csv";
 /// A list of one rule file.
 const LIST: &str = "iliad\na.m\n";
 
-const USAGE: &str =
+pub(crate) const USAGE: &str =
     "usage: m_tax run|serve LIST DRIVER REQUESTS HOUSEHOLD, batch LIST DRIVER REQUESTS TABLE, compile LIST DRIVER REQUESTS, exec CODEFILE HOUSEHOLD, large N\n";
 
 /// The words, the list, the number of the fetch that fails, the text, the names that were tried.

@@ -1,4 +1,7 @@
 pub mod Clauses
+pub mod Codes
+pub mod Compiling
+pub mod Executed
 pub mod Faults
 pub mod OneOutput
 pub mod Reading

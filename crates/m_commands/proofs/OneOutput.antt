@@ -29,7 +29,8 @@ use Rattle.m_commands.specs.Command.{plan_of}
 use Rattle.m_commands.specs.Output.{Output, usage, refuses, answers, AreOneOutput, the_same}
 use Rattle.m_commands.specs.declared.command.Command.{Command}
 use Rattle.m_commands.specs.declared.work.Work.{Work}
-use Rattle.m_commands.specs.declared.work.Work.TheVariants.{Run, Serve, Batch, Large}
+use Rattle.m_commands.specs.declared.work.Work.TheVariants.{Run, Serve, Batch, Large, Compile, Exec}
+use Rattle.m_commands.proofs.Codes.{one_compile, one_exec}
 use Rattle.m_commands.proofs.Schemes.{not_refused, one_refusal, one_scheme, said_other}
 
 -- the pairs of a household are the same by one scheme and by the other
@@ -106,6 +107,8 @@ one_reply (Run source rows) typed t u s r a b = one_run source rows t u s r a b
 one_reply (Serve source rows) typed t u s r a b = one_serve source rows typed t u s r a b
 one_reply (Batch source table) typed t u s r a b = one_batch source table t u s r a b
 one_reply (Large n) typed t u s r a b = one_large n t u s r a b
+one_reply (Compile source) typed t u s r a b = one_compile source t u s r a b
+one_reply (Exec code rows) typed t u s r a b = one_exec code rows t u s r a b
 
 -- The same words, files and input have one output.
 pub one_output : (words : List (List ℕ)) (disk : Disk) (typed t u : List ℕ) (s r : Status) → Output words disk typed t s → Output words disk typed u r → AreOneOutput t s u r

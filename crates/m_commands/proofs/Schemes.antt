@@ -36,7 +36,7 @@ not_refused source said line scheme given valid e (households_are_refused other 
 
 -- ---- two refusals of a source
 
-one_line : (texts : List Text) (fault other : SourceFault) (t u : List ℕ) → AreOneSourceFault fault other → source_line texts fault ≡ Some t → source_line texts other ≡ Some u → AreOneOutput t Refused u Refused
+pub one_line : (texts : List Text) (fault other : SourceFault) (t u : List ℕ) → AreOneSourceFault fault other → source_line texts fault ≡ Some t → source_line texts other ≡ Some u → AreOneOutput t Refused u Refused
 one_line texts fault other t u (laws.the_same e) a b =
     let c : source_line texts other ≡ Some t = subst (λ (f : SourceFault). source_line texts f ≡ Some t) e a in
     the_same (cc (c, b)) refl
@@ -49,7 +49,7 @@ one_line texts fault other t u (laws.both_rings {names = ns} {others = os}) a b 
     let d : recursion_line os ≡ u = cc b in
     subst (λ (x : List ℕ). AreOneOutput x Refused u Refused) c (subst (λ (x : List ℕ). AreOneOutput (recursion_line ns) Refused x Refused) d (both_recursions ns os))
 
-same_line : (fault other : HouseholdFault) (t u : List ℕ) → fault ≡ other → household_fault_line fault ≡ Some t → household_fault_line other ≡ Some u → t ≡ u
+pub same_line : (fault other : HouseholdFault) (t u : List ℕ) → fault ≡ other → household_fault_line fault ≡ Some t → household_fault_line other ≡ Some u → t ≡ u
 same_line fault other t u e a b =
     let c : household_fault_line other ≡ Some t = subst (λ (f : HouseholdFault). household_fault_line f ≡ Some t) e a in
     cc (c, b)

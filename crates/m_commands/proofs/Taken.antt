@@ -2,7 +2,7 @@
 use Rattle.std.proofs.Common.{◌≡◌, ◌≤◌, ◌+◌, ◌*◌, ℕ, List, ◌++◌, length, Some, Ok, Err, sym, ap, ◌∙◌, subst, arith, length-append}
 use Rattle.std.specs.Option.{option_map_or}
 use Rattle.m_ports.specs.declared.files.Attempt.{Attempt}
-use Rattle.m_places.specs.declared.limits.TheConstants.{FILE_BYTES}
+use Rattle.m_places.specs.declared.limits.TheConstants.{CODE_FILE_BYTES, FILE_BYTES}
 use Rattle.m_plan.specs.Attempts.{allowance, TakesWithin}
 use Rattle.m_plan.specs.Views.{FilesView, InputView, OutputView}
 use Rattle.m_plan.specs.declared.ending.Ending.TheVariants as ending
@@ -14,7 +14,7 @@ use Rattle.m_source.specs.Source.{source_plan}
 use Rattle.m_source.proofs.Within.{source_within}
 use Rattle.m_commands.specs.Command.{command_of, plan_of, file_limit, limit_of}
 use Rattle.m_commands.specs.declared.command.Command.{Command}
-use Rattle.m_commands.specs.declared.command.Command.TheVariants.{Run, Serve, Batch, Large}
+use Rattle.m_commands.specs.declared.command.Command.TheVariants.{Run, Serve, Batch, Large, Compile, Exec}
 use Rattle.m_commands.specs.inner.Courses.{Course, is_no_command, has_no_memory, ended, answered}
 
 -- the files of a command keep its limit
@@ -26,6 +26,11 @@ keeps_limit (Serve names household) =
 keeps_limit (Batch names table) =
     within_then FILE_BYTES (source_plan names) _ (source_within names) (λ source. (omega arith, λ bytes. tt))
 keeps_limit (Large n) = tt
+keeps_limit (Compile names) = within_then FILE_BYTES (source_plan names) _ (source_within names) (λ source. tt)
+keeps_limit (Exec code household) = (omega arith, λ bytes. (fits, λ rows. tt))
+  where
+    fits : FILE_BYTES ≤ CODE_FILE_BYTES
+    fits = omega arith
 
 -- what is taken without a slack for want of memory
 no_slack : (most : ℕ) (before after : FilesView) (status : Status) → after.taken + allowance most before.attempts ≤ before.taken + allowance most after.attempts → TakesWithin most before after status

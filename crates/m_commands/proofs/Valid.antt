@@ -19,9 +19,12 @@ use Rattle.m_plan.specs.declared.ending.Ending.TheVariants as ending
 use Rattle.m_plan.specs.declared.status.Status.{Status}
 use Rattle.m_plan.proofs.Walks.{walks_to_end, walks_fit}
 use Rattle.m_work.specs.Batches as batch
+use Rattle.m_work.specs.Compiles as compiles
+use Rattle.m_work.specs.Execs as exec
 use Rattle.m_work.specs.Households.{told_status}
 use Rattle.m_work.specs.LargeAnswers as large
 use Rattle.m_work.specs.Larges.{large_source}
+use Rattle.m_work.specs.Prepared as prepared
 use Rattle.m_work.specs.Runs as run
 use Rattle.m_work.specs.Schemes.{told_to}
 use Rattle.m_work.specs.Serves as serve
@@ -31,9 +34,10 @@ use Rattle.m_commands.specs.Clauses.{AnswersValid, TakesFew}
 use Rattle.m_commands.specs.Output.{IsValidCommand}
 use Rattle.m_commands.specs.declared.command.Command.{Command}
 use Rattle.m_commands.specs.declared.work.Work.{Work}
-use Rattle.m_commands.specs.declared.work.Work.TheVariants.{Run, Serve, Batch, Large}
+use Rattle.m_commands.specs.declared.work.Work.TheVariants.{Run, Serve, Batch, Large, Compile, Exec}
 use Rattle.m_commands.specs.inner.Courses.{Course, IsWorkOf, is_no_command, has_no_memory, ended, answered}
 use Rattle.m_commands.proofs.Clauses.{gathers}
+use Rattle.m_commands.proofs.Codes.{compiled_not_refused, code_not_refused, rows_not_refused}
 use Rattle.m_commands.proofs.Schemes.{not_refused as refusal_none}
 use Rattle.m_commands.proofs.Ways.{Way, way_of, tells, lacks_memory, breaks_off, serves_all, serves_part, serves_most, serves_front, serve_reads}
 
@@ -58,6 +62,11 @@ replies_complete (Batch source table) text status h (batch.is_refused {line = li
 replies_complete (Batch source table) text status h (batch.is_told scheme rows v g) = tt
 replies_complete (Large n) text status h (large.is_refused {line = line} r) = absurd (refusal_none (large_source n) (λ inputs. household_of inputs (household_text n)) line h.scheme h.pairs h.valid h.given r)
 replies_complete (Large n) text status h (large.is_told scheme pairs v g) = told_complete (told_to scheme pairs)
+replies_complete (Compile source) text status h (compiles.is_refused fault is told) = absurd (compiled_not_refused source fault h is)
+replies_complete (Compile source) text status h (compiles.is_compiled compiled is) = tt
+replies_complete (Exec code rows) text status h (exec.code_is_refused fault is told) = absurd (code_not_refused code rows text fault h is told)
+replies_complete (Exec code rows) text status h (exec.is_answered loaded scheme form shown (prepared.is_refused fault given told)) = absurd (rows_not_refused code rows loaded scheme fault h form shown given)
+replies_complete (Exec code rows) text status h (exec.is_answered loaded scheme form shown (prepared.is_told pairs given)) = told_complete (told_to scheme pairs)
 
 -- valid words and files aren't refused
 not_refused : (words : List (List ℕ)) (disk : Disk) (command : Command) (line : List ℕ) → IsValidCommand words disk → command_of words ≡ Some command → end_of disk (plan_of command) ≡ refused line → ⊥

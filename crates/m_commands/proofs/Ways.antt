@@ -23,7 +23,7 @@ use Rattle.m_commands.specs.declared.command.Command.{Command}
 use Rattle.m_commands.specs.declared.command.Command.TheVariants as command
 use Rattle.m_commands.specs.declared.command.Form.TheVariants as form
 use Rattle.m_commands.specs.declared.work.Work.{Work}
-use Rattle.m_commands.specs.declared.work.Work.TheVariants.{Run, Serve, Batch, Large}
+use Rattle.m_commands.specs.declared.work.Work.TheVariants.{Run, Serve, Batch, Large, Compile, Exec}
 use Rattle.m_commands.specs.inner.Courses.{IsWorkOf, WorkIsAnswered, command_form, work_form}
 
 -- A text was printed, whatever is typed; or there was no memory, before anything was written or, in a batch, on the way; or a session had its input.
@@ -59,6 +59,10 @@ way_of (Batch source table) heard told old new status (same, batch.no_memory n m
 way_of (Batch source table) heard told old new status (same, batch.broke_off text own r a f m) = breaks_off text own (λ typed. r) refl same a f m
 way_of (Large n) heard told old new status (same, printed text own r o p) = tells text own (λ typed. r) o same p
 way_of (Large n) heard told old new status (same, no_memory e m) = lacks_memory same e m
+way_of (Compile source) heard told old new status (same, printed text own r o p) = tells text own (λ typed. r) o same p
+way_of (Compile source) heard told old new status (same, no_memory e m) = lacks_memory same e m
+way_of (Exec code rows) heard told old new status (same, printed text own r o p) = tells text own (λ typed. r) o same p
+way_of (Exec code rows) heard told old new status (same, no_memory e m) = lacks_memory same e m
 
 -- ---- the command of a work
 
@@ -67,12 +71,16 @@ takes (command.Run names household) e = absurd (cc e)
 takes (command.Serve names household) e = refl
 takes (command.Batch names table) e = absurd (cc e)
 takes (command.Large n) e = absurd (cc e)
+takes (command.Compile names) e = absurd (cc e)
+takes (command.Exec code household) e = absurd (cc e)
 
 in_parts : (asked : Command) → command_form asked ≡ Some form.Batch → writes_in_parts asked ≡ true
 in_parts (command.Run names household) e = absurd (cc e)
 in_parts (command.Serve names household) e = absurd (cc e)
 in_parts (command.Batch names table) e = refl
 in_parts (command.Large n) e = absurd (cc e)
+in_parts (command.Compile names) e = absurd (cc e)
+in_parts (command.Exec code household) e = absurd (cc e)
 
 -- a session was asked for
 pub serve_reads : (words : List (List ℕ)) (asked : Command) (work : Work) → command_of words ≡ Some asked → IsWorkOf asked work → work_form work ≡ Some form.Serve → reads_input words ≡ true

@@ -1,14 +1,16 @@
 -- What a command answers with what it has gathered.
-use Rattle.std.specs.Prelude.{ℕ, ◌≤◌, List}
-use Rattle.m_places.specs.declared.limits.TheConstants.{LARGE}
+use Rattle.std.specs.Prelude.{ℕ, ◌≤◌, List, length}
+use Rattle.m_places.specs.declared.limits.TheConstants.{CODE_FILE_BYTES, LARGE}
 use Rattle.rule_text.specs.Limits.{SourceKeepsLimits}
 use Rattle.m_plan.specs.declared.status.Status.{Status}
 use Rattle.m_work.specs.Batches.{BatchReplies, BatchHasAnswer}
+use Rattle.m_work.specs.Compiles.{CompileReplies, CompileHasAnswer}
+use Rattle.m_work.specs.Execs.{ExecReplies, ExecHasAnswer}
 use Rattle.m_work.specs.LargeAnswers.{LargeReplies, LargeHasAnswer}
 use Rattle.m_work.specs.Runs.{RunReplies, RunHasAnswer}
 use Rattle.m_work.specs.Serves.{ServeReplies, ServeCutOff, ServeInFull}
 use Rattle.m_commands.specs.declared.work.Work.{Work}
-use Rattle.m_commands.specs.declared.work.Work.TheVariants.{Run, Serve, Batch, Large}
+use Rattle.m_commands.specs.declared.work.Work.TheVariants.{Run, Serve, Batch, Large, Compile, Exec}
 
 -- The text and the status that a command answers with what it has gathered, where this is typed into the input.
 abbrev pub Replies : Work → (typed : List ℕ) → List ℕ → Status → Type 0
@@ -16,6 +18,8 @@ Replies (Run source rows) typed = RunReplies source rows
 Replies (Serve source rows) typed = ServeReplies source rows typed
 Replies (Batch source table) typed = BatchReplies source table
 Replies (Large n) typed = LargeReplies n
+Replies (Compile source) typed = CompileReplies source
+Replies (Exec code rows) typed = ExecReplies code rows
 
 -- The text where a read of the input fails behind these bytes of it: only a session reads.
 abbrev pub CutOff : Work → (taken : List ℕ) → List ℕ → Type 0
@@ -23,6 +27,8 @@ CutOff (Run source rows) taken text = ⊥
 CutOff (Serve source rows) taken text = ServeCutOff source rows taken text
 CutOff (Batch source table) taken text = ⊥
 CutOff (Large n) taken text = ⊥
+CutOff (Compile source) taken text = ⊥
+CutOff (Exec code rows) taken text = ⊥
 
 -- The replies to all that is typed, also where that is more than is taken: what a session writes is a front of them where a write fails.
 abbrev pub InFull : Work → (typed : List ℕ) → List ℕ → Type 0
@@ -30,6 +36,8 @@ InFull (Run source rows) typed text = ⊥
 InFull (Serve source rows) typed text = ServeInFull source rows typed text
 InFull (Batch source table) typed text = ⊥
 InFull (Large n) typed text = ⊥
+InFull (Compile source) typed text = ⊥
+InFull (Exec code rows) typed text = ⊥
 
 -- what was gathered has an answer that isn't a refusal
 abbrev pub HasAnswer : Work → Type 0
@@ -37,6 +45,8 @@ HasAnswer (Run source rows) = RunHasAnswer source rows
 HasAnswer (Serve source rows) = RunHasAnswer source rows
 HasAnswer (Batch source table) = BatchHasAnswer source table
 HasAnswer (Large n) = LargeHasAnswer n
+HasAnswer (Compile source) = CompileHasAnswer source
+HasAnswer (Exec code rows) = ExecHasAnswer code rows
 
 -- the files that were gathered keep the limits of what is made of them
 abbrev pub WorkKeepsLimits : Work → Type 0
@@ -44,3 +54,5 @@ WorkKeepsLimits (Run source rows) = SourceKeepsLimits source
 WorkKeepsLimits (Serve source rows) = SourceKeepsLimits source
 WorkKeepsLimits (Batch source table) = SourceKeepsLimits source
 WorkKeepsLimits (Large n) = (1 ≤ n) × (n ≤ LARGE)
+WorkKeepsLimits (Compile source) = SourceKeepsLimits source
+WorkKeepsLimits (Exec code rows) = length code ≤ CODE_FILE_BYTES

@@ -2,6 +2,9 @@
 use Rattle.std.specs.Prelude.{◌≡◌, ◌⊎◌, ℕ, ◌<◌, true, List, ◌++◌, length, Some, None}
 use Rattle.std.specs.Io.KnownBytes.{append_known, prepend_known}
 use Rattle.m_places.specs.declared.limits.TheConstants.{INPUT_BYTES}
+use Rattle.code_file.specs.Loading.{text_with}
+use Rattle.code_file.specs.declared.loaded.Loaded.{Loaded}
+use Rattle.rule_text.specs.declared.Source.{Source}
 use Rattle.m_ports.specs.Counts.{Rose}
 use Rattle.m_ports.specs.Files.{failed_count}
 use Rattle.m_ports.specs.Sink.{AppendsPrefix}
@@ -12,11 +15,15 @@ use Rattle.m_plan.specs.Plan.{end_of, gathered}
 use Rattle.m_plan.specs.Status.{IsFaultless, IsComplete}
 use Rattle.m_plan.specs.Views.{Disk, FilesView, InputView, OutputView}
 use Rattle.m_plan.specs.declared.status.Status.{Status}
-use Rattle.m_plan.specs.declared.status.Status.TheVariants.{Usage, ReadFault, WriteFault, Memory}
+use Rattle.m_plan.specs.declared.status.Status.TheVariants.{Done, Usage, ReadFault, WriteFault, Memory}
+use Rattle.m_source.specs.Source.{source_plan}
+use Rattle.m_source.specs.declared.source.SourceNames.{SourceNames}
+use Rattle.m_work.specs.Prepared.{IsPreparedCode}
 use Rattle.m_commands.specs.Answer.{CutOff, InFull}
 use Rattle.m_commands.specs.Command.{command_of, plan_of, reads_input}
 use Rattle.m_commands.specs.Output.{fetches_of, Output, IsValidCommand}
 use Rattle.m_commands.specs.declared.command.Command.{Command}
+use Rattle.m_commands.specs.declared.command.Command.TheVariants.{Compile}
 use Rattle.m_commands.specs.declared.work.Work.{Work}
 
 -- what is known of the input, where the command reads it
@@ -74,6 +81,14 @@ abbrev pub StopsInFront : List (List ℕ) → FilesView → OutputView → Outpu
 StopsInFront words before old new status =
     (disk : Disk) (typed : List ℕ) → before.told ≡ Some disk → status ≡ Memory
     → (new.written ≡ old.written) ⊎ ((text : List ℕ) × (own : Status) × Output words disk typed text own × AppendsPrefix old.written new.written text)
+
+-- Where the files are told, `compile` that did all of its work has written the code file of what its source is compiled to: code that is to households
+-- what the source is, with its face.
+abbrev pub WritesCode : List (List ℕ) → FilesView → OutputView → OutputView → Status → Type 0
+WritesCode words before old new status =
+    (disk : Disk) (names : SourceNames) → before.told ≡ Some disk → command_of words ≡ Some (Compile names) → status ≡ Done
+    → (source : Source) × (loaded : Loaded) × (end_of disk (source_plan names) ≡ gathered source) × IsPreparedCode source loaded
+    × (new.written ≡ append_known old.written (text_with loaded.code loaded.face))
 
 -- no read and no write failed
 abbrev pub NothingFailed : FilesView → FilesView → InputView → InputView → OutputView → OutputView → Type 0

@@ -3,14 +3,14 @@ use Rattle.std.specs.Prelude.{ℕ, ◌≤◌, nat_le, Bool, true, false, ◌&&�
 use Rattle.std.specs.List.{list_all}
 use Rattle.std.specs.Option.{option_map, option_map_or, option_or}
 use Rattle.std.specs.Str.{bytes_eq, is_utf8}
-use Rattle.m_places.specs.declared.limits.TheConstants.{FILE_BYTES, LARGE}
+use Rattle.m_places.specs.declared.limits.TheConstants.{CODE_FILE_BYTES, FILE_BYTES, LARGE}
 use Rattle.m_text.specs.Numbers.{whole_number}
 use Rattle.m_plan.specs.Plan.{Plan, done, file_plan, and_then}
 use Rattle.m_source.specs.Source.{source_plan}
 use Rattle.m_source.specs.declared.source.SourceNames.{SourceNames}
 use Rattle.rule_text.specs.declared.Source.{Source}
 use Rattle.m_commands.specs.declared.command.Command.{Command}
-use Rattle.m_commands.specs.declared.command.Command.TheVariants.{Run, Serve, Batch, Large}
+use Rattle.m_commands.specs.declared.command.Command.TheVariants.{Run, Serve, Batch, Large, Compile, Exec}
 use Rattle.m_commands.specs.declared.command.Form.{Form}
 use Rattle.m_commands.specs.declared.command.Form.TheVariants as form
 use Rattle.m_commands.specs.declared.work.Work.{Work}
@@ -50,9 +50,23 @@ source_command (word ∷ list ∷ driver ∷ requests ∷ behind ∷ []) =
     then option_map (λ f. of_form f (record { list = list; driver = driver; requests = requests }) behind) (form_of word) else None
 source_command _ = None
 
--- The command that the words are, if they are the form of one: `large N`, or `run`, `serve` or `batch` over a source and one more file.
+-- the command `compile` that the words are, if they are one: its word, and what stands at each place of a source, all in UTF-8
+abbrev pub compile_command : List (List ℕ) → Option Command
+compile_command (word ∷ list ∷ driver ∷ requests ∷ []) =
+    if bytes_eq word (codes "compile")
+    then (if list_all is_utf8 (list ∷ driver ∷ requests ∷ []) then Some (Compile (record { list = list; driver = driver; requests = requests })) else None) else None
+compile_command _ = None
+
+-- the command `exec` that the words are, if they are one: its word, and the names of a code file and a household, in UTF-8
+abbrev pub exec_command : List (List ℕ) → Option Command
+exec_command (word ∷ code ∷ household ∷ []) =
+    if bytes_eq word (codes "exec") then (if list_all is_utf8 (code ∷ household ∷ []) then Some (Exec code household) else None) else None
+exec_command _ = None
+
+-- The command that the words are, if they are the form of one: `large N`; `exec` over a code file and a household; `compile` over a source; or `run`,
+-- `serve` or `batch` over a source and one more file.
 abbrev pub command_of : List (List ℕ) → Option Command
-command_of words = option_or (large_command words) (source_command words)
+command_of words = option_or (large_command words) (option_or (exec_command words) (option_or (compile_command words) (source_command words)))
 
 -- the number of `large N` is one of those that there are
 abbrev pub IsInReach : Command → Type 0
@@ -60,6 +74,8 @@ IsInReach (Large n) = (1 ≤ n) × (n ≤ LARGE)
 IsInReach (Run names household) = Unit {0}
 IsInReach (Serve names household) = Unit {0}
 IsInReach (Batch names table) = Unit {0}
+IsInReach (Compile names) = Unit {0}
+IsInReach (Exec code household) = Unit {0}
 
 -- ---- plans
 
@@ -73,12 +89,22 @@ work_of form.Batch = work.Batch
 abbrev pub work_plan : SourceNames → List ℕ → (Source → List ℕ → Work) → Plan Work
 work_plan names behind gathered = and_then (source_plan names) (λ source. and_then (file_plan behind FILE_BYTES) (λ bytes. done (gathered source bytes)))
 
+-- a source is gathered, and that is all
+abbrev pub compile_plan : SourceNames → Plan Work
+compile_plan names = and_then (source_plan names) (λ source. done (work.Compile source))
+
+-- a code file is gathered, and behind it a household
+abbrev pub exec_plan : List ℕ → List ℕ → Plan Work
+exec_plan code household = and_then (file_plan code CODE_FILE_BYTES) (λ bytes. and_then (file_plan household FILE_BYTES) (λ rows. done (work.Exec bytes rows)))
+
 -- The plan of a command: which files it fetches in which order, where it refuses, and what it has gathered at its end. `large N` fetches none.
 abbrev pub plan_of : Command → Plan Work
 plan_of (Run names household) = work_plan names household work.Run
 plan_of (Serve names household) = work_plan names household work.Serve
 plan_of (Batch names table) = work_plan names table work.Batch
 plan_of (Large n) = done (work.Large n)
+plan_of (Compile names) = compile_plan names
+plan_of (Exec code household) = exec_plan code household
 
 -- the most bytes of a file that a command fetches; `large N` fetches none
 abbrev pub file_limit : Command → ℕ
@@ -86,6 +112,8 @@ file_limit (Run names household) = FILE_BYTES
 file_limit (Serve names household) = FILE_BYTES
 file_limit (Batch names table) = FILE_BYTES
 file_limit (Large n) = 0
+file_limit (Compile names) = FILE_BYTES
+file_limit (Exec code household) = CODE_FILE_BYTES
 
 -- the most bytes of a file that the words' command fetches; none where they are no command
 abbrev pub limit_of : List (List ℕ) → ℕ
@@ -97,6 +125,8 @@ takes_input (Run names household) = false
 takes_input (Serve names household) = true
 takes_input (Batch names table) = false
 takes_input (Large n) = false
+takes_input (Compile names) = false
+takes_input (Exec code household) = false
 
 -- whether the words are a command that takes from the input
 abbrev pub reads_input : List (List ℕ) → Bool
@@ -108,6 +138,8 @@ writes_in_parts (Run names household) = false
 writes_in_parts (Serve names household) = false
 writes_in_parts (Batch names table) = true
 writes_in_parts (Large n) = false
+writes_in_parts (Compile names) = false
+writes_in_parts (Exec code household) = false
 
 -- whether the words are a command that writes before all its work is done
 abbrev pub writes_early : List (List ℕ) → Bool

@@ -2,10 +2,14 @@
 use Rattle.std.specs.Prelude.{◌≡◌, ℕ, List, [], Some, None}
 use Rattle.std.specs.Option.{option_map_or}
 use Rattle.fault_lines.specs.Lines.{usage_line, cycle_line, recursion_line}
+use Rattle.rule_text.specs.declared.Source.{Source}
+use Rattle.code_file.specs.Loading.{text_with}
+use Rattle.code_file.specs.declared.loaded.Loaded.{Loaded}
+use Rattle.m_work.specs.Prepared.{IsPreparedCode}
 use Rattle.m_plan.specs.Plan.{end_of, gathered, refused, names_fetched}
 use Rattle.m_plan.specs.Views.{Disk}
 use Rattle.m_plan.specs.declared.status.Status.{Status}
-use Rattle.m_plan.specs.declared.status.Status.TheVariants.{Refused, Usage}
+use Rattle.m_plan.specs.declared.status.Status.TheVariants.{Done, Refused, Usage}
 use Rattle.m_commands.specs.Answer.{Replies, HasAnswer}
 use Rattle.m_commands.specs.Command.{command_of, plan_of}
 use Rattle.m_commands.specs.declared.command.Command.{Command}
@@ -32,9 +36,10 @@ pub record IsValidCommand (words : List (List ℕ)) (disk : Disk) : Type 0 where
   pub gathers : end_of disk (plan_of command) ≡ gathered work
   pub answer : HasAnswer work
 
--- Two outputs are one: they have the same text and the same status, or they refuse rule files that have several cycles, or a driver that has
--- several recursions, and show one of them each.
+-- Two outputs are one: they have the same text and the same status; or they refuse rule files that have several cycles, or a driver that has
+-- several recursions, and show one of them each; or they are the code files of code that one source is compiled to.
 pub data AreOneOutput : List ℕ → Status → List ℕ → Status → Type 0 where
   the_same : {text other : List ℕ} {status outcome : Status} → text ≡ other → status ≡ outcome → AreOneOutput text status other outcome
   both_cycles : (names others : List (List ℕ)) → AreOneOutput (cycle_line names) Refused (cycle_line others) Refused
   both_recursions : (names others : List (List ℕ)) → AreOneOutput (recursion_line names) Refused (recursion_line others) Refused
+  both_compiled : (source : Source) (one other : Loaded) → IsPreparedCode source one → IsPreparedCode source other → AreOneOutput (text_with one.code one.face) Done (text_with other.code other.face) Done

@@ -6,7 +6,7 @@ ghost use Rattle.m_commands.specs.inner.Courses.{WorkIsAnswered};
 use crate::work::Work;
 use m_plan::Status;
 use m_ports::{Sink, Source};
-use m_work::{batch_source, run_large, run_source, serve_source};
+use m_work::{batch_source, compile_source, exec_code, run_large, run_source, serve_source};
 use std::alloc::Global;
 use std::thread::Threads;
 
@@ -27,5 +27,7 @@ pub fn answer<R: Threads + Sync, S: Source, K: Sink>(
         Work::Serve(source, rows) => serve_source(alloc, source, rows.as_slice(), input, out),
         Work::Batch(source, table) => batch_source(rt, alloc, source, table.as_slice(), out),
         Work::Large(n) => run_large(alloc, *n, out),
+        Work::Compile(source) => compile_source(alloc, source, out),
+        Work::Exec(code, rows) => exec_code(alloc, code.as_slice(), rows.as_slice(), out),
     }
 }

@@ -1,6 +1,6 @@
 //! The words of the command line.
 ghost use Rattle.std.specs.Prelude.{◌≡◌, IfOk, IfSome};
-ghost use Rattle.m_commands.specs.Command.{IsInReach, command_of, form_of, large_command, large_number, of_form, source_command};
+ghost use Rattle.m_commands.specs.Command.{IsInReach, command_of, compile_command, exec_command, form_of, large_command, large_number, of_form, source_command};
 
 use m_places::limits::LARGE;
 use m_places::{Name, Word};
@@ -19,9 +19,13 @@ pub enum Command {
     Batch(SourceNames, Name),
     /// Compiles the generated source of this many inputs, and prints its answer to the generated household.
     Large(u32),
+    /// Compiles the source, and writes its code file.
+    Compile(SourceNames),
+    /// Reads the code file of the first name, and prints its answer to the household of the second.
+    Exec(Name, Name),
 }
 
-/// The commands over a source.
+/// The commands over a source and one more file.
 #[derive(Clone, Copy)]
 pub enum Form {
     Run,
@@ -35,6 +39,12 @@ pub fn command_of(alloc: Global, words: &[Word]) -> Result<Option<Command>, Allo
     ensures in_reach { IfOk result (λ command. IfSome command IsInReach) }
 {
     if let Some(command) = large_command(words) {
+        return Ok(Some(command));
+    }
+    if let Some(command) = exec_command(alloc, words)? {
+        return Ok(Some(command));
+    }
+    if let Some(command) = compile_command(alloc, words)? {
         return Ok(Some(command));
     }
     source_command(alloc, words)
@@ -67,7 +77,48 @@ fn large_number(word: &[u8]) -> Option<u32>
     if 1 <= n && n <= LARGE { Some(n) } else { None }
 }
 
-// The command over a source that the words are, if they are one. Its only error is want of memory.
+// The command `exec` that the words are, if they are one. Its only error is want of memory.
+fn exec_command(alloc: Global, words: &[Word]) -> Result<Option<Command>, AllocError>
+    ensures command { IfOk result (λ command. command ≡ exec_command words.now) }
+    ensures in_reach { IfOk result (λ command. IfSome command IsInReach) }
+{
+    let [word, code, household] = words else {
+        return Ok(None);
+    };
+    if word.bytes() != b"exec".as_slice() {
+        return Ok(None);
+    }
+    if !(is_text(code.bytes()) && is_text(household.bytes())) {
+        return Ok(None);
+    }
+    let code = code.copy(alloc)?;
+    Ok(Some(Command::Exec(code, household.copy(alloc)?)))
+}
+
+// The command `compile` that the words are, if they are one. Its only error is want of memory.
+fn compile_command(alloc: Global, words: &[Word]) -> Result<Option<Command>, AllocError>
+    ensures command { IfOk result (λ command. command ≡ compile_command words.now) }
+    ensures in_reach { IfOk result (λ command. IfSome command IsInReach) }
+{
+    let [word, list, driver, requests] = words else {
+        return Ok(None);
+    };
+    if word.bytes() != b"compile".as_slice() {
+        return Ok(None);
+    }
+    let are_names = is_text(list.bytes()) && is_text(driver.bytes()) && is_text(requests.bytes());
+    if !are_names {
+        return Ok(None);
+    }
+    let names = SourceNames {
+        list: list.copy(alloc)?,
+        driver: driver.copy(alloc)?,
+        requests: requests.copy(alloc)?,
+    };
+    Ok(Some(Command::Compile(names)))
+}
+
+// The command over a source and one more file that the words are, if they are one. Its only error is want of memory.
 fn source_command(alloc: Global, words: &[Word]) -> Result<Option<Command>, AllocError>
     ensures command { IfOk result (λ command. command ≡ source_command words.now) }
     ensures in_reach { IfOk result (λ command. IfSome command IsInReach) }
@@ -93,7 +144,7 @@ fn source_command(alloc: Global, words: &[Word]) -> Result<Option<Command>, Allo
     Ok(Some(of_form(form, names, behind.copy(alloc)?)))
 }
 
-// The command of a word over a source.
+// The command of a word over a source and one more file.
 fn form_of(word: &[u8]) -> Option<Form>
     ensures { result ≡ form_of word.now }
 {

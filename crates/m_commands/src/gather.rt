@@ -1,15 +1,15 @@
 //! The files of a command, gathered along its plan.
-ghost use Rattle.std.specs.Prelude.{◌≡◌, IfOk, Some};
+ghost use Rattle.std.specs.Prelude.{◌≡◌, IfOk, None, Some};
 ghost use Rattle.rule_text.specs.Limits.{SourceKeepsLimits};
 ghost use Rattle.m_plan.specs.Trips.{GoesAlong};
 ghost use Rattle.m_plan.specs.Views.{files_view};
 ghost use Rattle.m_commands.specs.Answer.{WorkKeepsLimits};
-ghost use Rattle.m_commands.specs.Command.{IsInReach, plan_of, work_of, work_plan};
+ghost use Rattle.m_commands.specs.Command.{IsInReach, compile_plan, exec_plan, plan_of, work_of, work_plan};
 ghost use Rattle.m_commands.specs.inner.Courses.{IsWorkOf, work_form};
 
 use crate::command::{Command, Form};
 use crate::work::Work;
-use m_places::limits::FILE_BYTES;
+use m_places::limits::{CODE_FILE_BYTES, FILE_BYTES};
 use m_places::{Name, Seq};
 use m_plan::{Ending, fetch};
 use m_ports::Files;
@@ -32,7 +32,41 @@ pub fn gather<F: Files>(alloc: Global, files: &mut F, command: &Command) -> Resu
         }
         Command::Batch(names, table) => gather_work(alloc, files, Form::Batch, names, table),
         Command::Large(n) => Ok(Work::Large(*n)),
+        Command::Compile(names) => gather_compile(alloc, files, names),
+        Command::Exec(code, household) => gather_exec(alloc, files, code, household),
     }
+}
+
+// Gathers a source alone.
+fn gather_compile<F: Files>(
+    alloc: Global,
+    files: &mut F,
+    names: &SourceNames,
+) -> Result<Work, Ending>
+    ensures along { GoesAlong (compile_plan names.now) (files_view F.told F.attempts F.taken files.old)
+        (files_view F.told F.attempts F.taken files.new) result }
+    ensures within { IfOk result WorkKeepsLimits }
+    ensures kind { IfOk result (λ work. work_form work ≡ None) }
+{
+    let source = gather_source(alloc, files, names)?;
+    Ok(Work::Compile(source))
+}
+
+// Gathers a code file, and a household behind it.
+fn gather_exec<F: Files>(
+    alloc: Global,
+    files: &mut F,
+    code: &Name,
+    household: &Name,
+) -> Result<Work, Ending>
+    ensures along { GoesAlong (exec_plan code.now household.now) (files_view F.told F.attempts F.taken files.old)
+        (files_view F.told F.attempts F.taken files.new) result }
+    ensures within { IfOk result WorkKeepsLimits }
+    ensures kind { IfOk result (λ work. work_form work ≡ None) }
+{
+    let code = fetch(alloc, files, code, CODE_FILE_BYTES)?;
+    let rows = fetch(alloc, files, household, FILE_BYTES)?;
+    Ok(Work::Exec(code, rows))
 }
 
 // Gathers a source, and the one file behind it.

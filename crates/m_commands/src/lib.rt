@@ -7,8 +7,10 @@
 mod answer;
 mod command;
 mod gather;
+mod laws;
 mod program;
 mod work;
 
+pub use laws::executed_as_run;
 pub use m_plan::Status;
 pub use program::{m_tax, one_output};

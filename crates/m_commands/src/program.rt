@@ -5,7 +5,7 @@ ghost use Rattle.m_plan.specs.Attempts.{TakesWithin};
 ghost use Rattle.m_plan.specs.Views.{Disk, files_view, input_view, output_view};
 ghost use Rattle.m_plan.specs.declared.status.Status.{Status};
 ghost use Rattle.m_commands.specs.Command.{limit_of, reads_input, writes_early};
-ghost use Rattle.m_commands.specs.Clauses.{PrintsOutput, ReadsInOrder, WritesFront, StopsInFront, AnswersValid, IsToldUsage};
+ghost use Rattle.m_commands.specs.Clauses.{PrintsOutput, WritesCode, ReadsInOrder, WritesFront, StopsInFront, AnswersValid, IsToldUsage};
 ghost use Rattle.m_commands.specs.Output.{Output, AreOneOutput};
 ghost use Rattle.m_commands.specs.inner.Courses.{Course};
 
@@ -60,6 +60,10 @@ pub fn m_tax<R: Threads + Sync, F: Files, S: Source, K: Sink>(
     ensures text { PrintsOutput words.now (files_view F.told F.attempts F.taken files.old) (input_view S.left S.faults input.old)
         (output_view K.written K.faults out.old) (output_view K.written K.faults out.new) result }
 
+    // What `compile` has written, where it did all of its work, is the code file of what its source is compiled to.
+    ensures compiled { WritesCode words.now (files_view F.told F.attempts F.taken files.old)
+        (output_view K.written K.faults out.old) (output_view K.written K.faults out.new) result }
+
     // The attempts on files are those of `fetches_of`, at most the last of them failed, and a read fault
     // is told only there or where a read of the input failed. All files together give at most one byte past the limit for each that was tried.
     ensures reading { ReadsInOrder words.now (files_view F.told F.attempts F.taken files.old) (files_view F.told F.attempts F.taken files.new)
@@ -99,7 +103,7 @@ pub fn m_tax<R: Threads + Sync, F: Files, S: Source, K: Sink>(
 }
 
 /// The same words, files and input have one output: one text and one status, but for which of several cycles or recursions a
-/// refusal shows. It holds of each command.
+/// refusal shows, and for the code that `compile` writes, which is one of those that the source is compiled to. It holds of each command.
 pub fn one_output()
     ensures { (words : List (List ℕ)) (disk : Disk) (typed one other : List ℕ) (status outcome : Status) →
         Output words disk typed one status → Output words disk typed other outcome → AreOneOutput one status other outcome }

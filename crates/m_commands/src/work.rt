@@ -12,4 +12,8 @@ pub enum Work {
     Batch(Source, Seq<u8>),
     /// The generated source of this many inputs.
     Large(u32),
+    /// The code file of this source.
+    Compile(Source),
+    /// A run of this code file on this household.
+    Exec(Seq<u8>, Seq<u8>),
 }

@@ -1,27 +1,20 @@
 -- Rows of a table, one after another and group after group.
 use Rattle.std.proofs.Common.{◌≡◌, ℕ, zero, suc, ◌+◌, ◌-◌, ◌<◌, ◌≤◌, length, get_or, take, drop, List, [], ◌∷◌, ◌++◌, Option, None, Some, Result, Ok, Err, refl, sym, ◌∙◌, ap, subst, append_assoc, arith}
-use Rattle.std.specs.Prelude.{map, codes}
+use Rattle.std.specs.Prelude.{codes}
 use Rattle.std.specs.List.{AllByRecursion}
-use Rattle.std.specs.Option.{option_map_or}
 use Rattle.std.specs.Io.KnownBytes.{append_known}
-use Rattle.std.proofs.lemmas.List.{drop_more, drop_all, take-append-drop, drop-drop, length-map}
-use Rattle.m_fixed.specs.declared.amount.Value.{Value}
+use Rattle.std.proofs.lemmas.List.{drop_more, drop_all, take-append-drop, drop-drop}
 use Rattle.m_ports.specs.Counts.{Rose}
 use Rattle.m_ports.specs.Sink.{AppendsPrefix}
 use Rattle.m_ports.proofs.SinkLemmas.{AppendsPrefix-after, AppendsPrefix-before}
 use Rattle.text_pieces.specs.Pieces.{joined}
 use Rattle.text_pieces.proofs.GivingLemmas.{Given}
-use Rattle.observables.specs.Answers.{label_number}
-use Rattle.flat_code.specs.Runs.{first_stop, flat_run, node_values, value_at}
+use Rattle.reg_machine.specs.Machine.{machine_run}
+use Rattle.code_file.specs.declared.loaded.Loaded.{Loaded}
 use Rattle.observables.specs.declared.answer.Answer.{Answer}
-use Rattle.observables.specs.declared.answer.Answer.TheVariants.{Stopped, Values}
-use Rattle.observables.specs.declared.answer.Stop.{Stop}
 use Rattle.observables.specs.declared.face.Face.{Face}
-use Rattle.flat_code.specs.declared.program.Flat.{Flat}
 use Rattle.household.specs.Household.{values_of}
 use Rattle.household.specs.declared.table.Row.{Row}
-use Rattle.household_session.proofs.OutputLemmas.{stop_label}
-use Rattle.flat_code.specs.Faces.{IsFaceOf}
 use Rattle.observables.specs.Inputs.{AreValuesOf}
 use Rattle.m_batch.specs.Batch.{row_answer, answers_of}
 use Rattle.text_pieces.specs.Pieces.{new_line}
@@ -31,9 +24,8 @@ use Rattle.m_work.specs.Tables.{rows_lines}
 use Rattle.m_work.specs.inner.Groups.{Counted, WritesGroups, answered_lines, program_lines}
 use Rattle.m_work.specs.declared.groups.GroupFault.{GroupFault}
 use Rattle.m_work.specs.declared.groups.GroupFault.TheVariants.{Memory, Failed}
-use Rattle.m_work.specs.Prepared.{Shows}
-use Rattle.m_work.specs.declared.program.Program.{Program}
-use Rattle.m_work.proofs.Shown.{lines_told}
+use Rattle.m_work.specs.Prepared.{IsRunnableCode, Shows}
+use Rattle.m_work.proofs.Shown.{answer_within, lines_told}
 
 -- ---- what holds of all holds of a part
 
@@ -49,41 +41,41 @@ all_taken P (suc n) (x ∷ xs) all = (all.0, all_taken P n xs all.1)
 
 -- ---- the lines of rows
 
--- rows with the answers that a program gives them
-pub answered_all : (flat : Flat) (face : Face) (rows : List Row) → answered_lines face rows (answers_of flat rows) ≡ program_lines flat face rows
-answered_all flat face [] = refl
-answered_all flat face (row ∷ rows) = ap (λ rest. household_lines row.label face (row_answer flat row) ++ rest) (answered_all flat face rows)
+-- rows with the answers that code gives them
+pub answered_all : (loaded : Loaded) (rows : List Row) → answered_lines loaded.face rows (answers_of loaded.code rows) ≡ program_lines loaded rows
+answered_all loaded [] = refl
+answered_all loaded (row ∷ rows) = ap (λ rest. household_lines row.label loaded.face (row_answer loaded.code row) ++ rest) (answered_all loaded rows)
 
--- rows by a program are rows by its scheme, where they give the inputs values that it may be asked for
-pub rows_told : (scheme : Scheme) (program : Program) (rows : List Row) → Shows scheme program → program.tidy.inputs ≡ length scheme.inputs
-    → AllByRecursion (λ row. AreValuesOf scheme.inputs (values_of row.household.pairs (length scheme.inputs))) rows → program_lines program.tidy program.face rows ≡ rows_lines scheme rows
-rows_told scheme program [] shown many given = refl
-rows_told scheme program (row ∷ rows) shown many given =
-    ap (λ text. (joined (codes "household " ∷ row.label ∷ new_line ∷ []) ++ text) ++ program_lines program.tidy program.face rows)
-    (ap (λ n. answer_lines program.face (flat_run program.tidy (values_of row.household.pairs n))) many
-    ∙ lines_told scheme program (values_of row.household.pairs (length scheme.inputs)) shown given.0)
+-- rows by code are rows by its scheme, where they give the inputs values that it may be asked for
+pub rows_told : (scheme : Scheme) (loaded : Loaded) (rows : List Row) → Shows scheme loaded.face (machine_run loaded.code) → loaded.code.counts.inputs ≡ length scheme.inputs
+    → AllByRecursion (λ row. AreValuesOf scheme.inputs (values_of row.household.pairs (length scheme.inputs))) rows → program_lines loaded rows ≡ rows_lines scheme rows
+rows_told scheme loaded [] shown many given = refl
+rows_told scheme loaded (row ∷ rows) shown many given =
+    ap (λ text. (joined (codes "household " ∷ row.label ∷ new_line ∷ []) ++ text) ++ program_lines loaded rows)
+    (ap (λ n. answer_lines loaded.face (machine_run loaded.code (values_of row.household.pairs n))) many
+    ∙ lines_told scheme loaded.face (machine_run loaded.code) (values_of row.household.pairs (length scheme.inputs)) shown given.0)
     ∙ ap (λ rest. (joined (codes "household " ∷ row.label ∷ new_line ∷ []) ++ told_lines scheme.names (scheme.tells (values_of row.household.pairs (length scheme.inputs)))) ++ rest)
-    (rows_told scheme program rows shown many given.1)
+    (rows_told scheme loaded rows shown many given.1)
 
 -- some rows and then others
-program_append : (flat : Flat) (face : Face) (one other : List Row) → program_lines flat face (one ++ other) ≡ program_lines flat face one ++ program_lines flat face other
-program_append flat face [] other = refl
-program_append flat face (row ∷ rows) other =
-    ap (λ rest. household_lines row.label face (row_answer flat row) ++ rest) (program_append flat face rows other)
-    ∙ sym (append_assoc (household_lines row.label face (row_answer flat row)) (program_lines flat face rows) (program_lines flat face other))
+program_append : (loaded : Loaded) (one other : List Row) → program_lines loaded (one ++ other) ≡ program_lines loaded one ++ program_lines loaded other
+program_append loaded [] other = refl
+program_append loaded (row ∷ rows) other =
+    ap (λ rest. household_lines row.label loaded.face (row_answer loaded.code row) ++ rest) (program_append loaded rows other)
+    ∙ sym (append_assoc (household_lines row.label loaded.face (row_answer loaded.code row)) (program_lines loaded rows) (program_lines loaded other))
 
 -- the rows that are left begin with a group
-pub group_at : (flat : Flat) (face : Face) (rows : List Row) (from end : ℕ) → from < end
-    → program_lines flat face (drop from rows) ≡ program_lines flat face (take (end - from) (drop from rows)) ++ program_lines flat face (drop end rows)
-group_at flat face rows from end h =
+pub group_at : (loaded : Loaded) (rows : List Row) (from end : ℕ) → from < end
+    → program_lines loaded (drop from rows) ≡ program_lines loaded (take (end - from) (drop from rows)) ++ program_lines loaded (drop end rows)
+group_at loaded rows from end h =
     let there : from + (end - from) ≡ end = omega arith in
-    ap (program_lines flat face) (sym (take-append-drop (end - from) (drop from rows)))
-    ∙ program_append flat face (take (end - from) (drop from rows)) (drop (end - from) (drop from rows))
-    ∙ ap (λ left. program_lines flat face (take (end - from) (drop from rows)) ++ program_lines flat face left) (drop-drop (end - from) from rows ∙ ap (λ n. drop n rows) there)
+    ap (program_lines loaded) (sym (take-append-drop (end - from) (drop from rows)))
+    ∙ program_append loaded (take (end - from) (drop from rows)) (drop (end - from) (drop from rows))
+    ∙ ap (λ left. program_lines loaded (take (end - from) (drop from rows)) ++ program_lines loaded left) (drop-drop (end - from) from rows ∙ ap (λ n. drop n rows) there)
 
 -- behind the last row there is nothing
-pub groups_end : (flat : Flat) (face : Face) (rows : List Row) (from : ℕ) → length rows ≤ from → program_lines flat face (drop from rows) ≡ []
-groups_end flat face rows from h = ap (program_lines flat face) (drop_all from rows h)
+pub groups_end : (loaded : Loaded) (rows : List Row) (from : ℕ) → length rows ≤ from → program_lines loaded (drop from rows) ≡ []
+groups_end loaded rows from h = ap (program_lines loaded) (drop_all from rows h)
 
 -- the rows that are left begin with the one that stands there
 pub answered_at : (face : Face) (rows : List Row) (answers : List Answer) (k : ℕ) (row d : Row) (answer e : Answer) → k < length rows → k < length answers
@@ -100,20 +92,9 @@ answered_end face rows answers k h = ap (λ left. answered_lines face left (drop
 
 -- ---- answers are within the face
 
-within_found : (face : Face) (found : Option Stop) (vs : List Value) → ((stop : Stop) → found ≡ Some stop → label_number stop < length face.labels)
-    → length vs ≤ length face.outputs → AnswerIsWithin face (option_map_or Stopped found (Values vs))
-within_found face None vs stops few = few
-within_found face (Some stop) vs stops few = stops stop refl
-
-pub run_within : (flat : Flat) (face : Face) (inputs : List Value) → IsFaceOf face flat → AnswerIsWithin face (flat_run flat inputs)
-run_within flat face inputs is =
-    within_found face (first_stop (node_values inputs flat.nodes) flat.checks) (map (value_at (node_values inputs flat.nodes)) flat.outputs)
-    (λ stop stops. stop_label (node_values inputs flat.nodes) (length face.labels) flat.checks stop is.labels stops)
-    (let many = length-map flat.outputs (value_at (node_values inputs flat.nodes)) in omega (arith, many, is.outputs))
-
-pub answers_within : (flat : Flat) (face : Face) (rows : List Row) → IsFaceOf face flat → AllByRecursion (AnswerIsWithin face) (answers_of flat rows)
-answers_within flat face [] is = tt
-answers_within flat face (row ∷ rows) is = (run_within flat face (values_of row.household.pairs flat.inputs) is, answers_within flat face rows is)
+pub answers_within : (loaded : Loaded) (rows : List Row) → IsRunnableCode loaded → AllByRecursion (AnswerIsWithin loaded.face) (answers_of loaded.code rows)
+answers_within loaded [] is = tt
+answers_within loaded (row ∷ rows) is = (answer_within loaded (values_of row.household.pairs loaded.code.counts.inputs) is, answers_within loaded rows is)
 
 -- ---- a text in several writes, where memory may end it
 
@@ -155,6 +136,6 @@ gave_all written faults old new text whole value is all none = record {
   counted = none;
 }
 
--- answers that are a program's are its lines
-pub program_answered : (flat : Flat) (face : Face) (rows : List Row) (answers : List Answer) → answers ≡ answers_of flat rows → answered_lines face rows answers ≡ program_lines flat face rows
-program_answered flat face rows answers is = ap (answered_lines face rows) is ∙ answered_all flat face rows
+-- answers that are those of code are its lines
+pub program_answered : (loaded : Loaded) (rows : List Row) (answers : List Answer) → answers ≡ answers_of loaded.code rows → answered_lines loaded.face rows answers ≡ program_lines loaded rows
+program_answered loaded rows answers is = ap (answered_lines loaded.face rows) is ∙ answered_all loaded rows

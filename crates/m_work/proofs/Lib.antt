@@ -1,4 +1,5 @@
 pub mod HeldLemmas
+pub mod CodeLemmas
 pub mod Shown
 pub mod SessionLemmas
 pub mod GroupLemmas
@@ -6,3 +7,4 @@ pub mod Printings
 pub mod LargeLimits
 pub mod Refusals
 pub mod Ways
+pub mod ExecLemmas

@@ -4,6 +4,9 @@ use Rattle.std.specs.Prelude.{◌≢◌}
 use Rattle.rule_text.specs.declared.Source.{Source}
 use Rattle.household.specs.declared.fault.HouseholdFault.{HouseholdFault}
 use Rattle.household.specs.declared.fault.HouseholdFault.TheVariants as household
+use Rattle.code_file.specs.Reading.{IsCodeFault}
+use Rattle.code_file.specs.declared.fault.CodeFault.{CodeFault}
+use Rattle.code_file.specs.declared.fault.CodeFault.TheVariants as code
 use Rattle.m_compile.specs.Faults.{IsSourceFault}
 use Rattle.m_compile.specs.Lines.{source_line}
 use Rattle.m_compile.specs.declared.fault.SourceFault.{SourceFault}
@@ -12,6 +15,7 @@ use Rattle.m_plan.specs.Printing.{Prints}
 use Rattle.m_plan.specs.Views.{OutputView}
 use Rattle.m_plan.specs.declared.status.Status.{Status}
 use Rattle.m_plan.specs.declared.status.Status.TheVariants.{Memory, Refused}
+use Rattle.m_work.specs.Execs.{code_fault_line}
 use Rattle.m_work.specs.Households.{household_fault_line}
 use Rattle.m_work.specs.Sources.{Refuses, source_is_refused}
 use Rattle.m_work.specs.inner.Refusals.{TellsLine}
@@ -30,6 +34,21 @@ told_by_line s said fault (Some line) old new status h is told =
 pub source_told : (s : Source) {Given : Type 0} (said : List (List ℕ) → Result Given HouseholdFault) (fault : SourceFault) (old new : OutputView) (status : Status)
     → (fault ≢ source.Memory → IsSourceFault s fault) → TellsLine (source_line s.texts fault) old new status → TellsRefusal (Refuses s said) old new status
 source_told s said fault old new status h told = told_by_line s said fault (source_line s.texts fault) old new status h refl told
+
+told_either : {IsFault IsMemory : Type 0} (whole found : Option (List ℕ)) (old new : OutputView) (status : Status) → whole ≡ found → ((IsMemory → ⊥) → IsFault) → (IsMemory → whole ≡ None)
+    → TellsLine found old new status → TellsRefusal (λ line. IsFault × (whole ≡ Some line)) old new status
+told_either whole None old new status is h none told = inr told
+told_either whole (Some line) old new status is h none told = inl (line, (h (λ m. let gone : whole ≡ None = none m in cc (gone, is)), is), told)
+
+-- a source was refused by a fault
+pub fault_told : (s : Source) (fault : SourceFault) (old new : OutputView) (status : Status) → (fault ≢ source.Memory → IsSourceFault s fault)
+    → TellsLine (source_line s.texts fault) old new status → TellsRefusal (λ line. IsSourceFault s fault × (source_line s.texts fault ≡ Some line)) old new status
+fault_told s fault old new status h told = told_either (source_line s.texts fault) (source_line s.texts fault) old new status refl h (λ m. ap (source_line s.texts) m) told
+
+-- a code file was refused by a fault
+pub code_told : (bytes : List ℕ) (fault : CodeFault) (old new : OutputView) (status : Status) → (fault ≢ code.Memory → IsCodeFault bytes fault)
+    → TellsLine (code_fault_line fault) old new status → TellsRefusal (λ line. IsCodeFault bytes fault × (code_fault_line fault ≡ Some line)) old new status
+code_told bytes fault old new status h told = told_either (code_fault_line fault) (code_fault_line fault) old new status refl h (λ m. ap code_fault_line m) told
 
 -- a household or a table was refused, by codes
 pub household_refused : (fault : HouseholdFault) {IsFault : Type 0} (old new : OutputView) (status : Status) → (fault ≢ household.Memory → IsFault) → TellsLine (household_fault_line fault) old new status

@@ -12,54 +12,63 @@ use Rattle.observables.specs.declared.answer.Answer.TheVariants.{Values, Stopped
 use Rattle.observables.specs.declared.answer.Stop.{Stop}
 use Rattle.observables.specs.declared.face.FaceLabel.{FaceLabel}
 use Rattle.observables.specs.declared.inputs.Coded.{Coded}
-use Rattle.flat_code.specs.Runs.{flat_run}
+use Rattle.observables.specs.declared.face.Face.{Face}
+use Rattle.reg_machine.specs.Machine.{machine_run}
+use Rattle.code_file.specs.declared.loaded.Loaded.{Loaded}
 use Rattle.household.specs.Household.{household_of, values_of}
 use Rattle.household.proofs.GivenLemmas.{household_gives}
-use Rattle.tax_print.specs.Lines.{answer_lines, told_lines}
-use Rattle.m_compile.specs.Compiled.{IsRunnable}
+use Rattle.tax_print.specs.Lines.{AnswerIsWithin, answer_lines, told_lines}
 use Rattle.m_plan.specs.declared.status.Status.{Status}
 use Rattle.m_plan.specs.declared.status.Status.TheVariants as status
 use Rattle.m_work.specs.Households.{answer_status, told_status}
-use Rattle.m_work.specs.Prepared.{Shows}
+use Rattle.m_work.specs.Prepared.{IsRunnableCode, Shows}
 use Rattle.m_work.specs.Schemes.{Scheme, scheme_codes, told_to}
-use Rattle.m_work.specs.declared.program.Program.{Program}
 use Rattle.m_work.specs.inner.Answers.{IsAnswerOf}
+use Rattle.m_work.proofs.CodeLemmas.{agrees, code_within}
 
 -- as many inputs as codes
-many_codes : (inputs : List Coded) → length (codes_of inputs) ≡ length inputs
+pub many_codes : (inputs : List Coded) → length (codes_of inputs) ≡ length inputs
 many_codes inputs = length-map inputs (λ (c : Coded). c.code)
 
-pub as_many : (scheme : Scheme) (program : Program) → IsRunnable program.face program.tidy → Shows scheme program → program.tidy.inputs ≡ length scheme.inputs
-as_many scheme program runs shown =
-    sym runs.shown.inputs ∙ sym (many_codes program.face.inputs) ∙ ap length shown.codes ∙ many_codes scheme.inputs
-
-pub as_many_codes : (program : Program) → IsRunnable program.face program.tidy → length (codes_of program.face.inputs) ≡ program.tidy.inputs
-as_many_codes program runs = many_codes program.face.inputs ∙ runs.shown.inputs
+-- a program has the inputs of its scheme
+pub as_many : (scheme : Scheme) (face : Face) (runs : List Value → Answer) → Shows scheme face runs → length face.inputs ≡ length scheme.inputs
+as_many scheme face runs shown = sym (many_codes face.inputs) ∙ ap length shown.codes ∙ many_codes scheme.inputs
 
 -- the lines of what a program tells
-pub told_answer : (scheme : Scheme) (program : Program) (answer : Answer) (told : Told) → Shows scheme program
-    → told_of program.face.labels (notes_of program.face.outputs) answer ≡ Some told → answer_lines program.face answer ≡ told_lines scheme.names told
-told_answer scheme program answer told shown is =
-    ap (λ t. option_map_or (told_lines (names_of program.face.outputs)) t []) is ∙ ap (λ names. told_lines names told) shown.names
+pub told_answer : (scheme : Scheme) (face : Face) (runs : List Value → Answer) (answer : Answer) (told : Told) → Shows scheme face runs
+    → told_of face.labels (notes_of face.outputs) answer ≡ Some told → answer_lines face answer ≡ told_lines scheme.names told
+told_answer scheme face runs answer told shown is =
+    ap (λ t. option_map_or (told_lines (names_of face.outputs)) t []) is ∙ ap (λ names. told_lines names told) shown.names
 
 -- the lines of a program's answer to values
-pub lines_told : (scheme : Scheme) (program : Program) (vs : List Value) → Shows scheme program → AreValuesOf scheme.inputs vs
-    → answer_lines program.face (flat_run program.tidy vs) ≡ told_lines scheme.names (scheme.tells vs)
-lines_told scheme program vs shown given = told_answer scheme program (flat_run program.tidy vs) (scheme.tells vs) shown (shown.answers vs given)
+pub lines_told : (scheme : Scheme) (face : Face) (runs : List Value → Answer) (vs : List Value) → Shows scheme face runs → AreValuesOf scheme.inputs vs
+    → answer_lines face (runs vs) ≡ told_lines scheme.names (scheme.tells vs)
+lines_told scheme face runs vs shown given = told_answer scheme face runs (runs vs) (scheme.tells vs) shown (shown.answers vs given)
 
--- ---- a household
+-- ---- code and a household
 
--- it has no fault by the scheme
-pub given_by : (scheme : Scheme) (program : Program) (rows : List ℕ) (answer : Answer) → Shows scheme program → (of : IsAnswerOf program rows answer)
+-- code has the inputs of its scheme
+pub code_many : (scheme : Scheme) (loaded : Loaded) → Shows scheme loaded.face (machine_run loaded.code) → loaded.code.counts.inputs ≡ length scheme.inputs
+code_many scheme loaded shown = sym (agrees loaded.code loaded.face loaded.agree).inputs ∙ as_many scheme loaded.face (machine_run loaded.code) shown
+
+pub many_inputs : (loaded : Loaded) → length (codes_of loaded.face.inputs) ≡ loaded.code.counts.inputs
+many_inputs loaded = many_codes loaded.face.inputs ∙ (agrees loaded.code loaded.face loaded.agree).inputs
+
+-- its answer is within its face
+pub answer_within : (loaded : Loaded) (inputs : List Value) → IsRunnableCode loaded → AnswerIsWithin loaded.face (machine_run loaded.code inputs)
+answer_within loaded inputs runs = code_within loaded.code loaded.face runs.whole (agrees loaded.code loaded.face loaded.agree) inputs
+
+-- a household has no fault by the scheme
+pub given_by : (scheme : Scheme) (loaded : Loaded) (rows : List ℕ) (answer : Answer) → Shows scheme loaded.face (machine_run loaded.code) → (of : IsAnswerOf loaded rows answer)
     → household_of (scheme_codes scheme) rows ≡ Ok of.pairs
-given_by scheme program rows answer shown of = subst (λ codes. household_of codes rows ≡ Ok of.pairs) shown.codes of.given
+given_by scheme loaded rows answer shown of = subst (λ codes. household_of codes rows ≡ Ok of.pairs) shown.codes of.given
 
 -- what it is told
-pub household_told : (scheme : Scheme) (program : Program) (rows : List ℕ) (answer : Answer) → IsRunnable program.face program.tidy → Shows scheme program → (of : IsAnswerOf program rows answer)
-    → told_of program.face.labels (notes_of program.face.outputs) answer ≡ Some (told_to scheme of.pairs)
-household_told scheme program rows answer runs shown of =
-    ap (told_of program.face.labels (notes_of program.face.outputs)) (of.ran ∙ ap (λ n. flat_run program.tidy (values_of of.pairs n)) (as_many scheme program runs shown))
-    ∙ shown.answers (values_of of.pairs (length scheme.inputs)) (household_gives scheme.inputs rows of.pairs shown.any (given_by scheme program rows answer shown of))
+pub household_told : (scheme : Scheme) (loaded : Loaded) (rows : List ℕ) (answer : Answer) → Shows scheme loaded.face (machine_run loaded.code) → (of : IsAnswerOf loaded rows answer)
+    → told_of loaded.face.labels (notes_of loaded.face.outputs) answer ≡ Some (told_to scheme of.pairs)
+household_told scheme loaded rows answer shown of =
+    ap (told_of loaded.face.labels (notes_of loaded.face.outputs)) (of.ran ∙ ap (λ n. machine_run loaded.code (values_of of.pairs n)) (code_many scheme loaded shown))
+    ∙ shown.answers (values_of of.pairs (length scheme.inputs)) (household_gives scheme.inputs rows of.pairs shown.any (given_by scheme loaded rows answer shown of))
 
 stopped_status : (found : Option FaceLabel) (stop : Stop) (told : Told) → option_map (λ label. stopped (cause_of stop label)) found ≡ Some told → status.Stopped ≡ told_status told
 stopped_status None stop told is = absurd (cc is)

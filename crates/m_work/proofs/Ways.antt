@@ -1,13 +1,24 @@
 -- From what was told and written to how a command ended.
 use Rattle.std.proofs.Common.{◌≡◌, ℕ, length, List, [], ◌∷◌, ◌++◌, Result, Ok, Err, refl, sym, ◌∙◌, ap, subst, inl, inr}
 use Rattle.std.specs.Prelude.{Option, Some, map}
+use Rattle.m_fixed.specs.declared.amount.Value.{Value}
+use Rattle.m_names.specs.Names.{AreDistinct}
 use Rattle.rule_text.specs.declared.Source.{Source}
 use Rattle.fault_lines.specs.Lines.{input_too_long_line, unreadable_input_line}
-use Rattle.observables.specs.Answers.{Told, values, stopped}
+use Rattle.observables.specs.Answers.{Told, values, stopped, told_of}
 use Rattle.observables.specs.Inputs.{AreAny, AreValuesOf, codes_of}
 use Rattle.observables.specs.Outputs.{notes_of}
 use Rattle.m_symbols.specs.Declarations as declarations
 use Rattle.observables.specs.declared.answer.Answer.{Answer}
+use Rattle.observables.specs.declared.face.Face.{Face}
+use Rattle.flat_code.specs.Runs.{flat_run}
+use Rattle.reg_machine.specs.Flow.{code_fault}
+use Rattle.reg_machine.specs.Machine.{machine_run}
+use Rattle.reg_machine.proofs.LawLemmas.{run-is-flat_run}
+use Rattle.code_file.specs.Loading.{text_with}
+use Rattle.code_file.specs.Reading.{IsCodeFault, IsFormOf}
+use Rattle.code_file.specs.declared.fault.CodeFault.{CodeFault}
+use Rattle.code_file.specs.declared.loaded.Loaded.{Loaded}
 use Rattle.household.specs.Household.{household_of, values_of}
 use Rattle.household.specs.Table.{table_of}
 use Rattle.household.specs.declared.fault.HouseholdFault.{HouseholdFault}
@@ -17,7 +28,10 @@ use Rattle.household_session.specs.Sessions.{Sitting, begun, showing_of}
 use Rattle.m_large.specs.Large.{household_text}
 use Rattle.tax_print.specs.Lines.{answer_lines, told_lines}
 use Rattle.m_compile.specs.Compiled.{IsCompiled, IsRunnable, input_said}
+use Rattle.m_compile.specs.Faults.{IsSourceFault}
+use Rattle.m_compile.specs.Lines.{source_line}
 use Rattle.m_compile.specs.declared.compiling.Compiled.{Compiled}
+use Rattle.m_compile.specs.declared.fault.SourceFault.{SourceFault}
 use Rattle.m_plan.specs.Printing.{Appends, Breaks, IsAnswered, Prints, printed, no_memory}
 use Rattle.m_plan.specs.Status.{IsOfEnd}
 use Rattle.m_plan.specs.Views.{InputView, OutputView, output_view}
@@ -25,11 +39,15 @@ use Rattle.m_plan.specs.declared.status.Status.{Status}
 use Rattle.m_plan.specs.declared.status.Status.TheVariants.{Done, ReadFault, Refused}
 use Rattle.m_work.specs.Batches.{BatchReplies, IsWrittenInParts, broke_off}
 use Rattle.m_work.specs.Batches as batch
+use Rattle.m_work.specs.Compiles.{CompileReplies}
+use Rattle.m_work.specs.Compiles as compile
+use Rattle.m_work.specs.Execs.{ExecReplies, code_fault_line}
+use Rattle.m_work.specs.Execs as exec
 use Rattle.m_work.specs.Households.{answer_status, household_fault_line, told_status}
 use Rattle.m_work.specs.LargeAnswers.{LargeReplies}
 use Rattle.m_work.specs.LargeAnswers as large
 use Rattle.m_work.specs.Larges.{large_line, large_source}
-use Rattle.m_work.specs.Prepared.{HouseholdReplies, IsPrepared, IsServedBy, Shows, TableReplies}
+use Rattle.m_work.specs.Prepared.{HouseholdReplies, IsPrepared, IsPreparedCode, IsRunnableCode, IsServedBy, Shows, TableReplies}
 use Rattle.m_work.specs.Prepared as prepared
 use Rattle.m_work.specs.Runs.{RunReplies}
 use Rattle.m_work.specs.Runs as run
@@ -42,8 +60,9 @@ use Rattle.m_work.specs.Sources.{IsScheme, Refuses, households_are_refused, sche
 use Rattle.m_work.specs.declared.groups.GroupFault.{GroupFault}
 use Rattle.m_work.specs.declared.groups.GroupFault.TheVariants as group
 use Rattle.m_work.specs.declared.program.Program.{Program}
-use Rattle.m_work.specs.inner.Answers.{IsAnswerOf, IsBegun}
+use Rattle.m_work.specs.inner.Answers.{IsAnswerOf, IsBegun, IsFileOf, is_file}
 use Rattle.m_work.specs.inner.Groups.{WritesGroups, group_status}
+use Rattle.m_work.proofs.CodeLemmas.{spells_whole}
 use Rattle.m_work.proofs.Refusals.{TellsRefusal}
 use Rattle.m_work.proofs.SessionLemmas.{replies_are}
 use Rattle.m_work.proofs.Shown.{as_many, given_by, household_told, lines_told, status_told, told_answer}
@@ -67,22 +86,22 @@ parts_as One Other old new status turn (broke_off text own replied prefix none m
 -- ---- households
 
 -- the household of these bytes was refused, by a program's codes
-pub rows_refused : (front : List ℕ) (scheme : Scheme) (program : Program) (rows : List ℕ) (fault : HouseholdFault) (old new : OutputView) (status : Status) → Shows scheme program
-    → TellsRefusal (λ line. (household_of (codes_of program.face.inputs) rows ≡ Err fault) × (household_fault_line fault ≡ Some line)) old new status
+pub rows_refused : (front : List ℕ) (scheme : Scheme) (face : Face) (runs : List Value → Answer) (rows : List ℕ) (fault : HouseholdFault) (old new : OutputView) (status : Status) → Shows scheme face runs
+    → TellsRefusal (λ line. (household_of (codes_of face.inputs) rows ≡ Err fault) × (household_fault_line fault ≡ Some line)) old new status
     → IsAnswered (HouseholdReplies front scheme rows) old new status
-rows_refused front scheme program rows fault old new status shown (inl (line, refused, p)) =
+rows_refused front scheme face runs rows fault old new status shown (inl (line, refused, p)) =
     printed line Refused (prepared.is_refused fault (subst (λ codes. household_of codes rows ≡ Err fault) shown.codes refused.0) refused.1) tt p
-rows_refused front scheme program rows fault old new status shown (inr (same, memory)) = no_memory same memory
+rows_refused front scheme face runs rows fault old new status shown (inr (same, memory)) = no_memory same memory
 
-pub rows_printed : (front : List ℕ) (scheme : Scheme) (program : Program) (rows : List ℕ) (answer : Answer) (old new : OutputView) (status : Status)
-    → IsRunnable program.face program.tidy → Shows scheme program → (of : IsAnswerOf program rows answer)
-    → Prints (front ++ answer_lines program.face answer) (answer_status answer) old new status → IsAnswered (HouseholdReplies front scheme rows) old new status
-rows_printed front scheme program rows answer old new status runs shown of p =
+pub rows_printed : (front : List ℕ) (scheme : Scheme) (loaded : Loaded) (rows : List ℕ) (answer : Answer) (old new : OutputView) (status : Status)
+    → Shows scheme loaded.face (machine_run loaded.code) → (of : IsAnswerOf loaded rows answer)
+    → Prints (front ++ answer_lines loaded.face answer) (answer_status answer) old new status → IsAnswered (HouseholdReplies front scheme rows) old new status
+rows_printed front scheme loaded rows answer old new status shown of p =
     let told = told_to scheme of.pairs in
-    let is = household_told scheme program rows answer runs shown of in
-    printed (front ++ told_lines scheme.names told) (told_status told) (prepared.is_told of.pairs (given_by scheme program rows answer shown of)) (of_end told)
-    (subst (λ own. Prints (front ++ told_lines scheme.names told) own old new status) (status_told program.face.labels (notes_of program.face.outputs) answer told is)
-    (subst (λ text. Prints (front ++ text) (answer_status answer) old new status) (told_answer scheme program answer told shown is) p))
+    let is = household_told scheme loaded rows answer shown of in
+    printed (front ++ told_lines scheme.names told) (told_status told) (prepared.is_told of.pairs (given_by scheme loaded rows answer shown of)) (of_end told)
+    (subst (λ own. Prints (front ++ told_lines scheme.names told) own old new status) (status_told loaded.face.labels (notes_of loaded.face.outputs) answer told is)
+    (subst (λ text. Prints (front ++ text) (answer_status answer) old new status) (told_answer scheme loaded.face (machine_run loaded.code) answer told shown is) p))
 
 -- ---- runs
 
@@ -95,9 +114,9 @@ run_as : (source : Source) (scheme : Scheme) (rows : List ℕ) → IsScheme sour
 run_as source scheme rows valid text own (prepared.is_refused fault faulty line) = run.is_refused (households_are_refused scheme fault valid faulty line)
 run_as source scheme rows valid text own (prepared.is_told pairs given) = run.is_told scheme pairs valid given
 
-pub run_answered : (source : Source) (program : Program) (rows : List ℕ) (old new : OutputView) (status : Status) → (is : IsPrepared source program)
+pub run_answered : (source : Source) (loaded : Loaded) (rows : List ℕ) (old new : OutputView) (status : Status) → (is : IsPreparedCode source loaded)
     → IsAnswered (HouseholdReplies [] is.scheme rows) old new status → IsAnswered (RunReplies source rows) old new status
-run_answered source program rows old new status is a = answered_as (HouseholdReplies [] is.scheme rows) (RunReplies source rows) old new status (run_as source is.scheme rows is.valid) a
+run_answered source loaded rows old new status is a = answered_as (HouseholdReplies [] is.scheme rows) (RunReplies source rows) old new status (run_as source is.scheme rows is.valid) a
 
 -- ---- `large N`
 
@@ -110,9 +129,9 @@ large_as : (n : ℕ) (scheme : Scheme) → IsScheme (large_source n) scheme → 
 large_as n scheme valid text own (prepared.is_refused fault faulty line) = large.is_refused (households_are_refused scheme fault valid faulty line)
 large_as n scheme valid text own (prepared.is_told pairs given) = large.is_told scheme pairs valid given
 
-pub large_answered : (n : ℕ) (program : Program) (old new : OutputView) (status : Status) → (is : IsPrepared (large_source n) program)
+pub large_answered : (n : ℕ) (loaded : Loaded) (old new : OutputView) (status : Status) → (is : IsPreparedCode (large_source n) loaded)
     → IsAnswered (HouseholdReplies (large_line n) is.scheme (household_text n)) old new status → IsAnswered (LargeReplies n) old new status
-large_answered n program old new status is a = answered_as (HouseholdReplies (large_line n) is.scheme (household_text n)) (LargeReplies n) old new status (large_as n is.scheme is.valid) a
+large_answered n loaded old new status is a = answered_as (HouseholdReplies (large_line n) is.scheme (household_text n)) (LargeReplies n) old new status (large_as n is.scheme is.valid) a
 
 -- ---- batches
 
@@ -121,20 +140,20 @@ pub batch_refused : (source : Source) (table : List ℕ) (old new : OutputView) 
 batch_refused source table old new status (inl (line, refused, shown)) = batch.printed line Refused (batch.is_refused refused) tt shown
 batch_refused source table old new status (inr (same, memory)) = batch.no_memory same memory
 
-pub table_refused : (scheme : Scheme) (program : Program) (table : List ℕ) (fault : HouseholdFault) (old new : OutputView) (status : Status) → Shows scheme program
-    → TellsRefusal (λ line. (table_of (codes_of program.face.inputs) table ≡ Err fault) × (household_fault_line fault ≡ Some line)) old new status
+pub table_refused : (scheme : Scheme) (face : Face) (runs : List Value → Answer) (table : List ℕ) (fault : HouseholdFault) (old new : OutputView) (status : Status) → Shows scheme face runs
+    → TellsRefusal (λ line. (table_of (codes_of face.inputs) table ≡ Err fault) × (household_fault_line fault ≡ Some line)) old new status
     → IsWrittenInParts (TableReplies scheme table) old new status
-table_refused scheme program table fault old new status shown (inl (line, refused, p)) =
+table_refused scheme face runs table fault old new status shown (inl (line, refused, p)) =
     batch.printed line Refused (prepared.table_is_refused fault (subst (λ codes. table_of codes table ≡ Err fault) shown.codes refused.0) refused.1) tt p
-table_refused scheme program table fault old new status shown (inr (same, memory)) = batch.no_memory same memory
+table_refused scheme face runs table fault old new status shown (inr (same, memory)) = batch.no_memory same memory
 
 table_as : (source : Source) (scheme : Scheme) (table : List ℕ) → IsScheme source scheme → (text : List ℕ) (own : Status) → TableReplies scheme table text own → BatchReplies source table text own
 table_as source scheme table valid text own (prepared.table_is_refused fault faulty line) = batch.is_refused (households_are_refused scheme fault valid faulty line)
 table_as source scheme table valid text own (prepared.rows_are_told rows given) = batch.is_told scheme rows valid given
 
-pub batch_answered : (source : Source) (program : Program) (table : List ℕ) (old new : OutputView) (status : Status) → (is : IsPrepared source program)
+pub batch_answered : (source : Source) (loaded : Loaded) (table : List ℕ) (old new : OutputView) (status : Status) → (is : IsPreparedCode source loaded)
     → IsWrittenInParts (TableReplies is.scheme table) old new status → IsWrittenInParts (BatchReplies source table) old new status
-batch_answered source program table old new status is a = parts_as (TableReplies is.scheme table) (BatchReplies source table) old new status (table_as source is.scheme table is.valid) a
+batch_answered source loaded table old new status is a = parts_as (TableReplies is.scheme table) (BatchReplies source table) old new status (table_as source is.scheme table is.valid) a
 
 pub batch_written : {S T : Type 0} (written : S → Option (List ℕ)) (faults : S → ℕ) (old new : S) (result : Result T GroupFault) (text : List ℕ) (Replies : List ℕ → Status → Type 0) (status : Status)
     → Replies text Done → status ≡ group_status result → WritesGroups written faults old new result text
@@ -150,12 +169,12 @@ pub serve_refused : (source : Source) (rows : List ℕ) (heard : InputView) (old
 serve_refused source rows heard old new status (inl (line, refused, shown)) = serve.refused line refused refl shown
 serve_refused source rows heard old new status (inr (same, memory)) = serve.no_memory refl same memory
 
-pub session_refused : (scheme : Scheme) (program : Program) (rows : List ℕ) (fault : HouseholdFault) (heard : InputView) (old new : OutputView) (status : Status) → Shows scheme program
-    → TellsRefusal (λ line. (household_of (codes_of program.face.inputs) rows ≡ Err fault) × (household_fault_line fault ≡ Some line)) old new status
+pub session_refused : (scheme : Scheme) (face : Face) (runs : List Value → Answer) (rows : List ℕ) (fault : HouseholdFault) (heard : InputView) (old new : OutputView) (status : Status) → Shows scheme face runs
+    → TellsRefusal (λ line. (household_of (codes_of face.inputs) rows ≡ Err fault) × (household_fault_line fault ≡ Some line)) old new status
     → IsServedBy scheme rows heard heard old new status
-session_refused scheme program rows fault heard old new status shown (inl (line, refused, p)) =
+session_refused scheme face runs rows fault heard old new status shown (inl (line, refused, p)) =
     prepared.refused line fault (subst (λ codes. household_of codes rows ≡ Err fault) shown.codes refused.0) refused.1 refl p
-session_refused scheme program rows fault heard old new status shown (inr (same, memory)) = prepared.no_memory refl same memory
+session_refused scheme face runs rows fault heard old new status shown (inr (same, memory)) = prepared.no_memory refl same memory
 
 pub serve_answered : (source : Source) (program : Program) (rows : List ℕ) (heard told : InputView) (old new : OutputView) (status : Status) → (is : IsPrepared source program)
     → IsServedBy is.scheme rows heard told old new status → IsServed source rows heard told old new status
@@ -175,15 +194,15 @@ served_as one ended other also heard told old new status w e (too_long taken mov
 served_as one ended other also heard told old new status w e (unwritten taken rest moved left calm breaks is) =
     unwritten taken rest moved left calm (subst (λ text. Breaks text old new) (w (taken ++ rest)) breaks) is
 
-same_replies : (scheme : Scheme) (program : Program) (rows : List ℕ) (session : Sitting) → IsRunnable program.face program.tidy → Shows scheme program → (of : IsBegun program rows session)
+same_replies : (scheme : Scheme) (program : Program) (rows : List ℕ) (session : Sitting) → IsRunnable program.face program.tidy → Shows scheme program.face (flat_run program.tidy) → (of : IsBegun program rows session)
     → household_of (scheme_codes scheme) rows ≡ Ok of.pairs → (lines : List (List ℕ)) → replies_to session lines ≡ replies_by scheme of.pairs lines
 same_replies scheme program rows session runs shown of given lines =
     ap (λ sitting. replies_to sitting lines) of.begins
-    ∙ ap (λ n. replies_to (record { flat = program.tidy; face = program.face; values = values_of of.pairs n }) lines) (as_many scheme program runs shown)
-    ∙ replies_are scheme.inputs (showing_of (begun program.tidy program.face of.pairs)) (scheme_showing scheme) shown.any shown.codes (λ vs all. lines_told scheme program vs shown all)
+    ∙ ap (λ n. replies_to (record { flat = program.tidy; face = program.face; values = values_of of.pairs n }) lines) (sym runs.shown.inputs ∙ as_many scheme program.face (flat_run program.tidy) shown)
+    ∙ replies_are scheme.inputs (showing_of (begun program.tidy program.face of.pairs)) (scheme_showing scheme) shown.any shown.codes (λ vs all. lines_told scheme program.face (flat_run program.tidy) vs shown all)
     lines (values_of of.pairs (length scheme.inputs)) (household_gives scheme.inputs rows of.pairs shown.any given)
 
-pub session_served : (scheme : Scheme) (program : Program) (rows : List ℕ) (session : Sitting) → IsRunnable program.face program.tidy → Shows scheme program → (of : IsBegun program rows session)
+pub session_served : (scheme : Scheme) (program : Program) (rows : List ℕ) (session : Sitting) → IsRunnable program.face program.tidy → Shows scheme program.face (flat_run program.tidy) → (of : IsBegun program rows session)
     → (heard told : InputView) (old new : OutputView) (status : Status)
     → Served (replies_of session) (λ taken. replies_to session (ended_lines taken)) heard told old new status → IsServedBy scheme rows heard told old new status
 session_served scheme program rows session runs shown of heard told old new status done =
@@ -198,15 +217,72 @@ any_said : (codes : List (List ℕ)) → AreAny (map input_said codes)
 any_said [] = tt
 any_said (code ∷ codes) = (refl, any_said codes)
 
+-- the scheme of a source that is compiled
+abbrev scheme_of : (source : Source) (compiled : Compiled) → IsCompiled source compiled → Scheme
+scheme_of source compiled is = scheme_said is.declared is.base is.written is.requests
+
+valid_of : (source : Source) (compiled : Compiled) → (is : IsCompiled source compiled) → IsScheme source (scheme_of source compiled is)
+valid_of source compiled is = record { declared = is.declared; base = is.base; written = is.written; requests = is.requests; valid = is.valid; said = refl }
+
+-- what has the answers of the tidy program shows it
+shows_of : (source : Source) (compiled : Compiled) → (is : IsCompiled source compiled) → (runs : List Value → Answer) → ((vs : List Value) → runs vs ≡ flat_run compiled.tidy vs)
+    → Shows (scheme_of source compiled is) compiled.face runs
+shows_of source compiled is runs same = record {
+  codes = ap codes_of is.inputs;
+  any = any_said (declarations.codes_of is.declared.variables);
+  names = is.names;
+  answers = λ vs all. ap (told_of compiled.face.labels (notes_of compiled.face.outputs)) (same vs) ∙ is.answers vs (subst (λ inputs. AreValuesOf inputs vs) (sym is.inputs) all);
+}
+
 -- what a source is compiled to is prepared
 pub is_prepared : (source : Source) (compiled : Compiled) → IsCompiled source compiled → IsPrepared source (record { face = compiled.face; tidy = compiled.tidy })
 is_prepared source compiled is = record {
-  scheme = scheme_said is.declared is.base is.written is.requests;
-  valid = record { declared = is.declared; base = is.base; written = is.written; requests = is.requests; valid = is.valid; said = refl };
-  shows = record {
-    codes = ap codes_of is.inputs;
-    any = any_said (declarations.codes_of is.declared.variables);
-    names = is.names;
-    answers = λ vs all. is.answers vs (subst (λ inputs. AreValuesOf inputs vs) (sym is.inputs) all);
-  };
+  scheme = scheme_of source compiled is;
+  valid = valid_of source compiled is;
+  shows = shows_of source compiled is (flat_run compiled.tidy) (λ vs. refl);
 }
+
+-- and so is its code
+pub is_prepared_code : (source : Source) (compiled : Compiled) (loaded : Loaded) → loaded.code ≡ compiled.code → loaded.face ≡ compiled.face → IsCompiled source compiled → IsPreparedCode source loaded
+is_prepared_code source compiled loaded same_code same_face is =
+    let whole : IsCompiled source (record { face = loaded.face; tidy = compiled.tidy; code = loaded.code }) = rw (same_code, same_face) is in
+    record {
+      tidy = compiled.tidy;
+      compiled = whole;
+      scheme = scheme_of source _ whole;
+      valid = valid_of source _ whole;
+      shows = shows_of source (record { face = loaded.face; tidy = compiled.tidy; code = loaded.code }) whole (machine_run loaded.code)
+          (λ vs. run-is-flat_run loaded.code compiled.tidy vs whole.allocated.flow);
+    }
+
+pub is_runnable_code : (source : Source) (compiled : Compiled) (loaded : Loaded) → loaded.code ≡ compiled.code → loaded.face ≡ compiled.face → IsCompiled source compiled → IsRunnableCode loaded
+is_runnable_code source compiled loaded same_code same_face is = record {
+  whole = ap code_fault same_code ∙ spells_whole compiled.code compiled.tidy is.allocated.flow;
+  distinct = subst (λ (face : Face). AreDistinct (codes_of face.inputs)) (sym same_face) is.runnable.distinct;
+}
+
+-- ---- code files that are written
+
+pub compile_refused : (source : Source) (fault : SourceFault) (old new : OutputView) (status : Status) → TellsRefusal (λ line. IsSourceFault source fault × (source_line source.texts fault ≡ Some line)) old new status
+    → IsAnswered (CompileReplies source) old new status
+compile_refused source fault old new status (inl (line, refused, shown)) = printed line Refused (compile.is_refused fault refused.0 refused.1) tt shown
+compile_refused source fault old new status (inr (same, memory)) = no_memory same memory
+
+compile_as : (source : Source) (loaded : Loaded) → IsPreparedCode source loaded → (text : List ℕ) (own : Status) → IsFileOf loaded text own → CompileReplies source text own
+compile_as source loaded is text own is_file = compile.is_compiled loaded is
+
+pub compile_answered : (source : Source) (loaded : Loaded) (old new : OutputView) (status : Status) → IsPreparedCode source loaded
+    → IsAnswered (IsFileOf loaded) old new status → IsAnswered (CompileReplies source) old new status
+compile_answered source loaded old new status is a = answered_as (IsFileOf loaded) (CompileReplies source) old new status (compile_as source loaded is) a
+
+-- ---- code files that are read
+
+pub exec_refused : (code rows : List ℕ) (fault : CodeFault) (old new : OutputView) (status : Status) → TellsRefusal (λ line. IsCodeFault code fault × (code_fault_line fault ≡ Some line)) old new status
+    → IsAnswered (ExecReplies code rows) old new status
+exec_refused code rows fault old new status (inl (line, refused, shown)) = printed line Refused (exec.code_is_refused fault refused.0 refused.1) tt shown
+exec_refused code rows fault old new status (inr (same, memory)) = no_memory same memory
+
+pub exec_answered : (code rows : List ℕ) (loaded : Loaded) (scheme : Scheme) (old new : OutputView) (status : Status) → IsFormOf code loaded → Shows scheme loaded.face (machine_run loaded.code)
+    → IsAnswered (HouseholdReplies [] scheme rows) old new status → IsAnswered (ExecReplies code rows) old new status
+exec_answered code rows loaded scheme old new status form shown a =
+    answered_as (HouseholdReplies [] scheme rows) (ExecReplies code rows) old new status (λ text own replied. exec.is_answered loaded scheme form shown replied) a

@@ -10,4 +10,6 @@ pub mod Serves
 pub mod Larges
 pub mod LargeAnswers
 pub mod Prepared
+pub mod Compiles
+pub mod Execs
 pub mod inner

@@ -1,16 +1,24 @@
 -- Programs that are prepared to be run: what they are to households, and what is answered with them.
-use Rattle.std.specs.Prelude.{◌≡◌, ℕ, ℤ, List, ◌++◌, Some, Ok, Err}
+use Rattle.std.specs.Prelude.{◌≡◌, ℕ, ℤ, List, ◌++◌, None, Some, Ok, Err}
 use Rattle.m_fixed.specs.declared.amount.Value.{Value}
 use Rattle.rule_text.specs.declared.Source.{Source}
+use Rattle.m_names.specs.Names.{AreDistinct}
+use Rattle.observables.specs.declared.answer.Answer.{Answer}
+use Rattle.observables.specs.declared.face.Face.{Face}
 use Rattle.observables.specs.Answers.{told_of}
 use Rattle.observables.specs.Inputs.{AreAny, AreValuesOf, codes_of}
 use Rattle.observables.specs.Outputs.{names_of, notes_of}
+use Rattle.flat_code.specs.declared.program.Flat.{Flat}
 use Rattle.flat_code.specs.Runs.{flat_run}
+use Rattle.reg_machine.specs.Flow.{code_fault}
+use Rattle.reg_machine.specs.Machine.{machine_run}
+use Rattle.code_file.specs.declared.loaded.Loaded.{Loaded}
 use Rattle.household.specs.Household.{household_of}
 use Rattle.household.specs.Table.{table_of}
 use Rattle.household.specs.declared.fault.HouseholdFault.{HouseholdFault}
 use Rattle.household.specs.declared.table.Row.{Row}
 use Rattle.tax_print.specs.Lines.{told_lines}
+use Rattle.m_compile.specs.Compiled.{IsCompiled}
 use Rattle.m_plan.specs.Printing.{Prints}
 use Rattle.m_plan.specs.Views.{InputView, OutputView}
 use Rattle.m_plan.specs.declared.status.Status.{Status}
@@ -23,20 +31,37 @@ use Rattle.m_work.specs.Sources.{IsScheme}
 use Rattle.m_work.specs.Tables.{rows_lines}
 use Rattle.m_work.specs.declared.program.Program.{Program}
 
--- A program is to households what a scheme is: it knows the same codes, it gives what is asked for the same names, and its answers to values that
--- the inputs may have, read through its face, are what the scheme tells.
-pub record Shows (scheme : Scheme) (program : Program) : Type 0 where
-  pub codes : codes_of program.face.inputs ≡ scheme_codes scheme
+-- A program, in whatever form, is to households what a scheme is: its face has the same codes, it gives what is asked for the same names, and what it
+-- answers to values that the inputs may have, read through its face, is what the scheme tells.
+pub record Shows (scheme : Scheme) (face : Face) (runs : List Value → Answer) : Type 0 where
+  pub codes : codes_of face.inputs ≡ scheme_codes scheme
   pub any : AreAny scheme.inputs
-  pub names : names_of program.face.outputs ≡ scheme.names
+  pub names : names_of face.outputs ≡ scheme.names
   pub answers : (values : List Value) → AreValuesOf scheme.inputs values
-      → told_of program.face.labels (notes_of program.face.outputs) (flat_run program.tidy values) ≡ Some (scheme.tells values)
+      → told_of face.labels (notes_of face.outputs) (runs values) ≡ Some (scheme.tells values)
 
--- The source is valid, and the program is to households what the source is.
+-- ---- what a source is prepared to
+
+-- The source is valid, and the tidy program is to households what the source is.
 pub record IsPrepared (source : Source) (program : Program) : Type 0 where
   pub scheme : Scheme
   pub valid : IsScheme source scheme
-  pub shows : Shows scheme program
+  pub shows : Shows scheme program.face (flat_run program.tidy)
+
+-- The source is compiled to this code, by way of some tidy program, and the code is to households what the source is.
+pub record IsPreparedCode (source : Source) (loaded : Loaded) : Type 0 where
+  pub tidy : Flat
+  pub compiled : IsCompiled source (record { face = loaded.face; tidy = tidy; code = loaded.code })
+  pub scheme : Scheme
+  pub valid : IsScheme source scheme
+  pub shows : Shows scheme loaded.face (machine_run loaded.code)
+
+-- Code that can be run for households, wherever it comes from: nothing is wrong with it, and its inputs have different codes.
+pub record IsRunnableCode (loaded : Loaded) : Type 0 where
+  pub whole : code_fault loaded.code ≡ None
+  pub distinct : AreDistinct (codes_of loaded.face.inputs)
+
+-- ---- what is answered
 
 -- What is answered to the household of these bytes: the line by which it is refused; or some bytes in front, and the lines of what is told to it.
 pub data HouseholdReplies (front : List ℕ) (scheme : Scheme) (rows : List ℕ) : List ℕ → Status → Type 0 where

@@ -1,4 +1,4 @@
-//! A batch: a program's answers to the rows of a table are printed, in groups.
+//! A batch: the answers of code to the rows of a table are printed, in groups.
 ghost use Rattle.std.specs.Prelude.{◌≡◌, IfOk, Ok, Err, length};
 ghost use Rattle.std.specs.List.{AllByRecursion};
 ghost use Rattle.m_places.specs.Refusals.{Outcome};
@@ -7,16 +7,17 @@ ghost use Rattle.household.specs.Household.{AreInputs};
 ghost use Rattle.household.specs.Table.{table_of};
 ghost use Rattle.household.specs.declared.fault.HouseholdFault.TheVariants.{Memory as NoMemory};
 ghost use Rattle.observables.specs.Inputs.{codes_of};
-ghost use Rattle.m_compile.specs.Compiled.{IsRunnable};
+ghost use Rattle.reg_machine.specs.Machine.{machine_run};
 ghost use Rattle.m_plan.specs.Views.{output_view};
 ghost use Rattle.m_work.specs.Batches.{BatchReplies, IsWrittenInParts};
-ghost use Rattle.m_work.specs.Prepared.{Shows, TableReplies};
+ghost use Rattle.m_work.specs.Prepared.{IsRunnableCode, Shows, TableReplies};
 ghost use Rattle.m_work.specs.Schemes.{Scheme};
 ghost use Rattle.m_work.specs.inner.Groups.{group_status};
 
 use crate::groups::{GroupFault, print_rows};
-use crate::program::{Program, prepare};
+use crate::program::prepare_code;
 use crate::told::{tell_refusal, told_household};
+use code_file::Loaded;
 use household::{Codes, HouseholdFault, Row, read_table};
 use m_compile::told_fault;
 use m_places::Seq;
@@ -26,7 +27,7 @@ use rule_text::Source;
 use std::alloc::Global;
 use std::thread::Threads;
 
-/// Prepares the program of a source, and prints the label of each row of the table of these bytes with its answer, or the line by
+/// Prepares the code of a source, and prints the label of each row of the table of these bytes with its answer, or the line by
 /// which one of them is refused. The rows are computed and written in groups, so that a front of the answer is written where memory
 /// ends it.
 pub fn batch_source<R: Threads + Sync, K: Sink>(
@@ -39,45 +40,37 @@ pub fn batch_source<R: Threads + Sync, K: Sink>(
     requires { SourceKeepsLimits source.now }
     ensures { IsWrittenInParts (BatchReplies source.now table.now) (output_view K.written K.faults out.old) (output_view K.written K.faults out.new) result }
 {
-    match prepare(alloc, source) {
-        Ok(program) => answer_batch(rt, alloc, &program, table, out),
+    match prepare_code(alloc, source) {
+        Ok(loaded) => answer_batch(rt, alloc, &loaded, table, out),
         Err(fault) => tell_refusal(out, told_fault(source.texts.as_slice(), &fault)),
     }
 }
 
-/// Prints what a program answers to the rows of the table of these bytes, or the line by which that is refused.
+/// Prints what code answers to the rows of the table of these bytes, or the line by which that is refused.
 pub fn answer_batch<R: Threads + Sync, K: Sink>(
     rt: &R,
     alloc: Global,
-    program: &Program,
+    loaded: &Loaded,
     table: &[u8],
     out: &mut K,
 ) -> Status
-    requires { IsRunnable program.now.face program.now.tidy }
-    ensures { (scheme : Scheme) → Shows scheme program.now
+    requires { IsRunnableCode loaded.now }
+    ensures { (scheme : Scheme) → Shows scheme loaded.now.face (machine_run loaded.now.code)
         → IsWrittenInParts (TableReplies scheme table.now) (output_view K.written K.faults out.old) (output_view K.written K.faults out.new) result }
 {
-    let flat = program.tidy.flat();
-    match rows_of(alloc, program, table) {
-        Ok(rows) => status_of_rows(print_rows(
-            rt,
-            alloc,
-            flat,
-            &program.face,
-            rows.as_slice(),
-            out,
-        )),
+    match rows_of(alloc, loaded, table) {
+        Ok(rows) => status_of_rows(print_rows(rt, alloc, loaded, rows.as_slice(), out)),
         Err(fault) => tell_refusal(out, told_household(fault)),
     }
 }
 
-// The rows of the table of these bytes, by the codes of a program.
-fn rows_of(alloc: Global, program: &Program, table: &[u8]) -> Result<Seq<Row>, HouseholdFault>
-    requires { IsRunnable program.now.face program.now.tidy }
-    ensures outcome { Outcome NoMemory result (λ rows. table_of (codes_of program.now.face.inputs) table.now ≡ Ok rows) (λ fault. table_of (codes_of program.now.face.inputs) table.now ≡ Err fault) }
-    ensures inputs { IfOk result (λ rows. AllByRecursion (λ row. AreInputs (length (codes_of program.now.face.inputs)) row.household.pairs) rows) }
+// The rows of the table of these bytes, by the codes of its inputs.
+fn rows_of(alloc: Global, loaded: &Loaded, table: &[u8]) -> Result<Seq<Row>, HouseholdFault>
+    requires { IsRunnableCode loaded.now }
+    ensures outcome { Outcome NoMemory result (λ rows. table_of (codes_of loaded.now.face.inputs) table.now ≡ Ok rows) (λ fault. table_of (codes_of loaded.now.face.inputs) table.now ≡ Err fault) }
+    ensures inputs { IfOk result (λ rows. AllByRecursion (λ row. AreInputs (length (codes_of loaded.now.face.inputs)) row.household.pairs) rows) }
 {
-    let codes = Codes::new(alloc, program.face.inputs.as_slice())?;
+    let codes = Codes::new(alloc, loaded.face.inputs.as_slice())?;
     read_table(alloc, table, &codes)
 }
 

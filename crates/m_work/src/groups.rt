@@ -2,15 +2,14 @@
 ghost use Rattle.std.specs.Prelude.{◌≡◌, ◌<◌, ◌≤◌, length};
 ghost use Rattle.std.specs.List.{AllByRecursion};
 ghost use Rattle.text_pieces.specs.Giving.{Gives};
-ghost use Rattle.flat_code.specs.Runs.{IsFlat};
-ghost use Rattle.flat_code.specs.Faces.{IsFaceOf};
 ghost use Rattle.m_batch.specs.Batch.{HasInputsBelow};
 ghost use Rattle.tax_print.specs.Lines.{AnswerIsWithin};
+ghost use Rattle.m_work.specs.Prepared.{IsRunnableCode};
 ghost use Rattle.m_work.specs.inner.Groups.{WritesGroups, answered_lines, program_lines};
 ghost use Rattle.m_work.specs.declared.groups.GroupFault.TheVariants.{Memory as NoMemory, Failed as NotWritten};
 
 use crate::texts::{GROUP_ROOM, give_answers};
-use flat_code::Flat;
+use code_file::Loaded;
 use held_text::FixedText;
 use household::Row;
 use m_batch::run_batch;
@@ -52,21 +51,19 @@ impl From<Failed> for GroupFault {
 pub(crate) fn print_rows<R: Threads + Sync, K: Sink>(
     rt: &R,
     alloc: Global,
-    flat: &Flat,
-    face: &Face,
+    loaded: &Loaded,
     rows: &[Row],
     out: &mut K,
 ) -> Result<(), GroupFault>
-    requires valid { IsFlat flat.now }
-    requires face { IsFaceOf face.now flat.now }
-    requires inputs { AllByRecursion (HasInputsBelow flat.now.inputs) rows.now }
-    ensures { WritesGroups K.written K.faults out.old out.new result (program_lines flat.now face.now rows.now) }
+    requires runnable { IsRunnableCode loaded.now }
+    requires inputs { AllByRecursion (HasInputsBelow loaded.now.code.counts.inputs) rows.now }
+    ensures { WritesGroups K.written K.faults out.old out.new result (program_lines loaded.now rows.now) }
 {
     let mut held = FixedText::new(alloc, GROUP_ROOM)?;
     let mut from = 0;
     while from < rows.len() {
         let end = group_end(from, rows.len());
-        print_group(rt, alloc, flat, face, &rows[from..end], &mut held, out)?;
+        print_group(rt, alloc, loaded, &rows[from..end], &mut held, out)?;
         from = end;
     }
     Ok(())
@@ -89,19 +86,17 @@ fn group_end(from: usize, count: usize) -> usize
 fn print_group<R: Threads + Sync, K: Sink>(
     rt: &R,
     alloc: Global,
-    flat: &Flat,
-    face: &Face,
+    loaded: &Loaded,
     rows: &[Row],
     held: &mut FixedText,
     out: &mut K,
 ) -> Result<(), GroupFault>
-    requires valid { IsFlat flat.now }
-    requires face { IsFaceOf face.now flat.now }
-    requires inputs { AllByRecursion (HasInputsBelow flat.now.inputs) rows.now }
-    ensures { WritesGroups K.written K.faults out.old out.new result (program_lines flat.now face.now rows.now) }
+    requires runnable { IsRunnableCode loaded.now }
+    requires inputs { AllByRecursion (HasInputsBelow loaded.now.code.counts.inputs) rows.now }
+    ensures { WritesGroups K.written K.faults out.old out.new result (program_lines loaded.now rows.now) }
 {
-    let answers = run_batch(rt, alloc, flat, rows)?;
-    give_answers(face, rows, answers.as_slice(), held, out)?;
+    let answers = run_batch(rt, alloc, &loaded.code, rows)?;
+    give_answers(&loaded.face, rows, answers.as_slice(), held, out)?;
     Ok(())
 }
 

@@ -1,21 +1,22 @@
-//! `large N`: the program of the generated source is prepared, and its answer to the generated household is printed.
+//! `large N`: the code of the generated source is prepared, and its answer to the generated household is printed.
 ghost use Rattle.std.specs.Prelude.{◌≡◌, ◌≤◌, ◌++◌, IfOk};
 ghost use Rattle.m_places.specs.declared.limits.TheConstants.{LARGE};
 ghost use Rattle.text_pieces.specs.Giving.{Gives};
 ghost use Rattle.m_large.specs.Large.{household_text};
 ghost use Rattle.tax_print.specs.Lines.{AnswerIsWithin, answer_lines};
-ghost use Rattle.m_compile.specs.Compiled.{IsRunnable};
+ghost use Rattle.reg_machine.specs.Machine.{machine_run};
 ghost use Rattle.m_plan.specs.Printing.{IsAnswered};
 ghost use Rattle.m_plan.specs.Views.{output_view};
 ghost use Rattle.m_work.specs.Larges.{large_line, large_requests, large_source};
 ghost use Rattle.m_work.specs.LargeAnswers.{LargeReplies};
-ghost use Rattle.m_work.specs.Prepared.{HouseholdReplies, Shows};
+ghost use Rattle.m_work.specs.Prepared.{HouseholdReplies, IsRunnableCode, Shows};
 ghost use Rattle.m_work.specs.Schemes.{Scheme};
 
-use crate::program::{Program, prepare};
+use crate::program::prepare_code;
 use crate::run::answer_of;
 use crate::texts::{ANSWER_ROOM, give_large};
 use crate::told::{status_of, tell_refusal, told_household};
+use code_file::Loaded;
 use held_text::FixedText;
 use itoa::Buffer;
 use m_compile::told_fault;
@@ -29,7 +30,7 @@ use std::alloc::{AllocError, Global};
 use tax_print::print_answer;
 use text_pieces::{append_pieces, give_pieces};
 
-/// Prepares the program of the generated source of this many inputs, and prints the line `large N` and its answer to the generated
+/// Prepares the code of the generated source of this many inputs, and prints the line `large N` and its answer to the generated
 /// household.
 pub fn run_large<K: Sink>(alloc: Global, n: u32, out: &mut K) -> Status
     requires some { 1 ≤ n }
@@ -39,8 +40,8 @@ pub fn run_large<K: Sink>(alloc: Global, n: u32, out: &mut K) -> Status
     let Ok(source) = large_source(alloc, n) else {
         return Status::Memory;
     };
-    match prepare(alloc, &source) {
-        Ok(program) => answer_large(alloc, n, &program, out),
+    match prepare_code(alloc, &source) {
+        Ok(loaded) => answer_large(alloc, n, &loaded, out),
         Err(fault) => tell_refusal(out, told_fault(source.texts.as_slice(), &fault)),
     }
 }
@@ -74,19 +75,19 @@ fn large_requests(alloc: Global, n: u32) -> Result<Vec<u8>, AllocError>
     Ok(text)
 }
 
-/// Prints the line `large N`, and what a program answers to the generated household.
-pub fn answer_large<K: Sink>(alloc: Global, n: u32, program: &Program, out: &mut K) -> Status
+/// Prints the line `large N`, and what code answers to the generated household.
+pub fn answer_large<K: Sink>(alloc: Global, n: u32, loaded: &Loaded, out: &mut K) -> Status
     requires some { 1 ≤ n }
     requires few { n ≤ LARGE }
-    requires runnable { IsRunnable program.now.face program.now.tidy }
-    ensures { (scheme : Scheme) → Shows scheme program.now
+    requires runnable { IsRunnableCode loaded.now }
+    ensures { (scheme : Scheme) → Shows scheme loaded.now.face (machine_run loaded.now.code)
         → IsAnswered (HouseholdReplies (large_line n) scheme (household_text n)) (output_view K.written K.faults out.old) (output_view K.written K.faults out.new) result }
 {
     let Ok(mut held) = FixedText::new(alloc, ANSWER_ROOM) else {
         return Status::Memory;
     };
     match large_household(alloc, n) {
-        Ok(household) => print_answered(alloc, n, program, &household, &mut held, out),
+        Ok(household) => print_answered(alloc, n, loaded, &household, &mut held, out),
         Err(_) => Status::Memory,
     }
 }
@@ -95,19 +96,19 @@ pub fn answer_large<K: Sink>(alloc: Global, n: u32, program: &Program, out: &mut
 fn print_answered<K: Sink>(
     alloc: Global,
     n: u32,
-    program: &Program,
+    loaded: &Loaded,
     household: &[u8],
     held: &mut FixedText,
     out: &mut K,
 ) -> Status
-    requires runnable { IsRunnable program.now.face program.now.tidy }
+    requires runnable { IsRunnableCode loaded.now }
     requires generated { household.now ≡ household_text n }
-    ensures { (scheme : Scheme) → Shows scheme program.now
+    ensures { (scheme : Scheme) → Shows scheme loaded.now.face (machine_run loaded.now.code)
         → IsAnswered (HouseholdReplies (large_line n) scheme (household_text n)) (output_view K.written K.faults out.old) (output_view K.written K.faults out.new) result }
 {
-    match answer_of(alloc, program, household) {
+    match answer_of(alloc, loaded, household) {
         Ok(answer) => printed(
-            give_large(n, &program.face, &answer, held, out),
+            give_large(n, &loaded.face, &answer, held, out),
             status_of(&answer),
         ),
         Err(fault) => tell_refusal(out, told_household(fault)),

@@ -1,10 +1,13 @@
-//! What a command answers with what it has gathered, printed as it is made: a run, a session, a batch, and `large N`.
+//! What a command answers with what it has gathered, printed as it is made: a run, a session, a batch, a code file, and `large N`.
 //!
-//! A program is prepared of a source, and then it is run: each call that answers takes a prepared program, whatever it was made of.
+//! A program is prepared of a source or a code file, and then it is run: each call that answers takes a prepared program, whatever it
+//! was made of. Sessions hold the tidy program, all else holds code.
 //! This crate knows nothing of the words of the command line, and fetches no file.
 #![tactic(auto)]
 
 mod batch;
+mod compile;
+mod exec;
 mod groups;
 mod large;
 mod program;
@@ -15,7 +18,9 @@ mod texts;
 mod told;
 
 pub use batch::{answer_batch, batch_source};
+pub use compile::compile_source;
+pub use exec::exec_code;
 pub use large::{answer_large, run_large};
-pub use program::{Program, prepare};
+pub use program::{Program, prepare, prepare_code};
 pub use run::{answer_run, run_source};
 pub use serving::{answer_serve, serve_source};

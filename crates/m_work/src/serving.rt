@@ -2,6 +2,7 @@
 ghost use Rattle.std.specs.Prelude.{◌≡◌, Err};
 ghost use Rattle.m_places.specs.Refusals.{Outcome};
 ghost use Rattle.rule_text.specs.Limits.{SourceKeepsLimits};
+ghost use Rattle.flat_code.specs.Runs.{flat_run};
 ghost use Rattle.household.specs.Household.{household_of};
 ghost use Rattle.household.specs.declared.fault.HouseholdFault.TheVariants.{Memory};
 ghost use Rattle.observables.specs.Inputs.{codes_of};
@@ -51,7 +52,7 @@ pub fn answer_serve<S: Input, K: Sink>(
     out: &mut K,
 ) -> Status
     requires { IsRunnable program.face program.tidy }
-    ensures { (scheme : Scheme) → Shows scheme program
+    ensures { (scheme : Scheme) → Shows scheme program.face (flat_run program.tidy)
         → IsServedBy scheme household.now (input_view S.left S.faults input.old) (input_view S.left S.faults input.new)
         (output_view K.written K.faults out.old) (output_view K.written K.faults out.new) result }
 {

@@ -3,16 +3,19 @@
 ghost use Rattle.std.specs.Prelude.{◌≡◌, ◌++◌, length};
 ghost use Rattle.std.specs.List.{AllByRecursion};
 ghost use Rattle.text_pieces.specs.Giving.{Gives};
+ghost use Rattle.code_file.specs.Loading.{text_with};
 ghost use Rattle.tax_print.specs.Lines.{AnswerIsWithin, answer_lines};
 ghost use Rattle.m_work.specs.Larges.{large_line};
 ghost use Rattle.m_work.specs.inner.Groups.{answered_lines};
 
 use crate::groups::print_answers;
 use crate::large::print_large;
-use held_text::FixedText;
+use code_file::{Loaded, write_code};
+use held_text::{FixedText, HeldText};
 use household::Row;
 use m_ports::{Failed, Sink, give_all};
 use observables::{Answer, Face};
+use std::alloc::Global;
 use tax_print::print_answer;
 
 /// The room for the lines of one answer.
@@ -72,5 +75,17 @@ pub(crate) fn give_answers<K: Sink>(
     match print_answers(face, rows, answers, held) {
         Ok(()) => give_all(out, held.text()),
         Err(_) => print_answers(face, rows, answers, out),
+    }
+}
+
+/// Gives the code file of loaded code. It is put together in memory as far as there is some; where there is none, it is written to the output
+/// itself.
+pub(crate) fn give_code<K: Sink>(alloc: Global, loaded: &Loaded, out: &mut K) -> Result<(), Failed>
+    ensures { Gives K.written K.faults out.old out.new result (text_with loaded.now.code loaded.now.face) }
+{
+    let mut held = HeldText::new(alloc);
+    match write_code(loaded, &mut held) {
+        Ok(()) => give_all(out, held.text()),
+        Err(_) => write_code(loaded, out),
     }
 }

@@ -3,10 +3,12 @@ ghost use Rattle.std.specs.Prelude.{◌≡◌};
 ghost use Rattle.std.specs.Option.{option_map};
 ghost use Rattle.fault_lines.specs.Lines.{fault_line};
 ghost use Rattle.m_plan.specs.Views.{output_view};
+ghost use Rattle.m_work.specs.Execs.{code_fault_line};
 ghost use Rattle.m_work.specs.Households.{answer_status, household_fault_line};
 ghost use Rattle.m_work.specs.inner.Refusals.{TellsLine};
 
-use fault_lines::{Fault, RowFault};
+use code_file::CodeFault;
+use fault_lines::{CodeFault as Words, Fault, RowFault};
 use household::HouseholdFault;
 use m_plan::{Status, print_fault};
 use m_ports::Sink;
@@ -36,6 +38,18 @@ pub(crate) fn told_household<'a>(fault: HouseholdFault) -> Option<Fault<'a>>
         HouseholdFault::BadAmount(line) => Some(Fault::HouseholdLine(line, RowFault::BadAmount)),
         HouseholdFault::CodeTwice(line) => Some(Fault::HouseholdLine(line, RowFault::CodeTwice)),
         HouseholdFault::Memory => None,
+    }
+}
+
+/// What the fault of a code file is told as. Nothing is told of want of memory.
+pub(crate) fn told_code<'a>(fault: CodeFault) -> Option<Fault<'a>>
+    ensures { option_map fault_line result ≡ code_fault_line fault }
+{
+    match fault {
+        CodeFault::BadHeader => Some(Fault::CodeHeader),
+        CodeFault::BadLine(line) => Some(Fault::CodeLine(line, Words::BadLine)),
+        CodeFault::BadOrder(line) => Some(Fault::CodeLine(line, Words::ReadBeforeWrite)),
+        CodeFault::Memory => None,
     }
 }
 

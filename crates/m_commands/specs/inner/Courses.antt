@@ -8,6 +8,8 @@ use Rattle.m_plan.specs.declared.ending.Ending.{Ending}
 use Rattle.m_plan.specs.declared.status.Status.{Status}
 use Rattle.m_plan.specs.declared.status.Status.TheVariants.{Usage, Memory}
 use Rattle.m_work.specs.Batches.{BatchReplies, IsWrittenInParts}
+use Rattle.m_work.specs.Compiles.{CompileReplies}
+use Rattle.m_work.specs.Execs.{ExecReplies}
 use Rattle.m_work.specs.LargeAnswers.{LargeReplies}
 use Rattle.m_work.specs.Runs.{RunReplies}
 use Rattle.m_work.specs.Serves.{IsServed}
@@ -17,14 +19,16 @@ use Rattle.m_commands.specs.declared.command.Command.TheVariants as command
 use Rattle.m_commands.specs.declared.command.Form.{Form}
 use Rattle.m_commands.specs.declared.command.Form.TheVariants as form
 use Rattle.m_commands.specs.declared.work.Work.{Work}
-use Rattle.m_commands.specs.declared.work.Work.TheVariants.{Run, Serve, Batch, Large}
+use Rattle.m_commands.specs.declared.work.Work.TheVariants.{Run, Serve, Batch, Large, Compile, Exec}
 
--- the form of a command over a source
+-- the form of a command over a source and one more file
 abbrev pub command_form : Command → Option Form
 command_form (command.Run names household) = Some form.Run
 command_form (command.Serve names household) = Some form.Serve
 command_form (command.Batch names table) = Some form.Batch
 command_form (command.Large n) = None
+command_form (command.Compile names) = None
+command_form (command.Exec code household) = None
 
 -- the form of the command that gathered this
 abbrev pub work_form : Work → Option Form
@@ -32,6 +36,8 @@ work_form (Run source rows) = Some form.Run
 work_form (Serve source rows) = Some form.Serve
 work_form (Batch source table) = Some form.Batch
 work_form (Large n) = None
+work_form (Compile source) = None
+work_form (Exec code rows) = None
 
 -- this is what such a command gathers
 abbrev pub IsWorkOf : Command → Work → Type 0
@@ -43,6 +49,8 @@ WorkIsAnswered (Run source rows) heard told old new status = (told ≡ heard) ×
 WorkIsAnswered (Serve source rows) heard told old new status = IsServed source rows heard told old new status
 WorkIsAnswered (Batch source table) heard told old new status = (told ≡ heard) × IsWrittenInParts (BatchReplies source table) old new status
 WorkIsAnswered (Large n) heard told old new status = (told ≡ heard) × IsAnswered (LargeReplies n) old new status
+WorkIsAnswered (Compile source) heard told old new status = (told ≡ heard) × IsAnswered (CompileReplies source) old new status
+WorkIsAnswered (Exec code rows) heard told old new status = (told ≡ heard) × IsAnswered (ExecReplies code rows) old new status
 
 -- The words were no command, or there was no memory to copy them, or their command's plan ended before its files were
 -- there, or it was gathered and answered.

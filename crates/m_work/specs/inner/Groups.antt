@@ -5,7 +5,7 @@ use Rattle.m_ports.specs.Counts.{Rose}
 use Rattle.m_ports.specs.Sink.{AppendsPrefix}
 use Rattle.observables.specs.declared.answer.Answer.{Answer}
 use Rattle.observables.specs.declared.face.Face.{Face}
-use Rattle.flat_code.specs.declared.program.Flat.{Flat}
+use Rattle.code_file.specs.declared.loaded.Loaded.{Loaded}
 use Rattle.household.specs.declared.table.Row.{Row}
 use Rattle.m_batch.specs.Batch.{row_answer}
 use Rattle.tax_print.specs.Lines.{household_lines}
@@ -14,10 +14,10 @@ use Rattle.m_plan.specs.declared.status.Status.TheVariants.{Done, WriteFault, Me
 use Rattle.m_work.specs.declared.groups.GroupFault.{GroupFault}
 use Rattle.m_work.specs.declared.groups.GroupFault.TheVariants.{Memory, Failed}
 
--- the lines of rows by a program: each label, and the answer to the row's amounts
-abbrev pub program_lines : Flat → Face → List Row → List ℕ
-program_lines flat face [] = []
-program_lines flat face (row ∷ rows) = household_lines row.label face (row_answer flat row) ++ program_lines flat face rows
+-- the lines of rows by code: each label, and the answer to the row's amounts
+abbrev pub program_lines : Loaded → List Row → List ℕ
+program_lines loaded [] = []
+program_lines loaded (row ∷ rows) = household_lines row.label loaded.face (row_answer loaded.code row) ++ program_lines loaded rows
 
 -- the lines of rows with these answers
 abbrev pub answered_lines : Face → List Row → List Answer → List ℕ

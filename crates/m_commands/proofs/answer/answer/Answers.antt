@@ -12,3 +12,9 @@ returns-in-Batch g c = rw c.in-Batch.is (refl, rw c.as_slice-in-Batch.ensures at
 
 pub returns-in-Large : goal.returns-in-Large
 returns-in-Large g c = rw c.in-Large.is (refl, c.run_large.ensures)
+
+pub returns-in-Compile : goal.returns-in-Compile
+returns-in-Compile g c = rw c.in-Compile.is (refl, c.compile_source.ensures)
+
+pub returns-in-Exec : goal.returns-in-Exec
+returns-in-Exec g c = rw c.in-Exec.is (refl, rw c.as_slice-in-Exec-2.ensures at rw c.as_slice-in-Exec.ensures at c.exec_code.ensures)

@@ -1,6 +1,7 @@
 use Rattle.std.proofs.Common.{ap}
 use Rattle.m_plan.specs.Views.{InputView}
 use Rattle.m_commands.proofs.Clauses.{text_of, writing_of, stopping_of}
+use Rattle.m_commands.proofs.Compiling.{writes_of}
 use Rattle.m_commands.proofs.Faults.{counted_of, memory_of, quiet_of, left_of, told_of, usage_of}
 use Rattle.m_commands.proofs.Reading.{reading_of}
 use Rattle.m_commands.proofs.Taken.{taken_of}
@@ -9,6 +10,9 @@ use Rattle.m_commands.proofs.program.m_tax.Goals as goal
 
 pub returns-clause-text : goal.returns-clause-text
 returns-clause-text g c = text_of _ _ _ _ _ _ _ _ c.perform.ensures
+
+pub returns-clause-compiled : goal.returns-clause-compiled
+returns-clause-compiled g c = writes_of _ _ _ _ _ _ _ _ c.perform.ensures
 
 pub returns-clause-reading : goal.returns-clause-reading
 returns-clause-reading g c = reading_of _ _ _ _ _ _ _ _ c.perform.ensures

@@ -5,7 +5,7 @@ use Rattle.m_work.proofs.batch.batch_source.Goals as goal
 
 pub returns-in-Ok : goal.returns-in-Ok
 returns-in-Ok g c =
-    batch_answered c.args.source.now c.in-Ok.program c.args.table.now _ _ _ c.in-Ok.ensures.outcome
+    batch_answered c.args.source.now c.in-Ok.loaded c.args.table.now _ _ _ c.in-Ok.ensures.outcome
     (c.answer_batch.ensures c.in-Ok.ensures.outcome.scheme c.in-Ok.ensures.outcome.shows)
 
 pub returns-in-Err : goal.returns-in-Err

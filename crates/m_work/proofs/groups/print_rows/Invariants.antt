@@ -6,7 +6,7 @@ use Rattle.m_work.proofs.groups.print_rows.Given as goal
 abbrev pub invariant-loop-from : goal.invariant-loop-from
 invariant-loop-from g l = record {
   within : l.from ≤ length l.rows;
-  given : Given g.K.Sink.written g.K.Sink.faults l.initial.out l.out (program_lines l.flat l.face l.rows) (program_lines l.flat l.face (drop l.from l.rows));
+  given : Given g.K.Sink.written g.K.Sink.faults l.initial.out l.out (program_lines l.loaded l.rows) (program_lines l.loaded (drop l.from l.rows));
 }
 
 abbrev pub decreases-loop-from : goal.decreases-loop-from

@@ -6,13 +6,13 @@ use Rattle.m_work.proofs.Refusals.{source_told}
 use Rattle.m_work.proofs.Ways.{large_answered, large_refused}
 use Rattle.m_work.proofs.large.run_large.Goals as goal
 
-pub prepare-requires : goal.prepare-requires
-prepare-requires g c = rw c.in-Ok.ensures (large_within c.args.n c.requires.some c.requires.few)
+pub prepare_code-requires : goal.prepare_code-requires
+prepare_code-requires g c = rw c.in-Ok.ensures (large_within c.args.n c.requires.some c.requires.few)
 
-pub returns-in-Ok-prepare : goal.returns-in-Ok-prepare
-returns-in-Ok-prepare g c =
-    let is = rw c.in-Ok.ensures at c.in-Ok-prepare.ensures.outcome in
-    large_answered c.args.n c.in-Ok-prepare.program _ _ _ is (c.answer_large.ensures is.scheme is.shows)
+pub returns-in-Ok-prepare_code : goal.returns-in-Ok-prepare_code
+returns-in-Ok-prepare_code g c =
+    let is = rw c.in-Ok.ensures at c.in-Ok-prepare_code.ensures.outcome in
+    large_answered c.args.n c.in-Ok-prepare_code.loaded _ _ _ is (c.answer_large.ensures is.scheme is.shows)
 
 pub returns : goal.returns
 returns g c =

@@ -5,7 +5,7 @@ use Rattle.m_work.proofs.run.run_source.Goals as goal
 
 pub returns-in-Ok : goal.returns-in-Ok
 returns-in-Ok g c =
-    run_answered c.args.source.now c.in-Ok.program c.args.household.now _ _ _ c.in-Ok.ensures.outcome
+    run_answered c.args.source.now c.in-Ok.loaded c.args.household.now _ _ _ c.in-Ok.ensures.outcome
     (c.answer_run.ensures c.in-Ok.ensures.outcome.scheme c.in-Ok.ensures.outcome.shows)
 
 pub returns-in-Err : goal.returns-in-Err

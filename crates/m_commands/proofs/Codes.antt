@@ -1,0 +1,156 @@
+-- A source has one compiling, and a code file one answer.
+use Rattle.std.proofs.Common.{◌≡◌, ◌≢◌, ℕ, ℤ, List, [], length, None, Some, Ok, Err, refl, sym, ap, ◌∙◌, subst}
+use Rattle.std.proofs.lemmas.List.{length-map}
+use Rattle.m_fixed.specs.declared.amount.Value.{Value}
+use Rattle.rule_text.specs.declared.Source.{Source}
+use Rattle.code_file.specs.Reading.{IsCodeFault, IsFormOf}
+use Rattle.code_file.specs.declared.fault.CodeFault.{CodeFault}
+use Rattle.code_file.specs.declared.fault.CodeFault.TheVariants.{Memory}
+use Rattle.code_file.specs.declared.loaded.Loaded.{Loaded}
+use Rattle.code_file.proofs.EntryLaws.{one-fault}
+use Rattle.code_file.proofs.FormLaws.{no-fault-of-form, one-form}
+use Rattle.household.specs.Household.{household_of, values_of}
+use Rattle.household.specs.declared.fault.HouseholdFault.{HouseholdFault}
+use Rattle.household.proofs.GivenLemmas.{household_gives}
+use Rattle.observables.specs.Answers.{told_of}
+use Rattle.observables.specs.Inputs.{codes_of}
+use Rattle.observables.specs.Outputs.{names_of, notes_of}
+use Rattle.observables.specs.declared.answer.Answer.{Answer}
+use Rattle.observables.specs.declared.face.Face.{Face}
+use Rattle.observables.specs.declared.inputs.Coded.{Coded}
+use Rattle.reg_machine.specs.Machine.{machine_run}
+use Rattle.m_compile.specs.Faults.{IsSourceFault}
+use Rattle.m_compile.specs.declared.fault.SourceFault.{SourceFault}
+use Rattle.m_compile.proofs.OneLaws.{no_valid_and_fault, one_fault}
+use Rattle.m_plan.specs.declared.status.Status.{Status}
+use Rattle.tax_print.specs.Lines.{told_lines}
+use Rattle.m_work.specs.Compiles.{CompileReplies, CompileHasAnswer}
+use Rattle.m_work.specs.Compiles as compiles
+use Rattle.m_work.specs.Execs.{ExecReplies, ExecHasAnswer, code_fault_line}
+use Rattle.m_work.specs.Execs as exec
+use Rattle.m_work.specs.Households.{told_status}
+use Rattle.m_work.specs.Prepared.{HouseholdReplies, Shows}
+use Rattle.m_work.specs.Prepared as prepared
+use Rattle.m_work.specs.Schemes.{Scheme, scheme_codes, told_to}
+use Rattle.m_work.specs.Sources.{IsScheme}
+use Rattle.m_commands.specs.Output.{AreOneOutput, the_same, both_compiled}
+use Rattle.m_commands.proofs.Schemes.{one_line, same_line}
+
+-- ---- code files
+
+-- loaded code that is the same, but for proofs
+pub record IsSameCode (one other : Loaded) : Type 0 where
+  pub code : one.code ≡ other.code
+  pub inputs : one.face.inputs ≡ other.face.inputs
+  pub labels : one.face.labels ≡ other.face.labels
+  pub outputs : one.face.outputs ≡ other.face.outputs
+
+-- a code file is the form of one loaded code
+pub one_loaded : (code : List ℕ) (one other : Loaded) → IsFormOf code one → IsFormOf code other → IsSameCode one other
+one_loaded code one other a b = let same = one-form code one other a b in record { code = same.0; inputs = same.1; labels = same.2; outputs = same.3 }
+
+-- a fault that has a line isn't want of memory
+is_no_memory : (fault : CodeFault) (line : List ℕ) → code_fault_line fault ≡ Some line → fault ≢ Memory
+is_no_memory fault line k m = let none : code_fault_line fault ≡ None = ap code_fault_line m in cc (none, k)
+
+-- the form of loaded code has no fault
+pub no_form_and_fault : (code line : List ℕ) (loaded : Loaded) (fault : CodeFault) → IsFormOf code loaded → IsCodeFault code fault → code_fault_line fault ≡ Some line → ⊥
+no_form_and_fault code line loaded fault form f k = no-fault-of-form code loaded fault (is_no_memory fault line k) form f
+
+-- a code file has one fault
+one_code_fault : (code line other_line : List ℕ) (fault other : CodeFault) → IsCodeFault code fault → IsCodeFault code other → code_fault_line fault ≡ Some line → code_fault_line other ≡ Some other_line → fault ≡ other
+one_code_fault code line other_line fault other f g k l = one-fault code fault other (is_no_memory fault line k) (is_no_memory other other_line l) f g
+
+-- ---- what code is to households
+
+-- as many inputs as codes
+many_codes : (inputs : List Coded) → length (codes_of inputs) ≡ length inputs
+many_codes inputs = length-map inputs (λ (c : Coded). c.code)
+
+-- the codes are the same by one scheme and by the other
+pub one_codes : (face : Face) (runs : List Value → Answer) (one other : Scheme) → Shows one face runs → Shows other face runs → scheme_codes one ≡ scheme_codes other
+one_codes face runs one other a b = sym a.codes ∙ b.codes
+
+-- and so is what is told to a household
+pub one_told : (face : Face) (runs : List Value → Answer) (one other : Scheme) (rows : List ℕ) (pairs : List (ℕ × ℤ)) → Shows one face runs → Shows other face runs
+    → household_of (scheme_codes one) rows ≡ Ok pairs → household_of (scheme_codes other) rows ≡ Ok pairs → told_to one pairs ≡ told_to other pairs
+one_told face runs one other rows pairs a b g h =
+    let n : length one.inputs ≡ length other.inputs = sym (many_codes one.inputs) ∙ ap length (one_codes face runs one other a b) ∙ many_codes other.inputs in
+    let x = a.answers (values_of pairs (length one.inputs)) (household_gives one.inputs rows pairs a.any g) in
+    let y = b.answers (values_of pairs (length other.inputs)) (household_gives other.inputs rows pairs b.any h) in
+    cc (n, x, y)
+
+-- what code is to households, the same code is too
+pub shown_other : (scheme : Scheme) (one other : Loaded) → IsSameCode one other → Shows scheme one.face (machine_run one.code) → Shows scheme other.face (machine_run other.code)
+shown_other scheme one other same s = record {
+  codes = ap codes_of (sym same.inputs) ∙ s.codes;
+  any = s.any;
+  names = ap names_of (sym same.outputs) ∙ s.names;
+  answers = λ values given. (λ i. told_of (sym same.labels i) (notes_of (sym same.outputs i)) (machine_run (sym same.code i) values)) ∙ s.answers values given;
+}
+
+-- a household is answered in one way by what the code is to it
+one_answer : (face : Face) (runs : List Value → Answer) (one other : Scheme) (rows t u : List ℕ) (s r : Status) → Shows one face runs → Shows other face runs
+    → HouseholdReplies [] one rows t s → HouseholdReplies [] other rows u r → AreOneOutput t s u r
+one_answer face runs one other rows t u s r a b (prepared.is_refused fault g k) (prepared.is_refused also h l) =
+    let f : household_of (scheme_codes other) rows ≡ Err fault = subst (λ codes. household_of codes rows ≡ Err fault) (one_codes face runs one other a b) g in
+    let e : fault ≡ also = cc (f, h) in
+    the_same (same_line fault also t u e k l) refl
+one_answer face runs one other rows t u s r a b (prepared.is_refused fault g k) (prepared.is_told pairs h) =
+    let f : household_of (scheme_codes other) rows ≡ Err fault = subst (λ codes. household_of codes rows ≡ Err fault) (one_codes face runs one other a b) g in
+    cc (f, h)
+one_answer face runs one other rows t u s r a b (prepared.is_told pairs g) (prepared.is_refused fault h k) =
+    let f : household_of (scheme_codes other) rows ≡ Ok pairs = subst (λ codes. household_of codes rows ≡ Ok pairs) (one_codes face runs one other a b) g in
+    cc (f, h)
+one_answer face runs one other rows t u s r a b (prepared.is_told pairs g) (prepared.is_told given h) =
+    let f : household_of (scheme_codes other) rows ≡ Ok pairs = subst (λ codes. household_of codes rows ≡ Ok pairs) (one_codes face runs one other a b) g in
+    let p : given ≡ pairs = cc (f, h) in
+    let e = one_told face runs one other rows pairs a b g f ∙ ap (told_to other) (sym p) in
+    let n : one.names ≡ other.names = sym a.names ∙ b.names in
+    the_same (λ i. told_lines (n i) (e i)) (ap told_status e)
+
+-- two lines of one fault of a code file
+one_code_line : (fault other : CodeFault) (t u : List ℕ) → fault ≡ other → code_fault_line fault ≡ Some t → code_fault_line other ≡ Some u → t ≡ u
+one_code_line fault other t u e a b =
+    let c : code_fault_line other ≡ Some t = subst (λ (f : CodeFault). code_fault_line f ≡ Some t) e a in
+    cc (c, b)
+
+-- `exec` answers in one way
+pub one_exec : (code rows t u : List ℕ) (s r : Status) → ExecReplies code rows t s → ExecReplies code rows u r → AreOneOutput t s u r
+one_exec code rows t u s r (exec.code_is_refused fault f k) (exec.code_is_refused other g l) = the_same (one_code_line fault other t u (one_code_fault code t u fault other f g k l) k l) refl
+one_exec code rows t u s r (exec.code_is_refused fault f k) (exec.is_answered loaded scheme form shown h) = absurd (no_form_and_fault code t loaded fault form f k)
+one_exec code rows t u s r (exec.is_answered loaded scheme form shown h) (exec.code_is_refused fault f k) = absurd (no_form_and_fault code u loaded fault form f k)
+one_exec code rows t u s r (exec.is_answered one scheme form shown h) (exec.is_answered other also part seen i) =
+    let e = one_loaded code one other form part in
+    let a = shown_other scheme one other e shown in
+    one_answer other.face (machine_run other.code) scheme also rows t u s r a seen h i
+
+-- a code file that has an answer has no fault
+pub code_not_refused : (code rows line : List ℕ) (fault : CodeFault) → ExecHasAnswer code rows → IsCodeFault code fault → code_fault_line fault ≡ Some line → ⊥
+code_not_refused code rows line fault h is told = no_form_and_fault code line h.loaded fault h.form is told
+
+-- nor has the household
+pub rows_not_refused : (code rows : List ℕ) (loaded : Loaded) (scheme : Scheme) (fault : HouseholdFault) → ExecHasAnswer code rows → IsFormOf code loaded
+    → Shows scheme loaded.face (machine_run loaded.code) → household_of (scheme_codes scheme) rows ≡ Err fault → ⊥
+rows_not_refused code rows loaded scheme fault h form shown g =
+    let e = one_loaded code h.loaded loaded h.form form in
+    let c : codes_of h.loaded.face.inputs ≡ scheme_codes scheme = ap codes_of e.inputs ∙ shown.codes in
+    let f : household_of (scheme_codes scheme) rows ≡ Ok h.pairs = subst (λ codes. household_of codes rows ≡ Ok h.pairs) c h.given in
+    cc (f, g)
+
+-- ---- compiling
+
+-- a source that has a scheme has no fault
+no_scheme_and_fault : (source : Source) (scheme : Scheme) (fault : SourceFault) → IsScheme source scheme → IsSourceFault source fault → ⊥
+no_scheme_and_fault source scheme fault v is = no_valid_and_fault source v.declared v.base v.written v.requests fault v.valid is
+
+-- a valid source isn't refused
+pub compiled_not_refused : (source : Source) (fault : SourceFault) → CompileHasAnswer source → IsSourceFault source fault → ⊥
+compiled_not_refused source fault h is = no_scheme_and_fault source h.scheme fault h.valid is
+
+-- `compile` answers in one way, but for the code
+pub one_compile : (source : Source) (t u : List ℕ) (s r : Status) → CompileReplies source t s → CompileReplies source u r → AreOneOutput t s u r
+one_compile source t u s r (compiles.is_refused fault f k) (compiles.is_refused other g l) = one_line source.texts fault other t u (one_fault source fault other f g) k l
+one_compile source t u s r (compiles.is_refused fault f k) (compiles.is_compiled other w) = absurd (no_scheme_and_fault source w.scheme fault w.valid f)
+one_compile source t u s r (compiles.is_compiled one v) (compiles.is_refused fault f k) = absurd (no_scheme_and_fault source v.scheme fault v.valid f)
+one_compile source t u s r (compiles.is_compiled one v) (compiles.is_compiled other w) = both_compiled source one other v w

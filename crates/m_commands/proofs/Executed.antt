@@ -1,0 +1,50 @@
+-- What `compile` has written is answered by `exec` as the source is by `run`.
+use Rattle.std.proofs.Common.{◌≡◌, ℕ, List, [], Ok, Err, sym, ap, ◌∙◌, subst}
+use Rattle.m_fixed.specs.declared.amount.Value.{Value}
+use Rattle.rule_text.specs.declared.Source.{Source}
+use Rattle.code_file.specs.declared.loaded.Loaded.{Loaded}
+use Rattle.household.specs.Household.{household_of}
+use Rattle.observables.specs.declared.answer.Answer.{Answer}
+use Rattle.observables.specs.declared.face.Face.{Face}
+use Rattle.reg_machine.specs.Machine.{machine_run}
+use Rattle.m_plan.specs.declared.status.Status.{Status}
+use Rattle.tax_print.specs.Lines.{told_lines}
+use Rattle.code_file.specs.Reading.{IsFormOf}
+use Rattle.m_work.specs.Execs.{ExecReplies}
+use Rattle.m_work.specs.Execs as exec
+use Rattle.m_work.specs.Households.{told_status}
+use Rattle.m_work.specs.Prepared.{HouseholdReplies, IsPreparedCode, Shows}
+use Rattle.m_work.specs.Prepared as prepared
+use Rattle.m_work.specs.Runs.{RunReplies}
+use Rattle.m_work.specs.Runs as run
+use Rattle.m_work.specs.Schemes.{Scheme, scheme_codes, told_to}
+use Rattle.m_work.specs.Sources.{IsScheme, households_are_refused}
+use Rattle.m_commands.proofs.Codes.{no_form_and_fault, one_codes, one_loaded, one_told, shown_other}
+
+-- what is answered to a household by one scheme is answered to it by the other
+same_replies : (face : Face) (runs : List Value → Answer) (one other : Scheme) (rows text : List ℕ) (status : Status) → Shows one face runs → Shows other face runs
+    → HouseholdReplies [] one rows text status → HouseholdReplies [] other rows text status
+same_replies face runs one other rows text status a b (prepared.is_refused fault g k) =
+    prepared.is_refused fault (subst (λ codes. household_of codes rows ≡ Err fault) (one_codes face runs one other a b) g) k
+same_replies face runs one other rows text status a b (prepared.is_told pairs g) =
+    let f : household_of (scheme_codes other) rows ≡ Ok pairs = subst (λ codes. household_of codes rows ≡ Ok pairs) (one_codes face runs one other a b) g in
+    let e : told_to other pairs ≡ told_to one pairs = sym (one_told face runs one other rows pairs a b g f) in
+    let n : other.names ≡ one.names = sym b.names ∙ a.names in
+    let t : told_lines other.names (told_to other pairs) ≡ told_lines one.names (told_to one pairs) = λ i. told_lines (n i) (e i) in
+    let r : HouseholdReplies [] other rows (told_lines other.names (told_to other pairs)) (told_status (told_to other pairs)) = prepared.is_told pairs f in
+    subst (λ (s : Status). HouseholdReplies [] other rows (told_lines one.names (told_to one pairs)) s) (ap told_status e)
+    (subst (λ (x : List ℕ). HouseholdReplies [] other rows x (told_status (told_to other pairs))) t r)
+
+-- what is answered to a household by the scheme of a source is what `run` answers
+run_of : (source : Source) (scheme : Scheme) (rows text : List ℕ) (status : Status) → IsScheme source scheme → HouseholdReplies [] scheme rows text status → RunReplies source rows text status
+run_of source scheme rows text status v (prepared.is_refused fault g k) = run.is_refused (households_are_refused scheme fault v g k)
+run_of source scheme rows text status v (prepared.is_told pairs g) = run.is_told scheme pairs v g
+
+-- the code file of what a source is compiled to
+pub executed : (source : Source) (loaded : Loaded) (code rows text : List ℕ) (status : Status) → IsPreparedCode source loaded → IsFormOf code loaded → ExecReplies code rows text status
+    → RunReplies source rows text status
+executed source loaded code rows text status p form (exec.code_is_refused fault f k) = absurd (no_form_and_fault code text loaded fault form f k)
+executed source loaded code rows text status p form (exec.is_answered other scheme part shown replies) =
+    let e = one_loaded code other loaded part form in
+    let a = shown_other scheme other loaded e shown in
+    run_of source p.scheme rows text status p.valid (same_replies loaded.face (machine_run loaded.code) scheme p.scheme rows text status a p.shows replies)
