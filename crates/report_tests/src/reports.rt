@@ -1,0 +1,390 @@
+//! Reports that are read, judged and printed.
+ghost use Rattle.std.specs.Prelude.{◌≡◌, ◌≤◌, ◌<◌, All, IfOk, length};
+ghost use Rattle.m_places.specs.declared.limits.TheConstants.{CODE_FILE_BYTES};
+ghost use Rattle.m_symbols.specs.Declarations.{owners_from};
+ghost use Rattle.m_requests.specs.Placed.{IsPlaced};
+ghost use Rattle.micro_m.specs.Bases.{IsValidBase};
+
+use crate::rules::base_of;
+use m_fixed::{Amount, Value};
+use m_places::limits::CODE_FILE_BYTES;
+use m_ports::{MemSink, Sink};
+use m_symbols::Symbols;
+use micro_m::Base;
+use rule_base::RuleBase;
+use std::alloc::{AllocError, Global};
+use std::test::Fail;
+use why_report::{ReportFault, ReportLine, first_unsound, print_report, read_report};
+
+// The cells of REV and SEUIL.
+const REV: usize = 0;
+
+const SEUIL: usize = 7;
+
+const COPIED: &[u8] = b"IRN = REV ;";
+
+const INDEXED: &[u8] = b"IRN = T[A] ; T[X] = X + 5 ; A = REV - 1 ;";
+
+// The greatest amount that there is, in millionths.
+const GREATEST: i128 = 10_000_000_000_000_000_000;
+
+// Formulas, REV in millionths, a report, and what is found of it: `sound`, or the number from 1 of the first line that isn't.
+const JUDGED: [(&[u8], Option<i128>, &[u8], &[u8]); 26] = [
+    (
+        COPIED,
+        Some(2_500_500_000),
+        b"REV = 2500.5\nIRN = 2500.5\n",
+        b"sound",
+    ),
+    (
+        COPIED,
+        Some(2_500_500_000),
+        b"REV = 2500.50\nIRN = 002500.5\n.\n",
+        b"sound",
+    ),
+    (
+        COPIED,
+        Some(2_500_500_000),
+        b"IRN = 2500.5\nREV = 2500.5\n",
+        b"1",
+    ),
+    (
+        COPIED,
+        Some(2_500_500_000),
+        b"REV = 2500.5\nIRN = 2500\n",
+        b"2",
+    ),
+    (
+        COPIED,
+        Some(2_500_500_000),
+        b"REV = 2500\nIRN = 2500\n",
+        b"1",
+    ),
+    (COPIED, Some(2_500_500_000), b"IRN = 2500.5\n", b"1"),
+    (
+        COPIED,
+        Some(2_500_500_000),
+        b"REV = 2500.5\nREV = 2500.5\nIRN = 2500.5\n",
+        b"2",
+    ),
+    (
+        COPIED,
+        Some(2_500_500_000),
+        b"REV = 2500.5\nIRN = 2500.5\nIRN = 2500.5\n",
+        b"3",
+    ),
+    (COPIED, None, b"REV undefined\nIRN undefined\n", b"sound"),
+    (COPIED, None, b"REV = 0\n", b"1"),
+    (COPIED, None, b"REV undefined\nIRN = 0\n", b"2"),
+    (COPIED, None, b"", b"sound"),
+    (COPIED, None, b".", b"sound"),
+    (COPIED, None, b"SEUIL = 1000\nA undefined\n", b"sound"),
+    (
+        b"IRN = REV * REV ;",
+        Some(GREATEST),
+        b"REV = 10000000000000\nIRN over",
+        b"sound",
+    ),
+    (
+        b"IRN = REV * REV ;",
+        Some(GREATEST),
+        b"REV = 10000000000000\nIRN undefined",
+        b"2",
+    ),
+    (
+        INDEXED,
+        Some(2_000_000),
+        b"REV = 2\nA = 1\nT[2] = 7\nT[0] = 5\nT[1] = 6\nIRN = 6\n",
+        b"sound",
+    ),
+    (
+        INDEXED,
+        Some(2_000_000),
+        b"REV = 2\nA = 1\nT[0] = 5\nT[1] = 6\nIRN = 6\n",
+        b"5",
+    ),
+    (
+        INDEXED,
+        Some(2_000_000),
+        b"REV = 2\nT[0] = 5\nT[1] = 6\nT[2] = 7\nIRN = 6\n",
+        b"5",
+    ),
+    (
+        INDEXED,
+        Some(4_000_000),
+        b"T[0] = 5\nT[1] = 6\nT[2] = 7\nREV = 4\nA = 3\nIRN undefined\n",
+        b"sound",
+    ),
+    (
+        INDEXED,
+        Some(0),
+        b"T[0] = 5\nT[1] = 6\nT[2] = 7\nREV = 0\nA = -1\nIRN = 0\n",
+        b"sound",
+    ),
+    (
+        b"IRN = T[1] ; T[X] = X + 5 ;",
+        None,
+        b"T[1] = 6\nIRN = 6\n",
+        b"sound",
+    ),
+    (
+        b"IRN = T[3] ; T[X] = X + 5 ;",
+        None,
+        b"IRN undefined\n",
+        b"sound",
+    ),
+    (
+        b"IRN = T[A] + T[A] ; B = T[A] ;",
+        None,
+        b"A undefined\nT[2] undefined\nT[1] undefined\nT[0] undefined\nIRN undefined\nB undefined\n",
+        b"sound",
+    ),
+    (
+        b"IRN = si REV > 0 alors 1 sinon A finsi ;",
+        Some(1_000_000),
+        b"REV = 1\nIRN = 1\n",
+        b"2",
+    ),
+    (
+        b"IRN = si REV > 0 alors 1 sinon A finsi ;",
+        Some(1_000_000),
+        b"REV = 1\nA undefined\nIRN = 1\n",
+        b"sound",
+    ),
+];
+
+// Reports whose first bad line has this number.
+const BAD: [(&[u8], u32); 20] = [
+    (b"\n", 1),
+    (b"..\n", 1),
+    (b".\nREV = 1\n", 1),
+    (b"REV = 1\n\nIRN = 1\n", 2),
+    (b"REV = 1\n.\n.\n", 2),
+    (b"REV", 1),
+    (b"REV ", 1),
+    (b"REV = ", 1),
+    (b"REV =1", 1),
+    (b"REV= 1", 1),
+    (b"REV  = 1", 1),
+    (b"REV =  1", 1),
+    (b"REV = 1 ", 1),
+    (b" REV = 1", 1),
+    (b"REV = undefined", 1),
+    (b"REV Undefined", 1),
+    (b"REV over\nREV over.\n", 2),
+    (b"T = 1", 1),
+    (b"T[1] = 6\nT[3] = 6", 2),
+    (b"REV = 10000000000000.000001", 1),
+];
+
+// Reports, and how they are printed once they are read.
+const PRINTED: [(&[u8], &[u8]); 5] = [
+    (b"", b""),
+    (b".", b""),
+    (b"REV = 02.50", b"REV = 2.5\n"),
+    (
+        b"T[2] over\r\nT[0] undefined\r\n.\r\n",
+        b"T[2] over\nT[0] undefined\n",
+    ),
+    (
+        b"IRN = -0\nSEUIL = -1000.0000005\nREV = -0.5\n",
+        b"IRN = 0\nSEUIL = -1000.000001\nREV = -0.5\n",
+    ),
+];
+
+// The tables, out of reach of the proofs of what goes over them.
+
+fn all_judged() -> &'static [(&'static [u8], Option<i128>, &'static [u8], &'static [u8])] {
+    &JUDGED
+}
+
+fn all_bad() -> &'static [(&'static [u8], u32)] {
+    &BAD
+}
+
+fn all_printed() -> &'static [(&'static [u8], &'static [u8])] {
+    &PRINTED
+}
+
+// Fails at this text.
+fn other_at(alloc: Global, text: &[u8]) -> Fail {
+    match format!(in alloc; "another answer at {text:?}") {
+        Ok(told) => Fail::from(told),
+        Err(_) => Fail::from("another answer"),
+    }
+}
+
+fn amount(millionths: i128) -> Value {
+    match Amount::new(millionths) {
+        Some(amount) => Value::Num(amount),
+        None => Value::Over,
+    }
+}
+
+// Undefined for each cell, but for the constant and what is given for REV.
+fn environment(alloc: Global, cells: u32, given: Option<i128>) -> Result<Vec<Value>, AllocError>
+    ensures { IfOk result (λ values. length values.items ≡ cells) }
+{
+    let mut values = vec![in alloc; Value::Undef; cells as usize]?;
+    if SEUIL < values.len() {
+        values[SEUIL] = amount(1_000_000_000);
+        if let Some(millionths) = given {
+            values[REV] = amount(millionths);
+        }
+    }
+    Ok(values)
+}
+
+// What is found of lines over a base: `sound`, or a number.
+fn found(
+    alloc: Global,
+    base: &Base,
+    given: Option<i128>,
+    lines: &[ReportLine],
+) -> Result<Vec<u8>, AllocError>
+    requires valid { IsValidBase base.now }
+    requires cells { All (λ line. line.cell < base.now.cells) lines.now }
+{
+    let env = environment(alloc, base.cells, given)?;
+    match first_unsound(alloc, base, &env, lines)? {
+        None => Vec::from_slice(alloc, b"sound"),
+        Some(position) => {
+            let digits = format!(in alloc; "{}", position as u64 + 1)?;
+            Vec::from_slice(alloc, digits.as_bytes())
+        }
+    }
+}
+
+fn bad_line(alloc: Global, fault: ReportFault) -> Result<Vec<u8>, AllocError> {
+    match fault {
+        ReportFault::BadLine(number) => {
+            let digits = format!(in alloc; "bad {number}")?;
+            Vec::from_slice(alloc, digits.as_bytes())
+        }
+        ReportFault::Memory => Vec::from_slice(alloc, b"memory"),
+    }
+}
+
+// What is found of a report over the rules.
+fn judged(
+    alloc: Global,
+    made: &RuleBase,
+    given: Option<i128>,
+    report: &[u8],
+) -> Result<Vec<u8>, AllocError>
+    requires valid { IsValidBase made.now.ordered.base }
+    requires placed { IsPlaced made.now.symbols }
+    requires cells { made.now.ordered.base.cells ≡ length (owners_from 0 made.now.symbols.variables) }
+{
+    if report.len() as u64 > CODE_FILE_BYTES {
+        return Vec::from_slice(alloc, b"too long");
+    }
+    match read_report(alloc, report, &made.symbols) {
+        Ok(lines) => found(alloc, &made.ordered.base, given, lines.as_slice()),
+        Err(fault) => bad_line(alloc, fault),
+    }
+}
+
+// Whether this is found of a report over the rule with these formulas.
+fn is_judged(
+    alloc: Global,
+    formulas: &[u8],
+    given: Option<i128>,
+    report: &[u8],
+    wanted: &[u8],
+) -> Result<bool, AllocError> {
+    match base_of(alloc, formulas) {
+        Ok(made) => Ok(judged(alloc, &made, given, report)?.as_slice() == wanted),
+        Err(_) => Ok(false),
+    }
+}
+
+#[test]
+fn sound_and_unsound(rt: HostRuntime) -> Result<(), Fail> {
+    for (formulas, given, report, wanted) in all_judged() {
+        assert!(rt;
+            is_judged(rt.alloc(), formulas, *given, report, wanted)?,
+            "in {formulas:?} at {report:?}"
+        );
+    }
+    Ok(())
+}
+
+// Whether this is the first bad line of a report.
+fn is_bad(alloc: Global, symbols: &Symbols, report: &[u8], number: u32) -> bool
+    requires placed { IsPlaced symbols.now }
+{
+    if report.len() as u64 > CODE_FILE_BYTES {
+        return false;
+    }
+    match read_report(alloc, report, symbols) {
+        Ok(_) => false,
+        Err(fault) => fault == ReportFault::BadLine(number),
+    }
+}
+
+fn all_are_bad(alloc: Global, symbols: &Symbols) -> Result<(), Fail>
+    requires { IsPlaced symbols.now }
+{
+    for (report, number) in all_bad() {
+        if !is_bad(alloc, symbols, report, *number) {
+            return Err(other_at(alloc, report));
+        }
+    }
+    Ok(())
+}
+
+#[test]
+fn bad_lines(rt: HostRuntime) -> Result<(), Fail> {
+    match base_of(rt.alloc(), COPIED) {
+        Ok(made) => all_are_bad(rt.alloc(), &made.symbols),
+        Err(_) => Err(Fail::from("refused rules")),
+    }
+}
+
+// A report as it is printed once it is read.
+fn printed(alloc: Global, symbols: &Symbols, lines: &[ReportLine]) -> Result<Vec<u8>, AllocError>
+    requires { All (λ line. line.cell < length (owners_from 0 symbols.now.variables)) lines.now }
+{
+    let mut out = MemSink::new(alloc, 5, Vec::new(alloc))?;
+    match print_report(symbols, lines, &mut out) {
+        Ok(()) => Vec::from_slice(alloc, out.written()),
+        Err(_) => Vec::from_slice(alloc, b"failed"),
+    }
+}
+
+fn is_printed(
+    alloc: Global,
+    symbols: &Symbols,
+    report: &[u8],
+    wanted: &[u8],
+) -> Result<bool, AllocError>
+    requires placed { IsPlaced symbols.now }
+{
+    if report.len() as u64 > CODE_FILE_BYTES {
+        return Ok(false);
+    }
+    match read_report(alloc, report, symbols) {
+        Ok(lines) => Ok(printed(alloc, symbols, lines.as_slice())?.as_slice() == wanted),
+        Err(_) => Ok(false),
+    }
+}
+
+fn all_are_printed(alloc: Global, symbols: &Symbols) -> Result<(), Fail>
+    requires { IsPlaced symbols.now }
+{
+    for (report, wanted) in all_printed() {
+        if !is_printed(alloc, symbols, report, wanted)? {
+            return Err(other_at(alloc, report));
+        }
+    }
+    Ok(())
+}
+
+#[test]
+fn read_and_printed(rt: HostRuntime) -> Result<(), Fail> {
+    match base_of(rt.alloc(), COPIED) {
+        Ok(made) => all_are_printed(rt.alloc(), &made.symbols),
+        Err(_) => Err(Fail::from("refused rules")),
+    }
+}

@@ -1,0 +1,90 @@
+-- The lines before a position: which cells they tell, and with which values.
+use Rattle.std.proofs.Common.{◌≡◌, ℕ, zero, suc, ◌<◌, ◌≤◌, ◌++◌, true, false, cond, nat_eq, List, [], ◌∷◌, length, get_or, take, refl, ap, sym, ◌∙◌, subst, arith}
+use mathlib.Core.Bool.{◌||◌}
+use Rattle.std.proofs.lemmas.List.{get_or-take, take-take, length-take-le}
+use Rattle.std.proofs.lemmas.Map.Steps.{length-le_from_distinct_below}
+use Rattle.std.specs.List.{All}
+use Rattle.micro_m.specs.declared.base.Base.{Base}
+use Rattle.micro_m.specs.Bases.{is_among, AreDistinctCells}
+use Rattle.micro_m.specs.Values.{Environment}
+use Rattle.micro_m.proofs.NumberLemmas.{same, itself, cases, or-false, clash, distinct, AreDistinct-push}
+use Rattle.why_report.specs.declared.line.ReportLine.{ReportLine}
+use Rattle.why_report.specs.Derivations.{cells_told, values_told, line_at, IsDerived, IsDerivedAt, IsSound}
+
+-- a cell that lines tell, and the first line that tells it
+pub told-at : (lines : List ReportLine) (c : ℕ) → is_among c (cells_told lines) ≡ true → (q : ℕ) × (q < length lines) × ((d : ReportLine) → (get_or lines q d).cell ≡ c) × ((d : ReportLine) → (get_or lines q d).value ≡ values_told lines c)
+told-at [] c h = absurd (cc)
+told-at (line ∷ lines) c h = cases (nat_eq c line.cell)
+    (λ (t : nat_eq c line.cell ≡ true). (0, omega arith, λ d. sym (same c line.cell t), λ d. sym (ap (λ b. cond b line.value (values_told lines c)) t)))
+    (λ (f : nat_eq c line.cell ≡ false).
+    let k = told-at lines c (ap (λ b. b || is_among c (cells_told lines)) (sym f) ∙ h) in
+    (suc k.0, omega arith, k.2, λ d. k.3 d ∙ sym (ap (λ b. cond b line.value (values_told lines c)) f)))
+
+-- one line more tells its cell
+pub cells-more : (lines : List ReportLine) (i : ℕ) → i < length lines → cells_told (take (suc i) lines) ≡ cells_told (take i lines) ++ (line_at lines i).cell ∷ []
+cells-more [] i low = absurd (omega arith)
+cells-more (l ∷ lines) zero low = refl
+cells-more (l ∷ lines) (suc i) low = ap (λ (cs : List ℕ). l.cell ∷ cs) (cells-more lines i (omega arith))
+
+-- a line's cell after another cell of the list
+swap : (c a b : ℕ) {X : Type 0} (x y z : X) → nat_eq b a ≡ false → cond (nat_eq c a) x (cond (nat_eq c b) y z) ≡ cond (nat_eq c b) y (cond (nat_eq c a) x z)
+swap c a b x y z f = cases (nat_eq c a)
+    (λ (t : nat_eq c a ≡ true).
+    let is : c ≡ a = same c a t in
+    let not_b : nat_eq c b ≡ false = cases (nat_eq c b)
+    (λ (u : nat_eq c b ≡ true). absurd (clash (subst (λ n. nat_eq b n ≡ true) (sym (same c b u) ∙ is) (itself b)) f))
+    (λ (g : nat_eq c b ≡ false). g) in
+    ap (λ e. cond e x (cond (nat_eq c b) y z)) t
+    ∙ sym (ap (λ e. cond e y (cond (nat_eq c a) x z)) not_b ∙ ap (λ e. cond e x z) t))
+    (λ (g : nat_eq c a ≡ false).
+    ap (λ e. cond e x (cond (nat_eq c b) y z)) g
+    ∙ sym (ap (λ e. cond (nat_eq c b) y (cond e x z)) g))
+
+-- one line more, of another cell than those before it, tells its value
+pub values-more : (lines : List ReportLine) (i c : ℕ) → i < length lines → is_among (line_at lines i).cell (cells_told (take i lines)) ≡ false → values_told (take (suc i) lines) c ≡ cond (nat_eq c (line_at lines i).cell) (line_at lines i).value (values_told (take i lines) c)
+values-more [] i c low away = absurd (omega arith)
+values-more (l ∷ lines) zero c low away = refl
+values-more (l ∷ lines) (suc i) c low away =
+    let line : ReportLine = line_at lines i in
+    let k = or-false (nat_eq line.cell l.cell) (is_among line.cell (cells_told (take i lines))) away in
+    ap (λ v. cond (nat_eq c l.cell) l.value v) (values-more lines i c (omega arith) k.1)
+    ∙ swap c l.cell line.cell l.value line.value (values_told (take i lines) c) k.0
+
+-- ---- lines that follow
+
+-- the lines before a position tell distinct cells, if each follows
+pub told-distinct : (base : Base) (given : Environment) (lines : List ReportLine) (k : ℕ) → ((p : ℕ) → p < k → IsDerivedAt base given lines p) → k ≤ length lines → AreDistinctCells (cells_told (take k lines))
+told-distinct base given lines zero sound low = tt
+told-distinct base given lines (suc k) sound low =
+    subst AreDistinctCells (sym (cells-more lines k (omega arith)))
+    (AreDistinct-push (cells_told (take k lines)) (line_at lines k).cell
+    (told-distinct base given lines k (λ p h. sound p (omega arith)) (omega arith))
+    (sound k (omega arith)).told_once)
+
+-- they are no more than there are cells
+pub told-few : (base : Base) (given : Environment) (lines : List ReportLine) (k : ℕ) → ((p : ℕ) → p < k → IsDerivedAt base given lines p) → k ≤ length lines → All (λ line. line.cell < base.cells) lines → k ≤ base.cells
+told-few base given lines k sound low cells =
+    let few = length-le_from_distinct_below (cells_told (take k lines)) base.cells
+    (distinct (cells_told (take k lines)) (told-distinct base given lines k sound low))
+    (λ q h.
+    let at = told-at (take k lines) q h in
+    let long = length-take-le k lines low in
+    let here : get_or (take k lines) at.0 (line_at lines 0) ≡ get_or lines at.0 (line_at lines 0) = get_or-take k lines at.0 (line_at lines 0) (omega arith) in
+    let below = cells at.0 (line_at lines 0) (omega arith) in
+    subst (λ n. n < base.cells) (ap (λ (l : ReportLine). l.cell) (sym here) ∙ at.2 (line_at lines 0)) below) in
+    let long = length-take-le k lines low in
+    let same_length = told-length (take k lines) in
+    omega arith
+  where
+    told-length : (ls : List ReportLine) → length (cells_told ls) ≡ length ls
+    told-length [] = refl
+    told-length (l ∷ ls) = ap (λ n. suc n) (told-length ls)
+
+-- what follows in a list follows in a part of it from its first line on
+pub sound-part : (base : Base) (given : Environment) (lines : List ReportLine) (k : ℕ) → ((p : ℕ) → p < k → IsDerivedAt base given lines p) → k ≤ length lines → IsSound base given (take k lines)
+sound-part base given lines k sound low p h =
+    let long = length-take-le k lines low in
+    let below : p < k = omega arith in
+    subst (λ (earlier : List ReportLine). IsDerived base given earlier (line_at (take k lines) p)) (sym (take-take p k lines (omega arith)))
+    (subst (λ (line : ReportLine). IsDerived base given (take p lines) line) (sym (get_or-take k lines p (line_at [] 0) below))
+    (sound p below))

@@ -1,0 +1,29 @@
+-- The lines of a derivation in parts.
+use Rattle.std.proofs.Common.{◌≡◌, ℕ, ◌+◌, ◌<◌, List, [], ◌++◌, length, get_or, drop, Some, slice_get, refl, ap, sym, ◌∙◌}
+use Rattle.std.specs.Option.{option_map_or}
+use Rattle.std.proofs.lemmas.List.{drop_more}
+use Rattle.m_fixed.specs.declared.amount.Value.{Value}
+use Rattle.m_fixed.specs.declared.amount.Value.TheVariants.{Undef, Num, Over}
+use Rattle.m_symbols.specs.declared.variable.Variable.{Variable}
+use Rattle.m_symbols.specs.Declarations.{Declared, owners_from}
+use Rattle.m_requests.specs.Cells.{printed_cell, cell_name}
+use Rattle.tax_print.specs.Lines.{value_line}
+use Rattle.why_report.specs.declared.line.ReportLine.{ReportLine}
+use Rattle.why_report.specs.Reports.{report_text}
+
+-- a line is a name and what stands behind it
+line-parts : (name : List ℕ) (value : Value) → value_line name value ≡ name ++ value_line [] value
+line-parts name Undef = refl
+line-parts name (Num amount) = refl
+line-parts name Over = refl
+
+pub named-line : (declared : Declared) (cell owner : ℕ) (v : Variable) (value : Value) → owner ≡ get_or (owners_from 0 declared.variables) cell 0 → slice_get declared.variables owner ≡ Some v → value_line (cell_name declared cell) value ≡ printed_cell cell v ++ value_line [] value
+named-line declared cell owner v value is found =
+    ap (λ name. value_line name value) (ap (λ o. option_map_or (printed_cell cell) o []) (ap (slice_get declared.variables) (sym is) ∙ found))
+    ∙ line-parts (printed_cell cell v) value
+
+-- from a position on the text begins with the line that stands there
+pub report-at : (declared : Declared) (lines : List ReportLine) (i : ℕ) (line d : ReportLine) → i < length lines → line ≡ get_or lines i d → report_text declared (drop i lines) ≡ value_line (cell_name declared line.cell) line.value ++ report_text declared (drop (i + 1) lines)
+report-at declared lines i line d low is =
+    ap (report_text declared) (drop_more lines i d low)
+    ∙ ap (λ (l : ReportLine). value_line (cell_name declared l.cell) l.value ++ report_text declared (drop (i + 1) lines)) (sym is)

@@ -1,0 +1,49 @@
+-- Why a cell has its value: a derivation, of which each line follows from the lines before it.
+use Rattle.std.specs.Prelude.{◌≡◌, ℕ, ◌<◌, ◌==◌, true, false, List, [], ◌∷◌, map, take, length, Option, None, Some, if◌then◌else◌, slice_index_or}
+use Rattle.std.specs.Option.{option_map_or}
+use Rattle.m_fixed.specs.declared.amount.Value.TheVariants.{Undef}
+use Rattle.micro_m.specs.declared.base.Base.{Base}
+use Rattle.micro_m.specs.Bases.{is_among, definition_of}
+use Rattle.micro_m.specs.Reads.{Reads}
+use Rattle.micro_m.specs.Values.{Environment, term_value}
+use Rattle.why_report.specs.declared.line.ReportLine.{ReportLine}
+
+-- the cells that lines tell, in order
+abbrev pub cells_told : List ReportLine → List ℕ
+cells_told lines = map (λ line. line.cell) lines
+
+-- the values that lines tell: a cell that none of them has is undefined
+abbrev pub values_told : List ReportLine → Environment
+values_told [] c = Undef
+values_told (line ∷ lines) c = if c == line.cell then line.value else values_told lines c
+
+-- A line follows from earlier ones over an environment: none of them has its cell; all cells that its definition reads stand in
+-- them; and its value is that of the term under their values, or without a definition what the environment gives. Where `IRN = REV`
+-- is defined, the line `IRN = 2500.5` follows from `REV = 2500.5`, and not from no lines.
+pub record IsDerived (base : Base) (given : Environment) (earlier : List ReportLine) (line : ReportLine) : Type 0 where
+  pub told_once : is_among line.cell (cells_told earlier) ≡ false
+  pub reads_earlier : (c : ℕ) → Reads base line.cell c → is_among c (cells_told earlier) ≡ true
+  pub has_value : line.value ≡ option_map_or (term_value (values_told earlier)) (definition_of base line.cell) (given line.cell)
+
+-- the line at a position of a list
+abbrev pub line_at : List ReportLine → ℕ → ReportLine
+line_at lines position = slice_index_or lines position (record { cell = 0; value = Undef })
+
+-- the line at a position follows from those before it
+abbrev pub IsDerivedAt : Base → Environment → List ReportLine → ℕ → Type 0
+IsDerivedAt base given lines position = IsDerived base given (take position lines) (line_at lines position)
+
+-- A derivation is sound over an environment: each line follows from those before it.
+abbrev pub IsSound : Base → Environment → List ReportLine → Type 0
+IsSound base given lines = (position : ℕ) → position < length lines → IsDerivedAt base given lines position
+
+-- The first line that isn't sound stands at this position: all before it follow, and it doesn't.
+pub record IsFirstUnsound (base : Base) (given : Environment) (lines : List ReportLine) (position : ℕ) : Type 0 where
+  pub within : position < length lines
+  pub sound_before : IsSound base given (take position lines)
+  pub unsound : IsDerivedAt base given lines position → ⊥
+
+-- what is found of a derivation: where the first line stands that isn't sound, and nothing exactly of a sound one
+abbrev pub IsFindingOf : Base → Environment → List ReportLine → Option ℕ → Type 0
+IsFindingOf base given lines None = IsSound base given lines
+IsFindingOf base given lines (Some position) = IsFirstUnsound base given lines position

@@ -1,0 +1,75 @@
+-- A derivation as text: a line for each of its lines.
+use Rattle.std.specs.Prelude.{ℕ, ◌+◌, ◌==◌, ◌&&◌, Bool, false, List, [], ◌∷◌, ◌++◌, codes, Option, Some, None, Result, Ok, Err, ℤ, if◌then◌else◌}
+use Rattle.std.specs.Option.{option_map, option_map_or, option_and_then}
+use Rattle.std.specs.Str.{bytes_eq}
+use Rattle.m_fixed.specs.declared.amount.Value.{Value}
+use Rattle.m_fixed.specs.declared.amount.Value.TheVariants.{Undef, Num, Over}
+use Rattle.m_fixed.specs.declared.read.AmountFault.{AmountFault}
+use Rattle.m_fixed.specs.Text.{text_value, amount_read}
+use Rattle.m_text.specs.Lines.{lines_of}
+use Rattle.m_symbols.specs.Declarations.{Declared}
+use Rattle.m_requests.specs.Cells.{with_first, request_cell, cell_name}
+use Rattle.tax_print.specs.Lines.{value_line}
+use Rattle.why_report.specs.declared.fault.ReportFault.{ReportFault}
+use Rattle.why_report.specs.declared.fault.ReportFault.TheVariants.{BadLine}
+use Rattle.why_report.specs.declared.line.ReportLine.{ReportLine}
+
+-- ---- as it is printed
+
+-- The text of a derivation: of each line the cell's printed name and its value, as `IRN = 2500.5`, `IRN undefined` or `IRN over`.
+abbrev pub report_text : Declared → List ReportLine → List ℕ
+report_text declared [] = []
+report_text declared (line ∷ lines) = value_line (cell_name declared line.cell) line.value ++ report_text declared lines
+
+-- ---- as it is read
+
+-- what stands before the first space, and what behind it, if there is one
+abbrev pub split_at_space : List ℕ → List ℕ × Option (List ℕ)
+split_at_space [] = ([], None)
+split_at_space (b ∷ bs) = if b == 32 then ([], Some bs) else with_first b (split_at_space bs)
+
+-- what stands behind `= ` at the front of a text
+abbrev pub behind_equals : List ℕ → Option (List ℕ)
+behind_equals [] = None
+behind_equals (a ∷ []) = None
+behind_equals (a ∷ b ∷ text) = if a == 61 && b == 32 then Some text else None
+
+abbrev pub amount_value : Result ℤ AmountFault → Option Value
+amount_value (Ok amount) = Some (Num amount)
+amount_value (Err fault) = None
+
+-- The value that is said behind a cell's name and a space: `= 2500.50`, with any spelling of an amount, `undefined` or `over`.
+abbrev pub value_said : List ℕ → Option Value
+value_said text =
+    if bytes_eq text (codes "undefined") then Some Undef
+    else if bytes_eq text (codes "over") then Some Over
+    else option_and_then (λ amount. amount_value (amount_read (text_value amount))) (behind_equals text)
+
+-- a cell by its name, and a value
+abbrev pub cell_with : Declared → List ℕ → Value → Option ReportLine
+cell_with declared name v = option_map (λ c. record { cell = c; value = v }) (request_cell declared name)
+
+-- what a line says in two parts
+abbrev pub parts_said : Declared → List ℕ × Option (List ℕ) → Option ReportLine
+parts_said declared parts = option_and_then (cell_with declared parts.0) (option_and_then value_said parts.1)
+
+-- The line of a derivation that a line of text says, if it says one: the printed name of a cell, one space, and its value.
+abbrev pub line_said : Declared → List ℕ → Option ReportLine
+line_said declared line = parts_said declared (split_at_space line)
+
+-- whether a line that stands before these is the last, and is `.`
+abbrev pub ends_report : List ℕ → List (List ℕ) → Bool
+ends_report line [] = bytes_eq line (codes ".")
+ends_report line (next ∷ lines) = false
+
+-- What lines say, of which the first has this number, behind what those before it said: a line of a derivation each, or the number
+-- of the first that says none. A last line `.` says nothing.
+abbrev pub lines_said : Declared → ℕ → List ReportLine → List (List ℕ) → Result (List ReportLine) ReportFault
+lines_said declared number before [] = Ok before
+lines_said declared number before (line ∷ lines) =
+    if ends_report line lines then Ok before
+    else option_map_or (λ said. lines_said declared (number + 1) (before ++ said ∷ []) lines) (line_said declared line) (Err (BadLine number))
+
+-- What a report says: the lines of a derivation, or its first bad line, by its number from 1.
+abbrev pub report_said : Declared → List ℕ → Result (List ReportLine) ReportFault
+report_said declared bytes = lines_said declared 1 [] (lines_of bytes)

@@ -1,0 +1,94 @@
+//! Reports printed as text.
+
+ghost use Rattle.std.specs.Prelude.{◌∷◌, [], ◌<◌, All, Some, codes, length};
+ghost use Rattle.text_pieces.specs.Giving.{Gives};
+ghost use Rattle.text_pieces.specs.Pieces.{joined, new_line};
+ghost use Rattle.m_fixed.specs.Text.{printed};
+ghost use Rattle.m_symbols.specs.Declarations.{owners_from};
+ghost use Rattle.m_requests.specs.Cells.{cell_name, cell_text, printed_cell};
+ghost use Rattle.tax_print.specs.Lines.{value_line};
+ghost use Rattle.why_report.specs.Reports.{report_text};
+
+use crate::ReportLine;
+use itoa::Buffer;
+use m_ast::Role;
+use m_fixed::{Amount, Value, write_amount};
+use m_ports::{Failed, Sink};
+use m_symbols::{Symbols, Variable};
+use text_pieces::give_pieces;
+
+/// Writes the lines of a derivation: of each the cell's printed name and its value, as `IRN = 2500.5`, `IRN undefined` or `IRN over`,
+/// with its line feed. Each cell is one of those that are declared. On a failure a prefix of the lines was appended. It takes no
+/// memory.
+pub fn print_report<K: Sink>(
+    symbols: &Symbols,
+    lines: &[ReportLine],
+    out: &mut K,
+) -> Result<(), Failed>
+    requires { All (λ line. line.cell < length (owners_from 0 symbols.now.variables)) lines.now }
+    ensures { Gives K.written K.faults out.old out.new result (report_text symbols.now lines.now) }
+{
+    for line in lines {
+        print_line(symbols, *line, out)?;
+    }
+    Ok(())
+}
+
+// The line of a cell and its value.
+fn print_line<K: Sink>(symbols: &Symbols, line: ReportLine, out: &mut K) -> Result<(), Failed>
+    requires { line.cell < length (owners_from 0 symbols.now.variables) }
+    ensures { Gives K.written K.faults out.old out.new result (value_line (cell_name symbols.now line.cell) line.value) }
+{
+    print_cell(symbols.variable(symbols.owner(line.cell)), line.cell, out)?;
+    print_value(line.value, out)
+}
+
+// The printed name of a cell of this variable.
+fn print_cell<K: Sink>(variable: &Variable, cell: u32, out: &mut K) -> Result<(), Failed>
+    ensures { Gives K.written K.faults out.old out.new result (printed_cell cell variable.now) }
+{
+    match &variable.item.role {
+        Role::Computed(Some(_)) => print_index(
+            variable.item.name.bytes(),
+            cell.saturating_sub(variable.first_cell),
+            out,
+        ),
+        Role::Computed(None) => give_pieces(out, &[variable.item.name.bytes()]),
+        Role::Input(_) => give_pieces(out, &[variable.item.name.bytes()]),
+        Role::Constant(_) => give_pieces(out, &[variable.item.name.bytes()]),
+    }
+}
+
+// The printed name of a table's cell.
+fn print_index<K: Sink>(name: &[u8], k: u32, out: &mut K) -> Result<(), Failed>
+    ensures { Gives K.written K.faults out.old out.new result (cell_text (Some 0) name.now k) }
+{
+    let mut buffer = Buffer::new();
+    let digits = buffer.format(k).as_bytes();
+    give_pieces(out, &[name, b"[", digits, b"]"])
+}
+
+// What stands behind a cell's name in its line.
+fn print_value<K: Sink>(value: Value, out: &mut K) -> Result<(), Failed>
+    ensures { Gives K.written K.faults out.old out.new result (value_line [] value) }
+{
+    match value {
+        Value::Undef => give_pieces(out, &[b" undefined\n"]),
+        Value::Num(amount) => print_amount(amount, out),
+        Value::Over => give_pieces(out, &[b" over\n"]),
+    }
+}
+
+fn print_amount<K: Sink>(amount: Amount, out: &mut K) -> Result<(), Failed>
+    ensures { Gives K.written K.faults out.old out.new result (joined (codes " = " ∷ printed amount ∷ new_line ∷ [])) }
+{
+    let mut room = [0; 32];
+    let length = write_amount(amount, &mut room);
+    give_amount(&room[..length], out)
+}
+
+fn give_amount<K: Sink>(amount: &[u8], out: &mut K) -> Result<(), Failed>
+    ensures { Gives K.written K.faults out.old out.new result (joined (codes " = " ∷ amount.now ∷ new_line ∷ [])) }
+{
+    give_pieces(out, &[b" = ", amount, b"\n"])
+}

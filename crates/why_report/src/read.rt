@@ -1,0 +1,171 @@
+//! Reports read from text.
+
+ghost use Rattle.std.specs.Prelude.{◌≡◌, ◌+◌, ◌<◌, ◌≤◌, ◌++◌, ◌∷◌, [], All, IfOk, IfSome, OnOk, Ok, Err, Some, None, length, take, drop, option_copied, option_to_list, is_some};
+ghost use Rattle.m_places.specs.Refusals.{Outcome};
+ghost use Rattle.m_places.specs.declared.limits.TheConstants.{CODE_FILE_BYTES};
+ghost use Rattle.m_fixed.specs.Text.{text_value, amount_read};
+ghost use Rattle.m_text.specs.Lines.{lines_of};
+ghost use Rattle.m_symbols.specs.Declarations.{owners_from};
+ghost use Rattle.m_requests.specs.Placed.{IsPlaced};
+ghost use Rattle.why_report.specs.declared.fault.ReportFault.TheVariants.{Memory};
+ghost use Rattle.why_report.specs.Reports.{split_at_space, behind_equals, amount_value, value_said, line_said, ends_report, report_said};
+
+use crate::{ReportFault, ReportLine};
+use m_fixed::{Value, read_amount};
+use m_places::Seq;
+use m_requests::find_request;
+use m_symbols::Symbols;
+use m_text::first_line;
+use std::alloc::{AllocError, Global};
+
+/// The derivation that a report says. Each line is the printed name of a cell, one space, and `= ` and an amount, `undefined` or
+/// `over`: `T[1] = 2500.50`. The last line may lack its line feed, and a last line `.` is skipped.
+///
+/// The error is the number, from 1, of the first line of another form, or that there was no memory.
+pub fn read_report(
+    alloc: Global,
+    bytes: &[u8],
+    symbols: &Symbols,
+) -> Result<Seq<ReportLine>, ReportFault>
+    requires placed { IsPlaced symbols.now }
+    requires small { length bytes.now ≤ CODE_FILE_BYTES }
+    ensures outcome { Outcome Memory result (λ lines. report_said symbols.now bytes.now ≡ Ok lines) (λ fault. report_said symbols.now bytes.now ≡ Err fault) }
+    ensures known { IfOk result (All (λ line. line.cell < length (owners_from 0 symbols.now.variables))) }
+{
+    let mut lines = Vec::new(alloc);
+    add_lines(bytes, symbols, &mut lines)?;
+    Ok(Seq::from_vec(lines))
+}
+
+// Adds the lines of the derivation to none.
+fn add_lines(
+    bytes: &[u8],
+    symbols: &Symbols,
+    lines: &mut Vec<ReportLine>,
+) -> Result<(), ReportFault>
+    requires placed { IsPlaced symbols.now }
+    requires small { length bytes.now ≤ CODE_FILE_BYTES }
+    requires none { lines.old.items ≡ [] }
+    ensures outcome { Outcome Memory result (λ _. report_said symbols.now bytes.now ≡ Ok lines.new.items) (λ fault. report_said symbols.now bytes.now ≡ Err fault) }
+    ensures known { OnOk result (All (λ line. line.cell < length (owners_from 0 symbols.now.variables)) lines.new.items) }
+{
+    let mut number = 1u32;
+    let mut left = bytes;
+    while let Some((line, rest)) = first_line(left) {
+        if ends_report(line, rest) {
+            return Ok(());
+        }
+        if !add_line(line, symbols, lines)? {
+            return Err(ReportFault::BadLine(number));
+        }
+        number += 1;
+        left = rest;
+    }
+    Ok(())
+}
+
+// Adds the line of a derivation that a line of text says, and tells whether it says one.
+fn add_line(line: &[u8], symbols: &Symbols, lines: &mut Vec<ReportLine>) -> Result<bool, AllocError>
+    requires placed { IsPlaced symbols.now }
+    requires known { All (λ told. told.cell < length (owners_from 0 symbols.now.variables)) lines.old.items }
+    ensures said { IfOk result (λ said. said ≡ is_some (line_said symbols.now line.now)) }
+    ensures added { OnOk result (lines.new.items ≡ lines.old.items ++ option_to_list (line_said symbols.now line.now)) }
+    ensures known { OnOk result (All (λ told. told.cell < length (owners_from 0 symbols.now.variables)) lines.new.items) }
+{
+    match read_line(line, symbols) {
+        Some(said) => {
+            add(said.cell, said.value, lines)?;
+            Ok(true)
+        }
+        None => Ok(false),
+    }
+}
+
+// Adds a line of a derivation.
+fn add(cell: u32, value: Value, lines: &mut Vec<ReportLine>) -> Result<(), AllocError>
+    ensures { OnOk result (lines.new.items ≡ lines.old.items ++ record { cell = cell; value = value } ∷ []) }
+{
+    lines.push(ReportLine { cell, value })?;
+    Ok(())
+}
+
+// Whether a line is the last, before this rest, and is `.`.
+fn ends_report(line: &[u8], rest: &[u8]) -> bool
+    ensures { result ≡ ends_report line.now (lines_of rest.now) }
+{
+    match first_line(rest) {
+        Some(_) => false,
+        None => line == b".".as_slice(),
+    }
+}
+
+// The line of a derivation that a line of text says.
+fn read_line(line: &[u8], symbols: &Symbols) -> Option<ReportLine>
+    requires { IsPlaced symbols.now }
+    ensures said { result ≡ line_said symbols.now line.now }
+    ensures known { IfSome result (λ said. said.cell < length (owners_from 0 symbols.now.variables)) }
+{
+    let at = space_in(line);
+    if at == line.len() {
+        return None;
+    }
+    let value = read_value(&line[at + 1..])?;
+    let cell = find_request(symbols, &line[..at])?;
+    Some(ReportLine { cell, value })
+}
+
+// Where the first space stands, or the end where there is none.
+fn space_in(text: &[u8]) -> usize
+    ensures within { result ≤ length text.now }
+    ensures none { result ≡ length text.now → split_at_space text.now ≡ (take result text.now, None) }
+    ensures some { result < length text.now → split_at_space text.now ≡ (take result text.now, Some (drop (result + 1) text.now)) }
+{
+    let mut at = 0;
+    while at < text.len() && text[at] != b' ' {
+        at += 1;
+    }
+    at
+}
+
+// The value that is said behind a cell's name and a space.
+fn read_value(text: &[u8]) -> Option<Value>
+    ensures { result ≡ value_said text.now }
+{
+    if text == b"undefined".as_slice() {
+        return Some(Value::Undef);
+    }
+    if text == b"over".as_slice() {
+        return Some(Value::Over);
+    }
+    match behind_equals(text) {
+        Some(amount) => amount_value(amount),
+        None => None,
+    }
+}
+
+// The value of an amount's text.
+fn amount_value(text: &[u8]) -> Option<Value>
+    ensures { result ≡ amount_value (amount_read (text_value text.now)) }
+{
+    match read_amount(text) {
+        Ok(amount) => Some(Value::Num(amount)),
+        Err(_) => None,
+    }
+}
+
+// What stands behind `= ` at the front of a text.
+fn behind_equals(text: &[u8]) -> Option<&[u8]>
+    ensures { option_copied result ≡ behind_equals text.now }
+{
+    match text {
+        [] => None,
+        [_] => None,
+        [a, b, rest @ ..] => {
+            if *a == b'=' && *b == b' ' {
+                Some(rest)
+            } else {
+                None
+            }
+        }
+    }
+}
