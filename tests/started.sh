@@ -106,6 +106,21 @@ IRN = -1000" batch $list - - examples/first/table.csv
 row 0 "large 3
 T2 = 994" large 3
 
+# A code file, and what is wrong with others.
+printf 'mcode 1\nslots 0\ninput 1AJ\noutput IRN\ncode\nin 0 0\nlit 1 1000000000\ndo 0 sub 0 1\nout 0 0\nend\n' >"$dir/code"
+row 0 "IRN = 1500.5" exec "$dir/code" $household
+sed '$d' "$dir/code" >"$dir/cut.code"
+row 1 "refused code line 10: bad line" exec "$dir/cut.code" $household
+sed '/^lit/d' "$dir/code" >"$dir/early.code"
+row 1 "refused code line 7: read before write" exec "$dir/early.code" $household
+row 1 "refused code: bad header" exec $list $household
+row 3 "unreadable nowhere.code" exec nowhere.code $household
+row 3 "unreadable nowhere.csv" exec "$dir/code" nowhere.csv
+row 3 "unreadable nowhere.list" compile nowhere.list - -
+row 1 "refused cycle AIDE SOLDE" compile examples/loops/cycle.list - -
+row 2 "$usage" compile $list - - $household
+row 2 "$usage" exec "$dir/code"
+
 # Wrong words.
 row 2 "$usage"
 row 2 "$usage" walk
@@ -182,6 +197,15 @@ if [ $way = built ]; then
 ok" "serve, line by line"
 fi
 
+# A code file that is compiled here, and run.
+if [ $way = built ]; then
+    "$program" compile $list - - 2>"$dir/err" >"$dir/out"
+    judge "$?" 0 "$(cat "$dir/code")" "compile"
+    cp "$dir/out" "$dir/made.code"
+    "$program" exec "$dir/made.code" $household 2>"$dir/err" >"$dir/out"
+    judge "$?" 0 "IRN = 1500.5" "exec of what compile printed"
+fi
+
 # A standard output that is closed or full: the status says so, whatever the line would have been.
 if [ $way = built ]; then
     : >"$dir/out"
@@ -194,7 +218,31 @@ if [ $way = built ]; then
         judge "$?" 4 "" "run into a full device"
         "$program" run nowhere.list - - $household 2>"$dir/err" >/dev/full
         judge "$?" 4 "" "a missing list into a full device"
+        "$program" compile $list - - 2>"$dir/err" >/dev/full
+        judge "$?" 4 "" "compile into a full device"
+        "$program" exec "$dir/code" $household 2>"$dir/err" >/dev/full
+        judge "$?" 4 "" "exec into a full device"
     fi
+fi
+
+# Which files are opened, and how: those that are named, for reading, and no more but the C library's.
+opened() {
+    strace -f -e trace=file,network,process -o "$dir/calls" out/m_tax "$@" >/dev/null 2>&1 </dev/null
+    sed 's/^[0-9]* *//' "$dir/calls" | grep -v -e '^execve(' -e '^+++' -e '^exit' -e '"/etc/ld\.so\.' -e '"/lib' -e '"/usr/lib' -e '^newfstatat([0-9]*, "",' -e '^access("/etc/ld' \
+        -e '^wait4(' -e '^arch_prctl' | sed 's/^openat(AT_FDCWD, "\(.*\)", O_RDONLY[A-Z_|]*) = [0-9]*$/reads \1/'
+}
+if [ $way = built ] && command -v strace >/dev/null 2>&1 && strace -o "$dir/calls" true 2>/dev/null; then
+    opened run $impots/rules.list $impots/driver.mpp - $impots/household.csv >"$dir/out" 2>"$dir/err"
+    judge 0 0 "reads $impots/rules.list
+reads $impots/impots.m
+reads $impots/driver.mpp
+reads $impots/household.csv" "files of run"
+    opened exec "$dir/code" $household >"$dir/out" 2>"$dir/err"
+    judge 0 0 "reads $dir/code
+reads $household" "files of exec"
+    opened compile $list - - >"$dir/out" 2>"$dir/err"
+    judge 0 0 "reads $list
+reads examples/first/base.m" "files of compile"
 fi
 [ $way = built ] || try_cases
 

@@ -36,8 +36,9 @@ HOUSEHOLD = {
     "bad amount": "An amount is digits, a point and digits, perhaps with a -, no blanks, at most 10000000000000.",
     "code twice": "Two rows have this code: add them up, or leave one out.",
 }
+CODE = "The code file was changed or cut: write it anew by compile."
 OTHERS = [
-    (r"usage: .*", "The words are no command: run has four words behind it, and - stands for no driver or no requests."),
+    (r"usage: .*", "The words are no command: run has four words behind it, compile three and exec two, and - stands for no driver or no requests."),
     (r"unreadable input", "The standard input could not be read."),
     (r"unreadable .*", "The file isn't there, is a folder, or may not be read; names in a list count from where the program is started."),
     (r"refused file too long .*", "A file has at most 16,777,216 bytes, and all rule files together 67,108,864: split it."),
@@ -55,7 +56,6 @@ OTHERS = [
     (r"refused line too long", "A line of a session has at most 4,096 bytes; this one was skipped."),
     (r"refused input too long", "The session has taken 1,099,511,627,776 bytes: begin a new one."),
     (r"refused code: bad header", "The file is no code file: its first line is mcode 1."),
-    (r"refused code line [0-9]+: .*", "The code file was changed or cut: write it anew by compile."),
     (r"failed [^ ]+ [^ ]+ (anomalie|discordance|informative)", "The verification's condition holds for this household: look at its amounts, or at the verification."),
     (r"over verification [^ ]+ [^ ]+", "The verification's condition passes 10000000000000: look for an amount that is too great."),
 ]

@@ -28,14 +28,17 @@ COMMANDS = {
     "serve": (["serve", *RUN, "household.csv"], b"show\nset 7UD 50000\nshow\nclear 7UD\nshow\n"),
     "batch": (["batch", *RUN, "table.csv"], b""),
     "large": (["large", "3"], b""),
+    "compile": (["compile", *RUN], b""),
+    "exec": (["exec", "impots.code", "household.csv"], b""),
+    "a refused code file": (["exec", "cut.code", "household.csv"], b""),
     "a refused source": (["run", "refused.list", "-", "-", "household.csv"], b""),
     "a refused household": (["run", *RUN, "refused.csv"], b""),
 }
-UNREADABLE = re.compile(rb"unreadable (rules\.list|refused\.list|impots\.m|refused\.m|driver\.mpp|household\.csv|refused\.csv|table\.csv)\n")
+UNREADABLE = re.compile(rb"unreadable (rules\.list|refused\.list|impots\.m|refused\.m|driver\.mpp|household\.csv|refused\.csv|table\.csv|impots\.code|cut\.code)\n")
 
 
-def files(folder):
-    """The files of the commands: those of examples/impots, a table of 600 households (groups have 256), and refused ones."""
+def files(program, folder):
+    """The files of the commands: those of examples/impots with their code file, a table of 600 households (groups have 256), and refused ones."""
     for name in ("impots.m", "driver.mpp", "household.csv"):
         with open(os.path.join(TOP, "examples", "impots", name), "rb") as it, open(os.path.join(folder, name), "wb") as out:
             out.write(it.read())
@@ -48,6 +51,10 @@ def files(folder):
     }
     for name, text in texts.items():
         with open(os.path.join(folder, name), "w", encoding="utf-8") as out:
+            out.write(text)
+    code = subprocess.run([program, "compile", *RUN], cwd=folder, stdout=subprocess.PIPE, check=True).stdout
+    for name, text in (("impots.code", code), ("cut.code", code[:-4])):
+        with open(os.path.join(folder, name), "wb") as out:
             out.write(text)
 
 
@@ -78,7 +85,7 @@ def main():
     program, folder = map(os.path.abspath, sys.argv[1:3])
     shim = os.path.join(folder, "failing.so")
     subprocess.run(["cc", "-O1", "-shared", "-fPIC", "-o", shim, os.path.join(HERE, "failing.c")], check=True)
-    files(folder)
+    files(program, folder)
     counts, wrong = Counter(), 0
     for command, (words, typed) in COMMANDS.items():
         _, *unfailed = done(program, folder, shim, words, typed)

@@ -4,9 +4,9 @@
     python3 compare.py PROGRAM [COUNT [SEED]]    these, and so many changed rows by the program and by the reading
 
 A program is the path of one that takes the words of `m_tax`, as `out/m_tax` does. Its text and its status must be those
-of the reading, byte by byte; of several cycles or recursions it may show another true one. Each row in which they
-differ is kept in a folder of its own, in the form of crates/rows/data, with what the reading says; the program's answer
-stands in `program_text` and `program_status`. The status is 0 where nothing differs.
+of the reading, byte by byte; of several cycles or recursions it may show another true one, and `compile` may print any code
+file of the source. Each row in which they differ is kept in a folder of its own, in the form of crates/rows/data, with what the
+reading says; the program's answer stands in `program_text` and `program_status`. The status is 0 where nothing differs.
 """
 
 import collections
@@ -23,7 +23,7 @@ sys.dont_write_bytecode = True
 sys.path.insert(0, os.path.dirname(os.path.abspath(__file__)))
 
 from changing.naming import Row  # noqa: E402
-from changing.rows import changed  # noqa: E402
+from changing.rows import changed_row  # noqa: E402
 from reading.commands import output  # noqa: E402
 
 ROOT = os.path.dirname(os.path.dirname(os.path.dirname(os.path.abspath(__file__))))
@@ -86,7 +86,8 @@ def compare_rows(rows):
     different = 0
     for name, (row, text, status, _) in rows.items():
         said = output(row.words, row.files, row.typed)
-        if (said.text, said.status) != (text, status):
+        same = (said.text, said.status) == (text, status) if said.compiled is None else said.is_one_with(text, status)
+        if not same:
             different += 1
             print("second: row %s: the reading says %r with status %d" % (name, said.text[:200], said.status))
     return different
@@ -108,7 +109,7 @@ def answer_kind(said):
         return "answered"
     line = said.text.split(b"\n")[0].decode("latin-1")
     line = re.sub(r"^refused .* line \d+ byte \d+: ", "refused rules: ", line)
-    line = re.sub(r"^refused (driver|household|list|requests) line \d+", r"refused \1", line)
+    line = re.sub(r"^refused (driver|household|list|requests|code) line \d+", r"refused \1", line)
     return NAMED.sub(r"\1", re.sub(r"^(refused driver: unknown) .*", r"\1", line))
 
 
@@ -151,12 +152,12 @@ def compare_changed(program, rows, count, seed):
     with tempfile.TemporaryDirectory() as folder:
         place = os.path.join(folder, "row")
         for number in range(count):
-            row = changed(random.Random("%d:%d" % (seed, number)), good, bad)
+            row = changed_row(number, random.Random("%d:%d" % (seed, number)), good, bad)
             write_files(row.files, place)
             said = output(row.words, Folder(place), row.typed)
             kinds[answer_kind(said)] += 1
             text, status = program_answer(program, row, place) if program else (said.text, said.status)
-            if not said.is_one_with(text, status):
+            if program and not said.is_one_with(text, status):
                 different += 1
                 keep("%d_%d" % (seed, number), row, said, text, status)
     return different, kinds

@@ -1,10 +1,21 @@
 """Changed rows: which of their files are changed, and how often."""
 
+from .codes import code_row
 from .drawing import chance, flip_byte
 from .drivers import change_driver, new_driver
 from .files import change_household, change_list, new_requests, new_session, new_table
 from .naming import Names, Row, listed
 from .rules import change_rules
+
+
+def changed_row(number, random, good, bad):
+    """The row with this number: each eighth is one of `exec`, and another eighth of `compile`."""
+    if number % 8 == 7:
+        return code_row(random, good)
+    row = changed(random, good, bad)
+    if number % 8 == 3 and len(row.words) == 5:
+        return Row([b"compile", *row.words[1:4]], row.files, b"")
+    return row
 
 
 def changed(random, good, bad):

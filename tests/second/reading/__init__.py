@@ -20,6 +20,7 @@ is typed into its input, and the number that it ends with. The modules, in the o
     driver_runs     the weight of a driver, and what it does
     files           lists, requests, households, tables           docs/FORMATS.md
     sources         a whole source, and what it tells
+    code_files      code files, and what their code tells         docs/CODE.md
     generated       the source of `large N`                       docs/SESSIONS.md
     commands        words, steps, what is printed                 docs/FORMATS.md, docs/SESSIONS.md
 

@@ -91,6 +91,7 @@ OPERATIONS = {
     "inf": lambda a: (a + 1) // UNIT * UNIT,
     "max": max,
     "min": min,
+    "at": lambda a, b: truth(cut(a) == cut(b)),
 }
 ONE_UNDEFINED_IS_ZERO = {"add", "sub", "or", "max", "min"}
 
@@ -99,6 +100,8 @@ def operate(operator, arguments):
     """What an operator gives for its arguments."""
     if operator == "choose":
         return chosen(*arguments)
+    if operator == "truth":
+        return truth(arguments[0] not in (UNDEFINED, OVER, 0))
     if OVER in arguments:
         return OVER
     if UNDEFINED in arguments:

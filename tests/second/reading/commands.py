@@ -4,6 +4,7 @@ import re
 from typing import NamedTuple, Optional
 
 from .amounts import OVER, UNDEFINED, read_amount
+from .code_files import read_code, why_not_of
 from .faults import Refused, RingRefused, Unreadable
 from .files import read_household, read_list, read_table
 from .generated import large_household, large_source
@@ -17,19 +18,25 @@ USAGE = (
 DONE, REFUSED, NO_COMMAND, NOT_READ, STOPPED = 0, 1, 2, 3, 6
 FILE_BYTES = 16_777_216
 RULE_BYTES = 67_108_864
+CODE_FILE_BYTES = 1_073_741_824
 SESSION_LINE_BYTES = 4_096
 MOST_GENERATED = 100_000
 
 
 class Output(NamedTuple):
-    """What is printed, and the number that the program ends with; `ring` where a cycle or a recursion is shown."""
+    """What is printed, and the number that the program ends with; `ring` where a cycle or a recursion is shown, and `compiled`
+    where a code file of a source is due, which has several."""
 
     text: bytes
     status: int
     ring: Optional[RingRefused] = None
+    compiled: Optional[Compiled] = None
 
     def is_one_with(self, text, status):
-        """Whether this text and this status are the same output. A ring that is shown may be another true one."""
+        """Whether this text and this status are the same output. A ring that is shown may be another true one, and a code file
+        another one of the same source."""
+        if self.compiled is not None:
+            return status == self.status and why_not_of(text, self.compiled) is None
         if self.ring is not None and status == self.status and text.endswith(b"\n"):
             return self.ring.shows_one(text[:-1])
         return (text, status) == (self.text, self.status)
@@ -51,9 +58,17 @@ def answer(words, files, typed):
     """The same, where refusals are raised."""
     if len(words) == 2 and words[0] == b"large" and generated_number(words[1]):
         return answer_large(generated_number(words[1]))
-    if len(words) == 5 and words[0] in ANSWERS and all(is_utf8(word) for word in words):
-        source, last = gathered(words[1:], files)
-        return ANSWERS[words[0]](Compiled(source), last, typed)
+    if all(is_utf8(word) for word in words):
+        if len(words) == 5 and words[0] in ANSWERS:
+            source = gathered(words[1:4], files)
+            last = fetched(words[4], files, FILE_BYTES)
+            return ANSWERS[words[0]](Compiled(source), last, typed)
+        if len(words) == 4 and words[0] == b"compile":
+            compiled = Compiled(gathered(words[1:], files))
+            return b"a code file of the source\n", DONE, None, compiled
+        if len(words) == 3 and words[0] == b"exec":
+            code = fetched(words[1], files, CODE_FILE_BYTES)
+            return answer_exec(code, fetched(words[2], files, FILE_BYTES))
     return USAGE, NO_COMMAND
 
 
@@ -76,7 +91,7 @@ def fetched(name, files, limit):
 
 
 def gathered(names, files):
-    """The source of a list, a driver and requests, and the bytes of the file behind them, all fetched in order."""
+    """The source of a list, a driver and requests, all fetched in order."""
     application, rule_names = read_list(fetched(names[0], files, FILE_BYTES))
     rule_files = []
     left = RULE_BYTES
@@ -85,7 +100,7 @@ def gathered(names, files):
         left -= len(text)
         rule_files.append((name, text))
     driver, requests = [None if name == b"-" else fetched(name, files, FILE_BYTES) for name in names[1:3]]
-    return Source(application, rule_files, driver, requests), fetched(names[3], files, FILE_BYTES)
+    return Source(application, rule_files, driver, requests)
 
 
 # ---- answers
@@ -110,6 +125,13 @@ def answer_large(number):
     compiled = Compiled(large_source(number))
     lines, stopped = compiled.told(read_household(large_household(number), compiled.declared.inputs))
     return b"large " + decimal(number) + b"\n" + lines, STOPPED if stopped else DONE
+
+
+def answer_exec(code_file, household):
+    """The lines that a household is told by the code of a code file."""
+    code = read_code(code_file)
+    lines, stopped = code.told(read_household(household, code.inputs))
+    return lines, STOPPED if stopped else DONE
 
 
 def answer_serve(compiled, household, typed):
