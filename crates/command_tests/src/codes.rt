@@ -149,7 +149,7 @@ fn long_codes(rt: HostRuntime) -> Result<(), Fail> {
     let want = Wanted {
         text: "refused file too long c.txt\n",
         status: Status::Refused,
-        tried: "h.csv c.txt ",
+        tried: "c.txt h.csv h.csv c.txt ",
     };
     check(
         &rt,
