@@ -135,7 +135,7 @@ const RUN: &str = "run l.txt - - h.csv";
 const LIST: &str = "iliad\na.m\n";
 
 pub(crate) const USAGE: &str =
-    "usage: m_tax run|serve LIST DRIVER REQUESTS HOUSEHOLD, batch LIST DRIVER REQUESTS TABLE, compile LIST DRIVER REQUESTS, exec CODEFILE HOUSEHOLD, large N\n";
+    "usage: m_tax run|serve LIST DRIVER REQUESTS HOUSEHOLD, batch LIST DRIVER REQUESTS TABLE, compile LIST DRIVER REQUESTS, exec CODEFILE HOUSEHOLD, large N, check LIST HOUSEHOLD REPORT, lint LIST DRIVER REQUESTS, cases LIST DRIVER REQUESTS TABLE\n";
 
 /// The words, the list, the number of the fetch that fails, the text, the names that were tried.
 const FETCHES: [(&str, &str, u64, &str, &str); 15] = [

@@ -34,12 +34,12 @@ start_from inputs n (v ∷ vs) = replicate v.cells (first_value inputs n v.item.
 abbrev pub start_of : Declared → List Value → Env
 start_of declared inputs = start_from inputs 0 declared.variables
 
--- what is told of the requested cells
+-- what is noted, and what is told of the requested cells
 abbrev pub told_by : List ℕ → RunState → Told
-told_by requests (goes env) = values [] (map (environment env) requests)
+told_by requests (goes notes env) = values notes (map (environment env) requests)
 told_by requests (stops cause) = stopped cause
 
--- What a driver answers over the rules of a base, for the inputs' values in order of declaration: what ended the run, or the
--- values of the requested cells behind it.
+-- What a driver answers over the rules of a base, for the inputs' values in order of declaration: what ended the run, or what it
+-- noted and the values of the requested cells behind it.
 abbrev pub answer_of : Core → Base → Declared → List ℕ → List Value → Told
 answer_of core base declared requests inputs = told_by requests (run_of core base (start_of declared inputs))

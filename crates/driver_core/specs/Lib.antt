@@ -5,5 +5,6 @@ pub mod ActionView
 pub mod Valid
 pub mod Meaning
 pub mod Answers
+pub mod Inputs
 pub mod Weights
 pub mod inner

@@ -9,7 +9,7 @@ use Rattle.micro_m.specs.declared.base.Base.{Base}
 use Rattle.micro_m.specs.declared.base.Failure.{Failure}
 use Rattle.micro_m.specs.declared.base.Failure.TheVariants.{Failed, Over as OverCheck}
 use Rattle.micro_m.specs.Values.{Environment, environment, applied, value_of}
-use Rattle.micro_m.specs.Failures.{first_failure}
+use Rattle.micro_m.specs.Failures.{first_failure, notes_of}
 use Rattle.observables.specs.Answers.{Cause, failed, over, over_driver}
 use Rattle.driver_core.specs.declared.program.Core.{Core}
 use Rattle.driver_core.specs.Formulas.{Formula, lit, cell, apply, chain, exists, Formulas, no_formulas, a_formula, Steps, no_steps, a_step}
@@ -57,14 +57,24 @@ abbrev mutual
 abbrev pub Env : Type 0
 Env = List Value
 
--- how a run goes on, or what ends it
+-- how a run goes on, with what it noted, or what ends it
 pub data RunState : Type 0 where
-  goes : Env → RunState
+  goes : List Label → Env → RunState
   stops : Cause → RunState
 
--- what comes next, where nothing has stopped
+-- a run with this note before its own; a stop drops it
+abbrev pub noted : Label → RunState → RunState
+noted note (goes notes env) = goes (note ∷ notes) env
+noted note (stops cause) = stops cause
+
+-- a run with these notes before its own
+abbrev pub behind : List Label → RunState → RunState
+behind [] outcome = outcome
+behind (note ∷ notes) outcome = noted note (behind notes outcome)
+
+-- what comes next, where nothing has stopped: its notes stand behind those before
 abbrev pub then_do : RunState → (Env → RunState) → RunState
-then_do (goes env) next = next env
+then_do (goes notes env) next = behind notes (next env)
 then_do (stops cause) next = stops cause
 
 -- an environment in which each of these cells has the value that another gives it, and all others keep theirs
@@ -94,37 +104,38 @@ unless_stopped None outcome = outcome
 unless_stopped (Some cause) outcome = stops cause
 
 -- What the rules do to an environment: the first check that fails or is over, by the values that the rules give, ends the run
--- with its label. Where there is none, the received cells get the values that the rules give, and all others keep theirs.
+-- with its label. Where there is none, the received cells get the values that the rules give, all others keep theirs, and the checks
+-- of the two other kinds that are met are noted.
 abbrev pub rules_run : Base → List ℕ → Env → RunState
 rules_run base received env =
     unless_stopped (option_and_then (failure_cause base.labels) (first_failure base (environment env)))
-    (goes (with_values received (value_of base (environment env)) env))
+    (goes (notes_of base (environment env)) (with_values received (value_of base (environment env)) env))
 
 module _ (rules : List ℕ → Env → RunState) (body : ℕ → Env → RunState) where
   abbrev mutual
     -- What a command does, where the rules and the functions do this. A partition runs its block with its cells undefined, and
     -- these get their former values back; other changes stay. A call runs the body on a copy, and only the received cells
-    -- take the copy's values.
+    -- take the copy's values. Both keep what was noted within.
     pub action_run : Action → Env → RunState
-    action_run (assign line c term) env = goes (slice_set env c (formula_value (environment env) term))
-    action_run (clear line c) env = goes (slice_set env c Undef)
+    action_run (assign line c term) env = goes [] (slice_set env c (formula_value (environment env) term))
+    action_run (clear line c) env = goes [] (slice_set env c Undef)
     action_run (branch line condition first second) env =
         chosen_block line (formula_value (environment env) condition) (block_run first env) (block_run second env)
     action_run (partition line cells block) env =
-        then_do (block_run block (without cells env)) (λ after. goes (with_values cells (environment env) after))
+        then_do (block_run block (without cells env)) (λ after. goes [] (with_values cells (environment env) after))
     action_run (call line names received function) env =
-        then_do (body function env) (λ after. goes (with_values received (environment after) env))
+        then_do (body function env) (λ after. goes [] (with_values received (environment after) env))
     action_run (solve line names received) env = rules received env
 
     -- commands one after the other
     pub block_run : Block → Env → RunState
-    block_run no_actions env = goes env
+    block_run no_actions env = goes [] env
     block_run (an_action action rest) env = then_do (action_run action env) (block_run rest)
 
 -- What a call of a function does, where calls may be nested so deep. Without a ring and with as many turns as there are
 -- functions the turns never run out.
 abbrev pub called : (List ℕ → Env → RunState) → List (List Action) → ℕ → ℕ → Env → RunState
-called rules bodies zero f env = goes env
+called rules bodies zero f env = goes [] env
 called rules bodies (suc turns) f env = block_run rules (called rules bodies turns) (body_among bodies f) env
 
 -- the run of a driver over the rules of a base

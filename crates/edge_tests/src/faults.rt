@@ -30,7 +30,7 @@ fn place(byte: u32, line: u32) -> Place {
 const WORDS_AND_FILES: [(Fault<'static>, &str); 8] = [
     (
         Fault::Usage,
-        "usage: m_tax run|serve LIST DRIVER REQUESTS HOUSEHOLD, batch LIST DRIVER REQUESTS TABLE, compile LIST DRIVER REQUESTS, exec CODEFILE HOUSEHOLD, large N\n",
+        "usage: m_tax run|serve LIST DRIVER REQUESTS HOUSEHOLD, batch LIST DRIVER REQUESTS TABLE, compile LIST DRIVER REQUESTS, exec CODEFILE HOUSEHOLD, large N, check LIST HOUSEHOLD REPORT, lint LIST DRIVER REQUESTS, cases LIST DRIVER REQUESTS TABLE\n",
     ),
     (Fault::ListLine(1), "refused list line 1\n"),
     (

@@ -10,34 +10,48 @@ use observables::{Coded, InputType};
 use std::alloc::Global;
 use std::test::Fail;
 
-/// The codes of these names, which differ.
-fn codes_of(alloc: Global, names: &[Name]) -> Result<Codes, Fail> {
+/// The codes of these names, which differ, with these types of the first of them. The others take each amount.
+fn codes_of(alloc: Global, names: &[Name], kinds: &[InputType]) -> Result<Codes, Fail> {
     let _known = Names::of(alloc, names)?;
-    let inputs = inputs_of(alloc, names)?;
+    let inputs = inputs_of(alloc, names, kinds)?;
     Ok(Codes::new(alloc, &inputs)?)
 }
 
+/// The type at a place.
+fn kind_at(kinds: &[InputType], place: usize) -> InputType {
+    match kinds.get(place) {
+        Some(kind) => *kind,
+        None => InputType::Any,
+    }
+}
+
 /// Inputs with these codes.
-fn inputs_of(alloc: Global, names: &[Name]) -> Result<Vec<Coded>, Fail>
+fn inputs_of(alloc: Global, names: &[Name], kinds: &[InputType]) -> Result<Vec<Coded>, Fail>
     ensures { IfOk result (λ inputs. codes_of inputs.items ≡ names.now) }
 {
     let mut inputs = Vec::new(alloc);
     for name in names {
+        let kind = kind_at(kinds, inputs.len());
         inputs.push(Coded {
             code: name.copy(alloc)?,
-            kind: InputType::Any,
+            kind,
         })?;
     }
     Ok(inputs)
 }
 
-/// Three codes.
-pub fn three_codes(alloc: Global) -> Result<Codes, Fail> {
+/// Three codes, with these types of the first of them.
+pub fn three_typed(alloc: Global, kinds: &[InputType]) -> Result<Codes, Fail> {
     let mut names = Vec::new(alloc);
     for text in [b"1AJ", b"C08", b"2AA"] {
         names.push(Name::new(alloc, text)?)?;
     }
-    codes_of(alloc, &names)
+    codes_of(alloc, &names, kinds)
+}
+
+/// Three codes, of inputs that take each amount.
+pub fn three_codes(alloc: Global) -> Result<Codes, Fail> {
+    three_typed(alloc, &[])
 }
 
 #[test]
@@ -221,7 +235,7 @@ fn many_rows(alloc: Global, count: u32) -> Result<(Codes, String), Fail> {
     for k in 0..count {
         add_row(alloc, k, &mut names, &mut text)?;
     }
-    Ok((codes_of(alloc, &names)?, text))
+    Ok((codes_of(alloc, &names, &[])?, text))
 }
 
 /// How many rows the household of a text has.

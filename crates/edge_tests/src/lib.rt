@@ -17,3 +17,5 @@ mod records;
 mod tables;
 #[cfg(test)]
 mod threads;
+#[cfg(test)]
+mod types;

@@ -5,7 +5,7 @@ use std::alloc::Global;
 use std::test::Fail;
 
 /// The rows in one text: a label, and in brackets the numbers of inputs and their millionths.
-fn shown_rows(alloc: Global, rows: &[Row]) -> Result<Vec<u8>, Fail> {
+pub fn shown_rows(alloc: Global, rows: &[Row]) -> Result<Vec<u8>, Fail> {
     let mut text = Vec::new(alloc);
     for row in rows {
         text.extend_from_slice(row.label.bytes())?;

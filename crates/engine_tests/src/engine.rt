@@ -7,13 +7,14 @@ use crate::counts::{reads, width};
 use crate::replay::replay;
 use crate::sources::{large, real, wide};
 use flat_code::{Flat, run_flat};
-use m_compile::{Compiled, compile};
+use m_compile::{Compiled, compile_with};
 use m_fixed::{Amount, Value};
 use observables::{Answer, Stop};
 use reg_machine::{Code, Machine};
 use rule_text::Source;
 use std::alloc::{AllocError, Global};
 use std::test::Fail;
+use std::thread::Threads;
 
 // Whether no count is greater than the one at its place.
 fn are_within(found: &[u32], most: &[u32]) -> bool {
@@ -138,10 +139,10 @@ fn width_of(alloc: Global, compiled: &Compiled) -> Result<usize, Fail>
     Ok(width)
 }
 
-fn compiled(alloc: Global, source: &Source) -> Result<usize, Fail>
+fn compiled<R: Threads + Sync>(rt: &R, alloc: Global, source: &Source) -> Result<usize, Fail>
     requires { SourceKeepsLimits source.now }
 {
-    match compile(alloc, source) {
+    match compile_with(rt, alloc, source) {
         Ok(compiled) => width_of(alloc, &compiled),
         Err(_) => Err(Fail::from("a fault")),
     }
@@ -151,7 +152,7 @@ fn compiled(alloc: Global, source: &Source) -> Result<usize, Fail>
 #[test]
 fn a_wide_base_spills(rt: HostRuntime) -> Result<(), Fail> {
     let source = wide(rt.alloc())?;
-    let width = compiled(rt.alloc(), &source)?;
+    let width = compiled(&rt, rt.alloc(), &source)?;
     assert_eq!(rt; width, 21);
     Ok(())
 }
@@ -159,7 +160,7 @@ fn a_wide_base_spills(rt: HostRuntime) -> Result<(), Fail> {
 #[test]
 fn a_generated_base_keeps_its_bounds(rt: HostRuntime) -> Result<(), Fail> {
     let source = large(rt.alloc())?;
-    let width = compiled(rt.alloc(), &source)?;
+    let width = compiled(&rt, rt.alloc(), &source)?;
     assert!(rt; width > 16, "a narrow base");
     Ok(())
 }
@@ -167,7 +168,7 @@ fn a_generated_base_keeps_its_bounds(rt: HostRuntime) -> Result<(), Fail> {
 #[test]
 fn a_real_looking_base_keeps_its_bounds(rt: HostRuntime) -> Result<(), Fail> {
     let source = real(rt.alloc())?;
-    let width = compiled(rt.alloc(), &source)?;
+    let width = compiled(&rt, rt.alloc(), &source)?;
     assert!(rt; width > 16, "a narrow base");
     Ok(())
 }

@@ -3,14 +3,15 @@ use Rattle.std.specs.Prelude.{ℕ, List, [], ◌∷◌, ◌++◌, codes, decimal
 use Rattle.text_pieces.specs.Pieces.{new_line, joined}
 use Rattle.m_places.specs.declared.place.Place.{Place}
 use Rattle.fault_lines.specs.declared.fault.Fault.{Fault}
-use Rattle.fault_lines.specs.declared.fault.Fault.TheVariants.{Usage, ListLine, TooManyFiles, FileTooLong, AtPlace, AtName, Cycle, DriverLine, DriverName, NoMain, DriverRecursion, DriverTooLarge, RequestLine, TooManyRequests, HouseholdHeader, TooManyRows, HouseholdLine, CodeHeader, CodeLine, InputTooLong, Unreadable, UnreadableInput}
+use Rattle.fault_lines.specs.declared.fault.Fault.TheVariants.{Usage, ListLine, TooManyFiles, FileTooLong, AtPlace, AtName, Cycle, DriverLine, DriverName, NoMain, DriverRecursion, DriverTooLarge, RequestLine, TooManyRequests, HouseholdHeader, TooManyRows, HouseholdLine, CodeHeader, CodeLine, ReportLine, InputTooLong, Unreadable, UnreadableInput}
 use Rattle.fault_lines.specs.declared.fault.PlaceFault.{PlaceFault}
 use Rattle.fault_lines.specs.declared.fault.NameFault.{NameFault}
 use Rattle.fault_lines.specs.declared.fault.DriverFault.{DriverFault}
 use Rattle.fault_lines.specs.declared.fault.DriverNameFault.{DriverNameFault}
 use Rattle.fault_lines.specs.declared.fault.RowFault.{RowFault}
+use Rattle.fault_lines.specs.declared.fault.ReportFault.{ReportFault}
 use Rattle.fault_lines.specs.declared.fault.CodeFault.{CodeFault}
-use Rattle.fault_lines.specs.Words.{place_words, name_words, driver_words, driver_name_words, row_words, code_words}
+use Rattle.fault_lines.specs.Words.{place_words, name_words, driver_words, driver_name_words, row_words, code_words, report_words}
 
 -- a space before each name: of `f` and `g` the text ` f g`
 abbrev pub names_text : List (List ℕ) → List ℕ
@@ -23,7 +24,7 @@ place_pieces file place behind =
     codes "refused " ∷ file ∷ codes " line " ∷ decimal place.line ∷ codes " byte " ∷ decimal place.byte ∷ codes ": " ∷ behind
 
 abbrev pub usage_line : List ℕ
-usage_line = joined (codes "usage: m_tax run|serve LIST DRIVER REQUESTS HOUSEHOLD, batch LIST DRIVER REQUESTS TABLE, compile LIST DRIVER REQUESTS, exec CODEFILE HOUSEHOLD, large N" ∷ new_line ∷ [])
+usage_line = joined (codes "usage: m_tax run|serve LIST DRIVER REQUESTS HOUSEHOLD, batch LIST DRIVER REQUESTS TABLE, compile LIST DRIVER REQUESTS, exec CODEFILE HOUSEHOLD, large N, check LIST HOUSEHOLD REPORT, lint LIST DRIVER REQUESTS, cases LIST DRIVER REQUESTS TABLE" ∷ new_line ∷ [])
 
 abbrev pub list_line : ℕ → List ℕ
 list_line line = joined (codes "refused list line " ∷ decimal line ∷ new_line ∷ [])
@@ -79,6 +80,9 @@ code_header_line = joined (codes "refused code: bad header" ∷ new_line ∷ [])
 abbrev pub code_line : ℕ → CodeFault → List ℕ
 code_line line fault = joined (codes "refused code line " ∷ decimal line ∷ codes ": " ∷ code_words fault ∷ new_line ∷ [])
 
+abbrev pub report_line : ℕ → ReportFault → List ℕ
+report_line line fault = joined (codes "refused report line " ∷ decimal line ∷ codes ": " ∷ report_words fault ∷ new_line ∷ [])
+
 abbrev pub input_too_long_line : List ℕ
 input_too_long_line = joined (codes "refused input too long" ∷ new_line ∷ [])
 
@@ -110,6 +114,7 @@ fault_line TooManyRows = too_many_rows_line
 fault_line (HouseholdLine line fault) = household_line line fault
 fault_line CodeHeader = code_header_line
 fault_line (CodeLine line fault) = code_line line fault
+fault_line (ReportLine line fault) = report_line line fault
 fault_line InputTooLong = input_too_long_line
 fault_line (Unreadable name) = unreadable_line name.now
 fault_line UnreadableInput = unreadable_input_line

@@ -10,6 +10,8 @@ use Rattle.fault_lines.specs.declared.fault.DriverNameFault.{DriverNameFault}
 use Rattle.fault_lines.specs.declared.fault.DriverNameFault.TheVariants as DriverNames
 use Rattle.fault_lines.specs.declared.fault.RowFault.{RowFault}
 use Rattle.fault_lines.specs.declared.fault.RowFault.TheVariants as Rows
+use Rattle.fault_lines.specs.declared.fault.ReportFault.{ReportFault}
+use Rattle.fault_lines.specs.declared.fault.ReportFault.TheVariants as Reports
 use Rattle.fault_lines.specs.declared.fault.CodeFault.{CodeFault}
 use Rattle.fault_lines.specs.declared.fault.CodeFault.TheVariants as Codes
 
@@ -56,6 +58,14 @@ row_words Rows.BadRow = codes "bad row"
 row_words Rows.UnknownCode = codes "unknown code"
 row_words Rows.BadAmount = codes "bad amount"
 row_words Rows.CodeTwice = codes "code twice"
+row_words Rows.NotOfType = codes "not of its type"
+row_words Rows.UnknownOutput = codes "unknown output"
+row_words Rows.BadExpected = codes "bad expected"
+
+-- the words of a fault in a line of a report
+abbrev pub report_words : ReportFault → List ℕ
+report_words Reports.BadLine = codes "bad line"
+report_words Reports.NotSound = codes "not sound"
 
 -- the words of a fault in a line of a code file
 abbrev pub code_words : CodeFault → List ℕ

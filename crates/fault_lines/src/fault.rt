@@ -44,6 +44,8 @@ pub enum Fault<'a> {
     CodeHeader,
     /// A fault in a line of a code file: `refused code line 7: read before write`.
     CodeLine(u32, CodeFault),
+    /// A fault in a line of a report: `refused report line 2: not sound`.
+    ReportLine(u32, ReportFault),
     /// An input past its limit: `refused input too long`.
     InputTooLong,
     /// A file of this name that can't be read: `unreadable c.m`.
@@ -133,6 +135,21 @@ pub enum RowFault {
     BadAmount,
     /// `code twice`
     CodeTwice,
+    /// `not of its type`
+    NotOfType,
+    /// `unknown output`, of a table of cases
+    UnknownOutput,
+    /// `bad expected`, of a table of cases
+    BadExpected,
+}
+
+/// A fault in a line of a report.
+#[derive(Clone, Copy)]
+pub enum ReportFault {
+    /// `bad line`
+    BadLine,
+    /// `not sound`
+    NotSound,
 }
 
 /// A fault in a line of a code file.

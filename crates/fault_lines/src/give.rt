@@ -13,7 +13,7 @@ use text_pieces::give_pieces;
 
 /// What is printed where the words are no command.
 const USAGE: &[u8] =
-    b"usage: m_tax run|serve LIST DRIVER REQUESTS HOUSEHOLD, batch LIST DRIVER REQUESTS TABLE, compile LIST DRIVER REQUESTS, exec CODEFILE HOUSEHOLD, large N";
+    b"usage: m_tax run|serve LIST DRIVER REQUESTS HOUSEHOLD, batch LIST DRIVER REQUESTS TABLE, compile LIST DRIVER REQUESTS, exec CODEFILE HOUSEHOLD, large N, check LIST HOUSEHOLD REPORT, lint LIST DRIVER REQUESTS, cases LIST DRIVER REQUESTS TABLE";
 
 /// Gives the line of a fault, with its line feed: `Fault::ListLine(2)` gives `refused list line 2`. On
 /// a failure a prefix of the line was appended. It takes no memory.
@@ -65,6 +65,15 @@ pub fn give_fault<K: Sink>(fault: Fault<'_>, out: &mut K) -> Result<(), Failed>
             give_number(
                 out,
                 b"refused code line ",
+                line.into(),
+                b": ",
+                fault.words(),
+            )
+        }
+        Fault::ReportLine(line, fault) => {
+            give_number(
+                out,
+                b"refused report line ",
                 line.into(),
                 b": ",
                 fault.words(),

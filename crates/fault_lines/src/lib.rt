@@ -8,5 +8,7 @@ mod fault;
 mod give;
 mod words;
 
-pub use fault::{CodeFault, DriverFault, DriverNameFault, Fault, NameFault, PlaceFault, RowFault};
+pub use fault::{
+    CodeFault, DriverFault, DriverNameFault, Fault, NameFault, PlaceFault, ReportFault, RowFault,
+};
 pub use give::give_fault;

@@ -1,8 +1,10 @@
 //! The words of each fault.
 ghost use Rattle.std.specs.Prelude.{◌≡◌};
-ghost use Rattle.fault_lines.specs.Words.{place_words, name_words, driver_words, driver_name_words, row_words, code_words};
+ghost use Rattle.fault_lines.specs.Words.{place_words, name_words, driver_words, driver_name_words, row_words, code_words, report_words};
 
-use crate::{CodeFault, DriverFault, DriverNameFault, NameFault, PlaceFault, RowFault};
+use crate::{
+    CodeFault, DriverFault, DriverNameFault, NameFault, PlaceFault, ReportFault, RowFault,
+};
 
 impl PlaceFault {
     pub(crate) fn words(self) -> &'static [u8]
@@ -74,6 +76,20 @@ impl RowFault {
             RowFault::UnknownCode => b"unknown code",
             RowFault::BadAmount => b"bad amount",
             RowFault::CodeTwice => b"code twice",
+            RowFault::NotOfType => b"not of its type",
+            RowFault::UnknownOutput => b"unknown output",
+            RowFault::BadExpected => b"bad expected",
+        }
+    }
+}
+
+impl ReportFault {
+    pub(crate) fn words(self) -> &'static [u8]
+        ensures { result.now ≡ report_words self }
+    {
+        match self {
+            ReportFault::BadLine => b"bad line",
+            ReportFault::NotSound => b"not sound",
         }
     }
 }

@@ -1,15 +1,20 @@
--- The inputs of pairs: they are known, and none stands twice.
+-- The inputs of pairs: they are known, and none stands twice. The amounts are of their types.
 use Rattle.std.proofs.Common.{◌≡◌, ◌≢◌, ℕ, ℤ, ◌<◌, List, [], ◌∷◌, ◌++◌, length, Option, Some, None, Result, Ok, Err, Bool, true, false, cond, eqb, leb, refl, sym, subst, ap, ◌∙◌}
 use Rattle.std.proofs.lemmas.Bool.{eqb-false, or_parts}
-use Rattle.std.proofs.lemmas.List.{map_push}
+use Rattle.std.proofs.lemmas.List.{length-map, map_push}
 use Rattle.std.specs.List.{AllByRecursion}
 use Rattle.m_places.specs.declared.limits.TheConstants.{ROWS}
 use Rattle.m_fixed.specs.declared.read.AmountFault.{AmountFault}
+use Rattle.m_fixed.specs.Amounts.{IsAmount}
 use Rattle.m_fixed.specs.Text.{text_value, amount_read}
 use Rattle.m_names.specs.Names.{index_of}
 use Rattle.m_names.proofs.NameLemmas.{index_of-some}
+use Rattle.observables.specs.declared.inputs.Coded.{Coded}
+use Rattle.observables.specs.Inputs.{codes_of}
+use Rattle.observables.proofs.InputLemmas.{read_amount}
+use Rattle.household.specs.declared.fault.HouseholdFault.TheVariants.{NotOfType}
 use Rattle.household.specs.InTurn.{in_turn, if_read}
-use Rattle.household.specs.Household.{AreDifferent, AreInputs, inputs_of, is_input_among, line_behind, new_pair, pair_of, pair_said, row_of}
+use Rattle.household.specs.Household.{AreDifferent, AreInputs, AreOfTypes, fitting_pair, inputs_of, is_fitting, is_input_among, line_behind, new_pair, pair_of, pair_said, row_of}
 
 pub AllByRecursion-push : {X : Type 0} (P : X → Type 0) (xs : List X) (x : X) → AllByRecursion P xs → P x → AllByRecursion P (xs ++ x ∷ [])
 AllByRecursion-push P [] x h p = (p, tt)
@@ -40,20 +45,55 @@ pub read_before : {B C F : Type 0} (next : B → Result C F) (r : Result B F) (c
 read_before next (Ok b) c h = (b, refl, h)
 read_before next (Err e) c h = cc h
 
--- the input of a pair is known
+-- a choice that isn't the error is what is read
+pub if_ok : {T E : Type 0} (b : Bool) (r : Result T E) (e : E) (t : T) → cond b r (Err e) ≡ Ok t → (b ≡ true) × (r ≡ Ok t)
+if_ok true r e t h = (refl, h)
+if_ok false r e t h = cc h
+
+-- the number of a code is below the count of the inputs
+pub code_known : (inputs : List Coded) (code : List ℕ) (number : ℕ) → index_of code (codes_of inputs) ≡ Some number → number < length inputs
+code_known inputs code number h = subst (λ n. number < n) (length-map inputs (λ (input : Coded). input.code)) (index_of-some code (codes_of inputs) number h).1
+
+-- the input of a pair is known, and it has an amount
 said_known : (n line : ℕ) (o : Option ℕ) (r : Result ℤ AmountFault) (pair : ℕ × ℤ) → pair_said line o r ≡ Ok pair → ((i : ℕ) → o ≡ Some i → i < n) → pair.0 < n
 said_known n line None r pair h k = cc h
 said_known n line (Some i) (Err why) pair h k = cc h
 said_known n line (Some i) (Ok z) pair h k = let same : i ≡ pair.0 = cc in subst (λ (j : ℕ). j < n) same (k i refl)
 
-pair_known : (inputs : List (List ℕ)) (line : ℕ) (fields : List (List ℕ)) (pair : ℕ × ℤ) → pair_of inputs line fields ≡ Ok pair → pair.0 < length inputs
+said_amount : (line : ℕ) (o : Option ℕ) (said : Option ℤ) (pair : ℕ × ℤ) → pair_said line o (amount_read said) ≡ Ok pair → IsAmount pair.1
+said_amount line o said pair h = by o (amount_read said) refl h
+  where
+    by : (p : Option ℕ) (r : Result ℤ AmountFault) → amount_read said ≡ r → pair_said line p r ≡ Ok pair → IsAmount pair.1
+    by None r e g = cc g
+    by (Some input) (Err why) e g = cc g
+    by (Some input) (Ok z) e g = let same : z ≡ pair.1 = cc in subst IsAmount same (read_amount said z e)
+
+-- what two fields that are read say: a pair, and its amount is of its input's type
+pub two_parts : (inputs : List Coded) (line : ℕ) (code amount : List ℕ) (pair : ℕ × ℤ) → pair_of inputs line (code ∷ amount ∷ []) ≡ Ok pair
+    → (pair_said line (index_of code (codes_of inputs)) (amount_read (text_value amount)) ≡ Ok pair) × (is_fitting inputs pair ≡ true)
+two_parts inputs line code amount pair h =
+    let r = read_before (fitting_pair inputs line) (pair_said line (index_of code (codes_of inputs)) (amount_read (text_value amount))) pair h in
+    let f = if_ok (is_fitting inputs r.0) (Ok r.0) (NotOfType line) pair r.2 in
+    let same : r.0 ≡ pair = cc f.1 in
+    (r.1 ∙ ap Ok same, subst (λ (p : ℕ × ℤ). is_fitting inputs p ≡ true) same f.0)
+
+pair_known : (inputs : List Coded) (line : ℕ) (fields : List (List ℕ)) (pair : ℕ × ℤ) → pair_of inputs line fields ≡ Ok pair → pair.0 < length inputs
 pair_known inputs line [] pair h = cc h
 pair_known inputs line (code ∷ []) pair h = cc h
-pair_known inputs line (code ∷ amount ∷ []) pair h = said_known (length inputs) line (index_of code inputs) (amount_read (text_value amount)) pair h (λ i e. (index_of-some code inputs i e).1)
+pair_known inputs line (code ∷ amount ∷ []) pair h =
+    said_known (length inputs) line (index_of code (codes_of inputs)) (amount_read (text_value amount)) pair (two_parts inputs line code amount pair h).0 (code_known inputs code)
 pair_known inputs line (code ∷ amount ∷ more ∷ rest) pair h = cc h
 
+pair_of_type : (inputs : List Coded) (line : ℕ) (fields : List (List ℕ)) (pair : ℕ × ℤ) → pair_of inputs line fields ≡ Ok pair → IsAmount pair.1 × (is_fitting inputs pair ≡ true)
+pair_of_type inputs line [] pair h = cc h
+pair_of_type inputs line (code ∷ []) pair h = cc h
+pair_of_type inputs line (code ∷ amount ∷ []) pair h =
+    let parts = two_parts inputs line code amount pair h in
+    (said_amount line (index_of code (codes_of inputs)) (text_value amount) pair parts.0, parts.1)
+pair_of_type inputs line (code ∷ amount ∷ more ∷ rest) pair h = cc h
+
 -- what a row that is read says
-pub row_parts : (inputs : List (List ℕ)) (before : List (ℕ × ℤ)) (fields : List (List ℕ)) (pair : ℕ × ℤ) → row_of inputs before fields ≡ Ok pair
+pub row_parts : (inputs : List Coded) (before : List (ℕ × ℤ)) (fields : List (List ℕ)) (pair : ℕ × ℤ) → row_of inputs before fields ≡ Ok pair
     → (leb ROWS (length before) ≡ false) × (pair_of inputs (line_behind (length before)) fields ≡ Ok pair) × (is_input_among pair.0 (inputs_of before) ≡ false)
 row_parts inputs before fields pair h =
     let line = line_behind (length before) in
@@ -71,9 +111,15 @@ turns_keep read Q keeps before (thing ∷ things) values q h =
     let r = read_before (λ value. in_turn read (before ++ value ∷ []) things) (read before thing) values h in
     turns_keep read Q keeps (before ++ r.0 ∷ []) things values (keeps before thing r.0 q r.1) r.2
 
--- the pairs of a household are of its inputs
-pub household_inputs : (inputs : List (List ℕ)) (rows : List (List (List ℕ))) (pairs : List (ℕ × ℤ)) → in_turn (row_of inputs) [] rows ≡ Ok pairs → AreInputs (length inputs) pairs
+-- the pairs of a household are of its inputs, and of their types
+pub household_inputs : (inputs : List Coded) (rows : List (List (List ℕ))) (pairs : List (ℕ × ℤ)) → in_turn (row_of inputs) [] rows ≡ Ok pairs → AreInputs (length inputs) pairs
 household_inputs inputs rows pairs h =
     turns_keep (row_of inputs) (AreInputs (length inputs))
     (λ before fields pair q e. let p = row_parts inputs before fields pair e in AreInputs-push (length inputs) before pair q (pair_known inputs _ fields pair p.1) p.2)
     [] rows pairs (record { known = tt; once = tt }) h
+
+pub household_types : (inputs : List Coded) (rows : List (List (List ℕ))) (pairs : List (ℕ × ℤ)) → in_turn (row_of inputs) [] rows ≡ Ok pairs → AreOfTypes inputs pairs
+household_types inputs rows pairs h =
+    turns_keep (row_of inputs) (AreOfTypes inputs)
+    (λ before fields pair q e. AllByRecursion-push (λ (p : ℕ × ℤ). IsAmount p.1 × (is_fitting inputs p ≡ true)) before pair q (pair_of_type inputs _ fields pair (row_parts inputs before fields pair e).1))
+    [] rows pairs tt h

@@ -1,21 +1,23 @@
 -- The laws of households and tables.
 use Rattle.std.proofs.Common.{◌≡◌, ◌≢◌, ℕ, ℤ, ◌<◌, ◌≤◌, List, [], ◌∷◌, ◌++◌, drop, length, Option, Some, Result, Ok, Err, Bool, true, false, cond, eqb, leb, refl, sym, subst, ap, ◌∙◌, append_assoc, length-append, arith, inl, inr, None}
 use Rattle.std.specs.List.{AllByRecursion, AllZip}
-use Rattle.std.proofs.lemmas.Bool.{eqb-true, false_from_ne_true, or_cases}
+use Rattle.std.proofs.lemmas.Bool.{cond-true, eqb-true, false_from_ne_true, or_cases}
 use Rattle.std.proofs.lemmas.Bool.Decides.{nat_tests}
 use Rattle.std.proofs.lemmas.List.{append-nil, map-append, length_push}
 use Rattle.m_places.specs.declared.limits.TheConstants.{ROWS}
 use Rattle.m_fixed.specs.declared.read.AmountFault.{AmountFault}
 use Rattle.m_fixed.specs.Text.{text_value, amount_read}
 use Rattle.m_names.specs.Names.{index_of}
+use Rattle.observables.specs.declared.inputs.Coded.{Coded}
+use Rattle.observables.specs.Inputs.{codes_of}
 use Rattle.household.specs.declared.fault.HouseholdFault.{HouseholdFault}
-use Rattle.household.specs.declared.fault.HouseholdFault.TheVariants.{BadHeader}
+use Rattle.household.specs.declared.fault.HouseholdFault.TheVariants.{BadHeader, NotOfType}
 use Rattle.household.specs.InTurn.{in_turn, if_read, IsFirstFault}
 use Rattle.household.specs.Records.{records_of}
-use Rattle.household.specs.Household.{AreDifferent, IsHousehold, IsRow, household_of, household_read, inputs_of, is_input_among, is_header, line_behind, new_pair, pair_of, pair_said, row_of}
+use Rattle.household.specs.Household.{AreDifferent, IsHousehold, IsRow, fitting_pair, household_of, household_read, inputs_of, is_fitting, is_input_among, is_header, line_behind, new_pair, pair_of, pair_said, row_of}
 use Rattle.household.specs.Table.{column_of, is_table_header, rows_read, table_of, table_read, table_row}
 use Rattle.household.specs.Refusals.{LacksHeader, IsRefusedHousehold, IsRefusedTable, no_header, at_row, no_table_header, at_column, at_table_row}
-use Rattle.household.proofs.InputLemmas.{household_inputs, read_before, row_parts, turns_keep}
+use Rattle.household.proofs.InputLemmas.{household_inputs, if_ok, read_before, row_parts, turns_keep, two_parts}
 
 -- each thing says its value
 turns_each : {A B F : Type 0} (read : List B → A → Result B F) (P : A → B → Type 0) → ((before : List B) (thing : A) (value : B) → read before thing ≡ Ok value → P thing value)
@@ -54,22 +56,21 @@ said_parts line None r pair h = cc h
 said_parts line (Some i) (Err why) pair h = cc h
 said_parts line (Some i) (Ok z) pair h = let same : (i, z) ≡ pair = cc h in (ap (λ (p : ℕ × ℤ). Some p.0) same, ap (λ (p : ℕ × ℤ). Ok p.1) same)
 
-pair_row : (inputs : List (List ℕ)) (line : ℕ) (fields : List (List ℕ)) (pair : ℕ × ℤ) → pair_of inputs line fields ≡ Ok pair → IsRow inputs fields pair
+pair_row : (inputs : List Coded) (line : ℕ) (fields : List (List ℕ)) (pair : ℕ × ℤ) → pair_of inputs line fields ≡ Ok pair → IsRow inputs fields pair
 pair_row inputs line [] pair h = cc h
 pair_row inputs line (code ∷ []) pair h = cc h
 pair_row inputs line (code ∷ amount ∷ []) pair h =
-    let parts = said_parts line (index_of code inputs) (amount_read (text_value amount)) pair h in
-    record { code = code; amount = amount; two = refl; known = parts.0; spelled = parts.1 }
+    let both = two_parts inputs line code amount pair h in
+    let parts = said_parts line (index_of code (codes_of inputs)) (amount_read (text_value amount)) pair both.0 in
+    record { code = code; amount = amount; two = refl; known = parts.0; spelled = parts.1; fits = both.1 }
 pair_row inputs line (code ∷ amount ∷ more ∷ rest) pair h = cc h
 
-row_pair : (inputs : List (List ℕ)) (line : ℕ) (fields : List (List ℕ)) (pair : ℕ × ℤ) → IsRow inputs fields pair → pair_of inputs line fields ≡ Ok pair
-row_pair inputs line fields pair is = ap (pair_of inputs line) is.two ∙ (λ i. pair_said line (is.known i) (is.spelled i))
+row_pair : (inputs : List Coded) (line : ℕ) (fields : List (List ℕ)) (pair : ℕ × ℤ) → IsRow inputs fields pair → pair_of inputs line fields ≡ Ok pair
+row_pair inputs line fields pair is =
+    ap (pair_of inputs line) is.two ∙ (λ i. if_read (fitting_pair inputs line) (pair_said line (is.known i) (is.spelled i)))
+    ∙ cond-true (is_fitting inputs pair) (Ok pair) (Err (NotOfType line)) is.fits
 
 -- a choice between what is read and a fault
-if_ok : {T E : Type 0} (b : Bool) (r : Result T E) (e : E) (t : T) → cond b r (Err e) ≡ Ok t → (b ≡ true) × (r ≡ Ok t)
-if_ok true r e t h = (refl, h)
-if_ok false r e t h = cc h
-
 if_err : {T E : Type 0} (b : Bool) (r : Result T E) (e fault : E) {P : Type 0} → cond b r (Err e) ≡ Err fault → (b ≡ true → r ≡ Err fault → P) → (b ≡ false → e ≡ fault → P) → P
 if_err true r e fault h held failed = held refl h
 if_err false r e fault h held failed = let same : e ≡ fault = cc h in failed refl same
@@ -81,14 +82,14 @@ room n m e = grind (arith, nat_tests)
 no_room : (n m : ℕ) → m < n → leb n m ≡ false
 no_room n m l = grind (arith, nat_tests)
 
-few_rows : (inputs : List (List ℕ)) (rows : List (List (List ℕ))) (pairs : List (ℕ × ℤ)) → in_turn (row_of inputs) [] rows ≡ Ok pairs → length pairs ≤ ROWS
+few_rows : (inputs : List Coded) (rows : List (List (List ℕ))) (pairs : List (ℕ × ℤ)) → in_turn (row_of inputs) [] rows ≡ Ok pairs → length pairs ≤ ROWS
 few_rows inputs rows pairs h =
     turns_keep (row_of inputs) (λ before. length before ≤ ROWS)
     (λ before fields pair q e. let free = room ROWS (length before) (row_parts inputs before fields pair e).0 in omega (arith, length_push before pair))
     [] rows pairs (omega arith) h
 
 -- what is read is a household
-household_sound : (inputs : List (List ℕ)) (bytes : List ℕ) (records : List (List (List ℕ))) (pairs : List (ℕ × ℤ)) → records_of bytes ≡ records → household_read inputs records ≡ Ok pairs → IsHousehold inputs bytes pairs
+household_sound : (inputs : List Coded) (bytes : List ℕ) (records : List (List (List ℕ))) (pairs : List (ℕ × ℤ)) → records_of bytes ≡ records → household_read inputs records ≡ Ok pairs → IsHousehold inputs bytes pairs
 household_sound inputs bytes [] pairs e h = cc h
 household_sound inputs bytes (first ∷ rows) pairs e h =
     let read = if_ok (is_header first) (in_turn (row_of inputs) [] rows) BadHeader pairs h in
@@ -103,7 +104,7 @@ household_sound inputs bytes (first ∷ rows) pairs e h =
       few = few_rows inputs rows pairs read.1;
     }
 
-pub read_household_is : (inputs : List (List ℕ)) (bytes : List ℕ) (pairs : List (ℕ × ℤ)) → household_of inputs bytes ≡ Ok pairs → IsHousehold inputs bytes pairs
+pub read_household_is : (inputs : List Coded) (bytes : List ℕ) (pairs : List (ℕ × ℤ)) → household_of inputs bytes ≡ Ok pairs → IsHousehold inputs bytes pairs
 read_household_is inputs bytes pairs h = household_sound inputs bytes (records_of bytes) pairs refl h
 
 -- a number that stands again is not different
@@ -120,12 +121,12 @@ twice (m ∷ ms) ns n e h =
     ]
 
 -- rows that say pairs by themselves say them in turn
-row_whole : (inputs : List (List ℕ)) (before : List (ℕ × ℤ)) (fields : List (List ℕ)) (pair : ℕ × ℤ) → IsRow inputs fields pair → length before < ROWS → is_input_among pair.0 (inputs_of before) ≡ false → row_of inputs before fields ≡ Ok pair
+row_whole : (inputs : List Coded) (before : List (ℕ × ℤ)) (fields : List (List ℕ)) (pair : ℕ × ℤ) → IsRow inputs fields pair → length before < ROWS → is_input_among pair.0 (inputs_of before) ≡ false → row_of inputs before fields ≡ Ok pair
 row_whole inputs before fields pair is l fresh =
     let free = no_room ROWS (length before) l in
     rw free (ap (if_read (new_pair (line_behind (length before)) before)) (row_pair inputs (line_behind (length before)) fields pair is) ∙ rw fresh refl)
 
-rows_whole : (inputs : List (List ℕ)) (before : List (ℕ × ℤ)) (rows : List (List (List ℕ))) (pairs : List (ℕ × ℤ)) → AllZip (IsRow inputs) rows pairs → AreDifferent (inputs_of (before ++ pairs)) → length (before ++ pairs) ≤ ROWS
+rows_whole : (inputs : List Coded) (before : List (ℕ × ℤ)) (rows : List (List (List ℕ))) (pairs : List (ℕ × ℤ)) → AllZip (IsRow inputs) rows pairs → AreDifferent (inputs_of (before ++ pairs)) → length (before ++ pairs) ≤ ROWS
     → in_turn (row_of inputs) before rows ≡ Ok (before ++ pairs)
 rows_whole inputs before [] [] z d l = ap Ok (sym (append-nil before))
 rows_whole inputs before [] (pair ∷ pairs) z d l = absurd z
@@ -138,13 +139,13 @@ rows_whole inputs before (fields ∷ rows) (pair ∷ pairs) z d l =
     ∙ rows_whole inputs (before ++ pair ∷ []) rows pairs z.1 (subst (λ (ps : List (ℕ × ℤ)). AreDifferent (inputs_of ps)) (sym (append_assoc before (pair ∷ []) pairs)) d) (subst (λ (ps : List (ℕ × ℤ)). length ps ≤ ROWS) (sym (append_assoc before (pair ∷ []) pairs)) l)
     ∙ ap Ok (append_assoc before (pair ∷ []) pairs)
 
-pub household_is_read : (inputs : List (List ℕ)) (bytes : List ℕ) (pairs : List (ℕ × ℤ)) → IsHousehold inputs bytes pairs → household_of inputs bytes ≡ Ok pairs
+pub household_is_read : (inputs : List Coded) (bytes : List ℕ) (pairs : List (ℕ × ℤ)) → IsHousehold inputs bytes pairs → household_of inputs bytes ≡ Ok pairs
 household_is_read inputs bytes pairs is =
     let header = is.header in
     ap (household_read inputs) is.records ∙ rw header (rows_whole inputs [] is.rows pairs is.in_order is.once is.few)
 
 -- why a household is refused
-household_refused : (inputs : List (List ℕ)) (bytes : List ℕ) (records : List (List (List ℕ))) (fault : HouseholdFault) → records_of bytes ≡ records → household_read inputs records ≡ Err fault → IsRefusedHousehold inputs bytes fault
+household_refused : (inputs : List Coded) (bytes : List ℕ) (records : List (List (List ℕ))) (fault : HouseholdFault) → records_of bytes ≡ records → household_read inputs records ≡ Err fault → IsRefusedHousehold inputs bytes fault
 household_refused inputs bytes [] fault e h =
     let same : BadHeader ≡ fault = cc h in
     subst (IsRefusedHousehold inputs bytes) same (no_header (subst (LacksHeader is_header) (sym e) tt))
@@ -153,20 +154,20 @@ household_refused inputs bytes (first ∷ rows) fault e h =
     (λ header bad. at_row e header (turns_stop (row_of inputs) [] rows fault bad))
     (λ other same. subst (IsRefusedHousehold inputs bytes) same (no_header (subst (LacksHeader is_header) (sym e) other)))
 
-pub household_fault_is : (inputs : List (List ℕ)) (bytes : List ℕ) (fault : HouseholdFault) → household_of inputs bytes ≡ Err fault → IsRefusedHousehold inputs bytes fault
+pub household_fault_is : (inputs : List Coded) (bytes : List ℕ) (fault : HouseholdFault) → household_of inputs bytes ≡ Err fault → IsRefusedHousehold inputs bytes fault
 household_fault_is inputs bytes fault h = household_refused inputs bytes (records_of bytes) fault refl h
 
 -- why a table is refused
-table_refused : (inputs : List (List ℕ)) (bytes : List ℕ) (records : List (List (List ℕ))) (fault : HouseholdFault) → records_of bytes ≡ records → table_read inputs records ≡ Err fault → IsRefusedTable inputs bytes fault
+table_refused : (inputs : List Coded) (bytes : List ℕ) (records : List (List (List ℕ))) (fault : HouseholdFault) → records_of bytes ≡ records → table_read inputs records ≡ Err fault → IsRefusedTable inputs bytes fault
 table_refused inputs bytes [] fault e h =
     let same : BadHeader ≡ fault = cc h in
     subst (IsRefusedTable inputs bytes) same (no_table_header (subst (LacksHeader is_table_header) (sym e) tt))
 table_refused inputs bytes (first ∷ rows) fault e h =
     if_err (is_table_header first) (rows_read inputs (drop 1 first) rows) BadHeader fault h
-    (λ header bad. stopped (λ columns. in_turn (table_row columns) [] rows) (in_turn (column_of inputs) [] (drop 1 first)) fault bad
+    (λ header bad. stopped (λ columns. in_turn (table_row inputs columns) [] rows) (in_turn (column_of inputs) [] (drop 1 first)) fault bad
     (λ column. at_column e header (turns_stop (column_of inputs) [] (drop 1 first) fault column))
-    (λ columns good row. at_table_row e header good (turns_stop (table_row columns) [] rows fault row)))
+    (λ columns good row. at_table_row e header good (turns_stop (table_row inputs columns) [] rows fault row)))
     (λ other same. subst (IsRefusedTable inputs bytes) same (no_table_header (subst (LacksHeader is_table_header) (sym e) other)))
 
-pub table_fault_is : (inputs : List (List ℕ)) (bytes : List ℕ) (fault : HouseholdFault) → table_of inputs bytes ≡ Err fault → IsRefusedTable inputs bytes fault
+pub table_fault_is : (inputs : List Coded) (bytes : List ℕ) (fault : HouseholdFault) → table_of inputs bytes ≡ Err fault → IsRefusedTable inputs bytes fault
 table_fault_is inputs bytes fault h = table_refused inputs bytes (records_of bytes) fault refl h

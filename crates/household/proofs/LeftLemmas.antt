@@ -8,7 +8,7 @@ use Rattle.csv.specs.declared.parser.State.{State}
 use Rattle.csv.specs.declared.parser.State.TheVariants as st
 use Rattle.csv.specs.declared.parser.Action.{Action as CsvAction}
 use Rattle.household.specs.Records.{records_of}
-use Rattle.household.specs.inner.Left.{records_from_state}
+use Rattle.household.specs.Reader.{records_from_state}
 
 -- the records from a state on
 abbrev behind : State → List ℕ → List (List (List ℕ))

@@ -3,6 +3,7 @@ pub mod CodeLemmas
 pub mod ColumnLemmas
 pub mod GivenLemmas
 pub mod InputLemmas
+pub mod KeptLemmas
 pub mod LawLemmas
 pub mod LeftLemmas
 pub mod ValueLemmas

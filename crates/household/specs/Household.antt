@@ -1,5 +1,5 @@
 -- What a household's file says, and what it gives each input.
-use Rattle.std.specs.Prelude.{◌≡◌, ◌≢◌, ℕ, ◌+◌, ◌<◌, ◌≤◌, ◌==◌, Bool, true, false, nat_le, ◌&&◌, List, [], ◌∷◌, map, length, Option, Some, None, Result, Ok, Err, ℤ, codes, if◌then◌else◌}
+use Rattle.std.specs.Prelude.{◌≡◌, ◌≢◌, ℕ, ◌+◌, ◌<◌, ◌≤◌, ◌==◌, Bool, true, false, nat_le, ◌&&◌, List, [], ◌∷◌, map, length, zero, suc, Option, Some, None, Result, Ok, Err, ℤ, codes, IsTrue, if◌then◌else◌}
 use Rattle.std.specs.Str.{bytes_eq}
 use Rattle.std.specs.List.{AllByRecursion, AllZip, list_any, range_with_len}
 use Rattle.m_places.specs.declared.limits.TheConstants.{ROWS}
@@ -7,9 +7,14 @@ use Rattle.m_fixed.specs.declared.amount.Value.{Value}
 use Rattle.m_fixed.specs.declared.amount.Value.TheVariants.{Undef, Num}
 use Rattle.m_fixed.specs.declared.read.AmountFault.{AmountFault}
 use Rattle.m_fixed.specs.Text.{text_value, amount_read}
+use Rattle.m_fixed.specs.Amounts.{IsAmount}
 use Rattle.m_names.specs.Names.{index_of}
+use Rattle.observables.specs.declared.inputs.Coded.{Coded}
+use Rattle.observables.specs.declared.inputs.InputType.{InputType}
+use Rattle.observables.specs.declared.inputs.InputType.TheVariants.{Any}
+use Rattle.observables.specs.Inputs.{codes_of, is_of_type}
 use Rattle.household.specs.declared.fault.HouseholdFault.{HouseholdFault}
-use Rattle.household.specs.declared.fault.HouseholdFault.TheVariants.{BadHeader, TooManyRows, BadRow, UnknownCode, BadAmount, CodeTwice}
+use Rattle.household.specs.declared.fault.HouseholdFault.TheVariants.{BadHeader, TooManyRows, BadRow, UnknownCode, BadAmount, NotOfType, CodeTwice}
 use Rattle.household.specs.InTurn.{if_read, in_turn}
 use Rattle.household.specs.Records.{records_of}
 
@@ -31,11 +36,26 @@ pair_said line None amount = Err (UnknownCode line)
 pair_said line (Some input) (Err why) = Err (BadAmount line)
 pair_said line (Some input) (Ok millionths) = Ok (input, millionths)
 
--- What the fields of the record with this number say: the code of an input and an amount. `inputs` are
--- the codes by their numbers: where `1AJ` has the number 0, the fields `1AJ` and `2500.5` say the pair
+-- the type of the input with this number; a number that no input has takes each amount
+abbrev pub input_type : List Coded → ℕ → InputType
+input_type [] number = Any
+input_type (input ∷ inputs) zero = input.kind
+input_type (input ∷ inputs) (suc number) = input_type inputs number
+
+-- Whether the amount of a pair is of its input's type: where the input 0 has the type `Whole`, the pair of 0 and 3000000 is
+-- fitting, and that of 0 and 2500000 isn't.
+abbrev pub is_fitting : List Coded → ℕ × ℤ → Bool
+is_fitting inputs pair = is_of_type (input_type inputs pair.0) pair.1
+
+-- a pair whose amount must be of its input's type, in the record with this number
+abbrev pub fitting_pair : List Coded → ℕ → ℕ × ℤ → Result (ℕ × ℤ) HouseholdFault
+fitting_pair inputs line pair = if is_fitting inputs pair then Ok pair else Err (NotOfType line)
+
+-- What the fields of the record with this number say: the code of an input and an amount of its type. `inputs` are the
+-- inputs by their numbers: where `1AJ` has the number 0 and takes each amount, the fields `1AJ` and `2500.5` say the pair
 -- of 0 and 2500500000.
-abbrev pub pair_of : List (List ℕ) → ℕ → List (List ℕ) → Result (ℕ × ℤ) HouseholdFault
-pair_of inputs line (code ∷ amount ∷ []) = pair_said line (index_of code inputs) (amount_read (text_value amount))
+abbrev pub pair_of : List Coded → ℕ → List (List ℕ) → Result (ℕ × ℤ) HouseholdFault
+pair_of inputs line (code ∷ amount ∷ []) = if_read (fitting_pair inputs line) (pair_said line (index_of code (codes_of inputs)) (amount_read (text_value amount)))
 pair_of inputs line _ = Err (BadRow line)
 
 -- a pair whose input may not stand in the pairs before it
@@ -43,9 +63,9 @@ abbrev pub new_pair : ℕ → List (ℕ × ℤ) → ℕ × ℤ → Result (ℕ �
 new_pair line before pair = if is_input_among pair.0 (inputs_of before) then Err (CodeTwice line) else Ok pair
 
 -- What a row says behind rows that gave these pairs. The first of these faults that it has decides: it
--- is one row too many, it hasn't two fields, its code is unknown, its amount is none, its code stands
--- in a row before it.
-abbrev pub row_of : List (List ℕ) → List (ℕ × ℤ) → List (List ℕ) → Result (ℕ × ℤ) HouseholdFault
+-- is one row too many, it hasn't two fields, its code is unknown, its amount is none, its amount isn't
+-- of the input's type, its code stands in a row before it.
+abbrev pub row_of : List Coded → List (ℕ × ℤ) → List (List ℕ) → Result (ℕ × ℤ) HouseholdFault
 row_of inputs before fields =
     if nat_le ROWS (length before) then Err TooManyRows
     else if_read (new_pair (line_behind (length before)) before) (pair_of inputs (line_behind (length before)) fields)
@@ -56,14 +76,14 @@ is_header (code ∷ amount ∷ []) = bytes_eq code (codes "code") && bytes_eq am
 is_header _ = false
 
 -- what the records of a household say
-abbrev pub household_read : List (List ℕ) → List (List (List ℕ)) → Result (List (ℕ × ℤ)) HouseholdFault
+abbrev pub household_read : List Coded → List (List (List ℕ)) → Result (List (ℕ × ℤ)) HouseholdFault
 household_read inputs [] = Err BadHeader
 household_read inputs (first ∷ rows) = if is_header first then in_turn (row_of inputs) [] rows else Err BadHeader
 
 -- What the bytes of a household say: its pairs of an input's number and an amount, in the order of the
 -- file, or the fault for which it is refused. Where `1AJ` has the number 0, `code,amount` and `1AJ,2500.5`
 -- say the one pair of 0 and 2500500000, and `1AJ,x` in the second line says the bad amount of record 2.
-abbrev pub household_of : List (List ℕ) → List ℕ → Result (List (ℕ × ℤ)) HouseholdFault
+abbrev pub household_of : List Coded → List ℕ → Result (List (ℕ × ℤ)) HouseholdFault
 household_of inputs bytes = household_read inputs (records_of bytes)
 
 -- no number stands twice
@@ -76,17 +96,22 @@ pub record AreInputs (inputs : ℕ) (pairs : List (ℕ × ℤ)) : Type 0 where
   pub known : AllByRecursion (λ input. input < inputs) (inputs_of pairs)
   pub once : AreDifferent (inputs_of pairs)
 
--- A row of a household by itself: the code of an input and an amount, which say this pair.
-pub record IsRow (inputs fields : List (List ℕ)) (pair : ℕ × ℤ) : Type 0 where
+-- The pairs have amounts, and each is of its input's type.
+abbrev pub AreOfTypes : List Coded → List (ℕ × ℤ) → Type 0
+AreOfTypes inputs pairs = AllByRecursion (λ pair. IsAmount pair.1 × IsTrue (is_fitting inputs pair)) pairs
+
+-- A row of a household by itself: the code of an input and an amount of its type, which say this pair.
+pub record IsRow (inputs : List Coded) (fields : List (List ℕ)) (pair : ℕ × ℤ) : Type 0 where
   pub code : List ℕ
   pub amount : List ℕ
   pub two : fields ≡ code ∷ amount ∷ []
-  pub known : index_of code inputs ≡ Some pair.0
+  pub known : index_of code (codes_of inputs) ≡ Some pair.0
   pub spelled : amount_read (text_value amount) ≡ Ok pair.1
+  pub fits : is_fitting inputs pair ≡ true
 
 -- The bytes are a household with these pairs: the records are a header and a row for each pair, in
 -- order; no input stands twice, and the rows are not too many.
-pub record IsHousehold (inputs : List (List ℕ)) (bytes : List ℕ) (pairs : List (ℕ × ℤ)) : Type 0 where
+pub record IsHousehold (inputs : List Coded) (bytes : List ℕ) (pairs : List (ℕ × ℤ)) : Type 0 where
   pub first : List (List ℕ)
   pub rows : List (List (List ℕ))
   pub records : records_of bytes ≡ first ∷ rows

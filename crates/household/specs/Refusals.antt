@@ -1,5 +1,6 @@
 -- What refused households and tables are, said of their records.
 use Rattle.std.specs.Prelude.{◌≡◌, ℕ, Bool, true, false, List, [], ◌∷◌, drop, Ok}
+use Rattle.observables.specs.declared.inputs.Coded.{Coded}
 use Rattle.household.specs.declared.fault.HouseholdFault.{HouseholdFault}
 use Rattle.household.specs.declared.fault.HouseholdFault.TheVariants.{BadHeader}
 use Rattle.household.specs.InTurn.{in_turn, IsFirstFault}
@@ -14,7 +15,7 @@ LacksHeader is_first (first ∷ rows) = is_first first ≡ false
 
 -- Why the bytes of a household are refused: they lack the header; or behind it a row has this fault, and
 -- the rows in front of it have none.
-pub data IsRefusedHousehold (inputs : List (List ℕ)) (bytes : List ℕ) : HouseholdFault → Type 0 where
+pub data IsRefusedHousehold (inputs : List Coded) (bytes : List ℕ) : HouseholdFault → Type 0 where
   no_header : LacksHeader is_header (records_of bytes) → IsRefusedHousehold inputs bytes BadHeader
   at_row : {first : List (List ℕ)} {rows : List (List (List ℕ))} {fault : HouseholdFault} → records_of bytes ≡ first ∷ rows → is_header first ≡ true
       → IsFirstFault (row_of inputs) [] rows fault → IsRefusedHousehold inputs bytes fault
@@ -22,9 +23,9 @@ pub data IsRefusedHousehold (inputs : List (List ℕ)) (bytes : List ℕ) : Hous
 -- Why the bytes of a table are refused: they lack the header; or a code in it has this fault, and those
 -- in front of it have none; or all codes have none, a row has this fault, and the rows in front of it
 -- have none.
-pub data IsRefusedTable (inputs : List (List ℕ)) (bytes : List ℕ) : HouseholdFault → Type 0 where
+pub data IsRefusedTable (inputs : List Coded) (bytes : List ℕ) : HouseholdFault → Type 0 where
   no_table_header : LacksHeader is_table_header (records_of bytes) → IsRefusedTable inputs bytes BadHeader
   at_column : {first : List (List ℕ)} {rows : List (List (List ℕ))} {fault : HouseholdFault} → records_of bytes ≡ first ∷ rows → is_table_header first ≡ true
       → IsFirstFault (column_of inputs) [] (drop 1 first) fault → IsRefusedTable inputs bytes fault
   at_table_row : {first : List (List ℕ)} {rows : List (List (List ℕ))} {columns : List ℕ} {fault : HouseholdFault} → records_of bytes ≡ first ∷ rows → is_table_header first ≡ true
-      → in_turn (column_of inputs) [] (drop 1 first) ≡ Ok columns → IsFirstFault (table_row columns) [] rows fault → IsRefusedTable inputs bytes fault
+      → in_turn (column_of inputs) [] (drop 1 first) ≡ Ok columns → IsFirstFault (table_row inputs columns) [] rows fault → IsRefusedTable inputs bytes fault

@@ -1,54 +1,106 @@
-ghost use Rattle.std.specs.Prelude.{◌≡◌, ◌<◌, IfOk, IfSome, length};
+ghost use Rattle.std.specs.Prelude.{◌≡◌, ◌<◌, IfOk, IfSome, length, map};
 ghost use Rattle.m_names.specs.Names.{AreDistinct, index_of};
-ghost use Rattle.observables.specs.Inputs.{codes_of};
+ghost use Rattle.observables.specs.Inputs.{codes_of, is_of_type};
+ghost use Rattle.household.specs.Household.{input_type};
+ghost use Rattle.household.specs.Table.{are_fitting};
 
+use m_fixed::Amount;
 use m_names::{Key, Names, NamesDigest};
-use observables::Coded;
+use observables::{Coded, InputType, is_of_type};
 use std::alloc::{AllocError, Global};
 use std::marker::Model;
 
-/// The codes of the inputs, each with its number: the place of its input among all inputs, from 0.
-/// Contracts see them as the list of the codes' bytes.
+/// The inputs, found by their codes: each with its number, its place among all inputs from 0, and with the type of its amounts.
+/// Contracts see them as the list of the inputs.
 #[derive(Drop)]
 pub struct Codes {
     names: Names,
+    kinds: Vec<InputType>,
 }
 
 impl Model for Codes {
-    ghost use Rattle.std.specs.Prelude.{List, ℕ};
+    ghost use Rattle.std.specs.Prelude.{◌≡◌, List, length};
+    ghost use Rattle.observables.specs.declared.inputs.Coded.{Coded};
+    ghost use Rattle.household.specs.inner.Kept.{inputs_kept};
 
-    ghost Value = { List (List ℕ) };
+    ghost Value = { List Coded };
 
-    ghost view = { λ c. c.names };
+    ghost view = { λ c. inputs_kept c.names c.kinds.items };
+
+    ghost invariant = { λ c. length c.kinds.items ≡ length c.names };
 }
 
 impl Codes {
-    /// The codes of inputs, in the order of their numbers. Its only error is want of memory.
+    /// The inputs, in the order of their numbers. Its only error is want of memory.
     pub fn new(alloc: Global, inputs: &[Coded]) -> Result<Codes, AllocError>
         requires { AreDistinct (codes_of inputs.now) }
-        ensures { IfOk result (λ codes. codes ≡ codes_of inputs.now) }
+        ensures { IfOk result (λ codes. codes ≡ inputs.now) }
     {
-        let mut names = Names::under(alloc, key_of(inputs));
-        for input in inputs {
-            let _fresh = names.add(alloc, input.code.bytes())?;
-        }
-        Ok(Codes { names })
+        let names = names_of(alloc, inputs)?;
+        let kinds = kinds_of(alloc, inputs)?;
+        Ok(Codes { names, kinds })
     }
 
-    /// How many codes there are. Takes no memory.
+    /// How many inputs there are. Takes no memory.
     pub fn len(&self) -> u32
         ensures { result ≡ length self.now }
     {
         self.names.len()
     }
 
-    /// The number of a code, if there is an input that has it. Takes no memory.
+    /// The number of the input with a code, if there is one. Takes no memory.
     pub fn find(&self, code: &[u8]) -> Option<u32>
-        ensures number { result ≡ index_of code.now self.now }
+        ensures number { result ≡ index_of code.now (codes_of self.now) }
         ensures within { IfSome result (λ number. number < length self.now) }
     {
         self.names.find(code)
     }
+
+    /// Whether an amount is of the type of the input with this number: 2.5 is not, where that is `Whole`. A number that no
+    /// input has takes each amount. Takes no memory.
+    pub fn fits(&self, input: u32, amount: Amount) -> bool
+        ensures { result ≡ is_of_type (input_type self.now input) amount }
+    {
+        match self.kinds.get(input as usize) {
+            Some(kind) => is_of_type(*kind, amount),
+            None => true,
+        }
+    }
+
+    /// Whether each of these amounts is of the type of its input. Takes no memory.
+    pub fn all_fit(&self, pairs: &[(u32, Amount)]) -> bool
+        ensures { result ≡ are_fitting self.now pairs.now }
+    {
+        for pair in pairs {
+            if !self.fits(pair.0, pair.1) {
+                return false;
+            }
+        }
+        true
+    }
+}
+
+// The codes, found by themselves.
+fn names_of(alloc: Global, inputs: &[Coded]) -> Result<Names, AllocError>
+    requires { AreDistinct (codes_of inputs.now) }
+    ensures { IfOk result (λ names. names ≡ codes_of inputs.now) }
+{
+    let mut names = Names::under(alloc, key_of(inputs));
+    for input in inputs {
+        let _fresh = names.add(alloc, input.code.bytes())?;
+    }
+    Ok(names)
+}
+
+// The types, by the numbers of their inputs.
+fn kinds_of(alloc: Global, inputs: &[Coded]) -> Result<Vec<InputType>, AllocError>
+    ensures { IfOk result (λ kinds. kinds.items ≡ map (λ input. input.kind) inputs.now) }
+{
+    let mut kinds = Vec::with_capacity(alloc, inputs.len())?;
+    for input in inputs {
+        kinds.push(input.kind)?;
+    }
+    Ok(kinds)
 }
 
 // A key that is made of all codes, so that nobody can choose them to collide.

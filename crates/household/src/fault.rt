@@ -18,6 +18,9 @@ pub enum HouseholdFault {
     UnknownCode(u32),
     /// A field that must be an amount is none, or a greater one than there is.
     BadAmount(u32),
+    /// An amount that isn't of the type of its input. In a table each amount of the record is read before one of them is
+    /// refused for its type.
+    NotOfType(u32),
     /// The code stands in an earlier record of the household, or in an earlier column.
     CodeTwice(u32),
     /// There was no memory.

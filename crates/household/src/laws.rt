@@ -3,7 +3,7 @@ ghost use Rattle.std.specs.Prelude.{◌≡◌, ℕ, ℤ, List, Ok, Err};
 ghost use Rattle.std.specs.Prelude.{length};
 ghost use Rattle.std.specs.List.{AllByRecursion};
 ghost use Rattle.observables.specs.declared.inputs.Coded.{Coded};
-ghost use Rattle.observables.specs.Inputs.{AreAny, AreValuesOf, codes_of};
+ghost use Rattle.observables.specs.Inputs.{AreValuesOf};
 ghost use Rattle.household.specs.Household.{IsHousehold, household_of, values_of};
 ghost use Rattle.household.specs.Refusals.{IsRefusedHousehold, IsRefusedTable};
 ghost use Rattle.household.specs.Table.{table_of};
@@ -13,26 +13,26 @@ ghost use Rattle.household.specs.declared.fault.HouseholdFault.{HouseholdFault};
 /// Bytes say the pairs of a household exactly where their records are a header and a row for each pair, no
 /// input stands twice and the rows are not too many. So bytes say their pairs in one way.
 pub fn one_household()
-    ensures sound { (inputs : List (List ℕ)) (bytes : List ℕ) (pairs : List (ℕ × ℤ)) → household_of inputs bytes ≡ Ok pairs → IsHousehold inputs bytes pairs }
-    ensures whole { (inputs : List (List ℕ)) (bytes : List ℕ) (pairs : List (ℕ × ℤ)) → IsHousehold inputs bytes pairs → household_of inputs bytes ≡ Ok pairs }
+    ensures sound { (inputs : List Coded) (bytes : List ℕ) (pairs : List (ℕ × ℤ)) → household_of inputs bytes ≡ Ok pairs → IsHousehold inputs bytes pairs }
+    ensures whole { (inputs : List Coded) (bytes : List ℕ) (pairs : List (ℕ × ℤ)) → IsHousehold inputs bytes pairs → household_of inputs bytes ≡ Ok pairs }
 {}
 
 /// A household is refused for the first of its records that has a fault.
 pub fn first_fault()
-    ensures { (inputs : List (List ℕ)) (bytes : List ℕ) (fault : HouseholdFault) → household_of inputs bytes ≡ Err fault → IsRefusedHousehold inputs bytes fault }
+    ensures { (inputs : List Coded) (bytes : List ℕ) (fault : HouseholdFault) → household_of inputs bytes ≡ Err fault → IsRefusedHousehold inputs bytes fault }
 {}
 
 /// A table is refused for the first of its records that has a fault, and in the first for the first of its
 /// codes that has one.
 pub fn first_table_fault()
-    ensures { (inputs : List (List ℕ)) (bytes : List ℕ) (fault : HouseholdFault) → table_of inputs bytes ≡ Err fault → IsRefusedTable inputs bytes fault }
+    ensures { (inputs : List Coded) (bytes : List ℕ) (fault : HouseholdFault) → table_of inputs bytes ≡ Err fault → IsRefusedTable inputs bytes fault }
 {}
 
-/// What a household without a fault gives the inputs is a list of values that programs with these inputs are asked for, where each
-/// input may have each amount; and so is what each row of a table gives them.
+/// What a household without a fault gives the inputs is a list of values that programs with these inputs are asked for: each
+/// amount is of its input's type. And so is what each row of a table gives them.
 pub fn given_values()
-    ensures household { (inputs : List Coded) (bytes : List ℕ) (pairs : List (ℕ × ℤ)) → AreAny inputs → household_of (codes_of inputs) bytes ≡ Ok pairs
+    ensures household { (inputs : List Coded) (bytes : List ℕ) (pairs : List (ℕ × ℤ)) → household_of inputs bytes ≡ Ok pairs
         → AreValuesOf inputs (values_of pairs (length inputs)) }
-    ensures table { (inputs : List Coded) (bytes : List ℕ) (rows : List Row) → AreAny inputs → table_of (codes_of inputs) bytes ≡ Ok rows
+    ensures table { (inputs : List Coded) (bytes : List ℕ) (rows : List Row) → table_of inputs bytes ≡ Ok rows
         → AllByRecursion (λ row. AreValuesOf inputs (values_of row.household.pairs (length inputs))) rows }
 {}

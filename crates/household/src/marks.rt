@@ -1,10 +1,10 @@
 //! Which inputs stand in a file already.
 ghost use Rattle.std.specs.Prelude.{◌≡◌, ◌<◌, ◌++◌, ◌∷◌, [], not, length, List, ℕ};
 ghost use Rattle.household.specs.Household.{is_input_among};
-ghost use Rattle.household.specs.inner.Marks.{Marks};
+ghost use Rattle.household.specs.Marks.{Marks};
 
-// Marks an input, and says whether it wasn't marked.
-pub(crate) fn mark(marked: &mut [bool], input: u32) -> bool
+/// Marks an input, and says whether it wasn't marked. Takes no memory.
+pub fn mark(marked: &mut [bool], input: u32) -> bool
     requires { input < length marked.old }
     ensures fresh { (inputs : List ℕ) → Marks marked.old inputs → result ≡ not (is_input_among input inputs) }
     ensures marks { (inputs : List ℕ) → Marks marked.old inputs → Marks marked.new (inputs ++ input ∷ []) }

@@ -2,8 +2,8 @@ ghost use Rattle.std.specs.Prelude.{◌≡◌, ◌<◌, [], length, IfOk, Ok, Er
 ghost use Rattle.csv.specs.Records.{fields_of};
 ghost use Rattle.m_places.specs.Refusals.{Outcome};
 ghost use Rattle.household.specs.InTurn.{in_turn};
-ghost use Rattle.household.specs.Household.{AreInputs, household_of, is_header, pair_of, row_of};
-ghost use Rattle.household.specs.inner.Left.{left_of};
+ghost use Rattle.household.specs.Household.{AreInputs, AreOfTypes, fitting_pair, household_of, is_header, pair_of, row_of};
+ghost use Rattle.household.specs.Reader.{left_of};
 ghost use Rattle.household.specs.declared.fault.HouseholdFault.TheVariants.{Memory};
 
 use crate::marks::mark;
@@ -31,6 +31,7 @@ pub fn read_household(
 ) -> Result<Household, HouseholdFault>
     ensures outcome { Outcome Memory result (λ household. household_of codes.now bytes.now ≡ Ok household.pairs) (λ fault. household_of codes.now bytes.now ≡ Err fault) }
     ensures inputs { IfOk result (λ household. AreInputs (length codes.now) household.pairs) }
+    ensures amounts { IfOk result (λ household. AreOfTypes codes.now household.pairs) }
 {
     let mut records = records_of(alloc, bytes);
     let mut row = ByteRecord::new(alloc);
@@ -89,7 +90,23 @@ fn read_pair(row: &ByteRecord, line: u32, codes: &Codes) -> Result<(u32, Amount)
         return Err(HouseholdFault::UnknownCode(line));
     };
     match read_amount(field_at(row, 1)) {
-        Ok(amount) => Ok((input, amount)),
+        Ok(amount) => fitting_pair(input, amount, line, codes),
         Err(_) => Err(HouseholdFault::BadAmount(line)),
+    }
+}
+
+// The pair of an input and an amount, if that is of the input's type.
+fn fitting_pair(
+    input: u32,
+    amount: Amount,
+    line: u32,
+    codes: &Codes,
+) -> Result<(u32, Amount), HouseholdFault>
+    ensures { result ≡ fitting_pair codes.now line (input, amount) }
+{
+    if codes.fits(input, amount) {
+        Ok((input, amount))
+    } else {
+        Err(HouseholdFault::NotOfType(line))
     }
 }

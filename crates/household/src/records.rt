@@ -8,7 +8,8 @@ ghost use Rattle.csv.specs.declared.parser.Terminator.TheVariants as term;
 ghost use Rattle.m_places.specs.declared.limits.TheConstants.{ROWS};
 ghost use Rattle.household.specs.Records.{records_of};
 ghost use Rattle.household.specs.Household.{line_behind};
-ghost use Rattle.household.specs.inner.Left.{IsNext, IsLast, Steps, action_of, left_of, state_of};
+ghost use Rattle.household.specs.Reader.{IsNext, left_of, state_of};
+ghost use Rattle.household.specs.inner.Left.{IsLast, Steps, action_of};
 ghost use Rattle.household.specs.declared.fault.HouseholdFault.TheVariants.{TooManyRows};
 
 use crate::HouseholdFault;
@@ -277,8 +278,8 @@ fn last_record(records: &mut Records<'_>, row: &mut ByteRecord) -> Result<bool, 
     Ok(true)
 }
 
-// The number of the record behind the header and so many rows, if there may be one more.
-pub(crate) fn next_line(rows: usize) -> Result<u32, HouseholdFault>
+/// The number of the record behind the header and so many rows, if there may be one more. Takes no memory.
+pub fn next_line(rows: usize) -> Result<u32, HouseholdFault>
     ensures { MatchResult result (λ line. (rows < ROWS) × (line ≡ line_behind rows)) (λ fault. (ROWS ≤ rows) × (fault ≡ TooManyRows)) }
 {
     if rows >= ROWS as usize {

@@ -3,10 +3,10 @@ ghost use Rattle.std.specs.List.{AllByRecursion, list_all};
 ghost use Rattle.csv.specs.Records.{fields_of};
 ghost use Rattle.m_places.specs.Refusals.{Outcome};
 ghost use Rattle.household.specs.InTurn.{in_turn};
-ghost use Rattle.household.specs.Household.{AreInputs};
+ghost use Rattle.household.specs.Household.{AreInputs, AreOfTypes};
 ghost use Rattle.m_fixed.specs.Text.{text_value, amount_read};
-ghost use Rattle.household.specs.Table.{amount_said, cells_read, column_of, is_label, is_table_header, labelled, table_of, table_row};
-ghost use Rattle.household.specs.inner.Left.{left_of};
+ghost use Rattle.household.specs.Table.{amount_said, cells_read, column_of, is_label, is_table_header, labelled, pairs_read, table_of, table_row};
+ghost use Rattle.household.specs.Reader.{left_of};
 ghost use Rattle.household.specs.declared.fault.HouseholdFault.TheVariants.{Memory};
 
 use crate::marks::mark;
@@ -29,6 +29,7 @@ pub struct Row {
 pub fn read_table(alloc: Global, bytes: &[u8], codes: &Codes) -> Result<Seq<Row>, HouseholdFault>
     ensures outcome { Outcome Memory result (λ rows. table_of codes.now bytes.now ≡ Ok rows) (λ fault. table_of codes.now bytes.now ≡ Err fault) }
     ensures inputs { IfOk result (λ rows. AllByRecursion (λ row. AreInputs (length codes.now) row.household.pairs) rows) }
+    ensures amounts { IfOk result (λ rows. AllByRecursion (λ row. AreOfTypes codes.now row.household.pairs) rows) }
 {
     let mut records = records_of(alloc, bytes);
     let mut row = ByteRecord::new(alloc);
@@ -39,7 +40,7 @@ pub fn read_table(alloc: Global, bytes: &[u8], codes: &Codes) -> Result<Seq<Row>
         return Err(HouseholdFault::BadHeader);
     }
     let columns = read_columns(alloc, &row, codes)?;
-    let rows = read_rows(alloc, &mut records, &mut row, &columns)?;
+    let rows = read_rows(alloc, &mut records, &mut row, &columns, codes)?;
     Ok(Seq::from_vec(rows))
 }
 
@@ -74,13 +75,14 @@ fn read_rows(
     records: &mut Records<'_>,
     row: &mut ByteRecord,
     columns: &[u32],
+    codes: &Codes,
 ) -> Result<Vec<Row>, HouseholdFault>
-    ensures { Outcome Memory result (λ rows. in_turn (table_row columns.now) [] (left_of records.old) ≡ Ok rows.items) (λ fault. in_turn (table_row columns.now) [] (left_of records.old) ≡ Err fault) }
+    ensures { Outcome Memory result (λ rows. in_turn (table_row codes.now columns.now) [] (left_of records.old) ≡ Ok rows.items) (λ fault. in_turn (table_row codes.now columns.now) [] (left_of records.old) ≡ Err fault) }
 {
     let mut rows = Vec::new(alloc);
     while next_record(records, row)? {
         let line = next_line(rows.len())?;
-        rows.push(read_row(alloc, row, line, columns)?)?;
+        rows.push(read_row(alloc, row, line, columns, codes)?)?;
     }
     Ok(rows)
 }
@@ -91,14 +93,15 @@ fn read_row(
     row: &ByteRecord,
     line: u32,
     columns: &[u32],
+    codes: &Codes,
 ) -> Result<Row, HouseholdFault>
-    ensures { Outcome Memory result (λ read. labelled line columns.now (fields_of row.now) ≡ Ok read) (λ fault. labelled line columns.now (fields_of row.now) ≡ Err fault) }
+    ensures { Outcome Memory result (λ read. labelled codes.now line columns.now (fields_of row.now) ≡ Ok read) (λ fault. labelled codes.now line columns.now (fields_of row.now) ≡ Err fault) }
 {
     let label = field_at(row, 0);
     if row.len() != columns.len() + 1 || !is_label(label) {
         return Err(HouseholdFault::BadRow(line));
     }
-    let pairs = read_cells(alloc, row, line, columns)?;
+    let pairs = read_pairs(alloc, row, line, columns, codes)?;
     Ok(Row {
         label: Name::new(alloc, label)?,
         household: Household {
@@ -107,8 +110,8 @@ fn read_row(
     })
 }
 
-// Whether a text may be a label: it isn't empty, and no byte of it is below 32.
-fn is_label(text: &[u8]) -> bool
+/// Whether a text may be a row's label: it isn't empty, and no byte of it is below 32. Takes no memory.
+pub fn is_label(text: &[u8]) -> bool
     ensures { result ≡ is_label text.now }
 {
     !text.is_empty() && is_printable(text)
@@ -119,6 +122,24 @@ fn is_printable(text: &[u8]) -> bool
     ensures { result ≡ list_all (nat_le 32) text.now }
 {
     text.iter().all(|byte| *byte >= 32)
+}
+
+// The pairs of a record's cells, each of its input's type.
+fn read_pairs(
+    alloc: Global,
+    row: &ByteRecord,
+    line: u32,
+    columns: &[u32],
+    codes: &Codes,
+) -> Result<Vec<(u32, Amount)>, HouseholdFault>
+    requires { length (fields_of row.now) ≡ length columns.now + 1 }
+    ensures { Outcome Memory result (λ pairs. pairs_read codes.now line columns.now (drop 1 (fields_of row.now)) ≡ Ok pairs.items) (λ fault. pairs_read codes.now line columns.now (drop 1 (fields_of row.now)) ≡ Err fault) }
+{
+    let pairs = read_cells(alloc, row, line, columns)?;
+    if !codes.all_fit(&pairs) {
+        return Err(HouseholdFault::NotOfType(line));
+    }
+    Ok(pairs)
 }
 
 // The pairs of a record's cells.
@@ -141,8 +162,9 @@ fn read_cells(
     Ok(pairs)
 }
 
-// The pair of a cell that isn't empty, below a column of this input.
-fn read_cell(cell: &[u8], input: u32, line: u32) -> Result<(u32, Amount), HouseholdFault>
+/// The pair of a cell that isn't empty, below a column of this input, in the record with this number: its only fault is a bad
+/// amount. Whether the amount is of the input's type `Codes::fits` says. Takes no memory.
+pub fn read_cell(cell: &[u8], input: u32, line: u32) -> Result<(u32, Amount), HouseholdFault>
     ensures { result ≡ amount_said line input (amount_read (text_value cell.now)) }
 {
     match read_amount(cell) {

@@ -5,7 +5,7 @@ use Rattle.m_text.specs.Bytes.{line_feed}
 use Rattle.m_text.specs.Lines.{onto_first}
 use Rattle.m_fixed.specs.declared.amount.Value.{Value}
 use Rattle.household_session.specs.declared.fault.EditFault.{EditFault}
-use Rattle.household_session.specs.declared.fault.EditFault.TheVariants.{UnknownCode, BadAmount}
+use Rattle.household_session.specs.declared.fault.EditFault.TheVariants.{UnknownCode, BadAmount, NotOfType}
 use Rattle.household_session.specs.Sessions.{Showing, Sitting, answered, clear_of, line, set_of, showing_of, shown, values_edited}
 use Rattle.household_session.specs.Commands.{SessionCommand, no_words, sets, clears, shows, too_long, bad, session_command}
 
@@ -16,12 +16,13 @@ abbrev pub answer_reply : Result (Unit {0}) EditFault → List ℕ
 answer_reply (Ok none) = line (codes "ok")
 answer_reply (Err UnknownCode) = line (codes "refused unknown code")
 answer_reply (Err BadAmount) = line (codes "refused bad amount")
+answer_reply (Err NotOfType) = line (codes "refused not of its type")
 
 -- the reply to a command, where the inputs have these values
 abbrev pub command_reply : Showing → List Value → SessionCommand → List ℕ
 command_reply showing values no_words = []
-command_reply showing values (sets code amount) = answer_reply (answered (set_of showing.codes code amount))
-command_reply showing values (clears code) = answer_reply (answered (clear_of showing.codes code))
+command_reply showing values (sets code amount) = answer_reply (answered (set_of showing.inputs code amount))
+command_reply showing values (clears code) = answer_reply (answered (clear_of showing.inputs code))
 command_reply showing values shows = shown showing values
 command_reply showing values too_long = line (codes "refused line too long")
 command_reply showing values bad = line (codes "refused bad command")
@@ -29,8 +30,8 @@ command_reply showing values bad = line (codes "refused bad command")
 -- the values after a command
 abbrev pub command_values : Showing → List Value → SessionCommand → List Value
 command_values showing values no_words = values
-command_values showing values (sets code amount) = values_edited values (set_of showing.codes code amount)
-command_values showing values (clears code) = values_edited values (clear_of showing.codes code)
+command_values showing values (sets code amount) = values_edited values (set_of showing.inputs code amount)
+command_values showing values (clears code) = values_edited values (clear_of showing.inputs code)
 command_values showing values shows = values
 command_values showing values too_long = values
 command_values showing values bad = values

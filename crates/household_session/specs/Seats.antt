@@ -3,7 +3,6 @@ use Rattle.std.specs.Prelude.{ℕ, ℤ, Bool, true, false, List, [], ◌∷◌, 
 use Rattle.m_fixed.specs.declared.amount.Value.{Value}
 use Rattle.m_fixed.specs.declared.amount.Value.TheVariants.{Undef}
 use Rattle.observables.specs.declared.face.Face.{Face}
-use Rattle.observables.specs.Inputs.{codes_of}
 use Rattle.flat_code.specs.declared.program.Flat.{Flat}
 use Rattle.flat_code.specs.Touched.{touched}
 use Rattle.value_sheet.specs.Held.{Held}
@@ -51,8 +50,8 @@ since_shown seated = record { shown = seated.sitting.values; put = replicate (le
 -- after a command
 abbrev pub since_command : Seated → SessionCommand → Since
 since_command seated no_words = seated.since
-since_command seated (sets code amount) = noted seated.since (set_of (codes_of seated.sitting.face.inputs) code amount)
-since_command seated (clears code) = noted seated.since (clear_of (codes_of seated.sitting.face.inputs) code)
+since_command seated (sets code amount) = noted seated.since (set_of seated.sitting.face.inputs code amount)
+since_command seated (clears code) = noted seated.since (clear_of seated.sitting.face.inputs code)
 since_command seated shows = since_shown seated
 since_command seated too_long = seated.since
 since_command seated bad = seated.since

@@ -1,5 +1,5 @@
 -- A session: a household whose amounts are edited, and what it is shown.
-use Rattle.std.specs.Prelude.{ℕ, ℤ, List, [], ◌∷◌, ◌++◌, codes, slice_set, Option, Some, None, Result, Ok, Err}
+use Rattle.std.specs.Prelude.{ℕ, ℤ, List, [], ◌∷◌, ◌++◌, codes, slice_set, Option, Some, None, Result, Ok, Err, if◌then◌else◌}
 use Rattle.text_pieces.specs.Pieces.{joined}
 use Rattle.m_fixed.specs.declared.amount.Value.{Value}
 use Rattle.m_fixed.specs.declared.amount.Value.TheVariants.{Undef, Num}
@@ -7,18 +7,19 @@ use Rattle.m_fixed.specs.declared.read.AmountFault.{AmountFault}
 use Rattle.m_fixed.specs.Text.{text_value, amount_read}
 use Rattle.m_names.specs.Names.{index_of}
 use Rattle.observables.specs.declared.face.Face.{Face}
+use Rattle.observables.specs.declared.inputs.Coded.{Coded}
 use Rattle.observables.specs.Inputs.{codes_of}
 use Rattle.flat_code.specs.declared.program.Flat.{Flat}
 use Rattle.flat_code.specs.Runs.{flat_run}
-use Rattle.household.specs.Household.{values_of}
+use Rattle.household.specs.Household.{is_fitting, values_of}
 use Rattle.text_pieces.specs.Pieces.{new_line}
 use Rattle.tax_print.specs.Lines.{answer_lines}
 use Rattle.household_session.specs.declared.fault.EditFault.{EditFault}
-use Rattle.household_session.specs.declared.fault.EditFault.TheVariants.{UnknownCode, BadAmount}
+use Rattle.household_session.specs.declared.fault.EditFault.TheVariants.{UnknownCode, BadAmount, NotOfType}
 
--- What a session shows, whatever program it has: the codes of the inputs, and the lines of what is answered to values of the inputs.
+-- What a session shows, whatever program it has: the inputs, and the lines of what is answered to values of the inputs.
 pub record Showing : Type 0 where
-  pub codes : List (List ℕ)
+  pub inputs : List Coded
   pub text : List Value → List ℕ
 
 -- A session as contracts see it: the program, what it shows of itself, and the value of each input as it is now.
@@ -29,7 +30,7 @@ pub record Sitting : Type 0 where
 
 -- what a session shows
 abbrev pub showing_of : Sitting → Showing
-showing_of sitting = record { codes = codes_of sitting.face.inputs; text = λ values. answer_lines sitting.face (flat_run sitting.flat values) }
+showing_of sitting = record { inputs = sitting.face.inputs; text = λ values. answer_lines sitting.face (flat_run sitting.flat values) }
 
 -- the session that begins with these pairs of an input and an amount
 abbrev pub begun : Flat → Face → List (ℕ × ℤ) → Sitting
@@ -38,15 +39,16 @@ begun flat face pairs = record { flat = flat; face = face; values = values_of pa
 -- ---- edits
 
 -- what a known or unknown code and what is read of an amount say
-abbrev pub set_said : Option ℕ → Result ℤ AmountFault → Result (ℕ × Value) EditFault
-set_said None amount = Err UnknownCode
-set_said (Some input) (Err why) = Err BadAmount
-set_said (Some input) (Ok millionths) = Ok (input, Num millionths)
+abbrev pub set_said : List Coded → Option ℕ → Result ℤ AmountFault → Result (ℕ × Value) EditFault
+set_said inputs None amount = Err UnknownCode
+set_said inputs (Some input) (Err why) = Err BadAmount
+set_said inputs (Some input) (Ok millionths) = if is_fitting inputs (input, millionths) then Ok (input, Num millionths) else Err NotOfType
 
 -- What it says to set the input with this code to this amount: an input's number and its new value, or why it is refused. An
--- unknown code is refused before a bad amount. Where `1AJ` has the number 0, `1AJ` and `2.5` say 0 and 2500000 millionths.
-abbrev pub set_of : List (List ℕ) → List ℕ → List ℕ → Result (ℕ × Value) EditFault
-set_of inputs code amount = set_said (index_of code inputs) (amount_read (text_value amount))
+-- unknown code is refused before a bad amount, and that before an amount that isn't of the input's type. Where `1AJ` has the
+-- number 0 and takes each amount, `1AJ` and `2.5` say 0 and 2500000 millionths.
+abbrev pub set_of : List Coded → List ℕ → List ℕ → Result (ℕ × Value) EditFault
+set_of inputs code amount = set_said inputs (index_of code (codes_of inputs)) (amount_read (text_value amount))
 
 -- what it says to clear the input with this number, if there is one
 abbrev pub clear_said : Option ℕ → Result (ℕ × Value) EditFault
@@ -54,8 +56,8 @@ clear_said None = Err UnknownCode
 clear_said (Some input) = Ok (input, Undef)
 
 -- What it says to clear the input with this code: it becomes undefined, whatever it was.
-abbrev pub clear_of : List (List ℕ) → List ℕ → Result (ℕ × Value) EditFault
-clear_of inputs code = clear_said (index_of code inputs)
+abbrev pub clear_of : List Coded → List ℕ → Result (ℕ × Value) EditFault
+clear_of inputs code = clear_said (index_of code (codes_of inputs))
 
 -- the values after an edit; a refused one changes nothing
 abbrev pub values_edited : List Value → Result (ℕ × Value) EditFault → List Value

@@ -5,4 +5,6 @@ pub enum EditFault {
     UnknownCode,
     /// What should be an amount is none, or a greater one than there is.
     BadAmount,
+    /// The amount isn't of the type of its input.
+    NotOfType,
 }

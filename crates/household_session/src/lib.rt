@@ -15,3 +15,4 @@ mod words;
 
 pub use fault::EditFault;
 pub use session::Session;
+pub use words::next_word;

@@ -2,9 +2,10 @@
 ghost use Rattle.std.specs.Prelude.{◌≡◌, ◌+◌, ◌*◌, ◌<◌, IfOk, length};
 ghost use Rattle.std.specs.List.{AllByRecursion};
 ghost use Rattle.text_pieces.specs.Giving.{Gives};
-ghost use Rattle.observables.specs.Inputs.{codes_of};
+ghost use Rattle.observables.specs.Inputs.{AreValuesOf};
 ghost use Rattle.flat_code.specs.Faces.{IsFaceOf};
-ghost use Rattle.household.specs.Household.{inputs_of};
+ghost use Rattle.flat_code.specs.Runs.{value_at};
+ghost use Rattle.household.specs.Household.{AreOfTypes, inputs_of};
 ghost use Rattle.household_session.specs.Sessions.{answered, begun, clear_of, edited, set_of, showing_of, shown};
 ghost use Rattle.household_session.specs.Replies.{after_line, answer_reply, reply_of};
 ghost use Rattle.household_session.specs.Seats.{line_cost, noted, show_cost, since_begun, since_line, since_shown};
@@ -46,8 +47,9 @@ impl Model for Session {
 }
 
 impl Session {
-    /// A session of a tidy program that begins with a household's amounts. The codes are those of the face's inputs, and the
-    /// program's arguments are numbered in 32 bits. Its only error is want of memory, and no later call takes memory.
+    /// A session of a tidy program that begins with a household's amounts, which are of their inputs' types. The codes are those of
+    /// the face's inputs, and the program's arguments are numbered in 32 bits. Its only error is want of memory, and no later
+    /// call takes memory.
     pub fn start(
         alloc: Global,
         tidy: Tidy,
@@ -57,10 +59,12 @@ impl Session {
     ) -> Result<Session, AllocError>
         requires few { 3 * length tidy.nodes < 4_294_967_295 }
         requires face { IsFaceOf face tidy }
-        requires codes { codes ≡ codes_of face.inputs }
+        requires codes { codes ≡ face.inputs }
         requires inputs { AllByRecursion (λ input. input < tidy.inputs) (inputs_of household.now.pairs) }
+        requires amounts { AreOfTypes face.inputs household.now.pairs }
         ensures sitting { IfOk result (λ session. session.sitting ≡ begun tidy face household.now.pairs) }
         ensures since { IfOk result (λ session. session.since ≡ since_begun tidy household.now.pairs) }
+        ensures values { IfOk result (λ session. AreValuesOf face.inputs session.sitting.values) }
     {
         let mut sheet = Sheet::new(alloc, tidy)?;
         put_all(&mut sheet, household);
@@ -68,17 +72,20 @@ impl Session {
     }
 
     /// Sets the input with this code to an amount that is spelled as `2500.5`. An unknown code is refused before a bad
-    /// amount, and a refused edit changes nothing. It takes no memory.
+    /// amount, and that before an amount that isn't of the input's type. A refused edit changes nothing. It takes no memory.
     pub fn set(&mut self, code: &[u8], amount: &[u8]) -> Result<(), EditFault>
-        ensures answer { result ≡ answered (set_of (codes_of self.old.sitting.face.inputs) code.now amount.now) }
-        ensures sitting { self.new.sitting ≡ edited self.old.sitting (set_of (codes_of self.old.sitting.face.inputs) code.now amount.now) }
-        ensures since { self.new.since ≡ noted self.old.since (set_of (codes_of self.old.sitting.face.inputs) code.now amount.now) }
+        ensures answer { result ≡ answered (set_of self.old.sitting.face.inputs code.now amount.now) }
+        ensures sitting { self.new.sitting ≡ edited self.old.sitting (set_of self.old.sitting.face.inputs code.now amount.now) }
+        ensures since { self.new.since ≡ noted self.old.since (set_of self.old.sitting.face.inputs code.now amount.now) }
     {
         let Some(input) = self.codes.find(code) else {
             return Err(EditFault::UnknownCode);
         };
         match read_amount(amount) {
             Ok(amount) => {
+                if !self.codes.fits(input, amount) {
+                    return Err(EditFault::NotOfType);
+                }
                 self.sheet.put(input, Value::Num(amount));
                 Ok(())
             }
@@ -88,15 +95,23 @@ impl Session {
 
     /// Makes the input with this code undefined, which it may be already. An unknown code is refused. It takes no memory.
     pub fn clear(&mut self, code: &[u8]) -> Result<(), EditFault>
-        ensures answer { result ≡ answered (clear_of (codes_of self.old.sitting.face.inputs) code.now) }
-        ensures sitting { self.new.sitting ≡ edited self.old.sitting (clear_of (codes_of self.old.sitting.face.inputs) code.now) }
-        ensures since { self.new.since ≡ noted self.old.since (clear_of (codes_of self.old.sitting.face.inputs) code.now) }
+        ensures answer { result ≡ answered (clear_of self.old.sitting.face.inputs code.now) }
+        ensures sitting { self.new.sitting ≡ edited self.old.sitting (clear_of self.old.sitting.face.inputs code.now) }
+        ensures since { self.new.since ≡ noted self.old.since (clear_of self.old.sitting.face.inputs code.now) }
     {
         let Some(input) = self.codes.find(code) else {
             return Err(EditFault::UnknownCode);
         };
         self.sheet.put(input, Value::Undef);
         Ok(())
+    }
+
+    /// The value of the input with this number, as it is now. It takes no memory.
+    pub fn input_value(&self, input: u32) -> Value
+        requires { input < self.now.sitting.flat.inputs }
+        ensures { result ≡ value_at self.now.sitting.values input }
+    {
+        self.sheet.input_value(input)
     }
 
     /// Writes the lines of what the program answers for the amounts as they are now, and then a line with a point. On a
@@ -150,5 +165,6 @@ fn print_edit<K: Sink>(answer: Result<(), EditFault>, out: &mut K) -> Result<(),
         Ok(()) => give_pieces(out, &[b"ok\n"]),
         Err(EditFault::UnknownCode) => give_pieces(out, &[b"refused unknown code\n"]),
         Err(EditFault::BadAmount) => give_pieces(out, &[b"refused bad amount\n"]),
+        Err(EditFault::NotOfType) => give_pieces(out, &[b"refused not of its type\n"]),
     }
 }

@@ -3,8 +3,8 @@ ghost use Rattle.std.specs.Prelude.{◌≡◌, ◌≢◌, ◌⊎◌, [], ◌∷�
 ghost use Rattle.m_text.specs.Bytes.{RunsTo, space};
 ghost use Rattle.household_session.specs.Commands.{starts_word, line_words};
 
-/// The first word of a line and what stands behind it; `None` where the line has no words.
-pub(crate) fn next_word(line: &[u8]) -> Option<(&[u8], &[u8])>
+/// The first word of a line and what stands behind it; `None` where the line has no words. Takes no memory.
+pub fn next_word(line: &[u8]) -> Option<(&[u8], &[u8])>
     ensures { MatchOption result (line_words line.now ≡ []) (λ r. line_words line.now ≡ r.0.now ∷ line_words r.1.now) }
 {
     let line = without_spaces(line);

@@ -22,18 +22,19 @@ use std::rc::Rc;
 use std::test::Fail;
 
 // So many whole units.
-fn units(n: i64) -> Value {
+pub fn units(n: i64) -> Value {
     match Amount::new(n as i128 * 1_000_000) {
         Some(amount) => Value::Num(amount),
         None => Value::Undef,
     }
 }
 
-fn variable(
+pub fn variable(
     alloc: Global,
     name: &[u8],
     role: Role,
     pairs: Vec<(Name, Amount)>,
+    value_word: Option<Name>,
 ) -> Result<Item, AllocError> {
     Ok(Item::Variable(VariableItem {
         name: Name::new(alloc, name)?,
@@ -45,7 +46,7 @@ fn variable(
         role,
         words: Seq::from_vec(Vec::new(alloc)),
         pairs: Seq::from_vec(pairs),
-        value_word: None,
+        value_word,
     }))
 }
 
@@ -54,9 +55,15 @@ fn items(alloc: Global) -> Result<Vec<Item>, AllocError> {
     let mut pairs = Vec::new(alloc);
     pairs.push((Name::new(alloc, b"k")?, Amount::zero()))?;
     let mut all = Vec::new(alloc);
-    all.push(variable(alloc, b"A", Role::Input(Name::new(alloc, b"1AJ")?), pairs)?)?;
-    all.push(variable(alloc, b"B", Role::Computed(None), Vec::new(alloc))?)?;
-    all.push(variable(alloc, b"C", Role::Computed(None), Vec::new(alloc))?)?;
+    all.push(variable(
+        alloc,
+        b"A",
+        Role::Input(Name::new(alloc, b"1AJ")?),
+        pairs,
+        None,
+    )?)?;
+    all.push(variable(alloc, b"B", Role::Computed(None), Vec::new(alloc), None)?)?;
+    all.push(variable(alloc, b"C", Role::Computed(None), Vec::new(alloc), None)?)?;
     Ok(all)
 }
 
@@ -114,7 +121,7 @@ fn told_by(alloc: Global, core: &Core, symbols: &Symbols, a: Value) -> Result<To
         return Ok(Told::Nothing);
     };
     match inline(alloc, core, &ordered, symbols, &[2]) {
-        Ok((flat, _)) => {
+        Ok((flat, _, _)) => {
             if flat.inputs != 1 {
                 return Ok(Told::Nothing);
             }
@@ -126,17 +133,17 @@ fn told_by(alloc: Global, core: &Core, symbols: &Symbols, a: Value) -> Result<To
 }
 
 // B = n or C = n.
-fn set(cell: u32, n: i64) -> CCommand {
+pub fn set(cell: u32, n: i64) -> CCommand {
     CCommand::new(CCommandNode::Set(1, cell, CTerm::new(CNode::Lit(units(n)))))
 }
 
-fn one(alloc: Global, command: CCommand) -> Result<Vec<CCommand>, AllocError> {
+pub fn one(alloc: Global, command: CCommand) -> Result<Vec<CCommand>, AllocError> {
     let mut block = Vec::new(alloc);
     block.push(command)?;
     Ok(block)
 }
 
-fn cells(alloc: Global, all: &[u32]) -> Result<Seq<u32>, AllocError> {
+pub fn cells(alloc: Global, all: &[u32]) -> Result<Seq<u32>, AllocError> {
     Ok(Seq::from_vec(Vec::from_slice(alloc, all)?))
 }
 
@@ -170,7 +177,7 @@ fn partition(alloc: Global) -> Result<CCommand, AllocError> {
 }
 
 // `.. <- call_m()`, which gives back these cells.
-fn rules(alloc: Global, names: u64, all: &[u32]) -> Result<CCommand, AllocError> {
+pub fn rules(alloc: Global, names: u64, all: &[u32]) -> Result<CCommand, AllocError> {
     Ok(CCommand::new(CCommandNode::Rules(1, names, cells(alloc, all)?)))
 }
 

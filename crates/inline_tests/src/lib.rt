@@ -4,3 +4,5 @@
 
 #[cfg(test)]
 mod drivers;
+#[cfg(test)]
+mod notes;

@@ -1,2 +1,4 @@
 pub mod OutputLemmas
+pub mod PartLemmas
+pub mod PlaceLemmas
 pub mod RowLemmas

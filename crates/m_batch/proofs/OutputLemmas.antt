@@ -1,12 +1,10 @@
 -- The outputs of a run are as many as the code has.
-use Rattle.std.proofs.Common.{◌≡◌, ℕ, zero, suc, List, [], ◌∷◌, length, replicate, Option, None, Some, refl, sym, ap, ◌∙◌}
-use Rattle.std.specs.Prelude.{fold, slice_set}
+use Rattle.std.proofs.Common.{◌≡◌, List, [], ◌∷◌, length, Option, None, Some, refl, ap, ◌∙◌}
 use Rattle.std.proofs.lemmas.List.{length-set, length-replicate}
 use Rattle.m_fixed.specs.declared.amount.Value.{Value}
 use Rattle.m_fixed.specs.declared.amount.Value.TheVariants.{Undef}
 use Rattle.observables.specs.declared.answer.Stop.{Stop}
-use Rattle.observables.specs.declared.answer.Answer.{Answer}
-use Rattle.observables.specs.declared.answer.Answer.TheVariants.{Values, Stopped}
+use Rattle.observables.specs.declared.answer.Answer.TheVariants.{Values}
 use Rattle.reg_machine.specs.declared.instr.Instr.{Instr}
 use Rattle.reg_machine.specs.declared.instr.Instr.TheVariants.{Take, Lit, Do, Store, Load, Check, Output}
 use Rattle.reg_machine.specs.Flow.{Listing}

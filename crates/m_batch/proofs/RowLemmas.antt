@@ -1,7 +1,7 @@
 -- Rows, from one to the next.
-use Rattle.std.proofs.Common.{◌≡◌, ℕ, ◌+◌, ◌<◌, length, get_or, take, List, [], ◌∷◌, ◌++◌, sym, ◌∙◌, ap}
+use Rattle.std.proofs.Common.{◌≡◌, ℕ, ◌+◌, ◌-◌, ◌<◌, ◌≤◌, length, get_or, take, drop, List, [], ◌∷◌, ◌++◌, sym, ◌∙◌, ap, arith, append_assoc}
 use Rattle.std.specs.List.{AllByRecursion}
-use Rattle.std.proofs.lemmas.List.{take_more, map-append}
+use Rattle.std.proofs.lemmas.List.{take_more, map-append, take-take, drop-take, take-append-drop}
 use Rattle.observables.specs.declared.answer.Answer.{Answer}
 use Rattle.reg_machine.specs.Flow.{Listing}
 use Rattle.household.specs.declared.table.Row.{Row}
@@ -9,13 +9,28 @@ use Rattle.household.specs.Household.{AreInputs}
 use Rattle.m_batch.specs.Batch.{HasInputsBelow, row_answer, answers_of}
 
 -- a row more
-pub answers_next : (code : Listing) (rows : List Row) (i : ℕ) (row : Row) (answers new : List Answer) → i < length rows → row ≡ get_or rows i row
-    → answers ≡ answers_of code (take i rows) → new ≡ answers ++ row_answer code row ∷ [] → new ≡ answers_of code (take (i + 1) rows)
-answers_next code rows i row answers new h is before more =
-    more ∙ ap (λ given. given ++ row_answer code row ∷ []) before
-    ∙ ap (λ r. answers_of code (take i rows) ++ row_answer code r ∷ []) is
-    ∙ sym (map-append (row_answer code) (take i rows) (get_or rows i row ∷ []))
-    ∙ ap (answers_of code) (sym (take_more rows i row h))
+pub answers_added : (code : Listing) (rows : List Row) (i : ℕ) (first answers new : List Answer) (answer : Answer) → i < length rows
+    → ((d : Row) → answer ≡ row_answer code (get_or rows i d)) → answers ≡ first ++ answers_of code (take i rows) → new ≡ answers ++ answer ∷ []
+    → new ≡ first ++ answers_of code (take (i + 1) rows)
+answers_added code rows i first answers new answer h is before more =
+    let d : Row = record { label = []; household = record { pairs = [] } } in
+    more ∙ ap (λ given. given ++ answer ∷ []) before
+    ∙ append_assoc first (answers_of code (take i rows)) (answer ∷ [])
+    ∙ ap (λ a. first ++ (answers_of code (take i rows) ++ a ∷ [])) (is d)
+    ∙ ap (λ given. first ++ given) (sym (map-append (row_answer code) (take i rows) (get_or rows i d ∷ [])) ∙ ap (answers_of code) (sym (take_more rows i d h)))
+
+-- a block's answers more
+pub block_next : (code : Listing) (rows : List Row) (from end : ℕ) (before new : List Answer) → from ≤ end → end ≤ length rows
+    → before ≡ answers_of code (take from rows) → new ≡ before ++ answers_of code (take (end - from) (drop from rows)) → new ≡ answers_of code (take end rows)
+block_next code rows from end before new h within so_far more =
+    let sum : from + (end - from) ≡ end = omega (arith, h) in
+    let both : take from rows ++ take (end - from) (drop from rows) ≡ take end rows =
+    ap (λ (front : List _). front ++ take (end - from) (drop from rows)) (sym (take-take from (from + (end - from)) rows (omega arith)))
+    ∙ ap (λ (back : List _). take from (take (from + (end - from)) rows) ++ back) (sym (drop-take from (end - from) rows))
+    ∙ take-append-drop from (take (from + (end - from)) rows) ∙ ap (λ (n : ℕ). take n rows) sum in
+    more ∙ ap (λ (b : List Answer). b ++ answers_of code (take (end - from) (drop from rows))) so_far
+    ∙ sym (map-append (row_answer code) (take from rows) (take (end - from) (drop from rows)))
+    ∙ ap (answers_of code) both
 
 -- the rows of a table have no other inputs than the table's codes
 pub rows_below : (inputs : ℕ) (rows : List Row) → AllByRecursion (λ row. AreInputs inputs row.household.pairs) rows → AllByRecursion (HasInputsBelow inputs) rows

@@ -1,71 +1,65 @@
 //! The answers of a table's rows.
-ghost use Rattle.std.specs.Prelude.{◌≡◌, IfOk, length};
+ghost use Rattle.std.specs.Prelude.{◌≡◌, ◌+◌, ◌^◌, ◌<◌, ◌≤◌, IfOk, length};
 ghost use Rattle.std.specs.List.{AllByRecursion};
-ghost use Rattle.m_batch.specs.Batch.{HasInputsBelow, row_answer, answers_of};
+ghost use Rattle.m_batch.specs.Batch.{HasInputsBelow, answers_of};
+ghost use Rattle.m_batch.specs.inner.Places.{ArePlaced};
 
-use crate::one::answer_to;
-use household::{Row, values_into};
-use m_fixed::Value;
-use m_places::Seq;
+use crate::chunk::answers_of_chunk;
+use crate::parts::joined;
+use crate::places::place_inputs;
+use household::Row;
+use m_places::{Gate, Seq};
 use observables::Answer;
-use reg_machine::{Code, Machine};
+use reg_machine::Code;
 use std::alloc::{AllocError, Global};
+use std::thread;
 use std::thread::Threads;
 
 /// What code answers for each row of a table, in the order of the rows. Each answer is that of a run by itself, so a
-/// row that stops changes no other. One machine runs them all, over one list of values. Its only error is want of memory.
+/// row that stops changes no other, and answers are the same for every gate and every number of threads. The worker of row k, from 0, first
+/// calls `gate.pass(k)`. There are as many workers as processors, and two at least where there are two rows. Its only error is want of memory.
 ///
 /// Of code that gives its input 0 back, the rows with the amounts 5 and nothing are answered 5 and undefined.
-pub fn run_batch<R: Threads + Sync>(
+pub fn run_batch<R: Threads + Sync, G: Gate + Sync>(
     rt: &R,
     alloc: Global,
     code: &Code,
     rows: &[Row],
+    gate: &G,
 ) -> Result<Seq<Answer>, AllocError>
     requires { AllByRecursion (HasInputsBelow code.now.counts.inputs) rows.now }
     ensures { IfOk result (λ answers. answers ≡ answers_of code.now rows.now) }
 {
-    let mut machine = Machine::new(alloc, code)?;
-    let mut values = vec![in alloc; Value::Undef; code.inputs() as usize]?;
-    run_rows(alloc, code, &mut machine, &mut values, rows)
-}
-
-// The answers of rows, by a machine for the code and with room for a value of each input.
-fn run_rows<'a>(
-    alloc: Global,
-    code: &Code,
-    machine: &mut Machine<'a>,
-    values: &mut [Value],
-    rows: &[Row],
-) -> Result<Seq<Answer>, AllocError>
-    requires same { machine.old.code ≡ code.now }
-    requires room { length values.old ≡ code.now.counts.inputs }
-    requires inputs { AllByRecursion (HasInputsBelow code.now.counts.inputs) rows.now }
-    ensures { IfOk result (λ answers. answers ≡ answers_of code.now rows.now) }
-{
-    let mut answers = Vec::with_capacity(alloc, rows.len())?;
-    for row in rows {
-        let answer = row_answer(alloc, code, machine, values, row)?;
-        answers.push(answer)?;
-    }
+    let places = place_inputs(alloc, code.inputs() as usize, rows)?;
+    let size = chunk_size(workers(rt), rows.len());
+    let parts = thread::map_chunks(
+        rt,
+        alloc,
+        rows,
+        size,
+        &|start: usize, chunk: &[Row]| -> Result<Vec<Answer>, AllocError>
+            requires { ArePlaced code.now.counts.inputs places chunk.now × (start + length chunk.now < 2 ^ 64) }
+            ensures { IfOk result (λ answers. answers.items ≡ answers_of code.entry.now chunk.entry.now) }
+        { answers_of_chunk(alloc, gate, start, code, &places, chunk) },
+    )?;
+    let answers = joined(alloc, parts)?;
     Ok(Seq::from_vec(answers))
 }
 
-// The answer of one row.
-fn row_answer<'a>(
-    alloc: Global,
-    code: &Code,
-    machine: &mut Machine<'a>,
-    values: &mut [Value],
-    row: &Row,
-) -> Result<Answer, AllocError>
-    requires same { machine.old.code ≡ code.now }
-    requires room { length values.old ≡ code.now.counts.inputs }
-    requires inputs { HasInputsBelow code.now.counts.inputs row.now }
-    ensures answer { IfOk result (λ answer. answer ≡ row_answer code.now row.now) }
-    ensures same { machine.new.code ≡ code.now }
-    ensures room { length values.new ≡ code.now.counts.inputs }
+// How many threads there should be: as many as processors, and two at least.
+fn workers<R: Threads>(rt: &R) -> usize
+    ensures { 2 ≤ result }
 {
-    values_into(&row.household, values);
-    answer_to(alloc, code, machine, values)
+    match thread::available_parallelism(rt) {
+        Ok(count) => count.get().max(2),
+        Err(_) => 2,
+    }
+}
+
+// How many rows a worker gets, the last one perhaps fewer.
+fn chunk_size(workers: usize, rows: usize) -> usize
+    requires { 2 ≤ workers }
+    ensures { 0 < result }
+{
+    rows.div_ceil(workers).max(1)
 }

@@ -1,10 +1,15 @@
 //! Many households at once: what code answers for each row of a table, in the order of the rows; and one alone.
 //!
-//! This crate knows neither how a table is spelled nor how an answer is printed.
+//! Rows are shared out among threads, each of which runs the one code on a machine of its own, a block of rows at a time. This crate
+//! knows neither how a table is spelled nor how an answer is printed.
 #![tactic(auto)]
 
 mod batch;
+mod chunk;
 mod one;
+mod parts;
+mod places;
+mod rows;
 
 pub use batch::run_batch;
 pub use one::run_household;

@@ -1,6 +1,5 @@
 -- A source has one compiling, and a code file one answer.
 use Rattle.std.proofs.Common.{◌≡◌, ◌≢◌, ℕ, ℤ, List, [], length, None, Some, Ok, Err, refl, sym, ap, ◌∙◌, subst}
-use Rattle.std.proofs.lemmas.List.{length-map}
 use Rattle.m_fixed.specs.declared.amount.Value.{Value}
 use Rattle.rule_text.specs.declared.Source.{Source}
 use Rattle.code_file.specs.Reading.{IsCodeFault, IsFormOf}
@@ -13,11 +12,9 @@ use Rattle.household.specs.Household.{household_of, values_of}
 use Rattle.household.specs.declared.fault.HouseholdFault.{HouseholdFault}
 use Rattle.household.proofs.GivenLemmas.{household_gives}
 use Rattle.observables.specs.Answers.{told_of}
-use Rattle.observables.specs.Inputs.{codes_of}
 use Rattle.observables.specs.Outputs.{names_of, notes_of}
 use Rattle.observables.specs.declared.answer.Answer.{Answer}
 use Rattle.observables.specs.declared.face.Face.{Face}
-use Rattle.observables.specs.declared.inputs.Coded.{Coded}
 use Rattle.reg_machine.specs.Machine.{machine_run}
 use Rattle.m_compile.specs.Faults.{IsSourceFault}
 use Rattle.m_compile.specs.declared.fault.SourceFault.{SourceFault}
@@ -31,7 +28,7 @@ use Rattle.m_work.specs.Execs as exec
 use Rattle.m_work.specs.Households.{told_status}
 use Rattle.m_work.specs.Prepared.{HouseholdReplies, Shows}
 use Rattle.m_work.specs.Prepared as prepared
-use Rattle.m_work.specs.Schemes.{Scheme, scheme_codes, told_to}
+use Rattle.m_work.specs.Schemes.{Scheme, told_to}
 use Rattle.m_work.specs.Sources.{IsScheme}
 use Rattle.m_commands.specs.Output.{AreOneOutput, the_same, both_compiled}
 use Rattle.m_commands.proofs.Schemes.{one_line, same_line}
@@ -63,28 +60,23 @@ one_code_fault code line other_line fault other f g k l = one-fault code fault o
 
 -- ---- what code is to households
 
--- as many inputs as codes
-many_codes : (inputs : List Coded) → length (codes_of inputs) ≡ length inputs
-many_codes inputs = length-map inputs (λ (c : Coded). c.code)
-
--- the codes are the same by one scheme and by the other
-pub one_codes : (face : Face) (runs : List Value → Answer) (one other : Scheme) → Shows one face runs → Shows other face runs → scheme_codes one ≡ scheme_codes other
-one_codes face runs one other a b = sym a.codes ∙ b.codes
+-- the inputs are the same by one scheme and by the other
+pub one_inputs : (face : Face) (runs : List Value → Answer) (one other : Scheme) → Shows one face runs → Shows other face runs → one.inputs ≡ other.inputs
+one_inputs face runs one other a b = sym a.inputs ∙ b.inputs
 
 -- and so is what is told to a household
 pub one_told : (face : Face) (runs : List Value → Answer) (one other : Scheme) (rows : List ℕ) (pairs : List (ℕ × ℤ)) → Shows one face runs → Shows other face runs
-    → household_of (scheme_codes one) rows ≡ Ok pairs → household_of (scheme_codes other) rows ≡ Ok pairs → told_to one pairs ≡ told_to other pairs
+    → household_of one.inputs rows ≡ Ok pairs → household_of other.inputs rows ≡ Ok pairs → told_to one pairs ≡ told_to other pairs
 one_told face runs one other rows pairs a b g h =
-    let n : length one.inputs ≡ length other.inputs = sym (many_codes one.inputs) ∙ ap length (one_codes face runs one other a b) ∙ many_codes other.inputs in
-    let x = a.answers (values_of pairs (length one.inputs)) (household_gives one.inputs rows pairs a.any g) in
-    let y = b.answers (values_of pairs (length other.inputs)) (household_gives other.inputs rows pairs b.any h) in
+    let n : length one.inputs ≡ length other.inputs = ap length (one_inputs face runs one other a b) in
+    let x = a.answers (values_of pairs (length one.inputs)) (household_gives one.inputs rows pairs g) in
+    let y = b.answers (values_of pairs (length other.inputs)) (household_gives other.inputs rows pairs h) in
     cc (n, x, y)
 
 -- what code is to households, the same code is too
 pub shown_other : (scheme : Scheme) (one other : Loaded) → IsSameCode one other → Shows scheme one.face (machine_run one.code) → Shows scheme other.face (machine_run other.code)
 shown_other scheme one other same s = record {
-  codes = ap codes_of (sym same.inputs) ∙ s.codes;
-  any = s.any;
+  inputs = sym same.inputs ∙ s.inputs;
   names = ap names_of (sym same.outputs) ∙ s.names;
   answers = λ values given. (λ i. told_of (sym same.labels i) (notes_of (sym same.outputs i)) (machine_run (sym same.code i) values)) ∙ s.answers values given;
 }
@@ -93,17 +85,17 @@ shown_other scheme one other same s = record {
 one_answer : (face : Face) (runs : List Value → Answer) (one other : Scheme) (rows t u : List ℕ) (s r : Status) → Shows one face runs → Shows other face runs
     → HouseholdReplies [] one rows t s → HouseholdReplies [] other rows u r → AreOneOutput t s u r
 one_answer face runs one other rows t u s r a b (prepared.is_refused fault g k) (prepared.is_refused also h l) =
-    let f : household_of (scheme_codes other) rows ≡ Err fault = subst (λ codes. household_of codes rows ≡ Err fault) (one_codes face runs one other a b) g in
+    let f : household_of other.inputs rows ≡ Err fault = subst (λ inputs. household_of inputs rows ≡ Err fault) (one_inputs face runs one other a b) g in
     let e : fault ≡ also = cc (f, h) in
     the_same (same_line fault also t u e k l) refl
 one_answer face runs one other rows t u s r a b (prepared.is_refused fault g k) (prepared.is_told pairs h) =
-    let f : household_of (scheme_codes other) rows ≡ Err fault = subst (λ codes. household_of codes rows ≡ Err fault) (one_codes face runs one other a b) g in
+    let f : household_of other.inputs rows ≡ Err fault = subst (λ inputs. household_of inputs rows ≡ Err fault) (one_inputs face runs one other a b) g in
     cc (f, h)
 one_answer face runs one other rows t u s r a b (prepared.is_told pairs g) (prepared.is_refused fault h k) =
-    let f : household_of (scheme_codes other) rows ≡ Ok pairs = subst (λ codes. household_of codes rows ≡ Ok pairs) (one_codes face runs one other a b) g in
+    let f : household_of other.inputs rows ≡ Ok pairs = subst (λ inputs. household_of inputs rows ≡ Ok pairs) (one_inputs face runs one other a b) g in
     cc (f, h)
 one_answer face runs one other rows t u s r a b (prepared.is_told pairs g) (prepared.is_told given h) =
-    let f : household_of (scheme_codes other) rows ≡ Ok pairs = subst (λ codes. household_of codes rows ≡ Ok pairs) (one_codes face runs one other a b) g in
+    let f : household_of other.inputs rows ≡ Ok pairs = subst (λ inputs. household_of inputs rows ≡ Ok pairs) (one_inputs face runs one other a b) g in
     let p : given ≡ pairs = cc (f, h) in
     let e = one_told face runs one other rows pairs a b g f ∙ ap (told_to other) (sym p) in
     let n : one.names ≡ other.names = sym a.names ∙ b.names in
@@ -131,11 +123,11 @@ code_not_refused code rows line fault h is told = no_form_and_fault code line h.
 
 -- nor has the household
 pub rows_not_refused : (code rows : List ℕ) (loaded : Loaded) (scheme : Scheme) (fault : HouseholdFault) → ExecHasAnswer code rows → IsFormOf code loaded
-    → Shows scheme loaded.face (machine_run loaded.code) → household_of (scheme_codes scheme) rows ≡ Err fault → ⊥
+    → Shows scheme loaded.face (machine_run loaded.code) → household_of scheme.inputs rows ≡ Err fault → ⊥
 rows_not_refused code rows loaded scheme fault h form shown g =
     let e = one_loaded code h.loaded loaded h.form form in
-    let c : codes_of h.loaded.face.inputs ≡ scheme_codes scheme = ap codes_of e.inputs ∙ shown.codes in
-    let f : household_of (scheme_codes scheme) rows ≡ Ok h.pairs = subst (λ codes. household_of codes rows ≡ Ok h.pairs) c h.given in
+    let c : h.loaded.face.inputs ≡ scheme.inputs = e.inputs ∙ shown.inputs in
+    let f : household_of scheme.inputs rows ≡ Ok h.pairs = subst (λ inputs. household_of inputs rows ≡ Ok h.pairs) c h.given in
     cc (f, g)
 
 -- ---- compiling

@@ -17,17 +17,17 @@ use Rattle.m_work.specs.Prepared.{HouseholdReplies, IsPreparedCode, Shows}
 use Rattle.m_work.specs.Prepared as prepared
 use Rattle.m_work.specs.Runs.{RunReplies}
 use Rattle.m_work.specs.Runs as run
-use Rattle.m_work.specs.Schemes.{Scheme, scheme_codes, told_to}
+use Rattle.m_work.specs.Schemes.{Scheme, told_to}
 use Rattle.m_work.specs.Sources.{IsScheme, households_are_refused}
-use Rattle.m_commands.proofs.Codes.{no_form_and_fault, one_codes, one_loaded, one_told, shown_other}
+use Rattle.m_commands.proofs.Codes.{no_form_and_fault, one_inputs, one_loaded, one_told, shown_other}
 
 -- what is answered to a household by one scheme is answered to it by the other
 same_replies : (face : Face) (runs : List Value → Answer) (one other : Scheme) (rows text : List ℕ) (status : Status) → Shows one face runs → Shows other face runs
     → HouseholdReplies [] one rows text status → HouseholdReplies [] other rows text status
 same_replies face runs one other rows text status a b (prepared.is_refused fault g k) =
-    prepared.is_refused fault (subst (λ codes. household_of codes rows ≡ Err fault) (one_codes face runs one other a b) g) k
+    prepared.is_refused fault (subst (λ inputs. household_of inputs rows ≡ Err fault) (one_inputs face runs one other a b) g) k
 same_replies face runs one other rows text status a b (prepared.is_told pairs g) =
-    let f : household_of (scheme_codes other) rows ≡ Ok pairs = subst (λ codes. household_of codes rows ≡ Ok pairs) (one_codes face runs one other a b) g in
+    let f : household_of other.inputs rows ≡ Ok pairs = subst (λ inputs. household_of inputs rows ≡ Ok pairs) (one_inputs face runs one other a b) g in
     let e : told_to other pairs ≡ told_to one pairs = sym (one_told face runs one other rows pairs a b g f) in
     let n : other.names ≡ one.names = sym b.names ∙ a.names in
     let t : told_lines other.names (told_to other pairs) ≡ told_lines one.names (told_to one pairs) = λ i. told_lines (n i) (e i) in

@@ -1,8 +1,11 @@
+pub mod Cases
+pub mod Checks
 pub mod Clauses
 pub mod Codes
 pub mod Compiling
 pub mod Executed
 pub mod Faults
+pub mod Lints
 pub mod OneOutput
 pub mod Reading
 pub mod Schemes

@@ -18,7 +18,7 @@ use Rattle.m_work.specs.Households.{told_status}
 use Rattle.m_work.specs.LargeAnswers as large
 use Rattle.m_work.specs.Larges.{large_line, large_source}
 use Rattle.m_work.specs.Runs as run
-use Rattle.m_work.specs.Schemes.{Scheme, scheme_codes, told_to}
+use Rattle.m_work.specs.Schemes.{Scheme, told_to}
 use Rattle.m_work.specs.Serves.{IsSession}
 use Rattle.m_work.specs.Serves as serve
 use Rattle.m_work.specs.Sessions.{ended_replies, session_replies}
@@ -29,17 +29,20 @@ use Rattle.m_commands.specs.Command.{plan_of}
 use Rattle.m_commands.specs.Output.{Output, usage, refuses, answers, AreOneOutput, the_same}
 use Rattle.m_commands.specs.declared.command.Command.{Command}
 use Rattle.m_commands.specs.declared.work.Work.{Work}
-use Rattle.m_commands.specs.declared.work.Work.TheVariants.{Run, Serve, Batch, Large, Compile, Exec}
+use Rattle.m_commands.specs.declared.work.Work.TheVariants.{Run, Serve, Batch, Large, Compile, Exec, Check, Lint, Cases}
+use Rattle.m_commands.proofs.Cases.{one_cases}
+use Rattle.m_commands.proofs.Checks.{one_check}
 use Rattle.m_commands.proofs.Codes.{one_compile, one_exec}
+use Rattle.m_commands.proofs.Lints.{one_lint}
 use Rattle.m_commands.proofs.Schemes.{not_refused, one_refusal, one_scheme, said_other}
 
 -- the pairs of a household are the same by one scheme and by the other
 one_pairs : (source : Source) (rows : List ℕ) (one other : Scheme) (pairs given : List (ℕ × ℤ)) → IsScheme source one → IsScheme source other
-    → household_of (scheme_codes one) rows ≡ Ok pairs → household_of (scheme_codes other) rows ≡ Ok given → pairs ≡ given
+    → household_of one.inputs rows ≡ Ok pairs → household_of other.inputs rows ≡ Ok given → pairs ≡ given
 one_pairs source rows one other pairs given a b p q = let c = said_other source (λ inputs. household_of inputs rows) (Ok pairs) one other a b p in cc (c, q)
 
 one_rows : (source : Source) (table : List ℕ) (one other : Scheme) (rows given : List Row) → IsScheme source one → IsScheme source other
-    → table_of (scheme_codes one) table ≡ Ok rows → table_of (scheme_codes other) table ≡ Ok given → rows ≡ given
+    → table_of one.inputs table ≡ Ok rows → table_of other.inputs table ≡ Ok given → rows ≡ given
 one_rows source table one other rows given a b p q = let c = said_other source (λ inputs. table_of inputs table) (Ok rows) one other a b p in cc (c, q)
 
 -- ---- runs and `large N`
@@ -109,6 +112,9 @@ one_reply (Batch source table) typed t u s r a b = one_batch source table t u s 
 one_reply (Large n) typed t u s r a b = one_large n t u s r a b
 one_reply (Compile source) typed t u s r a b = one_compile source t u s r a b
 one_reply (Exec code rows) typed t u s r a b = one_exec code rows t u s r a b
+one_reply (Check source rows report) typed t u s r a b = one_check source rows report t u s r a b
+one_reply (Lint source) typed t u s r a b = one_lint source t u s r a b
+one_reply (Cases source table) typed t u s r a b = one_cases source table t u s r a b
 
 -- The same words, files and input have one output.
 pub one_output : (words : List (List ℕ)) (disk : Disk) (typed t u : List ℕ) (s r : Status) → Output words disk typed t s → Output words disk typed u r → AreOneOutput t s u r

@@ -4,11 +4,12 @@ use Rattle.rule_text.specs.declared.Source.{Source}
 use Rattle.rule_text.specs.declared.Text.{Text}
 use Rattle.fault_lines.specs.Lines.{cycle_line, recursion_line}
 use Rattle.household.specs.declared.fault.HouseholdFault.{HouseholdFault}
+use Rattle.observables.specs.declared.inputs.Coded.{Coded}
 use Rattle.m_compile.specs.Lines.{source_line}
 use Rattle.m_compile.specs.declared.fault.SourceFault.{SourceFault}
 use Rattle.m_plan.specs.declared.status.Status.TheVariants.{Refused}
 use Rattle.m_work.specs.Households.{household_fault_line}
-use Rattle.m_work.specs.Schemes.{Scheme, scheme_codes}
+use Rattle.m_work.specs.Schemes.{Scheme}
 use Rattle.m_work.specs.Sources.{IsScheme, Refuses, scheme_said, source_is_refused, households_are_refused}
 use Rattle.m_commands.specs.Output.{AreOneOutput, the_same, both_cycles, both_recursions}
 use Rattle.m_compile.specs.Faults.{AreOneSourceFault}
@@ -22,12 +23,12 @@ one_scheme source one other a b =
     a.said ∙ (λ i. scheme_said (same.0 i) (same.1 i) (same.2 i) (same.3 i)) ∙ sym b.said
 
 -- what a file says is the same by one scheme and by the other
-pub said_other : (source : Source) {Given : Type 0} (said : List (List ℕ) → Result Given HouseholdFault) (result : Result Given HouseholdFault) (one other : Scheme) → IsScheme source one → IsScheme source other
-    → said (scheme_codes one) ≡ result → said (scheme_codes other) ≡ result
-said_other source said result one other a b e = subst (λ (s : Scheme). said (scheme_codes s) ≡ result) (one_scheme source one other a b) e
+pub said_other : (source : Source) {Given : Type 0} (said : List Coded → Result Given HouseholdFault) (result : Result Given HouseholdFault) (one other : Scheme) → IsScheme source one → IsScheme source other
+    → said one.inputs ≡ result → said other.inputs ≡ result
+said_other source said result one other a b e = subst (λ (s : Scheme). said s.inputs ≡ result) (one_scheme source one other a b) e
 
 -- a valid source and a file without a fault aren't refused
-pub not_refused : (source : Source) {Given : Type 0} (said : List (List ℕ) → Result Given HouseholdFault) (line : List ℕ) (scheme : Scheme) (given : Given) → IsScheme source scheme → said (scheme_codes scheme) ≡ Ok given
+pub not_refused : (source : Source) {Given : Type 0} (said : List Coded → Result Given HouseholdFault) (line : List ℕ) (scheme : Scheme) (given : Given) → IsScheme source scheme → said scheme.inputs ≡ Ok given
     → Refuses source said line → ⊥
 not_refused source said line scheme given valid e (source_is_refused fault is told) = no_valid_and_fault source valid.declared valid.base valid.written valid.requests fault valid.valid is
 not_refused source said line scheme given valid e (households_are_refused other fault is faulty told) =
@@ -54,7 +55,7 @@ same_line fault other t u e a b =
     let c : household_fault_line other ≡ Some t = subst (λ (f : HouseholdFault). household_fault_line f ≡ Some t) e a in
     cc (c, b)
 
-pub one_refusal : (source : Source) {Given : Type 0} (said : List (List ℕ) → Result Given HouseholdFault) (t u : List ℕ) → Refuses source said t → Refuses source said u → AreOneOutput t Refused u Refused
+pub one_refusal : (source : Source) {Given : Type 0} (said : List Coded → Result Given HouseholdFault) (t u : List ℕ) → Refuses source said t → Refuses source said u → AreOneOutput t Refused u Refused
 one_refusal source said t u (source_is_refused fault f k) (source_is_refused other g l) = one_line source.texts fault other t u (one_fault source fault other f g) k l
 one_refusal source said t u (source_is_refused fault f k) (households_are_refused scheme other v g l) = absurd (no_valid_and_fault source v.declared v.base v.written v.requests fault v.valid f)
 one_refusal source said t u (households_are_refused scheme fault v g k) (source_is_refused other f l) = absurd (no_valid_and_fault source v.declared v.base v.written v.requests other v.valid f)

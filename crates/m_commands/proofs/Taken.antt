@@ -9,13 +9,16 @@ use Rattle.m_plan.specs.declared.ending.Ending.TheVariants as ending
 use Rattle.m_plan.specs.declared.status.Status.{Status}
 use Rattle.m_plan.specs.declared.status.Status.TheVariants.{Done, Refused, Usage, ReadFault, WriteFault, Memory, Stopped}
 use Rattle.m_plan.proofs.Walks.{walks_within}
-use Rattle.m_plan.proofs.Within.{KeepsWithin, within_then}
+use Rattle.m_plan.proofs.Within.{KeepsWithin, within_more, within_then}
 use Rattle.m_source.specs.Source.{source_plan}
 use Rattle.m_source.proofs.Within.{source_within}
-use Rattle.m_commands.specs.Command.{command_of, plan_of, file_limit, limit_of}
+use Rattle.m_commands.specs.Command.{command_of, plan_of, file_limit, limit_of, rules_only}
 use Rattle.m_commands.specs.declared.command.Command.{Command}
-use Rattle.m_commands.specs.declared.command.Command.TheVariants.{Run, Serve, Batch, Large, Compile, Exec}
+use Rattle.m_commands.specs.declared.command.Command.TheVariants.{Run, Serve, Batch, Large, Compile, Exec, Check, Lint, Cases}
 use Rattle.m_commands.specs.inner.Courses.{Course, is_no_command, has_no_memory, ended, answered}
+
+file_fits : FILE_BYTES ≤ CODE_FILE_BYTES
+file_fits = omega arith
 
 -- the files of a command keep its limit
 keeps_limit : (command : Command) → KeepsWithin (file_limit command) (plan_of command)
@@ -26,11 +29,14 @@ keeps_limit (Serve names household) =
 keeps_limit (Batch names table) =
     within_then FILE_BYTES (source_plan names) _ (source_within names) (λ source. (omega arith, λ bytes. tt))
 keeps_limit (Large n) = tt
+keeps_limit (Cases names table) =
+    within_then FILE_BYTES (source_plan names) _ (source_within names) (λ source. (omega arith, λ bytes. tt))
 keeps_limit (Compile names) = within_then FILE_BYTES (source_plan names) _ (source_within names) (λ source. tt)
-keeps_limit (Exec code household) = (omega arith, λ bytes. (fits, λ rows. tt))
-  where
-    fits : FILE_BYTES ≤ CODE_FILE_BYTES
-    fits = omega arith
+keeps_limit (Exec code household) = (omega arith, λ bytes. (file_fits, λ rows. tt))
+keeps_limit (Lint names) = within_then FILE_BYTES (source_plan names) _ (source_within names) (λ source. tt)
+keeps_limit (Check list household report) =
+    within_then CODE_FILE_BYTES (source_plan (rules_only list)) _ (within_more FILE_BYTES CODE_FILE_BYTES (source_plan (rules_only list)) file_fits (source_within (rules_only list)))
+    (λ source. (file_fits, λ rows. (omega arith, λ bytes. tt)))
 
 -- what is taken without a slack for want of memory
 no_slack : (most : ℕ) (before after : FilesView) (status : Status) → after.taken + allowance most before.attempts ≤ before.taken + allowance most after.attempts → TakesWithin most before after status

@@ -34,11 +34,14 @@ use Rattle.m_commands.specs.Clauses.{AnswersValid, TakesFew}
 use Rattle.m_commands.specs.Output.{IsValidCommand}
 use Rattle.m_commands.specs.declared.command.Command.{Command}
 use Rattle.m_commands.specs.declared.work.Work.{Work}
-use Rattle.m_commands.specs.declared.work.Work.TheVariants.{Run, Serve, Batch, Large, Compile, Exec}
+use Rattle.m_commands.specs.declared.work.Work.TheVariants.{Run, Serve, Batch, Large, Compile, Exec, Check, Lint, Cases}
 use Rattle.m_commands.specs.inner.Courses.{Course, IsWorkOf, is_no_command, has_no_memory, ended, answered}
 use Rattle.m_commands.proofs.Clauses.{gathers}
+use Rattle.m_commands.proofs.Cases.{compared_complete}
+use Rattle.m_commands.proofs.Checks.{checked_complete}
 use Rattle.m_commands.proofs.Codes.{compiled_not_refused, code_not_refused, rows_not_refused}
 use Rattle.m_commands.proofs.Schemes.{not_refused as refusal_none}
+use Rattle.m_commands.proofs.Lints.{linted_complete}
 use Rattle.m_commands.proofs.Ways.{Way, way_of, tells, lacks_memory, breaks_off, serves_all, serves_part, serves_most, serves_front, serve_reads}
 
 -- what is told is the end of a command that did all of its work
@@ -67,6 +70,9 @@ replies_complete (Compile source) text status h (compiles.is_compiled compiled i
 replies_complete (Exec code rows) text status h (exec.code_is_refused fault is told) = absurd (code_not_refused code rows text fault h is told)
 replies_complete (Exec code rows) text status h (exec.is_answered loaded scheme form shown (prepared.is_refused fault given told)) = absurd (rows_not_refused code rows loaded scheme fault h form shown given)
 replies_complete (Exec code rows) text status h (exec.is_answered loaded scheme form shown (prepared.is_told pairs given)) = told_complete (told_to scheme pairs)
+replies_complete (Check source rows report) text status h replies = checked_complete source rows report text status h replies
+replies_complete (Lint source) text status h replies = linted_complete source text status h replies
+replies_complete (Cases source table) text status h replies = compared_complete source table text status h replies
 
 -- valid words and files aren't refused
 not_refused : (words : List (List ℕ)) (disk : Disk) (command : Command) (line : List ℕ) → IsValidCommand words disk → command_of words ≡ Some command → end_of disk (plan_of command) ≡ refused line → ⊥

@@ -1,5 +1,5 @@
 -- How what was gathered was answered, in one form for all commands.
-use Rattle.std.proofs.Common.{◌≡◌, ℕ, true, false, List, ◌++◌, length, Option, None, Some, refl, sym, ap, ◌∙◌}
+use Rattle.std.proofs.Common.{◌≡◌, ℕ, Bool, true, false, List, ◌++◌, length, Option, None, Some, refl, sym, ap, ◌∙◌}
 use Rattle.std.proofs.lemmas.List.{append-nil}
 use Rattle.std.specs.Option.{option_map_or}
 use Rattle.std.specs.Io.KnownBytes.{IsAtEnd, prepend_known}
@@ -21,16 +21,26 @@ use Rattle.m_commands.specs.Answer.{CutOff, InFull, Replies}
 use Rattle.m_commands.specs.Command.{command_of, reads_input, takes_input, writes_early, writes_in_parts}
 use Rattle.m_commands.specs.declared.command.Command.{Command}
 use Rattle.m_commands.specs.declared.command.Command.TheVariants as command
+use Rattle.m_commands.specs.declared.command.Form.{Form}
 use Rattle.m_commands.specs.declared.command.Form.TheVariants as form
 use Rattle.m_commands.specs.declared.work.Work.{Work}
-use Rattle.m_commands.specs.declared.work.Work.TheVariants.{Run, Serve, Batch, Large, Compile, Exec}
+use Rattle.m_commands.specs.declared.work.Work.TheVariants.{Run, Serve, Batch, Large, Compile, Exec, Check, Lint, Cases}
 use Rattle.m_commands.specs.inner.Courses.{IsWorkOf, WorkIsAnswered, command_form, work_form}
 
--- A text was printed, whatever is typed; or there was no memory, before anything was written or, in a batch, on the way; or a session had its input.
+-- whether commands of a form write their answers in parts
+abbrev form_in_parts : Option Form → Bool
+form_in_parts None = false
+form_in_parts (Some form.Run) = false
+form_in_parts (Some form.Serve) = false
+form_in_parts (Some form.Batch) = true
+form_in_parts (Some form.Cases) = true
+
+-- A text was printed, whatever is typed; or there was no memory, before anything was written or, where an answer is written in parts, on the way; or a session
+-- had its input.
 pub data Way (work : Work) (heard told : InputView) (old new : OutputView) (status : Status) : Type 0 where
   tells : (text : List ℕ) (own : Status) → ((typed : List ℕ) → Replies work typed text own) → IsOfEnd own → told ≡ heard → Prints text own old new status → Way work heard told old new status
   lacks_memory : told ≡ heard → new ≡ old → status ≡ Memory → Way work heard told old new status
-  breaks_off : (text : List ℕ) (own : Status) → ((typed : List ℕ) → Replies work typed text own) → work_form work ≡ Some form.Batch → told ≡ heard
+  breaks_off : (text : List ℕ) (own : Status) → ((typed : List ℕ) → Replies work typed text own) → form_in_parts (work_form work) ≡ true → told ≡ heard
       → AppendsPrefix old.written new.written text → new.faults ≡ old.faults → status ≡ Memory → Way work heard told old new status
   serves_all : (taken text : List ℕ) → work_form work ≡ Some form.Serve → heard.left ≡ prepend_known taken told.left → IsAtEnd told.left → told.faults ≡ heard.faults
       → Replies work taken text Done → Appends text old new → status ≡ Done → Way work heard told old new status
@@ -63,6 +73,13 @@ way_of (Compile source) heard told old new status (same, printed text own r o p)
 way_of (Compile source) heard told old new status (same, no_memory e m) = lacks_memory same e m
 way_of (Exec code rows) heard told old new status (same, printed text own r o p) = tells text own (λ typed. r) o same p
 way_of (Exec code rows) heard told old new status (same, no_memory e m) = lacks_memory same e m
+way_of (Check source rows report) heard told old new status (same, printed text own r o p) = tells text own (λ typed. r) o same p
+way_of (Check source rows report) heard told old new status (same, no_memory e m) = lacks_memory same e m
+way_of (Lint source) heard told old new status (same, printed text own r o p) = tells text own (λ typed. r) o same p
+way_of (Lint source) heard told old new status (same, no_memory e m) = lacks_memory same e m
+way_of (Cases source table) heard told old new status (same, batch.printed text own r o p) = tells text own (λ typed. r) o same p
+way_of (Cases source table) heard told old new status (same, batch.no_memory n m) = lacks_memory same n m
+way_of (Cases source table) heard told old new status (same, batch.broke_off text own r a f m) = breaks_off text own (λ typed. r) refl same a f m
 
 -- ---- the command of a work
 
@@ -73,22 +90,28 @@ takes (command.Batch names table) e = absurd (cc e)
 takes (command.Large n) e = absurd (cc e)
 takes (command.Compile names) e = absurd (cc e)
 takes (command.Exec code household) e = absurd (cc e)
+takes (command.Check list household report) e = absurd (cc e)
+takes (command.Lint names) e = absurd (cc e)
+takes (command.Cases names table) e = absurd (cc e)
 
-in_parts : (asked : Command) → command_form asked ≡ Some form.Batch → writes_in_parts asked ≡ true
+in_parts : (asked : Command) → form_in_parts (command_form asked) ≡ true → writes_in_parts asked ≡ true
 in_parts (command.Run names household) e = absurd (cc e)
 in_parts (command.Serve names household) e = absurd (cc e)
 in_parts (command.Batch names table) e = refl
 in_parts (command.Large n) e = absurd (cc e)
 in_parts (command.Compile names) e = absurd (cc e)
 in_parts (command.Exec code household) e = absurd (cc e)
+in_parts (command.Check list household report) e = absurd (cc e)
+in_parts (command.Lint names) e = absurd (cc e)
+in_parts (command.Cases names table) e = refl
 
 -- a session was asked for
 pub serve_reads : (words : List (List ℕ)) (asked : Command) (work : Work) → command_of words ≡ Some asked → IsWorkOf asked work → work_form work ≡ Some form.Serve → reads_input words ≡ true
 serve_reads words asked work c k e = ap (λ o. option_map_or takes_input o false) c ∙ takes asked (sym k ∙ e)
 
--- a batch was asked for
-pub batch_writes : (words : List (List ℕ)) (asked : Command) (work : Work) → command_of words ≡ Some asked → IsWorkOf asked work → work_form work ≡ Some form.Batch → writes_early words ≡ true
-batch_writes words asked work c k e = ap (λ o. option_map_or writes_in_parts o false) c ∙ in_parts asked (sym k ∙ e)
+-- what writes in parts was asked for
+pub batch_writes : (words : List (List ℕ)) (asked : Command) (work : Work) → command_of words ≡ Some asked → IsWorkOf asked work → form_in_parts (work_form work) ≡ true → writes_early words ≡ true
+batch_writes words asked work c k e = ap (λ o. option_map_or writes_in_parts o false) c ∙ in_parts asked (ap form_in_parts (sym k) ∙ e)
 
 -- ---- what was typed and what was taken of it
 

@@ -4,13 +4,16 @@ use Rattle.m_places.specs.declared.limits.TheConstants.{CODE_FILE_BYTES, LARGE}
 use Rattle.rule_text.specs.Limits.{SourceKeepsLimits}
 use Rattle.m_plan.specs.declared.status.Status.{Status}
 use Rattle.m_work.specs.Batches.{BatchReplies, BatchHasAnswer}
+use Rattle.m_work.specs.Cases.{CasesReplies, CasesHasAnswer}
+use Rattle.m_work.specs.Checks.{CheckReplies, CheckHasAnswer}
 use Rattle.m_work.specs.Compiles.{CompileReplies, CompileHasAnswer}
 use Rattle.m_work.specs.Execs.{ExecReplies, ExecHasAnswer}
 use Rattle.m_work.specs.LargeAnswers.{LargeReplies, LargeHasAnswer}
+use Rattle.m_work.specs.Lints.{LintReplies}
 use Rattle.m_work.specs.Runs.{RunReplies, RunHasAnswer}
 use Rattle.m_work.specs.Serves.{ServeReplies, ServeCutOff, ServeInFull}
 use Rattle.m_commands.specs.declared.work.Work.{Work}
-use Rattle.m_commands.specs.declared.work.Work.TheVariants.{Run, Serve, Batch, Large, Compile, Exec}
+use Rattle.m_commands.specs.declared.work.Work.TheVariants.{Run, Serve, Batch, Large, Compile, Exec, Check, Lint, Cases}
 
 -- The text and the status that a command answers with what it has gathered, where this is typed into the input.
 abbrev pub Replies : Work → (typed : List ℕ) → List ℕ → Status → Type 0
@@ -20,6 +23,9 @@ Replies (Batch source table) typed = BatchReplies source table
 Replies (Large n) typed = LargeReplies n
 Replies (Compile source) typed = CompileReplies source
 Replies (Exec code rows) typed = ExecReplies code rows
+Replies (Check source rows report) typed = CheckReplies source rows report
+Replies (Lint source) typed = LintReplies source
+Replies (Cases source table) typed = CasesReplies source table
 
 -- The text where a read of the input fails behind these bytes of it: only a session reads.
 abbrev pub CutOff : Work → (taken : List ℕ) → List ℕ → Type 0
@@ -29,6 +35,9 @@ CutOff (Batch source table) taken text = ⊥
 CutOff (Large n) taken text = ⊥
 CutOff (Compile source) taken text = ⊥
 CutOff (Exec code rows) taken text = ⊥
+CutOff (Check source rows report) taken text = ⊥
+CutOff (Lint source) taken text = ⊥
+CutOff (Cases source table) taken text = ⊥
 
 -- The replies to all that is typed, also where that is more than is taken: what a session writes is a front of them where a write fails.
 abbrev pub InFull : Work → (typed : List ℕ) → List ℕ → Type 0
@@ -38,6 +47,9 @@ InFull (Batch source table) typed text = ⊥
 InFull (Large n) typed text = ⊥
 InFull (Compile source) typed text = ⊥
 InFull (Exec code rows) typed text = ⊥
+InFull (Check source rows report) typed text = ⊥
+InFull (Lint source) typed text = ⊥
+InFull (Cases source table) typed text = ⊥
 
 -- what was gathered has an answer that isn't a refusal
 abbrev pub HasAnswer : Work → Type 0
@@ -47,6 +59,9 @@ HasAnswer (Batch source table) = BatchHasAnswer source table
 HasAnswer (Large n) = LargeHasAnswer n
 HasAnswer (Compile source) = CompileHasAnswer source
 HasAnswer (Exec code rows) = ExecHasAnswer code rows
+HasAnswer (Check source rows report) = CheckHasAnswer source rows report
+HasAnswer (Lint source) = CompileHasAnswer source
+HasAnswer (Cases source table) = CasesHasAnswer source table
 
 -- the files that were gathered keep the limits of what is made of them
 abbrev pub WorkKeepsLimits : Work → Type 0
@@ -56,3 +71,6 @@ WorkKeepsLimits (Batch source table) = SourceKeepsLimits source
 WorkKeepsLimits (Large n) = (1 ≤ n) × (n ≤ LARGE)
 WorkKeepsLimits (Compile source) = SourceKeepsLimits source
 WorkKeepsLimits (Exec code rows) = length code ≤ CODE_FILE_BYTES
+WorkKeepsLimits (Check source rows report) = SourceKeepsLimits source × (length report ≤ CODE_FILE_BYTES)
+WorkKeepsLimits (Lint source) = SourceKeepsLimits source
+WorkKeepsLimits (Cases source table) = SourceKeepsLimits source

@@ -10,7 +10,7 @@ use Rattle.m_source.specs.Source.{source_plan}
 use Rattle.m_source.specs.declared.source.SourceNames.{SourceNames}
 use Rattle.rule_text.specs.declared.Source.{Source}
 use Rattle.m_commands.specs.declared.command.Command.{Command}
-use Rattle.m_commands.specs.declared.command.Command.TheVariants.{Run, Serve, Batch, Large, Compile, Exec}
+use Rattle.m_commands.specs.declared.command.Command.TheVariants.{Run, Serve, Batch, Large, Compile, Exec, Check, Lint, Cases}
 use Rattle.m_commands.specs.declared.command.Form.{Form}
 use Rattle.m_commands.specs.declared.command.Form.TheVariants as form
 use Rattle.m_commands.specs.declared.work.Work.{Work}
@@ -36,12 +36,13 @@ large_command _ = None
 abbrev pub form_of : List ℕ → Option Form
 form_of word =
     if bytes_eq word (codes "run") then Some form.Run else if bytes_eq word (codes "serve") then Some form.Serve
-    else if bytes_eq word (codes "batch") then Some form.Batch else None
+    else if bytes_eq word (codes "batch") then Some form.Batch else if bytes_eq word (codes "cases") then Some form.Cases else None
 
 abbrev pub of_form : Form → SourceNames → List ℕ → Command
 of_form form.Run names behind = Run names behind
 of_form form.Serve names behind = Serve names behind
 of_form form.Batch names behind = Batch names behind
+of_form form.Cases names behind = Cases names behind
 
 -- the command over a source that the words are, if they are one: its word, and what stands at each place behind it, all in UTF-8
 abbrev pub source_command : List (List ℕ) → Option Command
@@ -63,10 +64,23 @@ exec_command (word ∷ code ∷ household ∷ []) =
     if bytes_eq word (codes "exec") then (if list_all is_utf8 (code ∷ household ∷ []) then Some (Exec code household) else None) else None
 exec_command _ = None
 
--- The command that the words are, if they are the form of one: `large N`; `exec` over a code file and a household; `compile` over a source; or `run`,
--- `serve` or `batch` over a source and one more file.
+-- the command `check` that the words are, if they are one: its word, and the names of a list, a household and a report, in UTF-8
+abbrev pub check_command : List (List ℕ) → Option Command
+check_command (word ∷ list ∷ household ∷ report ∷ []) =
+    if bytes_eq word (codes "check") then (if list_all is_utf8 (list ∷ household ∷ report ∷ []) then Some (Check list household report) else None) else None
+check_command _ = None
+
+-- the command `lint` that the words are, if they are one: its word, and what stands at each place of a source, all in UTF-8
+abbrev pub lint_command : List (List ℕ) → Option Command
+lint_command (word ∷ list ∷ driver ∷ requests ∷ []) =
+    if bytes_eq word (codes "lint")
+    then (if list_all is_utf8 (list ∷ driver ∷ requests ∷ []) then Some (Lint (record { list = list; driver = driver; requests = requests })) else None) else None
+lint_command _ = None
+
+-- The command that the words are, if they are the form of one: `large N`; `exec` over a code file and a household; `compile` or `lint` over a source; `check` over a
+-- list, a household and a report; or `run`, `serve`, `batch` or `cases` over a source and one more file.
 abbrev pub command_of : List (List ℕ) → Option Command
-command_of words = option_or (large_command words) (option_or (exec_command words) (option_or (compile_command words) (source_command words)))
+command_of words = option_or (large_command words) (option_or (exec_command words) (option_or (compile_command words) (option_or (check_command words) (option_or (lint_command words) (source_command words)))))
 
 -- the number of `large N` is one of those that there are
 abbrev pub IsInReach : Command → Type 0
@@ -76,6 +90,9 @@ IsInReach (Serve names household) = Unit {0}
 IsInReach (Batch names table) = Unit {0}
 IsInReach (Compile names) = Unit {0}
 IsInReach (Exec code household) = Unit {0}
+IsInReach (Check list household report) = Unit {0}
+IsInReach (Lint names) = Unit {0}
+IsInReach (Cases names table) = Unit {0}
 
 -- ---- plans
 
@@ -84,6 +101,7 @@ abbrev pub work_of : Form → Source → List ℕ → Work
 work_of form.Run = work.Run
 work_of form.Serve = work.Serve
 work_of form.Batch = work.Batch
+work_of form.Cases = work.Cases
 
 -- a source is gathered, and behind it one more file
 abbrev pub work_plan : SourceNames → List ℕ → (Source → List ℕ → Work) → Plan Work
@@ -97,6 +115,20 @@ compile_plan names = and_then (source_plan names) (λ source. done (work.Compile
 abbrev pub exec_plan : List ℕ → List ℕ → Plan Work
 exec_plan code household = and_then (file_plan code CODE_FILE_BYTES) (λ bytes. and_then (file_plan household FILE_BYTES) (λ rows. done (work.Exec bytes rows)))
 
+-- the names of a source of rules alone: it has no driver and no requests
+abbrev pub rules_only : List ℕ → SourceNames
+rules_only list = record { list = list; driver = codes "-"; requests = codes "-" }
+
+-- the rules of a list are gathered, and behind them a household and a report
+abbrev pub check_plan : List ℕ → List ℕ → List ℕ → Plan Work
+check_plan list household report =
+    and_then (source_plan (rules_only list)) (λ source. and_then (file_plan household FILE_BYTES)
+    (λ rows. and_then (file_plan report CODE_FILE_BYTES) (λ bytes. done (work.Check source rows bytes))))
+
+-- a source is gathered, and that is all
+abbrev pub lint_plan : SourceNames → Plan Work
+lint_plan names = and_then (source_plan names) (λ source. done (work.Lint source))
+
 -- The plan of a command: which files it fetches in which order, where it refuses, and what it has gathered at its end. `large N` fetches none.
 abbrev pub plan_of : Command → Plan Work
 plan_of (Run names household) = work_plan names household work.Run
@@ -105,6 +137,9 @@ plan_of (Batch names table) = work_plan names table work.Batch
 plan_of (Large n) = done (work.Large n)
 plan_of (Compile names) = compile_plan names
 plan_of (Exec code household) = exec_plan code household
+plan_of (Check list household report) = check_plan list household report
+plan_of (Lint names) = lint_plan names
+plan_of (Cases names table) = work_plan names table work.Cases
 
 -- the most bytes of a file that a command fetches; `large N` fetches none
 abbrev pub file_limit : Command → ℕ
@@ -114,6 +149,9 @@ file_limit (Batch names table) = FILE_BYTES
 file_limit (Large n) = 0
 file_limit (Compile names) = FILE_BYTES
 file_limit (Exec code household) = CODE_FILE_BYTES
+file_limit (Check list household report) = CODE_FILE_BYTES
+file_limit (Lint names) = FILE_BYTES
+file_limit (Cases names table) = FILE_BYTES
 
 -- the most bytes of a file that the words' command fetches; none where they are no command
 abbrev pub limit_of : List (List ℕ) → ℕ
@@ -127,6 +165,9 @@ takes_input (Batch names table) = false
 takes_input (Large n) = false
 takes_input (Compile names) = false
 takes_input (Exec code household) = false
+takes_input (Check list household report) = false
+takes_input (Lint names) = false
+takes_input (Cases names table) = false
 
 -- whether the words are a command that takes from the input
 abbrev pub reads_input : List (List ℕ) → Bool
@@ -140,6 +181,9 @@ writes_in_parts (Batch names table) = true
 writes_in_parts (Large n) = false
 writes_in_parts (Compile names) = false
 writes_in_parts (Exec code household) = false
+writes_in_parts (Check list household report) = false
+writes_in_parts (Lint names) = false
+writes_in_parts (Cases names table) = true
 
 -- whether the words are a command that writes before all its work is done
 abbrev pub writes_early : List (List ℕ) → Bool

@@ -5,6 +5,12 @@ use Rattle.fault_lines.specs.Lines.{usage_line, cycle_line, recursion_line}
 use Rattle.rule_text.specs.declared.Source.{Source}
 use Rattle.code_file.specs.Loading.{text_with}
 use Rattle.code_file.specs.declared.loaded.Loaded.{Loaded}
+use Rattle.m_symbols.specs.Declarations.{Declared}
+use Rattle.micro_m.specs.declared.base.Base.{Base}
+use Rattle.m_compile.specs.Compiled.{IsCompiled}
+use Rattle.m_compile.specs.Sources.{HasRules}
+use Rattle.m_compile.specs.declared.compiling.Compiled.{Compiled}
+use Rattle.m_work.specs.Lints.{lint_text}
 use Rattle.m_work.specs.Prepared.{IsPreparedCode}
 use Rattle.m_plan.specs.Plan.{end_of, gathered, refused, names_fetched}
 use Rattle.m_plan.specs.Views.{Disk}
@@ -37,9 +43,12 @@ pub record IsValidCommand (words : List (List ℕ)) (disk : Disk) : Type 0 where
   pub answer : HasAnswer work
 
 -- Two outputs are one: they have the same text and the same status; or they refuse rule files that have several cycles, or a driver that has
--- several recursions, and show one of them each; or they are the code files of code that one source is compiled to.
+-- several recursions, and show one of them each; or they are the code files of code that one source is compiled to, or what is found of one base and of
+-- what its source is compiled to.
 pub data AreOneOutput : List ℕ → Status → List ℕ → Status → Type 0 where
   the_same : {text other : List ℕ} {status outcome : Status} → text ≡ other → status ≡ outcome → AreOneOutput text status other outcome
   both_cycles : (names others : List (List ℕ)) → AreOneOutput (cycle_line names) Refused (cycle_line others) Refused
   both_recursions : (names others : List (List ℕ)) → AreOneOutput (recursion_line names) Refused (recursion_line others) Refused
   both_compiled : (source : Source) (one other : Loaded) → IsPreparedCode source one → IsPreparedCode source other → AreOneOutput (text_with one.code one.face) Done (text_with other.code other.face) Done
+  both_linted : (source : Source) (declared : Declared) (base : Base) (one other : Compiled) → HasRules source declared base → IsCompiled source one → IsCompiled source other
+      → AreOneOutput (lint_text declared base one) Done (lint_text declared base other) Done

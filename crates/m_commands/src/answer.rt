@@ -6,7 +6,10 @@ ghost use Rattle.m_commands.specs.inner.Courses.{WorkIsAnswered};
 use crate::work::Work;
 use m_plan::Status;
 use m_ports::{Sink, Source};
-use m_work::{batch_source, compile_source, exec_code, run_large, run_source, serve_source};
+use m_work::{
+    batch_source, cases_source, check_source, compile_source, exec_code, lint_source, run_large,
+    run_source, serve_source,
+};
 use std::alloc::Global;
 use std::thread::Threads;
 
@@ -23,11 +26,16 @@ pub fn answer<R: Threads + Sync, S: Source, K: Sink>(
         (output_view K.written K.faults out.old) (output_view K.written K.faults out.new) result }
 {
     match work {
-        Work::Run(source, rows) => run_source(alloc, source, rows.as_slice(), out),
-        Work::Serve(source, rows) => serve_source(alloc, source, rows.as_slice(), input, out),
+        Work::Run(source, rows) => run_source(rt, alloc, source, rows.as_slice(), out),
+        Work::Serve(source, rows) => serve_source(rt, alloc, source, rows.as_slice(), input, out),
         Work::Batch(source, table) => batch_source(rt, alloc, source, table.as_slice(), out),
-        Work::Large(n) => run_large(alloc, *n, out),
-        Work::Compile(source) => compile_source(alloc, source, out),
+        Work::Cases(source, table) => cases_source(rt, alloc, source, table.as_slice(), out),
+        Work::Large(n) => run_large(rt, alloc, *n, out),
+        Work::Compile(source) => compile_source(rt, alloc, source, out),
         Work::Exec(code, rows) => exec_code(alloc, code.as_slice(), rows.as_slice(), out),
+        Work::Lint(source) => lint_source(rt, alloc, source, out),
+        Work::Check(source, rows, report) => {
+            check_source(rt, alloc, source, rows.as_slice(), report.as_slice(), out)
+        }
     }
 }

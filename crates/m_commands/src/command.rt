@@ -1,6 +1,6 @@
 //! The words of the command line.
 ghost use Rattle.std.specs.Prelude.{◌≡◌, IfOk, IfSome};
-ghost use Rattle.m_commands.specs.Command.{IsInReach, command_of, compile_command, exec_command, form_of, large_command, large_number, of_form, source_command};
+ghost use Rattle.m_commands.specs.Command.{IsInReach, check_command, command_of, compile_command, exec_command, form_of, large_command, large_number, lint_command, of_form, source_command};
 
 use m_places::limits::LARGE;
 use m_places::{Name, Word};
@@ -23,6 +23,13 @@ pub enum Command {
     Compile(SourceNames),
     /// Reads the code file of the first name, and prints its answer to the household of the second.
     Exec(Name, Name),
+    /// Makes the base of the rules that the list of the first name has, and prints whether the report of the third is a sound derivation over
+    /// the household of the second.
+    Check(Name, Name, Name),
+    /// Compiles the source, and prints what is found of it.
+    Lint(SourceNames),
+    /// Compiles the source, and prints what the cases of the table of this name expect and aren't told.
+    Cases(SourceNames, Name),
 }
 
 /// The commands over a source and one more file.
@@ -31,6 +38,7 @@ pub enum Form {
     Run,
     Serve,
     Batch,
+    Cases,
 }
 
 /// The command that the words are, if they are one. Its only error is want of memory.
@@ -45,6 +53,12 @@ pub fn command_of(alloc: Global, words: &[Word]) -> Result<Option<Command>, Allo
         return Ok(Some(command));
     }
     if let Some(command) = compile_command(alloc, words)? {
+        return Ok(Some(command));
+    }
+    if let Some(command) = check_command(alloc, words)? {
+        return Ok(Some(command));
+    }
+    if let Some(command) = lint_command(alloc, words)? {
         return Ok(Some(command));
     }
     source_command(alloc, words)
@@ -118,6 +132,49 @@ fn compile_command(alloc: Global, words: &[Word]) -> Result<Option<Command>, All
     Ok(Some(Command::Compile(names)))
 }
 
+// The command `check` that the words are, if they are one. Its only error is want of memory.
+fn check_command(alloc: Global, words: &[Word]) -> Result<Option<Command>, AllocError>
+    ensures command { IfOk result (λ command. command ≡ check_command words.now) }
+    ensures in_reach { IfOk result (λ command. IfSome command IsInReach) }
+{
+    let [word, list, household, report] = words else {
+        return Ok(None);
+    };
+    if word.bytes() != b"check".as_slice() {
+        return Ok(None);
+    }
+    let are_names = is_text(list.bytes()) && is_text(household.bytes()) && is_text(report.bytes());
+    if !are_names {
+        return Ok(None);
+    }
+    let list = list.copy(alloc)?;
+    let household = household.copy(alloc)?;
+    Ok(Some(Command::Check(list, household, report.copy(alloc)?)))
+}
+
+// The command `lint` that the words are, if they are one. Its only error is want of memory.
+fn lint_command(alloc: Global, words: &[Word]) -> Result<Option<Command>, AllocError>
+    ensures command { IfOk result (λ command. command ≡ lint_command words.now) }
+    ensures in_reach { IfOk result (λ command. IfSome command IsInReach) }
+{
+    let [word, list, driver, requests] = words else {
+        return Ok(None);
+    };
+    if word.bytes() != b"lint".as_slice() {
+        return Ok(None);
+    }
+    let are_names = is_text(list.bytes()) && is_text(driver.bytes()) && is_text(requests.bytes());
+    if !are_names {
+        return Ok(None);
+    }
+    let names = SourceNames {
+        list: list.copy(alloc)?,
+        driver: driver.copy(alloc)?,
+        requests: requests.copy(alloc)?,
+    };
+    Ok(Some(Command::Lint(names)))
+}
+
 // The command over a source and one more file that the words are, if they are one. Its only error is want of memory.
 fn source_command(alloc: Global, words: &[Word]) -> Result<Option<Command>, AllocError>
     ensures command { IfOk result (λ command. command ≡ source_command words.now) }
@@ -154,6 +211,8 @@ fn form_of(word: &[u8]) -> Option<Form>
         Some(Form::Serve)
     } else if word == b"batch".as_slice() {
         Some(Form::Batch)
+    } else if word == b"cases".as_slice() {
+        Some(Form::Cases)
     } else {
         None
     }
@@ -168,5 +227,6 @@ fn of_form(form: Form, names: SourceNames, behind: Name) -> Command
         Form::Run => Command::Run(names, behind),
         Form::Serve => Command::Serve(names, behind),
         Form::Batch => Command::Batch(names, behind),
+        Form::Cases => Command::Cases(names, behind),
     }
 }

@@ -4,7 +4,7 @@ ghost use Rattle.rule_text.specs.Limits.{SourceKeepsLimits};
 ghost use Rattle.m_plan.specs.Trips.{GoesAlong};
 ghost use Rattle.m_plan.specs.Views.{files_view};
 ghost use Rattle.m_commands.specs.Answer.{WorkKeepsLimits};
-ghost use Rattle.m_commands.specs.Command.{IsInReach, compile_plan, exec_plan, plan_of, work_of, work_plan};
+ghost use Rattle.m_commands.specs.Command.{IsInReach, check_plan, compile_plan, exec_plan, lint_plan, rules_only, plan_of, work_of, work_plan};
 ghost use Rattle.m_commands.specs.inner.Courses.{IsWorkOf, work_form};
 
 use crate::command::{Command, Form};
@@ -15,7 +15,7 @@ use m_plan::{Ending, fetch};
 use m_ports::Files;
 use m_source::{SourceNames, gather_source};
 use rule_text::Source;
-use std::alloc::Global;
+use std::alloc::{AllocError, Global};
 
 /// Gathers the files of a command. What ends it before it has them is the error.
 pub fn gather<F: Files>(alloc: Global, files: &mut F, command: &Command) -> Result<Work, Ending>
@@ -31,9 +31,14 @@ pub fn gather<F: Files>(alloc: Global, files: &mut F, command: &Command) -> Resu
             gather_work(alloc, files, Form::Serve, names, household)
         }
         Command::Batch(names, table) => gather_work(alloc, files, Form::Batch, names, table),
+        Command::Cases(names, table) => gather_work(alloc, files, Form::Cases, names, table),
         Command::Large(n) => Ok(Work::Large(*n)),
         Command::Compile(names) => gather_compile(alloc, files, names),
         Command::Exec(code, household) => gather_exec(alloc, files, code, household),
+        Command::Lint(names) => gather_lint(alloc, files, names),
+        Command::Check(list, household, report) => {
+            gather_check(alloc, files, list, household, report)
+        }
     }
 }
 
@@ -69,6 +74,48 @@ fn gather_exec<F: Files>(
     Ok(Work::Exec(code, rows))
 }
 
+// Gathers a source alone.
+fn gather_lint<F: Files>(alloc: Global, files: &mut F, names: &SourceNames) -> Result<Work, Ending>
+    ensures along { GoesAlong (lint_plan names.now) (files_view F.told F.attempts F.taken files.old)
+        (files_view F.told F.attempts F.taken files.new) result }
+    ensures within { IfOk result WorkKeepsLimits }
+    ensures kind { IfOk result (λ work. work_form work ≡ None) }
+{
+    let source = gather_source(alloc, files, names)?;
+    Ok(Work::Lint(source))
+}
+
+// Gathers the rules of a list, and a household and a report behind them.
+fn gather_check<F: Files>(
+    alloc: Global,
+    files: &mut F,
+    list: &Name,
+    household: &Name,
+    report: &Name,
+) -> Result<Work, Ending>
+    ensures along { GoesAlong (check_plan list.now household.now report.now) (files_view F.told F.attempts F.taken files.old)
+        (files_view F.told F.attempts F.taken files.new) result }
+    ensures within { IfOk result WorkKeepsLimits }
+    ensures kind { IfOk result (λ work. work_form work ≡ None) }
+{
+    let names = rules_only(alloc, list)?;
+    let source = gather_source(alloc, files, &names)?;
+    let rows = fetch(alloc, files, household, FILE_BYTES)?;
+    let report = fetch(alloc, files, report, CODE_FILE_BYTES)?;
+    Ok(Work::Check(source, rows, report))
+}
+
+// The names of a source of rules alone. Its only error is want of memory.
+fn rules_only(alloc: Global, list: &Name) -> Result<SourceNames, AllocError>
+    ensures { IfOk result (λ names. names ≡ rules_only list.now) }
+{
+    Ok(SourceNames {
+        list: list.copy(alloc)?,
+        driver: Name::new(alloc, b"-")?,
+        requests: Name::new(alloc, b"-")?,
+    })
+}
+
 // Gathers a source, and the one file behind it.
 fn gather_work<F: Files>(
     alloc: Global,
@@ -98,5 +145,6 @@ fn work_of(form: Form, source: Source, bytes: Seq<u8>) -> Work
         Form::Run => Work::Run(source, bytes),
         Form::Serve => Work::Serve(source, bytes),
         Form::Batch => Work::Batch(source, bytes),
+        Form::Cases => Work::Cases(source, bytes),
     }
 }

@@ -1,5 +1,5 @@
 //! What the commands have to do with each other.
-ghost use Rattle.std.specs.Prelude.{ℕ, List};
+ghost use Rattle.std.specs.Prelude.{◌≡◌, ℕ, List, Option};
 ghost use Rattle.code_file.specs.Reading.{IsFormOf};
 ghost use Rattle.code_file.specs.declared.loaded.Loaded.{Loaded};
 ghost use Rattle.m_plan.specs.declared.status.Status.{Status};
@@ -7,10 +7,30 @@ ghost use Rattle.m_work.specs.Execs.{ExecReplies};
 ghost use Rattle.m_work.specs.Prepared.{IsPreparedCode};
 ghost use Rattle.m_work.specs.Runs.{RunReplies};
 ghost use Rattle.rule_text.specs.declared.Source.{Source};
+ghost use Rattle.std.specs.List.{AllByRecursion};
+ghost use Rattle.m_symbols.specs.Declarations.{Declared};
+ghost use Rattle.micro_m.specs.declared.base.Base.{Base};
+ghost use Rattle.driver_core.specs.declared.program.Core.{Core};
+ghost use Rattle.m_lint.specs.Lines.{findings_text};
+ghost use Rattle.m_lint.specs.Truths.{IsTrueFinding};
+ghost use Rattle.m_lint.specs.declared.finding.Finding.{Finding};
+ghost use Rattle.m_compile.specs.Answers.{answer_to};
+ghost use Rattle.driver_core.specs.Inputs.{inputs_said};
+ghost use Rattle.m_compile.specs.Sources.{IsValid};
+ghost use Rattle.m_work.specs.Lints.{LintReplies};
 
 /// Where a code file is the form of what a source is compiled to, `exec` answers each household by it as `run` does by the source:
 /// with the same text and the same status.
 pub fn executed_as_run()
     ensures { (source : Source) (loaded : Loaded) (code rows text : List ℕ) (status : Status) →
         IsPreparedCode source loaded → IsFormOf code loaded → ExecReplies code rows text status → RunReplies source rows text status }
+{}
+
+/// What `lint` answers of a valid source are the lines of findings that are true of its rules, and of what it tells households, whatever amounts of
+/// their inputs' types these have.
+pub fn linted_truly()
+    ensures { (source : Source) (text : List ℕ) (status : Status) (declared : Declared) (base : Base) (written : Option Core) (requests : List ℕ) →
+        IsValid source declared base written requests → LintReplies source text status →
+        (findings : List Finding) × (text ≡ findings_text declared base findings) ×
+        AllByRecursion (IsTrueFinding declared base (inputs_said declared) (answer_to declared base written requests)) findings }
 {}

@@ -103,7 +103,8 @@ pub fn m_tax<R: Threads + Sync, F: Files, S: Source, K: Sink>(
 }
 
 /// The same words, files and input have one output: one text and one status, but for which of several cycles or recursions a
-/// refusal shows, and for the code that `compile` writes, which is one of those that the source is compiled to. It holds of each command.
+/// refusal shows, for the code that `compile` writes, and for what `lint` finds, which are each by one of those that the source is compiled to. It
+/// holds of each command.
 pub fn one_output()
     ensures { (words : List (List ℕ)) (disk : Disk) (typed one other : List ℕ) (status outcome : Status) →
         Output words disk typed one status → Output words disk typed other outcome → AreOneOutput one status other outcome }

@@ -16,4 +16,10 @@ pub enum Work {
     Compile(Source),
     /// A run of this code file on this household.
     Exec(Seq<u8>, Seq<u8>),
+    /// A check of this report over the rules of this source and this household.
+    Check(Source, Seq<u8>, Seq<u8>),
+    /// The findings about this source.
+    Lint(Source),
+    /// The cases of this table, by this source.
+    Cases(Source, Seq<u8>),
 }

@@ -1,6 +1,6 @@
 -- The codes of inputs that are declared without a fault are different.
 use Rattle.std.proofs.Common.{◌≡◌, List, [], ◌∷◌, ◌++◌, ℕ, false, Option, None, Some, refl, sym, ap, subst, append_assoc}
-use Rattle.std.specs.Prelude.{IfSome, map}
+use Rattle.std.specs.Prelude.{IfSome}
 use Rattle.std.specs.List.{cons_option, filter_map}
 use Rattle.std.specs.Option.{option_map}
 use Rattle.std.proofs.lemmas.List.{append-nil}
@@ -18,10 +18,11 @@ use Rattle.m_symbols.proofs.Added.{codes-push, declared-push}
 use Rattle.m_symbols.proofs.Faultless.{new_code}
 use Rattle.micro_m.specs.declared.base.Base.{Base}
 use Rattle.observables.specs.declared.inputs.Coded.{Coded}
+use Rattle.observables.specs.declared.inputs.InputType.{InputType}
 use Rattle.observables.specs.Inputs.{codes_of as codes_shown}
 use Rattle.rule_base.specs.Base.{IsBaseOf}
 use Rattle.rule_text.specs.declared.Text.{Text}
-use Rattle.m_compile.specs.Compiled.{input_said, inputs_said}
+use Rattle.driver_core.specs.Inputs.{input_said, inputs_said, type_said}
 
 parts : (a b : Option DeclareFault) → first_of a b ≡ None → (a ≡ None) × (b ≡ None)
 parts None b e = (refl, e)
@@ -53,18 +54,18 @@ distinct_codes texts application declared base b =
     subst (λ (d : Declared). AreDistinct (codes_of d.variables)) (sym b.symbols) (items_more [] b.items tt b.declares.faultless)
 
 -- the codes that a face shows are those that are declared
-said_codes : (codes : List (List ℕ)) → codes_shown (map input_said codes) ≡ codes
+one_code : (code : Option (List ℕ)) (kind : InputType) (inputs : List Coded) (codes : List (List ℕ)) → codes_shown inputs ≡ codes
+    → codes_shown (cons_option (option_map (λ c. record { code = c; kind = kind }) code) inputs) ≡ cons_option code codes
+one_code None kind inputs codes e = e
+one_code (Some code) kind inputs codes e = ap (λ rest. code ∷ rest) e
+
+said_codes : (variables : List Declaration) → codes_shown (filter_map input_said variables) ≡ codes_of variables
 said_codes [] = refl
-said_codes (code ∷ codes) = ap (λ rest. code ∷ rest) (said_codes codes)
+said_codes (v ∷ variables) = one_code (code_of v) (type_said v.item.value_word) (filter_map input_said variables) (codes_of variables) (said_codes variables)
 
 pub codes_said : (declared : Declared) → codes_shown (inputs_said declared) ≡ codes_of declared.variables
-codes_said declared = said_codes (codes_of declared.variables)
+codes_said declared = said_codes declared.variables
 
--- the inputs, one by one
-one_input : (code : Option (List ℕ)) (inputs : List Coded) (codes : List (List ℕ)) → inputs ≡ map input_said codes → cons_option (option_map input_said code) inputs ≡ map input_said (cons_option code codes)
-one_input None inputs codes h = h
-one_input (Some code) inputs codes h = ap (λ rest. input_said code ∷ rest) h
-
-pub inputs_filtered : (variables : List Declaration) → filter_map (λ v. option_map input_said (code_of v)) variables ≡ map input_said (codes_of variables)
-inputs_filtered [] = refl
-inputs_filtered (v ∷ variables) = one_input (code_of v) _ (codes_of variables) (inputs_filtered variables)
+-- so they are different
+pub distinct_inputs : (texts : List Text) (application : List ℕ) (declared : Declared) (base : Base) → IsBaseOf texts application declared base → AreDistinct (codes_shown (inputs_said declared))
+distinct_inputs texts application declared base b = subst AreDistinct (sym (codes_said declared)) (distinct_codes texts application declared base b)

@@ -1,9 +1,11 @@
--- A source says one thing or has one fault, and not both.
+-- A source says one thing or has one fault, and not both; nor have its rule files.
 use Rattle.std.proofs.Common.{◌≡◌, ◌<◌, ℕ, List, Option, Some, Result, Ok, Err, refl, ap, ◌∙◌, subst, arith}
 use Rattle.m_places.specs.declared.limits.TheConstants.{DRIVER_WEIGHT}
 use Rattle.rule_text.specs.declared.Source.{Source}
+use Rattle.rule_text.specs.declared.Text.{Text}
 use Rattle.m_symbols.specs.Declarations.{Declared}
 use Rattle.micro_m.specs.declared.base.Base.{Base}
+use Rattle.micro_m.specs.Reads.{HasNoCycle}
 use Rattle.driver_core.specs.declared.program.Core.{Core}
 use Rattle.driver_core.specs.Weights.{weight_of}
 use Rattle.m_requests.specs.declared.fault.RequestFault.{RequestFault}
@@ -15,13 +17,14 @@ use Rattle.mpp_parser.proofs.FaultLaws.{one_driver_of, driver_or_fault, one_faul
 use Rattle.mpp_core.specs.declared.fault.CoreFault.{CoreFault}
 use Rattle.mpp_core.specs.Cores.{IsCore, IsCoreFault, AreOneCoreFault, the_same as the_same_core, both_rings as both_core_rings}
 use Rattle.mpp_core.proofs.OneLaws.{one_core, no_core_and_fault, one_fault as one_core_fault}
+use Rattle.rule_base.specs.Base.{IsBaseOf}
 use Rattle.rule_base.specs.declared.fault.RuleFault.{RuleFault}
 use Rattle.rule_base.specs.Faults.{IsRuleFault, AreOneRuleFault, the_same as the_same_rules, both_cycles as both_rule_cycles}
 use Rattle.rule_base.proofs.OneLaws.{one_base, no_base_and_fault, one_fault as one_rule_fault}
 use Rattle.m_compile.specs.declared.fault.SourceFault.{SourceFault}
 use Rattle.m_compile.specs.declared.fault.SourceFault.TheVariants.{Rules, Driver as DriverIs, Core as CoreIs, Requests, DriverTooLarge}
 use Rattle.m_compile.specs.Sources.{HasRules, IsWritten, without, by_driver, running, IsValid}
-use Rattle.m_compile.specs.Faults.{told_weight, IsSourceFault, of_rules, of_driver, of_core, of_requests, of_weight, AreOneSourceFault, the_same, both_cycles, both_rings}
+use Rattle.m_compile.specs.Faults.{told_weight, IsBaseFault, of_files, IsSourceFault, of_rules, of_driver, of_core, of_requests, of_weight, AreOneSourceFault, the_same, both_cycles, both_rings}
 
 some_one : {A : Type 0} {o : Option A} {x y : A} → o ≡ Some x → o ≡ Some y → x ≡ y
 some_one e f = cc
@@ -161,3 +164,17 @@ one_fault source _ other (of_driver {declared = d} {base = b} {bytes = bs} {faul
 one_fault source _ other (of_core {declared = d} {base = b} {bytes = bs} {fault = f} driver a e s k) h = by_names source d b bs driver f other a e s k h
 one_fault source _ other (of_requests {declared = d} {base = b} {written = w} {fault = f} a x e) h = by_requests source d b w f other a x e h
 one_fault source _ other (of_weight {declared = d} {base = b} {written = w} {requests = r} a x e less) h = by_weight source d b w r other a x e less h
+
+-- ---- rule files by themselves
+
+pub one_rules : (source : Source) (declared others : Declared) (base other : Base) → HasRules source declared base → HasRules source others other → (declared ≡ others) × (base ≡ other)
+one_rules source declared others base other a b = rules_one source a b
+
+pub no_base_and_base_fault : (texts : List Text) (application : List ℕ) (declared : Declared) (base : Base) (fault : SourceFault) → IsBaseOf texts application declared base → HasNoCycle base → IsBaseFault texts application fault → ⊥
+no_base_and_base_fault texts application declared base _ made free (of_files {fault = f} k) = no_base_and_fault texts application declared base f made free k
+
+pub one_base_fault : (texts : List Text) (application : List ℕ) (fault other : SourceFault) → IsBaseFault texts application fault → IsBaseFault texts application other → AreOneSourceFault fault other
+one_base_fault texts application _ _ (of_files {fault = f} k) (of_files {fault = g} l) = one_of_rules (one_rule_fault texts application f g k l)
+
+pub base_fault_of_source : (source : Source) (fault : SourceFault) → IsBaseFault source.texts source.application fault → IsSourceFault source fault
+base_fault_of_source source _ (of_files k) = of_rules k

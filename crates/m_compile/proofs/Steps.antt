@@ -1,7 +1,7 @@
 -- What a step's fault says of the source, and what the program of its rules is.
-use Rattle.std.proofs.Common.{◌≡◌, ◌≢◌, ◌≤◌, ◌<◌, ◌^◌, ◌+◌, ℕ, Bool, true, false, List, [], All, map, length, Option, None, Some, Result, Ok, Err, nat_lt, cond, refl, sym, ap, ◌∙◌, subst, arith}
+use Rattle.std.proofs.Common.{◌≡◌, ◌≢◌, ◌≤◌, ◌<◌, ◌^◌, ◌+◌, ◌++◌, ℕ, Bool, true, false, List, [], All, map, length, Option, None, Some, Result, Ok, Err, nat_lt, cond, refl, sym, ap, ◌∙◌, subst, arith}
 use Rattle.std.proofs.lemmas.Bool.{ltb-false}
-use Rattle.std.proofs.lemmas.List.{length-map}
+use Rattle.std.proofs.lemmas.List.{length-append, length-map}
 use Rattle.std.specs.Prelude.{take, drop}
 use Rattle.std.specs.List.{AllByRecursion}
 use Rattle.m_places.specs.Refusals.{Outcome}
@@ -9,26 +9,23 @@ use Rattle.m_places.specs.declared.limits.TheConstants.{DRIVER_WEIGHT, PARTS, RE
 use Rattle.rule_text.specs.declared.Source.{Source}
 use Rattle.rule_text.specs.declared.Text.{Text}
 use Rattle.m_symbols.specs.Declarations.{Declared, inputs_from}
-use Rattle.m_symbols.specs.Declarations as declarations
 use Rattle.m_symbols.proofs.Numbered.{as_many_codes}
 use Rattle.m_requests.specs.Cells.{cell_name, returned_cells}
 use Rattle.observables.specs.declared.face.Face.{Face}
 use Rattle.observables.specs.declared.face.FaceLabel.{FaceLabel}
 use Rattle.observables.specs.declared.face.FaceLabel.TheVariants.{Verif}
 use Rattle.observables.specs.declared.face.FaceOutput.{FaceOutput}
-use Rattle.observables.specs.declared.face.FaceOutput.TheVariants.{Named}
+use Rattle.observables.specs.declared.face.FaceOutput.TheVariants.{Named, Noted}
 use Rattle.observables.specs.declared.inputs.Coded.{Coded}
-use Rattle.observables.specs.Answers.{told_of}
-use Rattle.observables.specs.Inputs.{codes_of}
+use Rattle.observables.specs.Inputs.{AreValuesOf, codes_of}
 use Rattle.observables.specs.Outputs.{names_of, notes_of}
-use Rattle.observables.proofs.OutputLemmas.{names-named, notes-named}
 use Rattle.flat_code.specs.Passes.{Becomes}
-use Rattle.flat_code.specs.Runs.{flat_run}
 use Rattle.flat_code.specs.Tidy.{IsTidy}
 use Rattle.flat_code.specs.declared.program.Flat.{Flat}
 use Rattle.micro_m.specs.declared.base.Base.{Base}
 use Rattle.micro_m.specs.Reads.{HasNoCycle}
 use Rattle.driver_core.specs.declared.program.Core.{Core}
+use Rattle.driver_core.specs.Inputs.{inputs_said}
 use Rattle.driver_core.specs.Weights.{weight_of}
 use Rattle.m_requests.specs.Requests.{requests_said, lines_said, few}
 use Rattle.m_text.specs.Lines.{lines_of}
@@ -54,23 +51,29 @@ use Rattle.register_alloc.specs.Allocation.{IsAllocation}
 use Rattle.m_compile.specs.declared.fault.SourceFault.{SourceFault}
 use Rattle.m_compile.specs.declared.fault.SourceFault.TheVariants.{Memory}
 use Rattle.m_compile.specs.Sources.{HasRules, IsWritten, running}
-use Rattle.m_compile.specs.Faults.{IsSourceFault, of_rules, of_driver, of_core, of_requests, of_weight}
-use Rattle.m_compile.specs.Compiled.{IsCompiled, IsRunnable, input_said, inputs_said}
+use Rattle.m_compile.specs.Faults.{IsBaseFault, of_files, IsSourceFault, of_rules, of_driver, of_core, of_requests, of_weight}
+use Rattle.m_compile.specs.Compiled.{IsCompiled, IsRunnable}
 use Rattle.m_compile.specs.inner.Parts.{IsAsked, IsAskedFault, in_driver, in_requests, IsProgram, IsHeavy, heavy, of_lines, of_names, IsDriverFault, IsReady, compiled_of}
 use Rattle.m_compile.proofs.Distinct.{codes_said, distinct_codes}
+use Rattle.m_compile.proofs.Noted.{names_noted, notes_noted}
 use Rattle.m_compile.proofs.words.Faces.{printable_face}
 use Rattle.m_compile.proofs.Tidied.{plain_values, labels_kept, labels_all}
 use Rattle.m_compile.specs.inner.Steps.{rule_step, driver_step, core_step, request_step, inline_step}
 
 -- the fault of the rule files
-pub rules_told : (source : Source) (fault : RuleFault) → (fault ≢ rules.Memory → IsRuleFault source.texts source.application fault) → rule_step fault ≢ Memory → IsSourceFault source (rule_step fault)
-rules_told source rules.Memory h k = absurd (k refl)
-rules_told source (rules.Lex f) h k = of_rules (h (λ e. cc))
-rules_told source (rules.Parse f) h k = of_rules (h (λ e. cc))
-rules_told source (rules.Declare f) h k = of_rules (h (λ e. cc))
-rules_told source (rules.Expand f) h k = of_rules (h (λ e. cc))
-rules_told source (rules.Resolve f) h k = of_rules (h (λ e. cc))
-rules_told source (rules.Cycle names) h k = of_rules (h (λ e. cc))
+pub rules_told : (texts : List Text) (application : List ℕ) (fault : RuleFault) → (fault ≢ rules.Memory → IsRuleFault texts application fault) → rule_step fault ≢ Memory → IsBaseFault texts application (rule_step fault)
+rules_told texts application rules.Memory h k = absurd (k refl)
+rules_told texts application (rules.Lex f) h k = of_files (h (λ e. cc))
+rules_told texts application (rules.Parse f) h k = of_files (h (λ e. cc))
+rules_told texts application (rules.Declare f) h k = of_files (h (λ e. cc))
+rules_told texts application (rules.Expand f) h k = of_files (h (λ e. cc))
+rules_told texts application (rules.Resolve f) h k = of_files (h (λ e. cc))
+rules_told texts application (rules.Cycle names) h k = of_files (h (λ e. cc))
+
+-- it is one of the source, where the texts and the application are lent
+pub base_told : (source : Source) (texts : List Text) (application : List ℕ) (fault : SourceFault) → texts ≡ source.texts → application ≡ source.application → IsBaseFault texts application fault → IsSourceFault source fault
+base_told source texts application _ t a (of_files {fault = f} k) =
+    of_rules (subst (λ (x : List Text). IsRuleFault x source.application f) t (subst (λ (x : List ℕ). IsRuleFault texts x f) a k))
 
 -- the rules, where the texts and the application are lent
 pub rules_made : (source : Source) (texts : List Text) (application : List ℕ) (declared : Declared) (base : Base) → texts ≡ source.texts → application ≡ source.application
@@ -140,7 +143,6 @@ heavy_told source declared base written asked fault r d q (heavy w) = of_weight 
 compiled_when : (source : Source) (declared : Declared) (base : Base) (asked : List ℕ) (core : Core) (flat : Flat) (face : Face) (runnable : IsRunnable face flat) → HasRules source declared base → IsAsked declared source core asked
     → IsProgram declared base core asked flat face → (code : Listing) → IsAllocation flat (length face.labels) code → IsCompiled source (compiled_of flat face code)
 compiled_when source declared base asked core flat face runnable r a p code l =
-    let no_notes : notes_of face.outputs ≡ [] = ap notes_of p.outputs ∙ notes-named (map (cell_name declared) asked) in
     record {
       declared = declared;
       base = base;
@@ -151,12 +153,12 @@ compiled_when source declared base asked core flat face runnable r a p code l =
       tidy = p.tidy;
       allocated = l;
       inputs = p.inputs;
-      names = ap names_of p.outputs ∙ names-named (map (cell_name declared) asked);
-      notes = subst (AllByRecursion (λ number. number < length base.labels)) (sym no_notes) tt;
+      names = p.names;
+      notes = p.notes;
       first_labels = p.first_labels;
       printable = printable_face source.texts source.application source.requests declared base asked face r.made a.requested (distinct_codes source.texts source.application declared base r.made)
-          (ap codes_of p.inputs ∙ codes_said declared) (ap names_of p.outputs ∙ names-named (map (cell_name declared) asked)) p.first_labels p.further_labels;
-      answers = λ inputs given. ap (λ notes. told_of face.labels notes (flat_run flat inputs)) no_notes ∙ rw (sym a.runs) (p.answers inputs (plain_values face.inputs inputs given));
+          (ap codes_of p.inputs ∙ codes_said declared) p.names p.first_labels p.further_labels;
+      answers = λ inputs given. rw (sym a.runs) (p.answers inputs given);
     }
 
 runnable_when : (source : Source) (declared : Declared) (base : Base) (asked : List ℕ) (core : Core) (flat : Flat) (face : Face) → HasRules source declared base → IsProgram declared base core asked flat face → IsRunnable face flat
@@ -193,21 +195,28 @@ finished source declared base asked core (Err fault) few r a p = λ m. heavy_tol
 
 -- there is an input for each that is declared
 as_many_inputs : (declared : Declared) (said : List Coded) (inputs : ℕ) → said ≡ inputs_said declared → inputs ≡ length (inputs_from 0 declared.variables) → length said ≡ inputs
-as_many_inputs declared said inputs c i = ap length c ∙ length-map (declarations.codes_of declared.variables) input_said ∙ as_many_codes 0 declared.variables ∙ sym i
+as_many_inputs declared said inputs c i = ap length c ∙ sym (length-map (inputs_said declared) (λ input. input.code)) ∙ ap length (codes_said declared) ∙ as_many_codes 0 declared.variables ∙ sym i
 
--- there is an output for each of the cells that are asked for
-as_many_outputs : (declared : Declared) (outputs : List FaceOutput) (asked : List ℕ) → outputs ≡ map Named (map (cell_name declared) asked) → length outputs ≡ length asked
-as_many_outputs declared outputs asked e = ap length e ∙ length-map (map (cell_name declared) asked) Named ∙ length-map asked (cell_name declared)
+-- the outputs: the notes, and then the names of the cells that are asked for
+abbrev outputs_made : Declared → List ℕ → List ℕ → List FaceOutput
+outputs_made declared notes asked = map Noted notes ++ map Named (map (cell_name declared) asked)
 
-few_outputs : (outputs : List FaceOutput) (asked : List ℕ) → length outputs ≡ length asked → length asked ≤ REQUESTS → length outputs < 2 ^ 32
-few_outputs outputs asked e h = omega (arith, e, h)
+as_many_outputs : (declared : Declared) (outputs : List FaceOutput) (notes asked : List ℕ) → outputs ≡ outputs_made declared notes asked → length outputs ≡ length notes + length asked
+as_many_outputs declared outputs notes asked e =
+    ap length e
+    ∙ length-append (map Noted notes) (map Named (map (cell_name declared) asked))
+    ∙ (λ i. length-map notes Noted i + (length-map (map (cell_name declared) asked) Named ∙ length-map asked (cell_name declared)) i)
+
+few_outputs : (outputs notes asked : ℕ) → outputs ≡ notes + asked → notes ≤ most_nodes → asked ≤ REQUESTS → outputs < 2 ^ 32
+few_outputs outputs notes asked e n h = omega (arith, e, n, h)
 
 -- the tidy program with its face
-pub program_made : (declared : Declared) (base : Base) (core : Core) (asked : List ℕ) (flat tidy : Flat) (face : Face) (labels : List FaceLabel) → HasWeight core base → IsInlined core base declared asked flat labels
-    → Becomes flat tidy → IsTidy tidy → face.labels ≡ labels → face.inputs ≡ inputs_said declared → face.outputs ≡ map Named (map (cell_name declared) asked) → length asked ≤ REQUESTS
-    → IsProgram declared base core asked tidy face
-program_made declared base core asked flat tidy face labels w i b t l f o h =
-    let many = as_many_outputs declared face.outputs asked o in
+pub program_made : (declared : Declared) (base : Base) (core : Core) (asked : List ℕ) (flat tidy : Flat) (face : Face) (labels : List FaceLabel) (notes : List ℕ) → HasWeight core base
+    → IsInlined core base declared asked flat labels notes → Becomes flat tidy → IsTidy tidy → face.labels ≡ labels → face.inputs ≡ inputs_said declared → face.outputs ≡ outputs_made declared notes asked
+    → length asked ≤ REQUESTS → IsProgram declared base core asked tidy face
+program_made declared base core asked flat tidy face labels notes w i b t l f o h =
+    let many = as_many_outputs declared face.outputs notes asked o in
+    let noted : notes_of face.outputs ≡ notes = ap notes_of o ∙ notes_noted notes (map (cell_name declared) asked) in
     record {
       light = w;
       valid = b.valid;
@@ -216,15 +225,16 @@ program_made declared base core asked flat tidy face labels w i b t l f o h =
         inputs = as_many_inputs declared face.inputs tidy.inputs f (b.inputs ∙ i.inputs);
         labels = labels_kept (length face.labels) flat.checks tidy.checks (subst (λ (ls : List FaceLabel). All (λ check. check.label < length ls) flat.checks) (sym l) i.labelled) b.labels;
         outputs = many ∙ sym (b.outputs ∙ i.outputs);
-        few = few_outputs face.outputs asked many h;
+        few = few_outputs (length face.outputs) (length notes) (length asked) many i.notes_fit h;
       };
       inputs = f;
-      outputs = o;
+      names = ap names_of o ∙ names_noted notes (map (cell_name declared) asked);
+      notes = subst (AllByRecursion (λ number. number < length base.labels)) (sym noted) i.noted;
       first_labels = subst (λ (ls : List FaceLabel). take (length base.labels) ls ≡ map Verif base.labels) (sym l) i.first_labels;
       further_labels = subst (λ (ls : List FaceLabel). AllByRecursion IsDriverLine (drop (length base.labels) ls)) (sym l) i.further_labels;
       nodes_fit = omega (arith, b.nodes, i.nodes_fit);
       checks_fit = omega (arith, b.checks, i.checks_fit);
       labels_fit = subst (λ (ls : List FaceLabel). length ls ≤ length base.labels + most_nodes) (sym l) i.labels_fit;
-      few_outputs = omega (arith, many, h);
-      answers = λ inputs plain. rw (l, b.answer inputs plain) (i.answer inputs);
+      few_outputs = omega (arith, many, i.notes_fit, h);
+      answers = λ inputs given. rw (l, noted, b.answer inputs (plain_values face.inputs inputs given)) (i.answer inputs (subst (λ said. AreValuesOf said inputs) f given));
     }

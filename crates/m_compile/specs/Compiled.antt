@@ -5,12 +5,9 @@ use Rattle.m_fixed.specs.declared.amount.Value.{Value}
 use Rattle.m_names.specs.Names.{AreDistinct}
 use Rattle.rule_text.specs.declared.Source.{Source}
 use Rattle.m_symbols.specs.Declarations.{Declared}
-use Rattle.m_symbols.specs.Declarations as declarations
 use Rattle.micro_m.specs.declared.base.Base.{Base}
 use Rattle.observables.specs.declared.face.Face.{Face}
 use Rattle.observables.specs.declared.face.FaceLabel.TheVariants.{Verif}
-use Rattle.observables.specs.declared.inputs.Coded.{Coded}
-use Rattle.observables.specs.declared.inputs.InputType.TheVariants.{Any}
 use Rattle.observables.specs.Answers.{told_of}
 use Rattle.observables.specs.Inputs.{AreValuesOf, codes_of}
 use Rattle.observables.specs.Outputs.{names_of, notes_of}
@@ -20,20 +17,13 @@ use Rattle.flat_code.specs.Runs.{IsFlat, flat_run}
 use Rattle.flat_code.specs.Tidy.{IsTidy}
 use Rattle.register_alloc.specs.Allocation.{IsAllocation}
 use Rattle.driver_core.specs.declared.program.Core.{Core}
+use Rattle.driver_core.specs.Inputs.{inputs_said}
 use Rattle.m_requests.specs.Cells.{cell_name}
 use Rattle.mpp_inline.specs.Inlined.{most_nodes}
 use Rattle.code_file.specs.Printable.{IsPrintable}
 use Rattle.m_compile.specs.declared.compiling.Compiled.{Compiled}
 use Rattle.m_compile.specs.Sources.{IsValid}
 use Rattle.m_compile.specs.Answers.{answer_to}
-
--- the input with this code, which may have each amount
-abbrev pub input_said : List ℕ → Coded
-input_said code = record { code = code; kind = Any }
-
--- the inputs that are declared, in order
-abbrev pub inputs_said : Declared → List Coded
-inputs_said declared = map input_said (declarations.codes_of declared.variables)
 
 -- a program that can be run, which its face shows, whose inputs have different codes, and whose nodes are not too many
 pub record IsRunnable (face : Face) (flat : Flat) : Type 0 where
@@ -43,8 +33,8 @@ pub record IsRunnable (face : Face) (flat : Flat) : Type 0 where
   pub nodes_fit : length flat.nodes ≤ most_nodes
 
 -- The source is valid, and it is compiled to this: for every list of values that the inputs may have, the answer of the tidy program, read through its face,
--- is the answer of the source. The face has the inputs, the labels of the base's checks before all others, and the names of what is asked for, each in its order,
--- and each note is that of a check of the base. A code file can spell all words of the face. The code spells the tidy program, with a label for each of the face,
+-- is the answer of the source. The face has the inputs with their types, the labels of the base's checks before all others, and the names of what is asked for, each
+-- in its order, and each note is that of a check of the base. A code file can spell all words of the face. The code spells the tidy program, with a label for each of the face,
 -- in the registers and slots of its width.
 pub record IsCompiled (source : Source) (compiled : Compiled) : Type 0 where
   pub declared : Declared

@@ -2,6 +2,7 @@
 use Rattle.std.specs.Prelude.{◌≡◌, ℕ, ◌<◌, List, Option, Some, Err, Ok, min}
 use Rattle.m_places.specs.declared.limits.TheConstants.{DRIVER_WEIGHT}
 use Rattle.rule_text.specs.declared.Source.{Source}
+use Rattle.rule_text.specs.declared.Text.{Text}
 use Rattle.m_symbols.specs.Declarations.{Declared}
 use Rattle.micro_m.specs.declared.base.Base.{Base}
 use Rattle.driver_core.specs.declared.program.Core.{Core}
@@ -42,6 +43,10 @@ pub data IsSourceFault (source : Source) : SourceFault → Type 0 where
   of_weight : {declared : Declared} {base : Base} {written : Option Core} {requests : List ℕ} → HasRules source declared base
       → IsWritten declared source.driver written → requests_said source.requests declared ≡ Ok requests
       → DRIVER_WEIGHT < weight_of (running written requests declared) base → IsSourceFault source (DriverTooLarge (told_weight (running written requests declared) base))
+
+-- The fault of rule files by themselves: that of the earliest step of theirs that has one.
+pub data IsBaseFault (texts : List Text) (application : List ℕ) : SourceFault → Type 0 where
+  of_files : {fault : RuleFault} → IsRuleFault texts application fault → IsBaseFault texts application (Rules fault)
 
 -- Two faults are one where they are the same, or where both show a cycle of cells, or both a ring of functions, of which any true one may be shown.
 pub data AreOneSourceFault : SourceFault → SourceFault → Type 0 where

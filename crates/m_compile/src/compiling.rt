@@ -18,6 +18,7 @@ ghost use Rattle.m_compile.specs.inner.Parts.{IsAsked, IsAskedFault, IsProgram, 
 ghost use Rattle.m_compile.specs.declared.fault.SourceFault.TheVariants.{Memory};
 
 use crate::SourceFault;
+use crate::base::compile_base;
 use crate::face::face_of;
 use dead_rules::tidy;
 use driver_core::Core;
@@ -31,14 +32,15 @@ use mpp_parser::parse_driver;
 use observables::Face;
 use reg_machine::Code;
 use register_alloc::allocate;
-use rule_base::{RuleBase, rule_base};
+use rule_base::RuleBase;
 use rule_text::Source;
 use std::alloc::{AllocError, Global};
+use std::thread::Threads;
 
 /// What a source is compiled to.
 #[derive(Drop)]
 pub struct Compiled {
-    /// The inputs, the labels of the stops, and the names of what is asked for.
+    /// The inputs with their types, what stops and notes tell, and as outputs the notes and the names of what is asked for.
     pub face: Face,
     /// The program, in the tidy form.
     pub tidy: Tidy,
@@ -49,24 +51,38 @@ pub struct Compiled {
 /// Compiles a source, or tells the fault of its earliest step that has one: the rule files, the lines of the driver, its names,
 /// the requests, the weight.
 ///
-/// For every list of values that the inputs may have the program answers, read through its face, what the source says.
-pub fn compile(alloc: Global, source: &Source) -> Result<Compiled, SourceFault>
+/// For every list of values that the inputs may have by their types the program answers, read through its face, what the source
+/// says: the verifications that are noted and the values of what is asked for, or the first stop.
+pub fn compile_with<R: Threads + Sync>(
+    rt: &R,
+    alloc: Global,
+    source: &Source,
+) -> Result<Compiled, SourceFault>
     requires { SourceKeepsLimits source.now }
     ensures outcome { Outcome Memory result (IsCompiled source.now) (IsSourceFault source.now) }
     ensures runnable { IfOk result (λ compiled. IsRunnable compiled.face compiled.tidy) }
     ensures loadable { IfOk result (λ compiled. IsTrue (counts_agree compiled.code compiled.face.inputs compiled.face.labels compiled.face.outputs)) }
 {
-    let (tidy, face) = ready(alloc, source)?;
+    let (tidy, face) = ready(rt, alloc, source)?;
     let code = coded(alloc, &tidy, &face)?;
     Ok(Compiled { face, tidy, code })
 }
 
 // The program of a source, with its face.
-fn ready(alloc: Global, source: &Source) -> Result<(Tidy, Face), SourceFault>
+fn ready<R: Threads + Sync>(
+    rt: &R,
+    alloc: Global,
+    source: &Source,
+) -> Result<(Tidy, Face), SourceFault>
     requires { SourceKeepsLimits source.now }
     ensures { Outcome Memory result (λ given. IsReady source.now given.0 given.1) (IsSourceFault source.now) }
 {
-    let made = rule_base(alloc, source.texts.as_slice(), source.application.bytes())?;
+    let made = compile_base(
+        rt,
+        alloc,
+        source.texts.as_slice(),
+        source.application.bytes(),
+    )?;
     program(alloc, source, &made)
 }
 
@@ -168,8 +184,8 @@ fn faced(
     requires few { length requests.now ≤ REQUESTS }
     ensures { Outcome Memory result (λ given. IsProgram made.now.symbols made.now.ordered.base core.now requests.now given.0 given.1) (IsHeavy core.now made.now.ordered.base) }
 {
-    let (flat, labels) = inline(alloc, core, &made.ordered, &made.symbols, requests)?;
+    let (flat, labels, notes) = inline(alloc, core, &made.ordered, &made.symbols, requests)?;
     let tidy = tidy(alloc, &flat)?;
-    let face = face_of(alloc, &made.symbols, labels, requests)?;
+    let face = face_of(alloc, &made.symbols, labels, notes.as_slice(), requests)?;
     Ok((tidy, face))
 }

@@ -1,40 +1,47 @@
 //! What a program shows of itself.
 
-ghost use Rattle.std.specs.Prelude.{◌≡◌, ◌<◌, ◌++◌, [], All, IfOk, OnOk, length, map};
-ghost use Rattle.std.specs.List.{cons_option};
-ghost use Rattle.std.specs.Option.{option_map};
+ghost use Rattle.std.specs.Prelude.{◌≡◌, ◌<◌, ◌++◌, [], All, IfOk, OnOk, IsTrue, is_some, length, map};
+ghost use Rattle.std.specs.List.{AllByRecursion, cons_option};
 ghost use Rattle.m_requests.specs.Cells.{cell_name};
-ghost use Rattle.m_symbols.specs.Declarations.{code_of, owners_from};
-ghost use Rattle.observables.specs.declared.face.FaceOutput.TheVariants.{Named};
-ghost use Rattle.m_compile.specs.Compiled.{input_said, inputs_said};
+ghost use Rattle.m_symbols.specs.Declarations.{owners_from};
+ghost use Rattle.observables.specs.declared.face.FaceOutput.TheVariants.{Named, Noted};
+ghost use Rattle.observables.specs.Outputs.{verif_at};
+ghost use Rattle.driver_core.specs.Inputs.{input_said, inputs_said, type_said};
 
 use m_ast::Role;
-use m_places::Seq;
+use m_places::{Name, Seq};
 use m_requests::cell_names;
 use m_symbols::{Symbols, Variable};
-use observables::{Coded, Face, FaceLabel, InputType, named_face};
+use observables::{Coded, Face, FaceLabel, FaceOutput, InputType, type_of};
 use std::alloc::{AllocError, Global};
 
-/// The face of a program with these labels over what is declared: all inputs, the labels, and the names of
-/// the cells that are asked for. Its only error is want of memory.
+/// The face of a program with these labels over what is declared: all inputs, the labels, and first the notes, by the numbers
+/// of their labels, and then the names of the cells that are asked for. Its only error is want of memory.
 pub(crate) fn face_of(
     alloc: Global,
     symbols: &Symbols,
     labels: Seq<FaceLabel>,
+    notes: &[u32],
     requests: &[u32],
 ) -> Result<Face, AllocError>
-    requires { All (λ c. c < length (owners_from 0 symbols.now.variables)) requests.now }
+    requires known { All (λ c. c < length (owners_from 0 symbols.now.variables)) requests.now }
+    requires noted { AllByRecursion (λ n. IsTrue (is_some (verif_at labels n))) notes.now }
     ensures inputs { IfOk result (λ face. face.inputs ≡ inputs_said symbols.now) }
     ensures labels { IfOk result (λ face. face.labels ≡ labels) }
-    ensures outputs { IfOk result (λ face. face.outputs ≡ map Named (map (cell_name symbols.now) requests.now)) }
+    ensures outputs { IfOk result (λ face. face.outputs ≡ map Noted notes.now ++ map Named (map (cell_name symbols.now) requests.now)) }
 {
     let inputs = inputs_of(alloc, symbols)?;
-    let names = cell_names(alloc, symbols, requests)?;
-    named_face(alloc, inputs, labels, names)
+    let outputs = outputs_of(alloc, symbols, notes, requests)?;
+    Ok(Face {
+        inputs,
+        labels,
+        outputs,
+    })
 }
 
-// The inputs, in order.
-fn inputs_of(alloc: Global, symbols: &Symbols) -> Result<Seq<Coded>, AllocError>
+/// The inputs that are declared, in order: what a program over these declarations shows as its inputs. Its only error is want
+/// of memory.
+pub fn inputs_of(alloc: Global, symbols: &Symbols) -> Result<Seq<Coded>, AllocError>
     ensures { IfOk result (λ inputs. inputs ≡ inputs_said symbols.now) }
 {
     let mut inputs = Vec::new(alloc);
@@ -46,15 +53,62 @@ fn inputs_of(alloc: Global, symbols: &Symbols) -> Result<Seq<Coded>, AllocError>
 
 // Adds a variable, if it is an input.
 fn add_input(alloc: Global, variable: &Variable, inputs: &mut Vec<Coded>) -> Result<(), AllocError>
-    ensures { OnOk result (inputs.new.items ≡ inputs.old.items ++ cons_option (option_map input_said (code_of variable.now)) []) }
+    ensures { OnOk result (inputs.new.items ≡ inputs.old.items ++ cons_option (input_said variable.now) []) }
 {
     match &variable.item.role {
         Role::Input(code) => inputs.push(Coded {
             code: code.copy(alloc)?,
-            kind: InputType::Any,
+            kind: type_said(&variable.item.value_word),
         })?,
         Role::Computed(_) => {}
         Role::Constant(_) => {}
+    }
+    Ok(())
+}
+
+// The type of an input by the word behind `type`: without one it may have each amount.
+fn type_said(word: &Option<Name>) -> InputType
+    ensures { result ≡ type_said word.now }
+{
+    match word {
+        Some(word) => type_of(word.bytes()),
+        None => InputType::Any,
+    }
+}
+
+// The outputs: the notes, and then the names of the cells that are asked for.
+fn outputs_of(
+    alloc: Global,
+    symbols: &Symbols,
+    notes: &[u32],
+    requests: &[u32],
+) -> Result<Seq<FaceOutput>, AllocError>
+    requires { All (λ c. c < length (owners_from 0 symbols.now.variables)) requests.now }
+    ensures { IfOk result (λ outputs. outputs ≡ map Noted notes.now ++ map Named (map (cell_name symbols.now) requests.now)) }
+{
+    let names = cell_names(alloc, symbols, requests)?;
+    let mut outputs = noted(alloc, notes)?;
+    add_names(names, &mut outputs)?;
+    Ok(Seq::from_vec(outputs))
+}
+
+// An output for each note, in order.
+fn noted(alloc: Global, notes: &[u32]) -> Result<Vec<FaceOutput>, AllocError>
+    ensures { IfOk result (λ outputs. outputs.items ≡ map Noted notes.now) }
+{
+    let mut outputs = Vec::new(alloc);
+    for number in notes {
+        outputs.push(FaceOutput::Noted(*number))?;
+    }
+    Ok(outputs)
+}
+
+// Adds an output for each name, in order.
+fn add_names(names: Seq<Name>, outputs: &mut Vec<FaceOutput>) -> Result<(), AllocError>
+    ensures { OnOk result (outputs.new.items ≡ outputs.old.items ++ map Named names) }
+{
+    for name in names.into_vec() {
+        outputs.push(FaceOutput::Named(name))?;
     }
     Ok(())
 }

@@ -1,11 +1,14 @@
-//! What holds of the definitions: a source says one thing or has one fault, and not both.
+//! What holds of the definitions: a source says one thing or has one fault, and not both, and so do rule files by themselves.
 ghost use Rattle.std.specs.Prelude.{◌≡◌, ℕ, List, Option};
 ghost use Rattle.rule_text.specs.declared.Source.{Source};
+ghost use Rattle.rule_text.specs.declared.Text.{Text};
 ghost use Rattle.m_symbols.specs.Declarations.{Declared};
 ghost use Rattle.micro_m.specs.declared.base.Base.{Base};
+ghost use Rattle.micro_m.specs.Reads.{HasNoCycle};
 ghost use Rattle.driver_core.specs.declared.program.Core.{Core};
-ghost use Rattle.m_compile.specs.Sources.{IsValid};
-ghost use Rattle.m_compile.specs.Faults.{IsSourceFault, AreOneSourceFault};
+ghost use Rattle.rule_base.specs.Base.{IsBaseOf};
+ghost use Rattle.m_compile.specs.Sources.{HasRules, IsValid};
+ghost use Rattle.m_compile.specs.Faults.{IsBaseFault, IsSourceFault, AreOneSourceFault};
 ghost use Rattle.m_compile.specs.declared.fault.SourceFault.{SourceFault};
 
 /// A valid source declares one thing, its rules are one base, one driver was written or none, and these cells alone are asked for.
@@ -24,4 +27,27 @@ pub fn no_valid_and_fault()
 /// A source has at most one fault, but for which cycle of cells or which ring of functions is shown.
 pub fn one_fault()
     ensures { (source : Source) (fault other : SourceFault) → IsSourceFault source fault → IsSourceFault source other → AreOneSourceFault fault other }
+{}
+
+/// The rule files of a source declare one thing, and are one base over it.
+pub fn one_rules()
+    ensures { (source : Source) (declared others : Declared) (base other : Base) →
+        HasRules source declared base → HasRules source others other → (declared ≡ others) × (base ≡ other) }
+{}
+
+/// Rule files that are a base without a cycle have no fault.
+pub fn no_base_and_base_fault()
+    ensures { (texts : List Text) (application : List ℕ) (declared : Declared) (base : Base) (fault : SourceFault) →
+        IsBaseOf texts application declared base → HasNoCycle base → IsBaseFault texts application fault → ⊥ }
+{}
+
+/// Rule files have at most one fault, but for which cycle of cells is shown.
+pub fn one_base_fault()
+    ensures { (texts : List Text) (application : List ℕ) (fault other : SourceFault) →
+        IsBaseFault texts application fault → IsBaseFault texts application other → AreOneSourceFault fault other }
+{}
+
+/// The fault of a source's rule files is that of the source. So a valid source has a base.
+pub fn base_fault_of_source()
+    ensures { (source : Source) (fault : SourceFault) → IsBaseFault source.texts source.application fault → IsSourceFault source fault }
 {}

@@ -4,13 +4,19 @@
 //! of the command line or of what a household is.
 #![tactic(auto)]
 
+mod base;
 mod compiling;
 mod face;
 mod fault;
 mod laws;
 mod told;
 
-pub use compiling::{Compiled, compile};
+pub use base::compile_base;
+pub use compiling::{Compiled, compile_with};
+pub use face::inputs_of;
 pub use fault::SourceFault;
-pub use laws::{no_valid_and_fault, one_fault, one_validity};
+pub use laws::{
+    base_fault_of_source, no_base_and_base_fault, no_valid_and_fault, one_base_fault, one_fault,
+    one_rules, one_validity,
+};
 pub use told::told_fault;

@@ -1,9 +1,10 @@
 //! What every other crate speaks of: names, and names that many own, places in rule files, lists that
-//! contracts see as lists, the kinds and labels of verifications, and the limits of the program.
+//! contracts see as lists, the kinds and labels of verifications, gates for workers, and the limits of the program.
 //!
 //! This crate stands on `std` and `smallvec` alone, and knows nothing of files, tokens or amounts.
 #![tactic(auto)]
 
+mod gate;
 pub mod limits;
 mod name;
 mod place;
@@ -11,6 +12,7 @@ mod seq;
 mod shared;
 mod verification;
 
+pub use gate::{Gate, Open};
 pub use name::{Name, Word};
 pub use place::Place;
 pub use seq::Seq;

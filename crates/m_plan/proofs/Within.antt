@@ -1,5 +1,5 @@
 -- Plans whose files keep a limit.
-use Rattle.std.proofs.Common.{ℕ, ◌≤◌, List}
+use Rattle.std.proofs.Common.{ℕ, ◌≤◌, List, arith}
 use Rattle.m_plan.specs.Plan.{Plan, done, refuses, asks, and_then}
 
 -- no file of a plan may have more bytes than this
@@ -13,3 +13,9 @@ pub within_then : {A B : Type 0} (most : ℕ) (plan : Plan A) (next : A → Plan
 within_then most (done all) next k n = n all
 within_then most (refuses line) next k n = tt
 within_then most (asks name limit behind) next k n = (k.0, λ bytes. within_then most (behind bytes) next (k.1 bytes) n)
+
+-- a greater limit
+pub within_more : {Gathered : Type 0} (few most : ℕ) (plan : Plan Gathered) → few ≤ most → KeepsWithin few plan → KeepsWithin most plan
+within_more few most (done all) h k = tt
+within_more few most (refuses line) h k = tt
+within_more few most (asks name limit behind) h k = (omega (arith, h, k.0), λ bytes. within_more few most (behind bytes) h (k.1 bytes))

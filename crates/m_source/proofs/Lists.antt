@@ -1,6 +1,9 @@
 -- How a list that was fetched goes on.
-use Rattle.std.proofs.Common.{◌≡◌, ℕ, List, Ok, Err, sym, subst, ap, ◌∙◌}
-use Rattle.m_list.specs.Listing.{list_of}
+use Rattle.std.proofs.Common.{◌≡◌, ℕ, ◌≤◌, List, length, Ok, Err, sym, subst, ap, ◌∙◌}
+use Rattle.std.specs.Prelude.{MatchResult}
+use Rattle.m_places.specs.declared.limits.TheConstants.{LIST_FILES}
+use Rattle.m_list.specs.Listing.{IsListing, IsListFault, list_of}
+use Rattle.m_list.proofs.Readings.{list_says}
 use Rattle.m_list.specs.declared.listing.Listing.{Listing}
 use Rattle.m_list.specs.declared.fault.ListFault.{ListFault}
 use Rattle.m_list.specs.declared.fault.ListFault.TheVariants.{BadLine, TooManyFiles}
@@ -20,3 +23,7 @@ listed_bad view bytes fault number is e =
 
 pub listed_many : (view : FilesView) (bytes : List ℕ) (fault : ListFault) → fault ≡ TooManyFiles → list_of bytes ≡ Err fault → GoesAlong (listed (list_of bytes)) view view (Err (Refused TooMany))
 listed_many view bytes fault is e = subst (λ r. GoesAlong (listed r) view view (Err (Refused TooMany))) (sym (e ∙ ap Err is)) (along_refused view TooMany)
+
+-- a list's files are not too many
+pub few_listed : (bytes : List ℕ) (listing : Listing) → list_of bytes ≡ Ok listing → length listing.files ≤ LIST_FILES
+few_listed bytes listing e = let is : IsListing bytes listing = subst (λ r. MatchResult r (IsListing bytes) (IsListFault bytes)) e (list_says bytes) in is.few

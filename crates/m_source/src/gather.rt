@@ -1,6 +1,6 @@
 //! The calls that gather a source, each along its plan.
-ghost use Rattle.std.specs.Prelude.{◌≡◌, IfOk};
-ghost use Rattle.m_places.specs.declared.limits.TheConstants.{RULE_BYTES};
+ghost use Rattle.std.specs.Prelude.{◌≡◌, ◌≤◌, IfOk, length};
+ghost use Rattle.m_places.specs.declared.limits.TheConstants.{LIST_FILES, RULE_BYTES};
 ghost use Rattle.m_plan.specs.Trips.{GoesAlong};
 ghost use Rattle.m_plan.specs.Views.{files_view};
 ghost use Rattle.rule_text.specs.Limits.{TextsAreWithin, FileIsWithin, SourceKeepsLimits};
@@ -39,8 +39,9 @@ pub fn gather_source<F: Files>(
 
 // Fetches the list, and reads it.
 fn gather_list<F: Files>(alloc: Global, files: &mut F, name: &Name) -> Result<Listing, Ending>
-    ensures { GoesAlong (list_plan name.now) (files_view F.told F.attempts F.taken files.old)
+    ensures along { GoesAlong (list_plan name.now) (files_view F.told F.attempts F.taken files.old)
         (files_view F.told F.attempts F.taken files.new) result }
+    ensures few { IfOk result (λ listing. length listing.files ≤ LIST_FILES) }
 {
     let bytes = fetch(alloc, files, name, FILE_BYTES)?;
     match read_list(alloc, bytes.as_slice()) {
@@ -53,6 +54,7 @@ fn gather_list<F: Files>(alloc: Global, files: &mut F, name: &Name) -> Result<Li
 
 // Fetches the rule files.
 fn gather_rules<F: Files>(alloc: Global, files: &mut F, names: &[Name]) -> Result<Seq<Text>, Ending>
+    requires { length names.now ≤ LIST_FILES }
     ensures along { GoesAlong (rules_plan RULE_BYTES names.now) (files_view F.told F.attempts F.taken files.old)
         (files_view F.told F.attempts F.taken files.new) result }
     ensures within { IfOk result TextsAreWithin }

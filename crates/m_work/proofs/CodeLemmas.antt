@@ -23,6 +23,7 @@ use Rattle.reg_machine.specs.Machine.{Machine, act, act_at, acts, answer_of, fre
 use Rattle.reg_machine.proofs.BuilderLemmas.{end-whole}
 use Rattle.code_file.specs.Loading.{counts_agree}
 use Rattle.tax_print.specs.Lines.{AnswerIsWithin}
+use Rattle.m_cases.specs.Mismatches.{HasValueEach}
 
 -- ---- counts
 
@@ -157,6 +158,15 @@ code_within code face whole a inputs =
     end_within face (acts inputs (fresh code.counts.outputs) code.instrs).ended (acts inputs (fresh code.counts.outputs) code.instrs).outputs
     (subst (λ n. IsStopBelow n (acts inputs (fresh code.counts.outputs) code.instrs).ended) (sym a.labels) (code_stop code inputs whole))
     (no_more (length (acts inputs (fresh code.counts.outputs) code.instrs).outputs) code.counts.outputs (length face.outputs) (code_outputs code inputs) a.outputs)
+
+each_valued : (face : Face) (ended : Option Stop) (outputs : List Value) → length outputs ≡ length face.outputs → HasValueEach face (answer_of ended outputs)
+each_valued face None outputs many = many
+each_valued face (Some s) outputs many = tt
+
+-- And it has a value for each output of such a face, where it doesn't stop.
+pub code_each : (code : Listing) (face : Face) → Agrees code face → (inputs : List Value) → HasValueEach face (machine_run code inputs)
+code_each code face a inputs =
+    each_valued face (acts inputs (fresh code.counts.outputs) code.instrs).ended (acts inputs (fresh code.counts.outputs) code.instrs).outputs (code_outputs code inputs ∙ sym a.outputs)
 
 -- ---- code that spells a program
 

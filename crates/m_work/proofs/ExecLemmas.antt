@@ -11,10 +11,8 @@ use Rattle.observables.specs.declared.answer.Answer.TheVariants.{Values, Stopped
 use Rattle.observables.specs.declared.face.Face.{Face}
 use Rattle.observables.specs.declared.face.FaceLabel.{FaceLabel}
 use Rattle.observables.specs.declared.face.FaceLabel.TheVariants.{DriverLine}
-use Rattle.observables.specs.declared.inputs.Coded.{Coded}
-use Rattle.observables.specs.declared.inputs.InputType.TheVariants.{Any}
 use Rattle.observables.specs.Answers.{Told, values, stopped, cause_of, label_number, told_of}
-use Rattle.observables.specs.Inputs.{AreAny, codes_of}
+use Rattle.observables.specs.Inputs.{codes_of}
 use Rattle.observables.specs.Outputs.{names_of, notes_of}
 use Rattle.reg_machine.specs.Machine.{machine_run}
 use Rattle.code_file.specs.Printable.{AreApart}
@@ -24,19 +22,6 @@ use Rattle.tax_print.specs.Lines.{AnswerIsWithin}
 use Rattle.m_work.specs.Prepared.{IsRunnableCode, Shows}
 use Rattle.m_work.specs.Schemes.{Scheme}
 use Rattle.m_work.proofs.Shown.{answer_within}
-
--- inputs with the same codes, which may have each amount
-abbrev any_inputs : List Coded → List Coded
-any_inputs [] = []
-any_inputs (input ∷ inputs) = record { code = input.code; kind = Any } ∷ any_inputs inputs
-
-same_codes : (inputs : List Coded) → codes_of inputs ≡ codes_of (any_inputs inputs)
-same_codes [] = refl
-same_codes (input ∷ inputs) = ap (λ codes. input.code ∷ codes) (same_codes inputs)
-
-all_any : (inputs : List Coded) → AreAny (any_inputs inputs)
-all_any [] = tt
-all_any (input ∷ inputs) = (refl, all_any inputs)
 
 -- what is told, or nothing
 abbrev told_or : Option Told → Told
@@ -56,15 +41,14 @@ tells face (Stopped stop) is = by (slice_get face.labels (label_number stop)) (s
 -- what loaded code is to households
 abbrev pub code_scheme : Loaded → Scheme
 code_scheme loaded = record {
-  inputs = any_inputs loaded.face.inputs;
+  inputs = loaded.face.inputs;
   names = names_of loaded.face.outputs;
   tells = λ vs. told_or (told_of loaded.face.labels (notes_of loaded.face.outputs) (machine_run loaded.code vs));
 }
 
 pub code_shows : (loaded : Loaded) → IsRunnableCode loaded → Shows (code_scheme loaded) loaded.face (machine_run loaded.code)
 code_shows loaded runs = record {
-  codes = same_codes loaded.face.inputs;
-  any = all_any loaded.face.inputs;
+  inputs = refl;
   names = refl;
   answers = λ vs all. tells loaded.face (machine_run loaded.code vs) (answer_within loaded vs runs);
 }

@@ -1,9 +1,9 @@
 -- Rows of a table, one after another and group after group.
-use Rattle.std.proofs.Common.{◌≡◌, ℕ, zero, suc, ◌+◌, ◌-◌, ◌<◌, ◌≤◌, length, get_or, take, drop, List, [], ◌∷◌, ◌++◌, Option, None, Some, Result, Ok, Err, refl, sym, ◌∙◌, ap, subst, append_assoc, arith}
+use Rattle.std.proofs.Common.{◌≡◌, ℕ, zero, suc, ◌+◌, ◌-◌, ◌<◌, ◌≤◌, min, length, get_or, take, drop, List, [], ◌∷◌, ◌++◌, Option, None, Some, Result, Ok, Err, refl, sym, ◌∙◌, ap, subst, append_assoc, arith}
 use Rattle.std.specs.Prelude.{codes}
 use Rattle.std.specs.List.{AllByRecursion}
 use Rattle.std.specs.Io.KnownBytes.{append_known}
-use Rattle.std.proofs.lemmas.List.{drop_more, drop_all, take-append-drop, drop-drop}
+use Rattle.std.proofs.lemmas.List.{drop_more, drop_all, take-append-drop, drop-drop, length-take, length-drop}
 use Rattle.m_ports.specs.Counts.{Rose}
 use Rattle.m_ports.specs.Sink.{AppendsPrefix}
 use Rattle.m_ports.proofs.SinkLemmas.{AppendsPrefix-after, AppendsPrefix-before}
@@ -89,6 +89,31 @@ answered_at face rows answers k row d answer e rows_in answers_in is_row is_answ
 
 pub answered_end : (face : Face) (rows : List Row) (answers : List Answer) (k : ℕ) → length rows ≤ k → answered_lines face (drop k rows) (drop k answers) ≡ []
 answered_end face rows answers k h = ap (λ left. answered_lines face left (drop k answers)) (drop_all k rows h)
+
+-- some rows with their answers, and then others
+answered_append : (face : Face) (one other : List Row) (first second : List Answer) → length one ≡ length first
+    → answered_lines face (one ++ other) (first ++ second) ≡ answered_lines face one first ++ answered_lines face other second
+answered_append face [] other [] second same = refl
+answered_append face [] other (answer ∷ first) second same = absurd (cc same)
+answered_append face (row ∷ one) other [] second same = absurd (cc same)
+answered_append face (row ∷ one) other (answer ∷ first) second same =
+    ap (λ rest. household_lines row.label face answer ++ rest) (answered_append face one other first second (omega (arith, same)))
+    ∙ sym (append_assoc (household_lines row.label face answer) (answered_lines face one first) (answered_lines face other second))
+
+-- the rows that are left begin with a group
+pub answered_part : (face : Face) (rows : List Row) (answers : List Answer) (from end : ℕ) → from < end → length answers ≡ length rows
+    → answered_lines face (drop from rows) (drop from answers)
+    ≡ answered_lines face (take (end - from) (drop from rows)) (take (end - from) (drop from answers)) ++ answered_lines face (drop end rows) (drop end answers)
+answered_part face rows answers from end h many =
+    let n = end - from in
+    let there : from + n ≡ end = omega arith in
+    let same : length (take n (drop from rows)) ≡ length (take n (drop from answers)) =
+    length-take n (drop from rows) ∙ ap (min n) (length-drop from rows ∙ ap (λ k. k - from) (sym many) ∙ sym (length-drop from answers)) ∙ sym (length-take n (drop from answers)) in
+    ap (λ left. answered_lines face left (drop from answers)) (sym (take-append-drop n (drop from rows)))
+    ∙ ap (answered_lines face (take n (drop from rows) ++ drop n (drop from rows))) (sym (take-append-drop n (drop from answers)))
+    ∙ answered_append face (take n (drop from rows)) (drop n (drop from rows)) (take n (drop from answers)) (drop n (drop from answers)) same
+    ∙ ap (λ left. answered_lines face (take n (drop from rows)) (take n (drop from answers)) ++ answered_lines face left (drop n (drop from answers))) (drop-drop n from rows ∙ ap (λ k. drop k rows) there)
+    ∙ ap (λ left. answered_lines face (take n (drop from rows)) (take n (drop from answers)) ++ answered_lines face (drop end rows) left) (drop-drop n from answers ∙ ap (λ k. drop k answers) there)
 
 -- ---- answers are within the face
 

@@ -8,3 +8,7 @@ pub mod LargeLimits
 pub mod Refusals
 pub mod Ways
 pub mod ExecLemmas
+pub mod CheckLemmas
+pub mod StartLemmas
+pub mod LintLemmas
+pub mod CaseLemmas

@@ -2,12 +2,17 @@
 use Rattle.std.proofs.Common.{◌≡◌, ◌⊎◌, ℕ, List, Option, None, Some, Result, refl, ap, inl, inr}
 use Rattle.std.specs.Prelude.{◌≢◌}
 use Rattle.rule_text.specs.declared.Source.{Source}
+use Rattle.observables.specs.declared.inputs.Coded.{Coded}
 use Rattle.household.specs.declared.fault.HouseholdFault.{HouseholdFault}
 use Rattle.household.specs.declared.fault.HouseholdFault.TheVariants as household
 use Rattle.code_file.specs.Reading.{IsCodeFault}
 use Rattle.code_file.specs.declared.fault.CodeFault.{CodeFault}
 use Rattle.code_file.specs.declared.fault.CodeFault.TheVariants as code
-use Rattle.m_compile.specs.Faults.{IsSourceFault}
+use Rattle.why_report.specs.declared.fault.ReportFault.{ReportFault}
+use Rattle.why_report.specs.declared.fault.ReportFault.TheVariants as report
+use Rattle.m_cases.specs.declared.fault.CasesFault.{CasesFault}
+use Rattle.m_cases.specs.declared.fault.CasesFault.TheVariants as cases
+use Rattle.m_compile.specs.Faults.{IsBaseFault, IsSourceFault}
 use Rattle.m_compile.specs.Lines.{source_line}
 use Rattle.m_compile.specs.declared.fault.SourceFault.{SourceFault}
 use Rattle.m_compile.specs.declared.fault.SourceFault.TheVariants as source
@@ -15,6 +20,8 @@ use Rattle.m_plan.specs.Printing.{Prints}
 use Rattle.m_plan.specs.Views.{OutputView}
 use Rattle.m_plan.specs.declared.status.Status.{Status}
 use Rattle.m_plan.specs.declared.status.Status.TheVariants.{Memory, Refused}
+use Rattle.m_work.specs.Cases.{cases_fault_line}
+use Rattle.m_work.specs.Checks.{report_fault_line}
 use Rattle.m_work.specs.Execs.{code_fault_line}
 use Rattle.m_work.specs.Households.{household_fault_line}
 use Rattle.m_work.specs.Sources.{Refuses, source_is_refused}
@@ -24,14 +31,14 @@ use Rattle.m_work.specs.inner.Refusals.{TellsLine}
 abbrev pub TellsRefusal : (List ℕ → Type 0) → OutputView → OutputView → Status → Type 0
 TellsRefusal IsLine old new status = ((line : List ℕ) × IsLine line × Prints line Refused old new status) ⊎ ((new ≡ old) × (status ≡ Memory))
 
-told_by_line : (s : Source) {Given : Type 0} (said : List (List ℕ) → Result Given HouseholdFault) (fault : SourceFault) (found : Option (List ℕ)) (old new : OutputView) (status : Status)
+told_by_line : (s : Source) {Given : Type 0} (said : List Coded → Result Given HouseholdFault) (fault : SourceFault) (found : Option (List ℕ)) (old new : OutputView) (status : Status)
     → (fault ≢ source.Memory → IsSourceFault s fault) → source_line s.texts fault ≡ found → TellsLine found old new status → TellsRefusal (Refuses s said) old new status
 told_by_line s said fault None old new status h is told = inr told
 told_by_line s said fault (Some line) old new status h is told =
     inl (line, source_is_refused fault (h (λ m. let none : source_line s.texts fault ≡ None = ap (source_line s.texts) m in cc (none, is))) is, told)
 
 -- a source was refused
-pub source_told : (s : Source) {Given : Type 0} (said : List (List ℕ) → Result Given HouseholdFault) (fault : SourceFault) (old new : OutputView) (status : Status)
+pub source_told : (s : Source) {Given : Type 0} (said : List Coded → Result Given HouseholdFault) (fault : SourceFault) (old new : OutputView) (status : Status)
     → (fault ≢ source.Memory → IsSourceFault s fault) → TellsLine (source_line s.texts fault) old new status → TellsRefusal (Refuses s said) old new status
 source_told s said fault old new status h told = told_by_line s said fault (source_line s.texts fault) old new status h refl told
 
@@ -44,6 +51,21 @@ told_either whole (Some line) old new status is h none told = inl (line, (h (λ 
 pub fault_told : (s : Source) (fault : SourceFault) (old new : OutputView) (status : Status) → (fault ≢ source.Memory → IsSourceFault s fault)
     → TellsLine (source_line s.texts fault) old new status → TellsRefusal (λ line. IsSourceFault s fault × (source_line s.texts fault ≡ Some line)) old new status
 fault_told s fault old new status h told = told_either (source_line s.texts fault) (source_line s.texts fault) old new status refl h (λ m. ap (source_line s.texts) m) told
+
+-- the rules of a source were refused by a fault
+pub base_told : (s : Source) (fault : SourceFault) (old new : OutputView) (status : Status) → (fault ≢ source.Memory → IsBaseFault s.texts s.application fault)
+    → TellsLine (source_line s.texts fault) old new status → TellsRefusal (λ line. IsBaseFault s.texts s.application fault × (source_line s.texts fault ≡ Some line)) old new status
+base_told s fault old new status h told = told_either (source_line s.texts fault) (source_line s.texts fault) old new status refl h (λ m. ap (source_line s.texts) m) told
+
+-- a report was refused by a fault
+pub report_told : {IsFault : Type 0} (fault : ReportFault) (old new : OutputView) (status : Status) → (fault ≢ report.Memory → IsFault)
+    → TellsLine (report_fault_line fault) old new status → TellsRefusal (λ line. IsFault × (report_fault_line fault ≡ Some line)) old new status
+report_told fault old new status h told = told_either (report_fault_line fault) (report_fault_line fault) old new status refl h (λ m. ap report_fault_line m) told
+
+-- a table of cases was refused by a fault
+pub cases_told : {IsFault : Type 0} (fault : CasesFault) (old new : OutputView) (status : Status) → (fault ≢ cases.Memory → IsFault)
+    → TellsLine (cases_fault_line fault) old new status → TellsRefusal (λ line. IsFault × (cases_fault_line fault ≡ Some line)) old new status
+cases_told fault old new status h told = told_either (cases_fault_line fault) (cases_fault_line fault) old new status refl h (λ m. ap cases_fault_line m) told
 
 -- a code file was refused by a fault
 pub code_told : (bytes : List ℕ) (fault : CodeFault) (old new : OutputView) (status : Status) → (fault ≢ code.Memory → IsCodeFault bytes fault)
@@ -59,4 +81,5 @@ household_refused (household.BadRow line) old new status h told = inl (_, (h (λ
 household_refused (household.UnknownCode line) old new status h told = inl (_, (h (λ m. cc m), refl), told)
 household_refused (household.BadAmount line) old new status h told = inl (_, (h (λ m. cc m), refl), told)
 household_refused (household.CodeTwice line) old new status h told = inl (_, (h (λ m. cc m), refl), told)
+household_refused (household.NotOfType line) old new status h told = inl (_, (h (λ m. cc m), refl), told)
 household_refused household.Memory old new status h told = inr told

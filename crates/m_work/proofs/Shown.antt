@@ -5,7 +5,7 @@ use Rattle.std.specs.Option.{option_map_or}
 use Rattle.std.proofs.lemmas.List.{length-map}
 use Rattle.m_fixed.specs.declared.amount.Value.{Value}
 use Rattle.observables.specs.Answers.{Told, stopped, cause_of, label_number, told_of}
-use Rattle.observables.specs.Inputs.{AreValuesOf, codes_of}
+use Rattle.observables.specs.Inputs.{AreValuesOf}
 use Rattle.observables.specs.Outputs.{names_of, notes_of}
 use Rattle.observables.specs.declared.answer.Answer.{Answer}
 use Rattle.observables.specs.declared.answer.Answer.TheVariants.{Values, Stopped}
@@ -22,17 +22,13 @@ use Rattle.m_plan.specs.declared.status.Status.{Status}
 use Rattle.m_plan.specs.declared.status.Status.TheVariants as status
 use Rattle.m_work.specs.Households.{answer_status, told_status}
 use Rattle.m_work.specs.Prepared.{IsRunnableCode, Shows}
-use Rattle.m_work.specs.Schemes.{Scheme, scheme_codes, told_to}
+use Rattle.m_work.specs.Schemes.{Scheme, told_to}
 use Rattle.m_work.specs.inner.Answers.{IsAnswerOf}
 use Rattle.m_work.proofs.CodeLemmas.{agrees, code_within}
 
--- as many inputs as codes
-pub many_codes : (inputs : List Coded) → length (codes_of inputs) ≡ length inputs
-many_codes inputs = length-map inputs (λ (c : Coded). c.code)
-
 -- a program has the inputs of its scheme
 pub as_many : (scheme : Scheme) (face : Face) (runs : List Value → Answer) → Shows scheme face runs → length face.inputs ≡ length scheme.inputs
-as_many scheme face runs shown = sym (many_codes face.inputs) ∙ ap length shown.codes ∙ many_codes scheme.inputs
+as_many scheme face runs shown = ap length shown.inputs
 
 -- the lines of what a program tells
 pub told_answer : (scheme : Scheme) (face : Face) (runs : List Value → Answer) (answer : Answer) (told : Told) → Shows scheme face runs
@@ -51,8 +47,8 @@ lines_told scheme face runs vs shown given = told_answer scheme face runs (runs 
 pub code_many : (scheme : Scheme) (loaded : Loaded) → Shows scheme loaded.face (machine_run loaded.code) → loaded.code.counts.inputs ≡ length scheme.inputs
 code_many scheme loaded shown = sym (agrees loaded.code loaded.face loaded.agree).inputs ∙ as_many scheme loaded.face (machine_run loaded.code) shown
 
-pub many_inputs : (loaded : Loaded) → length (codes_of loaded.face.inputs) ≡ loaded.code.counts.inputs
-many_inputs loaded = many_codes loaded.face.inputs ∙ (agrees loaded.code loaded.face loaded.agree).inputs
+pub many_inputs : (loaded : Loaded) → length loaded.face.inputs ≡ loaded.code.counts.inputs
+many_inputs loaded = (agrees loaded.code loaded.face loaded.agree).inputs
 
 -- its answer is within its face
 pub answer_within : (loaded : Loaded) (inputs : List Value) → IsRunnableCode loaded → AnswerIsWithin loaded.face (machine_run loaded.code inputs)
@@ -60,15 +56,15 @@ answer_within loaded inputs runs = code_within loaded.code loaded.face runs.whol
 
 -- a household has no fault by the scheme
 pub given_by : (scheme : Scheme) (loaded : Loaded) (rows : List ℕ) (answer : Answer) → Shows scheme loaded.face (machine_run loaded.code) → (of : IsAnswerOf loaded rows answer)
-    → household_of (scheme_codes scheme) rows ≡ Ok of.pairs
-given_by scheme loaded rows answer shown of = subst (λ codes. household_of codes rows ≡ Ok of.pairs) shown.codes of.given
+    → household_of scheme.inputs rows ≡ Ok of.pairs
+given_by scheme loaded rows answer shown of = subst (λ inputs. household_of inputs rows ≡ Ok of.pairs) shown.inputs of.given
 
 -- what it is told
 pub household_told : (scheme : Scheme) (loaded : Loaded) (rows : List ℕ) (answer : Answer) → Shows scheme loaded.face (machine_run loaded.code) → (of : IsAnswerOf loaded rows answer)
     → told_of loaded.face.labels (notes_of loaded.face.outputs) answer ≡ Some (told_to scheme of.pairs)
 household_told scheme loaded rows answer shown of =
     ap (told_of loaded.face.labels (notes_of loaded.face.outputs)) (of.ran ∙ ap (λ n. machine_run loaded.code (values_of of.pairs n)) (code_many scheme loaded shown))
-    ∙ shown.answers (values_of of.pairs (length scheme.inputs)) (household_gives scheme.inputs rows of.pairs shown.any (given_by scheme loaded rows answer shown of))
+    ∙ shown.answers (values_of of.pairs (length scheme.inputs)) (household_gives scheme.inputs rows of.pairs (given_by scheme loaded rows answer shown of))
 
 stopped_status : (found : Option FaceLabel) (stop : Stop) (told : Told) → option_map (λ label. stopped (cause_of stop label)) found ≡ Some told → status.Stopped ≡ told_status told
 stopped_status None stop told is = absurd (cc is)

@@ -6,9 +6,8 @@ use Rattle.m_names.specs.Names.{AreDistinct}
 use Rattle.rule_text.specs.declared.Source.{Source}
 use Rattle.fault_lines.specs.Lines.{input_too_long_line, unreadable_input_line}
 use Rattle.observables.specs.Answers.{Told, values, stopped, told_of}
-use Rattle.observables.specs.Inputs.{AreAny, AreValuesOf, codes_of}
+use Rattle.observables.specs.Inputs.{AreValuesOf, codes_of}
 use Rattle.observables.specs.Outputs.{notes_of}
-use Rattle.m_symbols.specs.Declarations as declarations
 use Rattle.observables.specs.declared.answer.Answer.{Answer}
 use Rattle.observables.specs.declared.face.Face.{Face}
 use Rattle.flat_code.specs.Runs.{flat_run}
@@ -27,7 +26,7 @@ use Rattle.household_session.specs.Replies.{ended_lines, input_lines, replies_of
 use Rattle.household_session.specs.Sessions.{Sitting, begun, showing_of}
 use Rattle.m_large.specs.Large.{household_text}
 use Rattle.tax_print.specs.Lines.{answer_lines, told_lines}
-use Rattle.m_compile.specs.Compiled.{IsCompiled, IsRunnable, input_said}
+use Rattle.m_compile.specs.Compiled.{IsCompiled, IsRunnable}
 use Rattle.m_compile.specs.Faults.{IsSourceFault}
 use Rattle.m_compile.specs.Lines.{source_line}
 use Rattle.m_compile.specs.declared.compiling.Compiled.{Compiled}
@@ -51,7 +50,7 @@ use Rattle.m_work.specs.Prepared.{HouseholdReplies, IsPrepared, IsPreparedCode, 
 use Rattle.m_work.specs.Prepared as prepared
 use Rattle.m_work.specs.Runs.{RunReplies}
 use Rattle.m_work.specs.Runs as run
-use Rattle.m_work.specs.Schemes.{Scheme, scheme_codes, told_to}
+use Rattle.m_work.specs.Schemes.{Scheme, told_to}
 use Rattle.m_work.specs.Serves.{IsServed}
 use Rattle.m_work.specs.Serves as serve
 use Rattle.m_work.specs.Serving.{Served, to_its_end, unread, too_long, unwritten}
@@ -72,12 +71,12 @@ of_end (values notes vs) = tt
 of_end (stopped cause) = tt
 
 -- an answer by one way to reply is an answer by another that replies the same
-answered_as : (One Other : List ℕ → Status → Type 0) (old new : OutputView) (status : Status) → ((text : List ℕ) (own : Status) → One text own → Other text own)
+pub answered_as : (One Other : List ℕ → Status → Type 0) (old new : OutputView) (status : Status) → ((text : List ℕ) (own : Status) → One text own → Other text own)
     → IsAnswered One old new status → IsAnswered Other old new status
 answered_as One Other old new status turn (printed text own replied end shown) = printed text own (turn text own replied) end shown
 answered_as One Other old new status turn (no_memory same memory) = no_memory same memory
 
-parts_as : (One Other : List ℕ → Status → Type 0) (old new : OutputView) (status : Status) → ((text : List ℕ) (own : Status) → One text own → Other text own)
+pub parts_as : (One Other : List ℕ → Status → Type 0) (old new : OutputView) (status : Status) → ((text : List ℕ) (own : Status) → One text own → Other text own)
     → IsWrittenInParts One old new status → IsWrittenInParts Other old new status
 parts_as One Other old new status turn (batch.printed text own replied end shown) = batch.printed text own (turn text own replied) end shown
 parts_as One Other old new status turn (batch.no_memory same memory) = batch.no_memory same memory
@@ -87,10 +86,10 @@ parts_as One Other old new status turn (broke_off text own replied prefix none m
 
 -- the household of these bytes was refused, by a program's codes
 pub rows_refused : (front : List ℕ) (scheme : Scheme) (face : Face) (runs : List Value → Answer) (rows : List ℕ) (fault : HouseholdFault) (old new : OutputView) (status : Status) → Shows scheme face runs
-    → TellsRefusal (λ line. (household_of (codes_of face.inputs) rows ≡ Err fault) × (household_fault_line fault ≡ Some line)) old new status
+    → TellsRefusal (λ line. (household_of face.inputs rows ≡ Err fault) × (household_fault_line fault ≡ Some line)) old new status
     → IsAnswered (HouseholdReplies front scheme rows) old new status
 rows_refused front scheme face runs rows fault old new status shown (inl (line, refused, p)) =
-    printed line Refused (prepared.is_refused fault (subst (λ codes. household_of codes rows ≡ Err fault) shown.codes refused.0) refused.1) tt p
+    printed line Refused (prepared.is_refused fault (subst (λ inputs. household_of inputs rows ≡ Err fault) shown.inputs refused.0) refused.1) tt p
 rows_refused front scheme face runs rows fault old new status shown (inr (same, memory)) = no_memory same memory
 
 pub rows_printed : (front : List ℕ) (scheme : Scheme) (loaded : Loaded) (rows : List ℕ) (answer : Answer) (old new : OutputView) (status : Status)
@@ -141,10 +140,10 @@ batch_refused source table old new status (inl (line, refused, shown)) = batch.p
 batch_refused source table old new status (inr (same, memory)) = batch.no_memory same memory
 
 pub table_refused : (scheme : Scheme) (face : Face) (runs : List Value → Answer) (table : List ℕ) (fault : HouseholdFault) (old new : OutputView) (status : Status) → Shows scheme face runs
-    → TellsRefusal (λ line. (table_of (codes_of face.inputs) table ≡ Err fault) × (household_fault_line fault ≡ Some line)) old new status
+    → TellsRefusal (λ line. (table_of face.inputs table ≡ Err fault) × (household_fault_line fault ≡ Some line)) old new status
     → IsWrittenInParts (TableReplies scheme table) old new status
 table_refused scheme face runs table fault old new status shown (inl (line, refused, p)) =
-    batch.printed line Refused (prepared.table_is_refused fault (subst (λ codes. table_of codes table ≡ Err fault) shown.codes refused.0) refused.1) tt p
+    batch.printed line Refused (prepared.table_is_refused fault (subst (λ inputs. table_of inputs table ≡ Err fault) shown.inputs refused.0) refused.1) tt p
 table_refused scheme face runs table fault old new status shown (inr (same, memory)) = batch.no_memory same memory
 
 table_as : (source : Source) (scheme : Scheme) (table : List ℕ) → IsScheme source scheme → (text : List ℕ) (own : Status) → TableReplies scheme table text own → BatchReplies source table text own
@@ -170,10 +169,10 @@ serve_refused source rows heard old new status (inl (line, refused, shown)) = se
 serve_refused source rows heard old new status (inr (same, memory)) = serve.no_memory refl same memory
 
 pub session_refused : (scheme : Scheme) (face : Face) (runs : List Value → Answer) (rows : List ℕ) (fault : HouseholdFault) (heard : InputView) (old new : OutputView) (status : Status) → Shows scheme face runs
-    → TellsRefusal (λ line. (household_of (codes_of face.inputs) rows ≡ Err fault) × (household_fault_line fault ≡ Some line)) old new status
+    → TellsRefusal (λ line. (household_of face.inputs rows ≡ Err fault) × (household_fault_line fault ≡ Some line)) old new status
     → IsServedBy scheme rows heard heard old new status
 session_refused scheme face runs rows fault heard old new status shown (inl (line, refused, p)) =
-    prepared.refused line fault (subst (λ codes. household_of codes rows ≡ Err fault) shown.codes refused.0) refused.1 refl p
+    prepared.refused line fault (subst (λ inputs. household_of inputs rows ≡ Err fault) shown.inputs refused.0) refused.1 refl p
 session_refused scheme face runs rows fault heard old new status shown (inr (same, memory)) = prepared.no_memory refl same memory
 
 pub serve_answered : (source : Source) (program : Program) (rows : List ℕ) (heard told : InputView) (old new : OutputView) (status : Status) → (is : IsPrepared source program)
@@ -195,27 +194,23 @@ served_as one ended other also heard told old new status w e (unwritten taken re
     unwritten taken rest moved left calm (subst (λ text. Breaks text old new) (w (taken ++ rest)) breaks) is
 
 same_replies : (scheme : Scheme) (program : Program) (rows : List ℕ) (session : Sitting) → IsRunnable program.face program.tidy → Shows scheme program.face (flat_run program.tidy) → (of : IsBegun program rows session)
-    → household_of (scheme_codes scheme) rows ≡ Ok of.pairs → (lines : List (List ℕ)) → replies_to session lines ≡ replies_by scheme of.pairs lines
+    → household_of scheme.inputs rows ≡ Ok of.pairs → (lines : List (List ℕ)) → replies_to session lines ≡ replies_by scheme of.pairs lines
 same_replies scheme program rows session runs shown of given lines =
     ap (λ sitting. replies_to sitting lines) of.begins
     ∙ ap (λ n. replies_to (record { flat = program.tidy; face = program.face; values = values_of of.pairs n }) lines) (sym runs.shown.inputs ∙ as_many scheme program.face (flat_run program.tidy) shown)
-    ∙ replies_are scheme.inputs (showing_of (begun program.tidy program.face of.pairs)) (scheme_showing scheme) shown.any shown.codes (λ vs all. lines_told scheme program.face (flat_run program.tidy) vs shown all)
-    lines (values_of of.pairs (length scheme.inputs)) (household_gives scheme.inputs rows of.pairs shown.any given)
+    ∙ replies_are (showing_of (begun program.tidy program.face of.pairs)) (scheme_showing scheme) shown.inputs (λ vs all. lines_told scheme program.face (flat_run program.tidy) vs shown all)
+    lines (values_of of.pairs (length scheme.inputs)) (household_gives scheme.inputs rows of.pairs given)
 
 pub session_served : (scheme : Scheme) (program : Program) (rows : List ℕ) (session : Sitting) → IsRunnable program.face program.tidy → Shows scheme program.face (flat_run program.tidy) → (of : IsBegun program rows session)
     → (heard told : InputView) (old new : OutputView) (status : Status)
     → Served (replies_of session) (λ taken. replies_to session (ended_lines taken)) heard told old new status → IsServedBy scheme rows heard told old new status
 session_served scheme program rows session runs shown of heard told old new status done =
-    let given : household_of (scheme_codes scheme) rows ≡ Ok of.pairs = subst (λ codes. household_of codes rows ≡ Ok of.pairs) shown.codes of.given in
+    let given : household_of scheme.inputs rows ≡ Ok of.pairs = subst (λ inputs. household_of inputs rows ≡ Ok of.pairs) shown.inputs of.given in
     prepared.served of.pairs given
     (served_as (replies_of session) (λ taken. replies_to session (ended_lines taken)) (session_replies scheme of.pairs) (ended_replies scheme of.pairs)
     heard told old new status (λ bytes. same_replies scheme program rows session runs shown of given (input_lines bytes)) (λ bytes. same_replies scheme program rows session runs shown of given (ended_lines bytes)) done)
 
 -- ---- preparing
-
-any_said : (codes : List (List ℕ)) → AreAny (map input_said codes)
-any_said [] = tt
-any_said (code ∷ codes) = (refl, any_said codes)
 
 -- the scheme of a source that is compiled
 abbrev scheme_of : (source : Source) (compiled : Compiled) → IsCompiled source compiled → Scheme
@@ -228,8 +223,7 @@ valid_of source compiled is = record { declared = is.declared; base = is.base; w
 shows_of : (source : Source) (compiled : Compiled) → (is : IsCompiled source compiled) → (runs : List Value → Answer) → ((vs : List Value) → runs vs ≡ flat_run compiled.tidy vs)
     → Shows (scheme_of source compiled is) compiled.face runs
 shows_of source compiled is runs same = record {
-  codes = ap codes_of is.inputs;
-  any = any_said (declarations.codes_of is.declared.variables);
+  inputs = is.inputs;
   names = is.names;
   answers = λ vs all. ap (told_of compiled.face.labels (notes_of compiled.face.outputs)) (same vs) ∙ is.answers vs (subst (λ inputs. AreValuesOf inputs vs) (sym is.inputs) all);
 }

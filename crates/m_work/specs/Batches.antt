@@ -9,21 +9,21 @@ use Rattle.m_plan.specs.Status.{IsOfEnd}
 use Rattle.m_plan.specs.Views.{OutputView}
 use Rattle.m_plan.specs.declared.status.Status.{Status}
 use Rattle.m_plan.specs.declared.status.Status.TheVariants.{Done, Memory, Refused}
-use Rattle.m_work.specs.Schemes.{Scheme, scheme_codes}
+use Rattle.m_work.specs.Schemes.{Scheme}
 use Rattle.m_work.specs.Sources.{IsScheme, Refuses}
 use Rattle.m_work.specs.Tables.{rows_lines}
 
 -- The answer of a batch of a source over the table of these bytes: a refusal, or the lines of all its rows. A row that stops is one like the others.
 pub data BatchReplies (source : Source) (table : List ℕ) : List ℕ → Status → Type 0 where
   is_refused : {line : List ℕ} → Refuses source (λ inputs. table_of inputs table) line → BatchReplies source table line Refused
-  is_told : (scheme : Scheme) (rows : List Row) → IsScheme source scheme → table_of (scheme_codes scheme) table ≡ Ok rows → BatchReplies source table (rows_lines scheme rows) Done
+  is_told : (scheme : Scheme) (rows : List Row) → IsScheme source scheme → table_of scheme.inputs table ≡ Ok rows → BatchReplies source table (rows_lines scheme rows) Done
 
 -- a valid source, and a table without a fault
 pub record BatchHasAnswer (source : Source) (table : List ℕ) : Type 0 where
   pub scheme : Scheme
   pub rows : List Row
   pub valid : IsScheme source scheme
-  pub given : table_of (scheme_codes scheme) table ≡ Ok rows
+  pub given : table_of scheme.inputs table ≡ Ok rows
 
 -- An answer was printed in parts. Where memory ended it on the way, a front of the answer was written.
 pub data IsWrittenInParts (Replies : List ℕ → Status → Type 0) (old new : OutputView) (status : Status) : Type 0 where

@@ -2,7 +2,6 @@
 use Rattle.std.specs.Prelude.{◌≡◌, ℕ, ℤ, List, [], Option, Some, None, Ok}
 use Rattle.fault_lines.specs.Lines.{code_header_line, code_line}
 use Rattle.fault_lines.specs.declared.fault.CodeFault.TheVariants as word
-use Rattle.observables.specs.Inputs.{codes_of}
 use Rattle.reg_machine.specs.Machine.{machine_run}
 use Rattle.household.specs.Household.{household_of}
 use Rattle.code_file.specs.Reading.{IsFormOf, IsCodeFault}
@@ -28,9 +27,9 @@ pub data ExecReplies (code rows : List ℕ) : List ℕ → Status → Type 0 whe
   is_answered : {text : List ℕ} {status : Status} (loaded : Loaded) (scheme : Scheme) → IsFormOf code loaded → Shows scheme loaded.face (machine_run loaded.code)
       → HouseholdReplies [] scheme rows text status → ExecReplies code rows text status
 
--- a code file without a fault, and a household without a fault by its codes
+-- a code file without a fault, and a household without a fault by its inputs
 pub record ExecHasAnswer (code rows : List ℕ) : Type 0 where
   pub loaded : Loaded
   pub pairs : List (ℕ × ℤ)
   pub form : IsFormOf code loaded
-  pub given : household_of (codes_of loaded.face.inputs) rows ≡ Ok pairs
+  pub given : household_of loaded.face.inputs rows ≡ Ok pairs

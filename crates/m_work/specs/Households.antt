@@ -6,7 +6,7 @@ use Rattle.observables.specs.Answers.{Told, values, stopped}
 use Rattle.observables.specs.declared.answer.Answer.{Answer}
 use Rattle.observables.specs.declared.answer.Answer.TheVariants.{Values, Stopped as AnswerStopped}
 use Rattle.household.specs.declared.fault.HouseholdFault.{HouseholdFault}
-use Rattle.household.specs.declared.fault.HouseholdFault.TheVariants.{BadHeader, TooManyRows, BadRow, UnknownCode, BadAmount, CodeTwice, Memory}
+use Rattle.household.specs.declared.fault.HouseholdFault.TheVariants.{BadHeader, TooManyRows, BadRow, UnknownCode, BadAmount, NotOfType, CodeTwice, Memory}
 use Rattle.m_plan.specs.declared.status.Status.{Status}
 use Rattle.m_plan.specs.declared.status.Status.TheVariants.{Done, Stopped}
 
@@ -17,6 +17,7 @@ household_fault_line TooManyRows = Some too_many_rows_line
 household_fault_line (BadRow line) = Some (household_line line row.BadRow)
 household_fault_line (UnknownCode line) = Some (household_line line row.UnknownCode)
 household_fault_line (BadAmount line) = Some (household_line line row.BadAmount)
+household_fault_line (NotOfType line) = Some (household_line line row.NotOfType)
 household_fault_line (CodeTwice line) = Some (household_line line row.CodeTwice)
 household_fault_line Memory = None
 

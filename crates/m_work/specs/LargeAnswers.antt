@@ -8,13 +8,13 @@ use Rattle.m_plan.specs.declared.status.Status.TheVariants.{Refused}
 use Rattle.m_work.specs.Households.{told_status}
 use Rattle.m_work.specs.Larges.{large_line, large_source}
 use Rattle.m_work.specs.Runs.{RunHasAnswer}
-use Rattle.m_work.specs.Schemes.{Scheme, scheme_codes, told_to}
+use Rattle.m_work.specs.Schemes.{Scheme, told_to}
 use Rattle.m_work.specs.Sources.{IsScheme, Refuses}
 
 -- The answer of `large N`: its line, and then what the generated source tells to the generated household; or a refusal of one of them, if they had a fault.
 pub data LargeReplies (n : ℕ) : List ℕ → Status → Type 0 where
   is_refused : {line : List ℕ} → Refuses (large_source n) (λ inputs. household_of inputs (household_text n)) line → LargeReplies n line Refused
-  is_told : (scheme : Scheme) (pairs : List (ℕ × ℤ)) → IsScheme (large_source n) scheme → household_of (scheme_codes scheme) (household_text n) ≡ Ok pairs
+  is_told : (scheme : Scheme) (pairs : List (ℕ × ℤ)) → IsScheme (large_source n) scheme → household_of scheme.inputs (household_text n) ≡ Ok pairs
       → LargeReplies n (large_line n ++ told_lines scheme.names (told_to scheme pairs)) (told_status (told_to scheme pairs))
 
 -- the generated source and household have no fault

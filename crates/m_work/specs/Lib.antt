@@ -12,4 +12,7 @@ pub mod LargeAnswers
 pub mod Prepared
 pub mod Compiles
 pub mod Execs
+pub mod Checks
+pub mod Lints
+pub mod Cases
 pub mod inner

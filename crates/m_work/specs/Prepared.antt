@@ -6,7 +6,7 @@ use Rattle.m_names.specs.Names.{AreDistinct}
 use Rattle.observables.specs.declared.answer.Answer.{Answer}
 use Rattle.observables.specs.declared.face.Face.{Face}
 use Rattle.observables.specs.Answers.{told_of}
-use Rattle.observables.specs.Inputs.{AreAny, AreValuesOf, codes_of}
+use Rattle.observables.specs.Inputs.{AreValuesOf, codes_of}
 use Rattle.observables.specs.Outputs.{names_of, notes_of}
 use Rattle.flat_code.specs.declared.program.Flat.{Flat}
 use Rattle.flat_code.specs.Runs.{flat_run}
@@ -24,18 +24,17 @@ use Rattle.m_plan.specs.Views.{InputView, OutputView}
 use Rattle.m_plan.specs.declared.status.Status.{Status}
 use Rattle.m_plan.specs.declared.status.Status.TheVariants.{Done, Memory, Refused}
 use Rattle.m_work.specs.Households.{household_fault_line, told_status}
-use Rattle.m_work.specs.Schemes.{Scheme, scheme_codes, told_to}
+use Rattle.m_work.specs.Schemes.{Scheme, told_to}
 use Rattle.m_work.specs.Serving.{Served}
 use Rattle.m_work.specs.Sessions.{ended_replies, session_replies}
 use Rattle.m_work.specs.Sources.{IsScheme}
 use Rattle.m_work.specs.Tables.{rows_lines}
 use Rattle.m_work.specs.declared.program.Program.{Program}
 
--- A program, in whatever form, is to households what a scheme is: its face has the same codes, it gives what is asked for the same names, and what it
+-- A program, in whatever form, is to households what a scheme is: its face has the same inputs, it gives what is asked for the same names, and what it
 -- answers to values that the inputs may have, read through its face, is what the scheme tells.
 pub record Shows (scheme : Scheme) (face : Face) (runs : List Value → Answer) : Type 0 where
-  pub codes : codes_of face.inputs ≡ scheme_codes scheme
-  pub any : AreAny scheme.inputs
+  pub inputs : face.inputs ≡ scheme.inputs
   pub names : names_of face.outputs ≡ scheme.names
   pub answers : (values : List Value) → AreValuesOf scheme.inputs values
       → told_of face.labels (notes_of face.outputs) (runs values) ≡ Some (scheme.tells values)
@@ -65,22 +64,22 @@ pub record IsRunnableCode (loaded : Loaded) : Type 0 where
 
 -- What is answered to the household of these bytes: the line by which it is refused; or some bytes in front, and the lines of what is told to it.
 pub data HouseholdReplies (front : List ℕ) (scheme : Scheme) (rows : List ℕ) : List ℕ → Status → Type 0 where
-  is_refused : {line : List ℕ} (fault : HouseholdFault) → household_of (scheme_codes scheme) rows ≡ Err fault → household_fault_line fault ≡ Some line
+  is_refused : {line : List ℕ} (fault : HouseholdFault) → household_of scheme.inputs rows ≡ Err fault → household_fault_line fault ≡ Some line
       → HouseholdReplies front scheme rows line Refused
-  is_told : (pairs : List (ℕ × ℤ)) → household_of (scheme_codes scheme) rows ≡ Ok pairs
+  is_told : (pairs : List (ℕ × ℤ)) → household_of scheme.inputs rows ≡ Ok pairs
       → HouseholdReplies front scheme rows (front ++ told_lines scheme.names (told_to scheme pairs)) (told_status (told_to scheme pairs))
 
 -- What is answered to the table of these bytes: the line by which it is refused, or the lines of all its rows.
 pub data TableReplies (scheme : Scheme) (table : List ℕ) : List ℕ → Status → Type 0 where
-  table_is_refused : {line : List ℕ} (fault : HouseholdFault) → table_of (scheme_codes scheme) table ≡ Err fault → household_fault_line fault ≡ Some line
+  table_is_refused : {line : List ℕ} (fault : HouseholdFault) → table_of scheme.inputs table ≡ Err fault → household_fault_line fault ≡ Some line
       → TableReplies scheme table line Refused
-  rows_are_told : (rows : List Row) → table_of (scheme_codes scheme) table ≡ Ok rows → TableReplies scheme table (rows_lines scheme rows) Done
+  rows_are_told : (rows : List Row) → table_of scheme.inputs table ≡ Ok rows → TableReplies scheme table (rows_lines scheme rows) Done
 
 -- A session over an input ended: with a refusal of the household or for want of memory before anything was taken from the input, or it began and had
 -- its lines.
 pub data IsServedBy (scheme : Scheme) (rows : List ℕ) (heard told : InputView) (old new : OutputView) (status : Status) : Type 0 where
-  refused : (line : List ℕ) (fault : HouseholdFault) → household_of (scheme_codes scheme) rows ≡ Err fault → household_fault_line fault ≡ Some line → told ≡ heard
+  refused : (line : List ℕ) (fault : HouseholdFault) → household_of scheme.inputs rows ≡ Err fault → household_fault_line fault ≡ Some line → told ≡ heard
       → Prints line Refused old new status → IsServedBy scheme rows heard told old new status
   no_memory : told ≡ heard → new ≡ old → status ≡ Memory → IsServedBy scheme rows heard told old new status
-  served : (pairs : List (ℕ × ℤ)) → household_of (scheme_codes scheme) rows ≡ Ok pairs
+  served : (pairs : List (ℕ × ℤ)) → household_of scheme.inputs rows ≡ Ok pairs
       → Served (session_replies scheme pairs) (ended_replies scheme pairs) heard told old new status → IsServedBy scheme rows heard told old new status

@@ -6,13 +6,13 @@ use Rattle.tax_print.specs.Lines.{told_lines}
 use Rattle.m_plan.specs.declared.status.Status.{Status}
 use Rattle.m_plan.specs.declared.status.Status.TheVariants.{Refused}
 use Rattle.m_work.specs.Households.{told_status}
-use Rattle.m_work.specs.Schemes.{Scheme, scheme_codes, told_to}
+use Rattle.m_work.specs.Schemes.{Scheme, told_to}
 use Rattle.m_work.specs.Sources.{IsScheme, Refuses}
 
 -- The answer of a run of a source on the household of these bytes: a refusal, or the lines of what is told to the household.
 pub data RunReplies (source : Source) (rows : List ℕ) : List ℕ → Status → Type 0 where
   is_refused : {line : List ℕ} → Refuses source (λ inputs. household_of inputs rows) line → RunReplies source rows line Refused
-  is_told : (scheme : Scheme) (pairs : List (ℕ × ℤ)) → IsScheme source scheme → household_of (scheme_codes scheme) rows ≡ Ok pairs
+  is_told : (scheme : Scheme) (pairs : List (ℕ × ℤ)) → IsScheme source scheme → household_of scheme.inputs rows ≡ Ok pairs
       → RunReplies source rows (told_lines scheme.names (told_to scheme pairs)) (told_status (told_to scheme pairs))
 
 -- a valid source, and a household without a fault
@@ -20,4 +20,4 @@ pub record RunHasAnswer (source : Source) (rows : List ℕ) : Type 0 where
   pub scheme : Scheme
   pub pairs : List (ℕ × ℤ)
   pub valid : IsScheme source scheme
-  pub given : household_of (scheme_codes scheme) rows ≡ Ok pairs
+  pub given : household_of scheme.inputs rows ≡ Ok pairs

@@ -3,7 +3,6 @@ use Rattle.std.specs.Prelude.{ℕ, ℤ, List, length}
 use Rattle.m_fixed.specs.declared.amount.Value.{Value}
 use Rattle.observables.specs.declared.inputs.Coded.{Coded}
 use Rattle.observables.specs.Answers.{Told}
-use Rattle.observables.specs.Inputs.{codes_of}
 use Rattle.household.specs.Household.{values_of}
 
 -- The inputs, the names of what is asked for, and what is told to values of the inputs.
@@ -11,10 +10,6 @@ pub record Scheme : Type 0 where
   pub inputs : List Coded
   pub names : List (List ℕ)
   pub tells : List Value → Told
-
--- the codes of the inputs
-abbrev pub scheme_codes : Scheme → List (List ℕ)
-scheme_codes scheme = codes_of scheme.inputs
 
 -- what is told to the amounts of a household
 abbrev pub told_to : Scheme → List (ℕ × ℤ) → Told

@@ -8,7 +8,7 @@ use Rattle.m_plan.specs.Printing.{Prints}
 use Rattle.m_plan.specs.Views.{InputView, OutputView}
 use Rattle.m_plan.specs.declared.status.Status.{Status}
 use Rattle.m_plan.specs.declared.status.Status.TheVariants.{Done, Memory, Refused}
-use Rattle.m_work.specs.Schemes.{Scheme, scheme_codes}
+use Rattle.m_work.specs.Schemes.{Scheme}
 use Rattle.m_work.specs.Sources.{IsScheme, Refuses}
 use Rattle.m_work.specs.Sessions.{ended_replies, session_replies}
 use Rattle.m_work.specs.Serving.{Served}
@@ -16,7 +16,7 @@ use Rattle.m_work.specs.Serving.{Served}
 -- The source is valid, the household has no fault, and the session begins with this.
 pub record IsSession (source : Source) (rows : List ℕ) (scheme : Scheme) (pairs : List (ℕ × ℤ)) : Type 0 where
   pub valid : IsScheme source scheme
-  pub given : household_of (scheme_codes scheme) rows ≡ Ok pairs
+  pub given : household_of scheme.inputs rows ≡ Ok pairs
 
 -- What is answered to an input: a refusal; or the replies to all its lines; or, where it has as many bytes as are taken of an input, the replies to the
 -- lines that have their line feed among these, and then the line that it is too long.

@@ -4,11 +4,11 @@ use Rattle.household.specs.Household.{values_of}
 use Rattle.household_session.specs.Replies.{ended_lines, input_lines, lines_replies}
 use Rattle.household_session.specs.Sessions.{Showing}
 use Rattle.tax_print.specs.Lines.{told_lines}
-use Rattle.m_work.specs.Schemes.{Scheme, scheme_codes}
+use Rattle.m_work.specs.Schemes.{Scheme}
 
--- what a session shows: the codes of the inputs, and the lines of what is told to values
+-- what a session shows: the inputs, and the lines of what is told to values
 abbrev pub scheme_showing : Scheme → Showing
-scheme_showing scheme = record { codes = scheme_codes scheme; text = λ values. told_lines scheme.names (scheme.tells values) }
+scheme_showing scheme = record { inputs = scheme.inputs; text = λ values. told_lines scheme.names (scheme.tells values) }
 
 -- The replies to lines, where a session begins with these pairs. Of the pair of `1AJ` and 5, to `set 1AJ x` and `clear 1AJ` the
 -- lines `refused bad amount` and `ok`.

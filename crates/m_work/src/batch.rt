@@ -6,7 +6,6 @@ ghost use Rattle.rule_text.specs.Limits.{SourceKeepsLimits};
 ghost use Rattle.household.specs.Household.{AreInputs};
 ghost use Rattle.household.specs.Table.{table_of};
 ghost use Rattle.household.specs.declared.fault.HouseholdFault.TheVariants.{Memory as NoMemory};
-ghost use Rattle.observables.specs.Inputs.{codes_of};
 ghost use Rattle.reg_machine.specs.Machine.{machine_run};
 ghost use Rattle.m_plan.specs.Views.{output_view};
 ghost use Rattle.m_work.specs.Batches.{BatchReplies, IsWrittenInParts};
@@ -40,7 +39,7 @@ pub fn batch_source<R: Threads + Sync, K: Sink>(
     requires { SourceKeepsLimits source.now }
     ensures { IsWrittenInParts (BatchReplies source.now table.now) (output_view K.written K.faults out.old) (output_view K.written K.faults out.new) result }
 {
-    match prepare_code(alloc, source) {
+    match prepare_code(rt, alloc, source) {
         Ok(loaded) => answer_batch(rt, alloc, &loaded, table, out),
         Err(fault) => tell_refusal(out, told_fault(source.texts.as_slice(), &fault)),
     }
@@ -64,11 +63,11 @@ pub fn answer_batch<R: Threads + Sync, K: Sink>(
     }
 }
 
-// The rows of the table of these bytes, by the codes of its inputs.
+// The rows of the table of these bytes, by its inputs.
 fn rows_of(alloc: Global, loaded: &Loaded, table: &[u8]) -> Result<Seq<Row>, HouseholdFault>
     requires { IsRunnableCode loaded.now }
-    ensures outcome { Outcome NoMemory result (λ rows. table_of (codes_of loaded.now.face.inputs) table.now ≡ Ok rows) (λ fault. table_of (codes_of loaded.now.face.inputs) table.now ≡ Err fault) }
-    ensures inputs { IfOk result (λ rows. AllByRecursion (λ row. AreInputs (length (codes_of loaded.now.face.inputs)) row.household.pairs) rows) }
+    ensures outcome { Outcome NoMemory result (λ rows. table_of loaded.now.face.inputs table.now ≡ Ok rows) (λ fault. table_of loaded.now.face.inputs table.now ≡ Err fault) }
+    ensures inputs { IfOk result (λ rows. AllByRecursion (λ row. AreInputs (length loaded.now.face.inputs) row.household.pairs) rows) }
 {
     let codes = Codes::new(alloc, loaded.face.inputs.as_slice())?;
     read_table(alloc, table, &codes)

@@ -15,13 +15,19 @@ use m_plan::{Status, printed};
 use m_ports::Sink;
 use rule_text::Source;
 use std::alloc::Global;
+use std::thread::Threads;
 
 /// Prepares the code of a source, and writes its code file, or the line by which the source is refused.
-pub fn compile_source<K: Sink>(alloc: Global, source: &Source, out: &mut K) -> Status
+pub fn compile_source<R: Threads + Sync, K: Sink>(
+    rt: &R,
+    alloc: Global,
+    source: &Source,
+    out: &mut K,
+) -> Status
     requires { SourceKeepsLimits source.now }
     ensures { IsAnswered (CompileReplies source.now) (output_view K.written K.faults out.old) (output_view K.written K.faults out.new) result }
 {
-    match prepare_code(alloc, source) {
+    match prepare_code(rt, alloc, source) {
         Ok(loaded) => answer_compile(alloc, &loaded, out),
         Err(fault) => tell_refusal(out, told_fault(source.texts.as_slice(), &fault)),
     }

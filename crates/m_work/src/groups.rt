@@ -1,4 +1,4 @@
-//! The rows of a table, computed and written in groups.
+//! The rows of a table, computed some thousand at once, and written in groups.
 ghost use Rattle.std.specs.Prelude.{◌≡◌, ◌<◌, ◌≤◌, length};
 ghost use Rattle.std.specs.List.{AllByRecursion};
 ghost use Rattle.text_pieces.specs.Giving.{Gives};
@@ -13,14 +13,21 @@ use code_file::Loaded;
 use held_text::FixedText;
 use household::Row;
 use m_batch::run_batch;
+use m_places::Open;
 use m_ports::{Failed, Sink};
 use observables::{Answer, Face};
 use std::alloc::{AllocError, Global};
 use std::thread::Threads;
 use tax_print::print_household;
 
-// How many rows are computed before they are written.
+// How many rows' lines are given in one call.
 const GROUP: usize = 256;
+
+// How many rows are computed before they are written, at most.
+const WINDOW: usize = 8_192;
+
+// How many values the answers of a window may have, where it has more rows than a group.
+const VALUES: usize = 262_144;
 
 /// Why rows are not written to their end.
 #[derive(Clone, Copy, Debug, PartialEq, Eq)]
@@ -47,7 +54,7 @@ impl From<Failed> for GroupFault {
     }
 }
 
-/// Computes and writes rows, a group after the other.
+/// Computes and writes rows, a window after the other.
 pub(crate) fn print_rows<R: Threads + Sync, K: Sink>(
     rt: &R,
     alloc: Global,
@@ -60,30 +67,43 @@ pub(crate) fn print_rows<R: Threads + Sync, K: Sink>(
     ensures { WritesGroups K.written K.faults out.old out.new result (program_lines loaded.now rows.now) }
 {
     let mut held = FixedText::new(alloc, GROUP_ROOM)?;
+    let size = window_for(loaded.code.outputs());
     let mut from = 0;
     while from < rows.len() {
-        let end = group_end(from, rows.len());
-        print_group(rt, alloc, loaded, &rows[from..end], &mut held, out)?;
+        let end = part_end(from, rows.len(), size);
+        print_window(rt, alloc, loaded, &rows[from..end], &mut held, out)?;
         from = end;
     }
     Ok(())
 }
 
-// Where the group ends that begins at a place.
-fn group_end(from: usize, count: usize) -> usize
-    requires { from < count }
+// How many rows are computed at once of code with so many outputs: at least a group, so that their answers take no more than some 10 MB or
+// a group's room.
+fn window_for(outputs: u32) -> usize
+    ensures { 0 < result }
+{
+    match VALUES.checked_div(outputs as usize) {
+        Some(rows) => rows.clamp(GROUP, WINDOW),
+        None => WINDOW,
+    }
+}
+
+// Where a part of so many rows ends that begins at a place.
+fn part_end(from: usize, count: usize, size: usize) -> usize
+    requires begun { from < count }
+    requires size { 0 < size }
     ensures some { from < result }
     ensures within { result ≤ count }
 {
-    if count - from <= GROUP {
+    if count - from <= size {
         count
     } else {
-        from + GROUP
+        from + size
     }
 }
 
 // Computes rows, and then writes them.
-fn print_group<R: Threads + Sync, K: Sink>(
+fn print_window<R: Threads + Sync, K: Sink>(
     rt: &R,
     alloc: Global,
     loaded: &Loaded,
@@ -95,8 +115,29 @@ fn print_group<R: Threads + Sync, K: Sink>(
     requires inputs { AllByRecursion (HasInputsBelow loaded.now.code.counts.inputs) rows.now }
     ensures { WritesGroups K.written K.faults out.old out.new result (program_lines loaded.now rows.now) }
 {
-    let answers = run_batch(rt, alloc, &loaded.code, rows)?;
-    give_answers(&loaded.face, rows, answers.as_slice(), held, out)?;
+    let answers = run_batch(rt, alloc, &loaded.code, rows, &Open)?;
+    give_groups(&loaded.face, rows, answers.as_slice(), held, out)?;
+    Ok(())
+}
+
+// Gives the lines of rows with their answers, a group after the other.
+fn give_groups<K: Sink>(
+    face: &Face,
+    rows: &[Row],
+    answers: &[Answer],
+    held: &mut FixedText,
+    out: &mut K,
+) -> Result<(), Failed>
+    requires many { length answers.now ≡ length rows.now }
+    requires within { AllByRecursion (AnswerIsWithin face.now) answers.now }
+    ensures { Gives K.written K.faults out.old out.new result (answered_lines face.now rows.now answers.now) }
+{
+    let mut from = 0;
+    while from < rows.len() {
+        let end = part_end(from, rows.len(), GROUP);
+        give_answers(face, &rows[from..end], &answers[from..end], held, out)?;
+        from = end;
+    }
     Ok(())
 }
 

@@ -27,12 +27,13 @@ use m_ports::{Failed, Sink};
 use observables::{Answer, Face};
 use rule_text::Source;
 use std::alloc::{AllocError, Global};
+use std::thread::Threads;
 use tax_print::print_answer;
 use text_pieces::{append_pieces, give_pieces};
 
 /// Prepares the code of the generated source of this many inputs, and prints the line `large N` and its answer to the generated
 /// household.
-pub fn run_large<K: Sink>(alloc: Global, n: u32, out: &mut K) -> Status
+pub fn run_large<R: Threads + Sync, K: Sink>(rt: &R, alloc: Global, n: u32, out: &mut K) -> Status
     requires some { 1 ≤ n }
     requires few { n ≤ LARGE }
     ensures { IsAnswered (LargeReplies n) (output_view K.written K.faults out.old) (output_view K.written K.faults out.new) result }
@@ -40,7 +41,7 @@ pub fn run_large<K: Sink>(alloc: Global, n: u32, out: &mut K) -> Status
     let Ok(source) = large_source(alloc, n) else {
         return Status::Memory;
     };
-    match prepare_code(alloc, &source) {
+    match prepare_code(rt, alloc, &source) {
         Ok(loaded) => answer_large(alloc, n, &loaded, out),
         Err(fault) => tell_refusal(out, told_fault(source.texts.as_slice(), &fault)),
     }

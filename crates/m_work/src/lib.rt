@@ -6,21 +6,29 @@
 #![tactic(auto)]
 
 mod batch;
+mod case_groups;
+mod cases;
+mod check;
 mod compile;
 mod exec;
 mod groups;
 mod large;
+mod lint;
 mod program;
 mod run;
 mod serving;
 mod session;
+mod start;
 mod texts;
 mod told;
 
 pub use batch::{answer_batch, batch_source};
+pub use cases::cases_source;
+pub use check::check_source;
 pub use compile::compile_source;
 pub use exec::exec_code;
 pub use large::{answer_large, run_large};
+pub use lint::lint_source;
 pub use program::{Program, prepare, prepare_code};
 pub use run::{answer_run, run_source};
 pub use serving::{answer_serve, serve_source};

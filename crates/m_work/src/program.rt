@@ -10,10 +10,11 @@ ghost use Rattle.m_work.specs.Prepared.{IsPrepared, IsPreparedCode, IsRunnableCo
 
 use code_file::Loaded;
 use flat_code::Tidy;
-use m_compile::{Compiled, SourceFault, compile};
+use m_compile::{Compiled, SourceFault, compile_with};
 use observables::Face;
 use rule_text::Source;
 use std::alloc::Global;
+use std::thread::Threads;
 
 /// A program that is prepared for sessions: in the tidy form, at whose nodes they keep values, with what it shows of itself. All else is
 /// answered by code, which is `Loaded` of code_file.
@@ -24,24 +25,32 @@ pub struct Program {
 }
 
 /// Prepares the program of a source for sessions, or tells the source's fault.
-pub fn prepare(alloc: Global, source: &Source) -> Result<Program, SourceFault>
+pub fn prepare<R: Threads + Sync>(
+    rt: &R,
+    alloc: Global,
+    source: &Source,
+) -> Result<Program, SourceFault>
     requires { SourceKeepsLimits source.now }
     ensures outcome { Outcome Memory result (IsPrepared source.now) (IsSourceFault source.now) }
     ensures runnable { IfOk result (λ program. IsRunnable program.face program.tidy) }
 {
-    match compile(alloc, source) {
+    match compile_with(rt, alloc, source) {
         Ok(compiled) => Ok(program_of(compiled)),
         Err(fault) => Err(fault),
     }
 }
 
 /// Prepares the code of a source, or tells the source's fault. The tidy program is dropped.
-pub fn prepare_code(alloc: Global, source: &Source) -> Result<Loaded, SourceFault>
-    requires { SourceKeepsLimits source.now }
+pub fn prepare_code<R: Threads + Sync>(
+    rt: &R,
+    alloc: Global,
+    source: &Source,
+) -> Result<Loaded, SourceFault>
+    requires limits { SourceKeepsLimits source.now }
     ensures outcome { Outcome Memory result (IsPreparedCode source.now) (IsSourceFault source.now) }
     ensures runnable { IfOk result (λ loaded. IsRunnableCode loaded) }
 {
-    match compile(alloc, source) {
+    match compile_with(rt, alloc, source) {
         Ok(compiled) => Ok(code_of(compiled)),
         Err(fault) => Err(fault),
     }

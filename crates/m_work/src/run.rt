@@ -4,7 +4,6 @@ ghost use Rattle.m_places.specs.Refusals.{Outcome};
 ghost use Rattle.rule_text.specs.Limits.{SourceKeepsLimits};
 ghost use Rattle.household.specs.Household.{AreInputs, household_of};
 ghost use Rattle.household.specs.declared.fault.HouseholdFault.TheVariants.{Memory};
-ghost use Rattle.observables.specs.Inputs.{codes_of};
 ghost use Rattle.reg_machine.specs.Machine.{machine_run};
 ghost use Rattle.m_plan.specs.Printing.{IsAnswered};
 ghost use Rattle.m_plan.specs.Views.{output_view};
@@ -26,14 +25,21 @@ use m_ports::Sink;
 use observables::Answer;
 use rule_text::Source;
 use std::alloc::Global;
+use std::thread::Threads;
 
 /// Prepares the code of a source, and prints its answer to the household of these bytes, or the line by which one of them is
 /// refused.
-pub fn run_source<K: Sink>(alloc: Global, source: &Source, household: &[u8], out: &mut K) -> Status
+pub fn run_source<R: Threads + Sync, K: Sink>(
+    rt: &R,
+    alloc: Global,
+    source: &Source,
+    household: &[u8],
+    out: &mut K,
+) -> Status
     requires { SourceKeepsLimits source.now }
     ensures { IsAnswered (RunReplies source.now household.now) (output_view K.written K.faults out.old) (output_view K.written K.faults out.new) result }
 {
-    match prepare_code(alloc, source) {
+    match prepare_code(rt, alloc, source) {
         Ok(loaded) => answer_run(alloc, &loaded, household, out),
         Err(fault) => tell_refusal(out, told_fault(source.texts.as_slice(), &fault)),
     }
@@ -64,17 +70,17 @@ pub(crate) fn answer_of(
     household: &[u8],
 ) -> Result<Answer, HouseholdFault>
     requires { IsRunnableCode loaded.now }
-    ensures { Outcome Memory result (IsAnswerOf loaded.now household.now) (λ fault. household_of (codes_of loaded.now.face.inputs) household.now ≡ Err fault) }
+    ensures { Outcome Memory result (IsAnswerOf loaded.now household.now) (λ fault. household_of loaded.now.face.inputs household.now ≡ Err fault) }
 {
     let given = given(alloc, loaded, household)?;
     Ok(run_household(alloc, &loaded.code, &given)?)
 }
 
-// The household of these bytes, by the codes of its inputs.
+// The household of these bytes, by its inputs.
 fn given(alloc: Global, loaded: &Loaded, household: &[u8]) -> Result<Household, HouseholdFault>
     requires { IsRunnableCode loaded.now }
-    ensures outcome { Outcome Memory result (λ given. household_of (codes_of loaded.now.face.inputs) household.now ≡ Ok given.pairs) (λ fault. household_of (codes_of loaded.now.face.inputs) household.now ≡ Err fault) }
-    ensures inputs { IfOk result (λ given. AreInputs (length (codes_of loaded.now.face.inputs)) given.pairs) }
+    ensures outcome { Outcome Memory result (λ given. household_of loaded.now.face.inputs household.now ≡ Ok given.pairs) (λ fault. household_of loaded.now.face.inputs household.now ≡ Err fault) }
+    ensures inputs { IfOk result (λ given. AreInputs (length loaded.now.face.inputs) given.pairs) }
 {
     let codes = Codes::new(alloc, loaded.face.inputs.as_slice())?;
     read_household(alloc, household, &codes)

@@ -5,7 +5,6 @@ ghost use Rattle.rule_text.specs.Limits.{SourceKeepsLimits};
 ghost use Rattle.flat_code.specs.Runs.{flat_run};
 ghost use Rattle.household.specs.Household.{household_of};
 ghost use Rattle.household.specs.declared.fault.HouseholdFault.TheVariants.{Memory};
-ghost use Rattle.observables.specs.Inputs.{codes_of};
 ghost use Rattle.m_compile.specs.Compiled.{IsRunnable};
 ghost use Rattle.m_plan.specs.Views.{input_view, output_view};
 ghost use Rattle.m_work.specs.Prepared.{IsServedBy, Shows};
@@ -23,10 +22,12 @@ use m_plan::Status;
 use m_ports::{Sink, Source as Input};
 use rule_text::Source;
 use std::alloc::Global;
+use std::thread::Threads;
 
 /// Prepares the program of a source and reads the household of these bytes, and then does the lines of the input to its end. Where the
 /// source or the household is refused, or there is no memory, nothing is taken from the input, and behind that no memory is taken.
-pub fn serve_source<S: Input, K: Sink>(
+pub fn serve_source<R: Threads + Sync, S: Input, K: Sink>(
+    rt: &R,
     alloc: Global,
     source: &Source,
     household: &[u8],
@@ -37,7 +38,7 @@ pub fn serve_source<S: Input, K: Sink>(
     ensures { IsServed source.now household.now (input_view S.left S.faults input.old) (input_view S.left S.faults input.new)
         (output_view K.written K.faults out.old) (output_view K.written K.faults out.new) result }
 {
-    match prepare(alloc, source) {
+    match prepare(rt, alloc, source) {
         Ok(program) => answer_serve(alloc, program, household, input, out),
         Err(fault) => tell_refusal(out, told_fault(source.texts.as_slice(), &fault)),
     }
@@ -65,7 +66,7 @@ pub fn answer_serve<S: Input, K: Sink>(
 // The session of a program that begins with a household, or the household's fault.
 fn session_of(alloc: Global, program: Program, household: &[u8]) -> Result<Session, HouseholdFault>
     requires { IsRunnable program.face program.tidy }
-    ensures { Outcome Memory result (λ session. IsBegun program household.now session.sitting) (λ fault. household_of (codes_of program.face.inputs) household.now ≡ Err fault) }
+    ensures { Outcome Memory result (λ session. IsBegun program household.now session.sitting) (λ fault. household_of program.face.inputs household.now ≡ Err fault) }
 {
     let codes = Codes::new(alloc, program.face.inputs.as_slice())?;
     let given = read_household(alloc, household, &codes)?;

@@ -3,16 +3,20 @@ ghost use Rattle.std.specs.Prelude.{◌≡◌};
 ghost use Rattle.std.specs.Option.{option_map};
 ghost use Rattle.fault_lines.specs.Lines.{fault_line};
 ghost use Rattle.m_plan.specs.Views.{output_view};
+ghost use Rattle.m_work.specs.Cases.{cases_fault_line};
+ghost use Rattle.m_work.specs.Checks.{report_fault_line};
 ghost use Rattle.m_work.specs.Execs.{code_fault_line};
 ghost use Rattle.m_work.specs.Households.{answer_status, household_fault_line};
 ghost use Rattle.m_work.specs.inner.Refusals.{TellsLine};
 
 use code_file::CodeFault;
-use fault_lines::{CodeFault as Words, Fault, RowFault};
+use fault_lines::{CodeFault as Words, Fault, ReportFault as ReportWords, RowFault};
 use household::HouseholdFault;
+use m_cases::CasesFault;
 use m_plan::{Status, print_fault};
 use m_ports::Sink;
 use observables::Answer;
+use why_report::ReportFault;
 
 /// Tells what refuses the input, or of want of memory nothing, and answers the status.
 pub(crate) fn tell_refusal<K: Sink>(out: &mut K, told: Option<Fault<'_>>) -> Status
@@ -36,8 +40,29 @@ pub(crate) fn told_household<'a>(fault: HouseholdFault) -> Option<Fault<'a>>
             Some(Fault::HouseholdLine(line, RowFault::UnknownCode))
         }
         HouseholdFault::BadAmount(line) => Some(Fault::HouseholdLine(line, RowFault::BadAmount)),
+        HouseholdFault::NotOfType(line) => Some(Fault::HouseholdLine(line, RowFault::NotOfType)),
         HouseholdFault::CodeTwice(line) => Some(Fault::HouseholdLine(line, RowFault::CodeTwice)),
         HouseholdFault::Memory => None,
+    }
+}
+
+/// What the fault of a table of cases is told as. Nothing is told of want of memory.
+pub(crate) fn told_cases<'a>(fault: CasesFault) -> Option<Fault<'a>>
+    ensures { option_map fault_line result ≡ cases_fault_line fault }
+{
+    match fault {
+        CasesFault::BadHeader => Some(Fault::HouseholdHeader),
+        CasesFault::TooManyRows => Some(Fault::TooManyRows),
+        CasesFault::BadRow(line) => Some(Fault::HouseholdLine(line, RowFault::BadRow)),
+        CasesFault::UnknownCode(line) => Some(Fault::HouseholdLine(line, RowFault::UnknownCode)),
+        CasesFault::UnknownOutput(line) => {
+            Some(Fault::HouseholdLine(line, RowFault::UnknownOutput))
+        }
+        CasesFault::CodeTwice(line) => Some(Fault::HouseholdLine(line, RowFault::CodeTwice)),
+        CasesFault::BadAmount(line) => Some(Fault::HouseholdLine(line, RowFault::BadAmount)),
+        CasesFault::NotOfType(line) => Some(Fault::HouseholdLine(line, RowFault::NotOfType)),
+        CasesFault::BadExpected(line) => Some(Fault::HouseholdLine(line, RowFault::BadExpected)),
+        CasesFault::Memory => None,
     }
 }
 
@@ -50,6 +75,16 @@ pub(crate) fn told_code<'a>(fault: CodeFault) -> Option<Fault<'a>>
         CodeFault::BadLine(line) => Some(Fault::CodeLine(line, Words::BadLine)),
         CodeFault::BadOrder(line) => Some(Fault::CodeLine(line, Words::ReadBeforeWrite)),
         CodeFault::Memory => None,
+    }
+}
+
+/// What the fault of a report is told as. Nothing is told of want of memory.
+pub(crate) fn told_report<'a>(fault: ReportFault) -> Option<Fault<'a>>
+    ensures { option_map fault_line result ≡ report_fault_line fault }
+{
+    match fault {
+        ReportFault::BadLine(line) => Some(Fault::ReportLine(line, ReportWords::BadLine)),
+        ReportFault::Memory => None,
     }
 }
 

@@ -17,4 +17,4 @@ pub use m_places::{ErrorKind, Label};
 pub use slow::slow_value;
 pub use table::{Picked, pick};
 pub use term::{MNode, MTerm, Step};
-pub use value::{first_failing, term_value};
+pub use value::{first_failing, is_stopping, kind_at, term_value};

@@ -4,11 +4,12 @@ ghost use Rattle.std.specs.Prelude.{◌≡◌, slice_index_or};
 ghost use Rattle.m_fixed.specs.declared.amount.Value.TheVariants.{Undef};
 ghost use Rattle.micro_m.specs.Views.{trees_of, steps_of};
 ghost use Rattle.micro_m.specs.Values.{environment, term_value, argument_values, folded, applied, picked_value};
-ghost use Rattle.micro_m.specs.Failures.{failure_of, failure_among};
+ghost use Rattle.micro_m.specs.Failures.{is_stopping, kind_at, failure_of, failure_among};
 
 use crate::table::{Picked, pick};
 use crate::{Base, Failure, MNode, MTerm, Step};
 use m_fixed::{Op, Value, apply};
+use m_places::{ErrorKind, Label};
 
 /// The value of a term where each cell has the value at its number, and a cell beyond them is undefined: where the cells 0
 /// and 1 are 10 and 4, that of the cell 0 less the cell 1 is 6. Takes no memory.
@@ -80,32 +81,54 @@ fn picked_value(picked: Picked, values: &[Value]) -> Value
     }
 }
 
-/// The first check of a base, in the order of the source, that fails or is over where the cells have these values. Takes no
-/// memory.
+/// The first check of a base, in the order of the source, that stops a run where the cells have these values: its condition is
+/// over, or it is a number other than 0 and its error is an `anomalie`. Takes no memory.
 pub fn first_failing(base: &Base, values: &[Value]) -> Option<Failure>
-    ensures { result ≡ failure_among (environment values.now) base.now.checks }
+    ensures { result ≡ failure_among base.now.labels (environment values.now) base.now.checks }
 {
     for (condition, label, _) in base.checks.as_slice() {
-        if let Some(failure) = failure_of(term_value(condition, values), *label) {
+        let kind = kind_at(base.labels.as_slice(), *label);
+        if let Some(failure) = failure_of(term_value(condition, values), kind, *label) {
             return Some(failure);
         }
     }
     None
 }
 
-/// What a check comes to by its condition's value: only a number other than 0 fails, and over is told.
-fn failure_of(condition: Value, label: u32) -> Option<Failure>
-    ensures { result ≡ failure_of condition label }
+/// What a check comes to by its condition's value and its error's kind: only a number other than 0 fails, and over is told.
+fn failure_of(condition: Value, kind: ErrorKind, label: u32) -> Option<Failure>
+    ensures { result ≡ failure_of condition kind label }
 {
     match condition {
         Value::Undef => None,
         Value::Over => Some(Failure::Over(label)),
         Value::Num(amount) => {
-            if amount.millionths() == 0 {
-                None
-            } else {
+            if amount.millionths() != 0 && is_stopping(kind) {
                 Some(Failure::Failed(label))
+            } else {
+                None
             }
         }
+    }
+}
+
+/// The kind of the error of the label with this number. A number without a label is that of an error that stops a run.
+pub fn kind_at(labels: &[Label], number: u32) -> ErrorKind
+    ensures { result ≡ kind_at labels.now number }
+{
+    match labels.get(number as usize) {
+        Some(label) => label.kind,
+        None => ErrorKind::Anomalie,
+    }
+}
+
+/// Whether an error of this kind stops a run. One of another kind is noted, and the run goes on.
+pub fn is_stopping(kind: ErrorKind) -> bool
+    ensures { result ≡ is_stopping kind }
+{
+    match kind {
+        ErrorKind::Anomalie => true,
+        ErrorKind::Discordance => false,
+        ErrorKind::Informative => false,
     }
 }

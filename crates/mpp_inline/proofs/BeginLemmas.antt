@@ -1,19 +1,23 @@
 -- The first nodes, and the answer at the end.
-use Rattle.std.proofs.Common.{◌≡◌, ℕ, zero, suc, ◌+◌, ◌*◌, ◌<◌, ◌≤◌, Bool, true, false, cond, List, [], ◌∷◌, ◌++◌, map, take, drop, length, get_or, slice_get, replicate, Option, Some, None, refl, inr, sym, ap, ◌∙◌, subst, arith, pos, length-append}
-use mathlib.Core.Bool.{◌||◌}
-use Rattle.std.specs.List.{AllByRecursion}
+use Rattle.std.proofs.Common.{◌≡◌, ℕ, zero, suc, ◌+◌, ◌*◌, ◌<◌, ◌≤◌, Bool, true, false, cond, List, [], ◌∷◌, ◌++◌, map, take, drop, length, get_or, slice_get, replicate, Option, Some, None, not, refl, ◌⊎◌, inl, inr, ⊎_elim, sym, ap, ◌∙◌, subst, arith, add-one, ℤ, pos, length-append}
+use mathlib.Core.Bool.{◌||◌, ◌&&◌}
+use Rattle.std.specs.List.{AllByRecursion, AllZip, cons_option, filter_map}
+use Rattle.std.specs.Ordering.{int_eq}
 use Rattle.std.specs.Option.{option_or, option_map_or}
 use Rattle.std.specs.Prelude.{option_map}
+use Rattle.std.proofs.lemmas.Bool.Decides.{Decides-int_eq}
+use Rattle.std.proofs.lemmas.Bool.{cases_lt}
 use Rattle.std.proofs.lemmas.List.{map-append, get_or-map, length-map}
 use Rattle.std.proofs.lemmas.Option.{slice_get-get_or}
 use Rattle.m_fixed.specs.declared.amount.Value.{Value}
 use Rattle.m_fixed.specs.declared.amount.Value.TheVariants.{Undef, Num, Over as OverValue}
-use Rattle.m_fixed.specs.Operators.{is_zero}
+use Rattle.m_fixed.specs.declared.operator.Op.TheVariants.{And}
+use Rattle.m_fixed.specs.Operators.{op_value, bounded, truth, is_zero}
 use Rattle.m_places.specs.declared.limits.TheConstants.{CELLS, DRIVER_WEIGHT}
 use Rattle.m_places.specs.declared.verification.Label.{Label}
 use Rattle.m_ast.specs.declared.variable.Role.{Role}
 use Rattle.m_ast.specs.declared.variable.Role.TheVariants.{Input as InputRole, Computed as ComputedRole, Constant}
-use Rattle.m_ast.specs.Items.{is_input}
+use Rattle.m_ast.specs.Items.{is_input, code_in}
 use Rattle.m_symbols.specs.declared.variable.Variable.{Variable}
 use Rattle.m_symbols.specs.Declarations.{Declared, inputs_from, owners_from}
 use Rattle.micro_m.specs.declared.base.Base.{Base}
@@ -23,36 +27,44 @@ use Rattle.observables.specs.declared.answer.Stop.{Stop}
 use Rattle.observables.specs.declared.answer.Stop.TheVariants.{Failed}
 use Rattle.observables.specs.declared.answer.Answer.TheVariants.{Values, Stopped}
 use Rattle.flat_code.specs.declared.program.Node.{Node}
-use Rattle.flat_code.specs.declared.program.Node.TheVariants.{Lit}
+use Rattle.flat_code.specs.declared.program.Node.TheVariants.{Input, Lit, Do}
 use Rattle.flat_code.specs.declared.program.Check.{Check}
 use Rattle.observables.specs.declared.face.FaceLabel.{FaceLabel}
 use Rattle.observables.specs.declared.face.FaceLabel.TheVariants.{Verif, DriverLine}
-use Rattle.observables.specs.Answers.{Cause, stopped, label_number, cause_of, told_of}
+use Rattle.observables.specs.declared.inputs.Coded.{Coded}
+use Rattle.observables.specs.declared.inputs.InputType.{InputType}
+use Rattle.observables.specs.declared.inputs.InputType.TheVariants.{Any, Whole, Truth}
+use Rattle.observables.specs.Inputs.{IsValueOf, AreValuesOf}
+use Rattle.observables.specs.Outputs.{verif_of, verif_at}
+use Rattle.observables.specs.Answers.{Cause, stopped, label_number, cause_of, is_told, notes_told, told_of}
 use Rattle.flat_code.specs.Runs.{IsCheck, AreNodes, node_values, is_one, stop_of as stop_at, check_stop, first_stop}
 use Rattle.driver_core.specs.Answers.{first_value, next_input, start_from, told_by}
-use Rattle.driver_core.specs.Meaning.{Env, RunState, then_do}
+use Rattle.driver_core.specs.Inputs.{type_said, input_said, inputs_said}
+use Rattle.driver_core.specs.Meaning.{Env, RunState, goes, then_do, unless_stopped}
 use Rattle.mpp_inline.specs.declared.builder.Builder.{Builder}
-use Rattle.mpp_inline.specs.inner.Growth.{count, at, stop_of, stop_read, denoted, outcome_of, run, IsCheckWithin, Sane, Known, HasLiterals, Begun, Grows, Gives, InputIsThere}
+use Rattle.mpp_inline.specs.inner.Growth.{count, at, stop_of, stop_read, so_far, notes_read, IsVerif, denoted, outcome_of, run, IsCheckWithin, IsNoteWithin, typed_value, begun_value, begun_from, Sane, Known, Pushed, HasLiterals, Begun, Grows, Gives, InputIsThere}
 use Rattle.driver_core.specs.Weights.{weight_of}
 use Rattle.mpp_inline.specs.inner.Sizes.{load}
-use Rattle.mpp_inline.specs.inner.Told.{ended, Answers}
+use Rattle.mpp_inline.specs.inner.Told.{ended, ended_so, nodes_of, numbers_of, Answers}
 use Rattle.mpp_inline.specs.Inlined.{IsInlined, IsDriverLine}
 use Rattle.mpp_inline.specs.inner.Work.{under, Step}
+use Rattle.mpp_inline.proofs.OutcomeLemmas.{append-none}
 use Rattle.mpp_inline.proofs.ListLemmas.{all-append, all-more}
-use Rattle.mpp_inline.proofs.GrowthLemmas.{past-line, grows-none, grows-then, known-on, denoted-on, known-get, denoted-get}
+use Rattle.mpp_inline.proofs.GrowthLemmas.{past-line, grows-none, grows-then, known-on, denoted-on, known-get, denoted-get, gives-pushed, gives-behind}
 
 -- ---- the first nodes
 
 abbrev pub literals : List Node
 literals = Lit Undef ∷ Lit (Num (pos 0)) ∷ Lit (Num (pos 1000000)) ∷ []
 
-pub has-literals : (labels : List Label) (b : Builder) → b.nodes.items ≡ literals → b.checks.items ≡ [] → b.labels.items ≡ map Verif labels → HasLiterals labels b
-has-literals labels b e f g =
+pub has-literals : (labels : List Label) (b : Builder) → b.nodes.items ≡ literals → b.checks.items ≡ [] → b.labels.items ≡ map Verif labels → b.notes.items ≡ [] → HasLiterals labels b
+has-literals labels b e f g none =
     let value : (inputs : List Value) (k : ℕ) → at b inputs k ≡ get_or (node_values inputs literals) k Undef = λ inputs k. ap (λ ns. get_or (node_values inputs ns) k Undef) e in
     record {
       sane = record {
         nodes = subst (AreNodes b.inputs 0) (sym e) (tt, (tt, (tt, tt)));
         checks = subst (λ cs. AllByRecursion (λ c. IsCheckWithin (count b) (length b.labels.items) c) cs) (sym f) tt;
+        notes = subst (λ ns. AllByRecursion (λ n. IsNoteWithin (count b) b.labels.items n) ns) (sym none) tt;
         three = omega (arith, ap length e);
         undef = λ inputs. value inputs 0;
         zero = λ inputs. value inputs 1;
@@ -64,7 +76,10 @@ has-literals labels b e f g =
         others = λ l h. past-line b.labels.items l (omega (arith, h, ap length g, length-map labels Verif));
       };
       one = λ inputs. value inputs 2;
-      stop = λ inputs. ap (λ cs. stop_read b.labels.items (first_stop (node_values inputs b.nodes.items) cs)) f;
+      told = λ inputs. λ i. record {
+        stop = stop_read b.labels.items (first_stop (node_values inputs b.nodes.items) (f i));
+        notes = notes_read b.labels.items (at b inputs) (none i);
+      };
     }
 
 -- ---- the cells
@@ -89,12 +104,12 @@ replicate-long (suc n) x = ap suc (replicate-long n x)
 pub record Starting (b c : Builder) (all rest : List Variable) (next : ℕ) (env : List ℕ) : Type 0 where
   pub grows : Grows b c
   pub known : Known c env
-  pub value : (inputs : List Value) → denoted c inputs env ++ start_from inputs next rest ≡ start_from inputs 0 all
+  pub value : (inputs : List Value) → denoted c inputs env ++ begun_from inputs next rest ≡ begun_from inputs 0 all
 
 pub starting-first : {b : Builder} (all : List Variable) → Sane b → Starting b b all all 0 []
 starting-first all s = record { grows = grows-none s; known = record { all = tt }; value = λ inputs. refl }
 
-pub starting-next : {b c d : Builder} {all rest : List Variable} {next k : ℕ} {env : List ℕ} (v : Variable) → Starting b c all (v ∷ rest) next env → (Sane c → Gives c d (λ inputs. first_value inputs next v.item.role) k) → Starting b d all rest (next_input next v.item.role) (env ++ replicate v.cells k)
+pub starting-next : {b c d : Builder} {all rest : List Variable} {next k : ℕ} {env : List ℕ} (v : Variable) → Starting b c all (v ∷ rest) next env → (Sane c → Gives c d (λ inputs. begun_value inputs next v.item) k) → Starting b d all rest (next_input next v.item.role) (env ++ replicate v.cells k)
 starting-next {b} {c} {d} {all} {rest} {next} {k} {env} v s step =
     let g = step s.grows.base.sane in
     let l = g.grows.base in
@@ -103,23 +118,86 @@ starting-next {b} {c} {d} {all} {rest} {next} {k} {env} v s step =
       grows = grows-then s.grows g.grows;
       known = record { all = all-append (λ m. m < count d) env (replicate v.cells k) kn.all (all-replicate (λ m. m < count d) v.cells k g.within) };
       value = λ inputs.
-          ap (λ xs. xs ++ start_from inputs (next_input next v.item.role) rest)
+          ap (λ xs. xs ++ begun_from inputs (next_input next v.item.role) rest)
           (map-append (at d inputs) env (replicate v.cells k)
           ∙ (λ i. denoted-on inputs l s.known i ++ (replicate-map (at d inputs) v.cells k ∙ ap (replicate v.cells) (g.value inputs)) i))
-          ∙ append-append (denoted c inputs env) (replicate v.cells (first_value inputs next v.item.role)) (start_from inputs (next_input next v.item.role) rest)
+          ∙ append-append (denoted c inputs env) (replicate v.cells (begun_value inputs next v.item)) (begun_from inputs (next_input next v.item.role) rest)
           ∙ s.value inputs;
     }
 
-pub starting-last : {b c : Builder} {all rest : List Variable} {next : ℕ} {env : List ℕ} → rest ≡ [] → Starting b c all rest next env → Begun b c (λ inputs. start_from inputs 0 all) env
+pub starting-last : {b c : Builder} {all rest : List Variable} {next : ℕ} {env : List ℕ} → rest ≡ [] → Starting b c all rest next env → Begun b c (λ inputs. begun_from inputs 0 all) env
 starting-last {b} {c} {all} {rest} {next} {env} none s = record {
   grows = s.grows;
   known = s.known;
-  value = λ inputs. sym (append-none (denoted c inputs env)) ∙ ap (λ vs. denoted c inputs env ++ start_from inputs next vs) (sym none) ∙ s.value inputs;
+  value = λ inputs. sym (append-none (denoted c inputs env)) ∙ ap (λ vs. denoted c inputs env ++ begun_from inputs next vs) (sym none) ∙ s.value inputs;
 }
-  where
-    append-none : (xs : List Value) → xs ++ [] ≡ xs
-    append-none [] = refl
-    append-none (x ∷ xs) = ap (λ l. x ∷ l) (append-none xs)
+
+-- ---- the node of an input
+
+pub input-gives : {b c : Builder} {next k : ℕ} → Pushed b c (Input next) k → next < b.inputs → Sane b → Gives b c (λ inputs. get_or inputs next Undef) k
+input-gives {b} {c} {next} {k} p low s = gives-pushed (λ inputs. get_or inputs next Undef) p low s (λ inputs. refl)
+
+pub truth-gives : {b c d : Builder} {next k j : ℕ} → Pushed b c (Input next) k → Pushed c d (Do And k k k) j → next < b.inputs → Sane b → Gives b d (λ inputs. op_value And (get_or inputs next Undef) (get_or inputs next Undef) (get_or inputs next Undef)) j
+truth-gives {b} {c} {d} {next} {k} {j} p q low s =
+    let g = input-gives p low s in
+    gives-behind g.grows
+    (gives-pushed (λ inputs. op_value And (get_or inputs next Undef) (get_or inputs next Undef) (get_or inputs next Undef)) q (g.within, g.within, g.within) g.grows.base.sane
+    (λ inputs i. op_value And (g.value inputs i) (g.value inputs i) (g.value inputs i)))
+
+-- ---- values that inputs may have
+
+-- an input of the type `Truth` is the And of itself with itself
+or-cases : (a b : Bool) → (a || b) ≡ true → (a ≡ true) ⊎ (b ≡ true)
+or-cases true b h = inl refl
+or-cases false b h = inr h
+
+truth-number : (z : ℤ) → (int_eq z (pos 0) || int_eq z (pos 1000000)) ≡ true → bounded (truth (not (is_zero z) && not (is_zero z))) ≡ Num z
+truth-number z h = ⊎_elim
+    (λ (e : int_eq z (pos 0) ≡ true). subst (λ (x : ℤ). bounded (truth (not (is_zero x) && not (is_zero x))) ≡ Num x) (sym ((Decides-int_eq z (pos 0)).0 e)) refl)
+    (λ (e : int_eq z (pos 1000000) ≡ true). subst (λ (x : ℤ). bounded (truth (not (is_zero x) && not (is_zero x))) ≡ Num x) (sym ((Decides-int_eq z (pos 1000000)).0 e)) refl)
+    (or-cases (int_eq z (pos 0)) (int_eq z (pos 1000000)) h)
+
+and-number : (z : ℤ) → op_value And (Num z) (Num z) (Num z) ≡ bounded (truth (not (is_zero z) && not (is_zero z)))
+unfolding op_value
+and-number z = refl
+
+and-undefined : op_value And Undef Undef Undef ≡ Undef
+unfolding op_value
+and-undefined = refl
+
+value-typed : (kind : InputType) (v : Value) → IsValueOf kind v → typed_value kind v ≡ v
+value-typed Any v h = refl
+value-typed Whole v h = refl
+value-typed Truth Undef h = and-undefined
+value-typed Truth (Num z) h = and-number z ∙ truth-number z h.1
+value-typed Truth OverValue h = absurd h
+
+abbrev MayBe : Coded → Value → Type 0
+MayBe input value = IsValueOf input.kind value
+
+zip-next : (input : Coded) (said : List Coded) (inputs : List Value) (n : ℕ) → AllZip MayBe (input ∷ said) (drop n inputs) → IsValueOf input.kind (get_or inputs n Undef) × AllZip MayBe said (drop (suc n) inputs)
+zip-next input said [] zero h = absurd h
+zip-next input said [] (suc n) h = absurd h
+zip-next input said (x ∷ inputs) zero h = h
+zip-next input said (x ∷ inputs) (suc n) h = zip-next input said inputs n h
+
+by-role : (inputs : List Value) (n : ℕ) (role : Role) (word : Option (List ℕ)) (said : List Coded) → AllZip MayBe (cons_option (option_map (λ code. record { code = code; kind = type_said word }) (code_in role)) said) (drop n inputs) →
+    (cond (is_input role) (typed_value (type_said word) (get_or inputs n Undef)) (first_value inputs n role) ≡ first_value inputs n role) × AllZip MayBe said (drop (next_input n role) inputs)
+by-role inputs n (InputRole code) word said h =
+    let next = zip-next (record { code = code; kind = type_said word }) said inputs n h in
+    (value-typed (type_said word) (get_or inputs n Undef) next.0, subst (λ m. AllZip MayBe said (drop m inputs)) (sym (add-one n)) next.1)
+by-role inputs n (ComputedRole size) word said h = (refl, h)
+by-role inputs n (Constant amount) word said h = (refl, h)
+
+begun-from : (inputs : List Value) (n : ℕ) (vs : List Variable) → AllZip MayBe (filter_map input_said vs) (drop n inputs) → begun_from inputs n vs ≡ start_from inputs n vs
+begun-from inputs n [] h = refl
+begun-from inputs n (v ∷ vs) h =
+    let s = by-role inputs n v.item.role v.item.value_word (filter_map input_said vs) h in
+    λ i. replicate v.cells (s.0 i) ++ begun-from inputs (next_input n v.item.role) vs s.1 i
+
+-- the first nodes are worth what the cells begin with, for values that the inputs may have
+pub begun-same : (declared : Declared) (inputs : List Value) → AreValuesOf (inputs_said declared) inputs → begun_from inputs 0 declared.variables ≡ start_from inputs 0 declared.variables
+begun-same declared inputs h = begun-from inputs 0 declared.variables h
 
 -- ---- the inputs
 
@@ -164,19 +242,18 @@ start-long inputs n m (v ∷ vs) =
 
 -- ---- the end
 
-ended-run : (o : Option Cause) (e : Env) (requests : List ℕ) → ended o (map (environment e) requests) ≡ told_by requests (outcome_of o e)
-ended-run None e requests = refl
-ended-run (Some s) e requests = refl
+ended-run : (o : Option Cause) (ns : List Label) (e : Env) (requests : List ℕ) → ended o ns (map (environment e) requests) ≡ told_by requests (unless_stopped o (goes ns e))
+ended-run None ns e requests = refl
+ended-run (Some s) ns e requests = refl
 
 map-map : (f : ℕ → Value) (g : ℕ → ℕ) (h : ℕ → Value) → ((x : ℕ) → f (g x) ≡ h x) → (xs : List ℕ) → map f (map g xs) ≡ map h xs
 map-map f g h e [] = refl
 map-map f g h e (x ∷ xs) = λ i. e x i ∷ map-map f g h e xs i
 
-pub last-answer : (b : Builder) (env requests outputs : List ℕ) (inputs : List Value) → Sane b → outputs ≡ map (λ x. get_or env x 0) requests → ended (stop_of b inputs) (map (at b inputs) outputs) ≡ told_by requests (run b inputs env)
-last-answer b env requests outputs inputs s e =
-    ap (λ ks. ended (stop_of b inputs) (map (at b inputs) ks)) e
-    ∙ ap (ended (stop_of b inputs)) (map-map (at b inputs) (λ x. get_or env x 0) (environment (denoted b inputs env)) (λ x. sym (denoted-get inputs env x s)) requests)
-    ∙ ended-run (stop_of b inputs) (denoted b inputs env) requests
+pub last-answer : (b : Builder) (env requests : List ℕ) (inputs : List Value) → Sane b → ended_so (so_far b inputs) (map (at b inputs) (map (λ x. get_or env x 0) requests)) ≡ told_by requests (run b inputs env)
+last-answer b env requests inputs s =
+    ap (ended_so (so_far b inputs)) (map-map (at b inputs) (λ x. get_or env x 0) (environment (denoted b inputs env)) (λ x. sym (denoted-get inputs env x s)) requests)
+    ∙ ended-run (stop_of b inputs) (so_far b inputs).notes (denoted b inputs env) requests
 
 pub last-known : (b : Builder) (env requests : List ℕ) → Sane b → Known b env → AllByRecursion (λ k. k < count b) (map (λ x. get_or env x 0) requests)
 last-known b env [] s k = tt
@@ -186,7 +263,7 @@ pub whole-run : {a b c : Builder} {env env' : List ℕ} {next : Env → RunState
 whole-run {a} {b} {c} {env} {env'} {next} {labels} {start} inputs l g s =
     let one : at b inputs 2 ≡ Num (pos 1000000) = g.grows.base.keeps inputs 2 (omega (arith, l.sane.three)) ∙ l.one inputs in
     s.moved inputs (inr one) ∙ ap (λ v. under v (run b inputs env) next) one
-    ∙ (λ i. then_do (outcome_of ((g.grows.stop inputs ∙ l.stop inputs) i) (g.value inputs i)) next)
+    ∙ (λ i. then_do (outcome_of ((g.grows.told inputs ∙ l.told inputs) i) (g.value inputs i)) next)
 
 -- the labels of the rules stand first
 pub first-faces : (ds : List Label) (ls : List FaceLabel) → length ds ≤ length ls → ((i : ℕ) (d : Label) → i < length ds → get_or ls i (DriverLine 0) ≡ Verif (get_or ds i d)) → take (length ds) ls ≡ map Verif ds
@@ -217,14 +294,51 @@ check-at vs c = elim (is_one (get_or vs c.guard Undef)) as (λ b. IsAt c.label (
   | false ↦ tt
 ]
 
-told-one : (labels : List FaceLabel) (l : ℕ) (o p : Option Stop) (outs : List Value) → IsAt l o → l < length labels → told_of labels [] (option_map_or Stopped p (Values outs)) ≡ Some (ended (stop_read labels p) outs) → told_of labels [] (option_map_or Stopped (option_or o p) (Values outs)) ≡ Some (ended (stop_read labels (option_or o p)) outs)
-told-one labels l None p outs a h rest = rest
-told-one labels l (Some stop) p outs a h rest = ap (option_map (λ label. stopped (cause_of stop label))) (slice_get-get_or labels (label_number stop) (DriverLine 0) (omega (arith, a, h)))
+told-one : (labels : List FaceLabel) (notes : List ℕ) (l : ℕ) (o p : Option Stop) (outs : List Value) → IsAt l o → l < length labels →
+    told_of labels notes (option_map_or Stopped p (Values outs)) ≡ Some (ended (stop_read labels p) (notes_told labels notes outs) (drop (length notes) outs)) →
+    told_of labels notes (option_map_or Stopped (option_or o p) (Values outs)) ≡ Some (ended (stop_read labels (option_or o p)) (notes_told labels notes outs) (drop (length notes) outs))
+told-one labels notes l None p outs a h rest = rest
+told-one labels notes l (Some stop) p outs a h rest = ap (option_map (λ label. stopped (cause_of stop label))) (slice_get-get_or labels (label_number stop) (DriverLine 0) (omega (arith, a, h)))
 
 -- what a program tells, read through its labels
-pub told-flat : (n : ℕ) (labels : List FaceLabel) (vs : List Value) (checks : List Check) (outs : List Value) → AllByRecursion (λ c. IsCheckWithin n (length labels) c) checks → told_of labels [] (option_map_or Stopped (first_stop vs checks) (Values outs)) ≡ Some (ended (stop_read labels (first_stop vs checks)) outs)
-told-flat n labels vs [] outs all = refl
-told-flat n labels vs (c ∷ cs) outs all = told-one labels c.label (check_stop vs c) (first_stop vs cs) outs (check-at vs c) all.0.label (told-flat n labels vs cs outs all.1)
+told-flat : (n : ℕ) (labels : List FaceLabel) (notes : List ℕ) (vs : List Value) (checks : List Check) (outs : List Value) → AllByRecursion (λ c. IsCheckWithin n (length labels) c) checks →
+    told_of labels notes (option_map_or Stopped (first_stop vs checks) (Values outs)) ≡ Some (ended (stop_read labels (first_stop vs checks)) (notes_told labels notes outs) (drop (length notes) outs))
+told-flat n labels notes vs [] outs all = refl
+told-flat n labels notes vs (c ∷ cs) outs all = told-one labels notes c.label (check_stop vs c) (first_stop vs cs) outs (check-at vs c) all.0.label (told-flat n labels notes vs cs outs all.1)
+
+-- the notes among its outputs
+verif-at : (labels : List FaceLabel) (n : ℕ) → verif_at labels n ≡ verif_of (get_or labels n (DriverLine 0))
+verif-at [] zero = refl
+verif-at [] (suc n) = refl
+verif-at (l ∷ labels) zero = refl
+verif-at (l ∷ labels) (suc n) = verif-at labels n
+
+notes-out : (labels : List FaceLabel) (f : ℕ → Value) (ps : List (ℕ × ℕ)) (asked : List ℕ) → notes_told labels (numbers_of ps) (map f (nodes_of ps ++ asked)) ≡ notes_read labels f ps
+notes-out labels f [] asked = refl
+notes-out labels f (p ∷ ps) asked = λ i. cons_option (cond (is_told (f p.0)) (verif-at labels p.1 i) None) (notes-out labels f ps asked i)
+
+asked-out : (f : ℕ → Value) (ps : List (ℕ × ℕ)) (asked : List ℕ) → drop (length (numbers_of ps)) (map f (nodes_of ps ++ asked)) ≡ map f asked
+asked-out f [] asked = refl
+asked-out f (p ∷ ps) asked = asked-out f ps asked
+
+notes-known : (n : ℕ) (labels : List FaceLabel) (ps : List (ℕ × ℕ)) → AllByRecursion (λ d. IsNoteWithin n labels d) ps → AllByRecursion (λ k. k < n) (nodes_of ps)
+notes-known n labels [] a = tt
+notes-known n labels (p ∷ ps) a = (a.0.node, notes-known n labels ps a.1)
+
+-- a note's label is one of the base
+apart : (f : FaceLabel) → IsDriverLine f → IsVerif f → ⊥
+apart (Verif label) line v = line
+apart (DriverLine line) l v = v
+
+notes-low : (n m : ℕ) (labels : List FaceLabel) (ps : List (ℕ × ℕ)) → ((l : ℕ) → m ≤ l → IsDriverLine (get_or labels l (DriverLine 0))) → AllByRecursion (λ d. IsNoteWithin n labels d) ps → AllByRecursion (λ number. number < m) (numbers_of ps)
+notes-low n m labels [] others a = tt
+notes-low n m labels (p ∷ ps) others a = (
+  ⊎_elim
+      (λ (h : p.1 < m). h)
+      (λ (h : m ≤ p.1). absurd (apart (get_or labels p.1 (DriverLine 0)) (others p.1 h) a.0.verif))
+      (cases_lt p.1 m),
+  notes-low n m labels ps others a.1,
+)
 
 every : {A : Type 0} (P : A → Type 0) (xs : List A) → AllByRecursion P xs → (k : ℕ) (d : A) → k < length xs → P (get_or xs k d)
 every P [] all k d h = absurd (omega arith)
@@ -232,32 +346,40 @@ every P (x ∷ xs) all zero d h = all.0
 every P (x ∷ xs) all (suc k) d h = every P xs all.1 k d (omega arith)
 
 -- the whole program
-inlined-plain : (core : Core) (base : Base) (declared : Declared) (requests : List ℕ) (b : Builder) (outputs : List ℕ) → base.cells ≤ CELLS → weight_of core base ≤ DRIVER_WEIGHT → load b ≤ 3 + length base.labels + base.cells + 6 * weight_of core base → Answers core base declared requests b outputs → IsInlined core base declared requests (record { inputs = b.inputs; nodes = b.nodes.items; checks = b.checks.items; outputs = outputs }) b.labels.items
+inlined-plain : (core : Core) (base : Base) (declared : Declared) (requests : List ℕ) (b : Builder) (outputs : List ℕ) → base.cells ≤ CELLS → weight_of core base ≤ DRIVER_WEIGHT → load b ≤ 3 + length base.labels + 2 * base.cells + 6 * weight_of core base → (a : Answers core base declared requests b outputs) → IsInlined core base declared requests (record { inputs = b.inputs; nodes = b.nodes.items; checks = b.checks.items; outputs = nodes_of b.notes.items ++ a.asked }) b.labels.items (numbers_of b.notes.items)
 inlined-plain core base declared requests b outputs n c l a =
     let labels = b.labels.items in
+    let ps = b.notes.items in
+    let many : length (numbers_of ps) ≡ length ps = length-map ps (λ (p : ℕ × ℕ). p.1) in
     let Within : Check → Type 0 = λ d. IsCheckWithin (count b) (length labels) d in
     record {
-      answer = λ inputs. told-flat (count b) labels (node_values inputs b.nodes.items) b.checks.items (map (at b inputs) outputs) a.sane.checks ∙ ap Some (a.answer inputs);
+      answer = λ inputs typed.
+          told-flat (count b) labels (numbers_of ps) (node_values inputs b.nodes.items) b.checks.items (map (at b inputs) (nodes_of ps ++ a.asked)) a.sane.checks
+          ∙ (λ i. Some (ended (stop_of b inputs) (notes-out labels (at b inputs) ps a.asked i) (asked-out (at b inputs) ps a.asked i)))
+          ∙ ap Some (a.answer inputs typed);
       flat_program = record {
         nodes = a.sane.nodes;
         checks = all-more Within (IsCheck (count b)) (λ d h. (h.guard, h.condition)) b.checks.items a.sane.checks;
-        outputs = a.outputs_known;
+        outputs = all-append (λ k. k < count b) (nodes_of ps) a.asked (notes-known (count b) labels ps a.sane.notes) a.asked_known;
       };
       inputs = a.inputs;
-      outputs = a.outputs_long;
+      outputs = omega (arith, length-append (nodes_of ps) a.asked, length-map ps (λ (p : ℕ × ℕ). p.0), many, a.asked_long);
+      noted = notes-low (count b) (length base.labels) labels ps a.labelled.others a.sane.notes;
       first_labels = first-faces base.labels labels a.labelled.within a.labelled.same;
       further_labels = further-faces (length base.labels) labels a.labelled.others;
       labelled = λ k d h. (every Within b.checks.items a.sane.checks k d h).label;
       nodes_fit = omega (arith, n, c, l, a.labelled.within);
       checks_fit = omega (arith, n, c, l, a.labelled.within);
+      notes_fit = omega (arith, n, c, l, a.labelled.within, many);
       labels_fit = omega (arith, n, c, l);
-      size = l;
+      size = omega (arith, l, many);
     }
 
-pub inlined : (core : Core) (base : Base) (declared : Declared) (requests : List ℕ) (b : Builder) (outputs : List ℕ) (ns : List Node) (cs : List Check) (os : List ℕ) (ls : List FaceLabel) → ns ≡ b.nodes.items → cs ≡ b.checks.items → os ≡ outputs → ls ≡ b.labels.items → base.cells ≤ CELLS → weight_of core base ≤ DRIVER_WEIGHT → load b ≤ 3 + length base.labels + base.cells + 6 * weight_of core base → Answers core base declared requests b outputs → IsInlined core base declared requests (record { inputs = b.inputs; nodes = ns; checks = cs; outputs = os }) ls
-inlined core base declared requests b outputs ns cs os ls en ec eo el n c l a =
-    subst (λ xs. IsInlined core base declared requests (record { inputs = b.inputs; nodes = xs; checks = cs; outputs = os }) ls) (sym en)
-    (subst (λ xs. IsInlined core base declared requests (record { inputs = b.inputs; nodes = b.nodes.items; checks = xs; outputs = os }) ls) (sym ec)
-    (subst (λ xs. IsInlined core base declared requests (record { inputs = b.inputs; nodes = b.nodes.items; checks = b.checks.items; outputs = xs }) ls) (sym eo)
-    (subst (λ xs. IsInlined core base declared requests (record { inputs = b.inputs; nodes = b.nodes.items; checks = b.checks.items; outputs = outputs }) xs) (sym el)
-    (inlined-plain core base declared requests b outputs n c l a))))
+pub inlined : (core : Core) (base : Base) (declared : Declared) (requests : List ℕ) (b : Builder) (outputs : List ℕ) (ns : List Node) (cs : List Check) (os : List ℕ) (ls : List FaceLabel) (ks notes : List ℕ) → ns ≡ b.nodes.items → cs ≡ b.checks.items → os ≡ outputs → ls ≡ b.labels.items → ks ≡ notes → notes ≡ numbers_of b.notes.items → base.cells ≤ CELLS → weight_of core base ≤ DRIVER_WEIGHT → load b ≤ 3 + length base.labels + 2 * base.cells + 6 * weight_of core base → Answers core base declared requests b outputs → IsInlined core base declared requests (record { inputs = b.inputs; nodes = ns; checks = cs; outputs = os }) ls ks
+inlined core base declared requests b outputs ns cs os ls ks notes en ec eo el ek is n c l a =
+    subst (λ xs. IsInlined core base declared requests (record { inputs = b.inputs; nodes = xs; checks = cs; outputs = os }) ls ks) (sym en)
+    (subst (λ xs. IsInlined core base declared requests (record { inputs = b.inputs; nodes = b.nodes.items; checks = xs; outputs = os }) ls ks) (sym ec)
+    (subst (λ xs. IsInlined core base declared requests (record { inputs = b.inputs; nodes = b.nodes.items; checks = b.checks.items; outputs = xs }) ls ks) (sym (eo ∙ a.outputs_are))
+    (subst (λ xs. IsInlined core base declared requests (record { inputs = b.inputs; nodes = b.nodes.items; checks = b.checks.items; outputs = nodes_of b.notes.items ++ a.asked }) xs ks) (sym el)
+    (subst (λ xs. IsInlined core base declared requests (record { inputs = b.inputs; nodes = b.nodes.items; checks = b.checks.items; outputs = nodes_of b.notes.items ++ a.asked }) b.labels.items xs) (sym (ek ∙ is))
+    (inlined-plain core base declared requests b outputs n c l a)))))

@@ -1,6 +1,6 @@
 -- A flat program that grows: what stays, and what a node or a check adds.
-use Rattle.std.proofs.Common.{◌≡◌, ℕ, zero, suc, ◌+◌, ◌<◌, ◌≤◌, Bool, true, false, nat_lt, List, [], ◌∷◌, ◌++◌, length, get_or, set, refl, sym, ap, ◌∙◌, subst, arith, length-append}
-use Rattle.std.specs.List.{AllByRecursion}
+use Rattle.std.proofs.Common.{◌≡◌, ℕ, zero, suc, ◌+◌, ◌<◌, ◌≤◌, Bool, true, false, nat_lt, List, [], ◌∷◌, ◌++◌, length, get_or, set, None, refl, sym, ap, ◌∙◌, subst, arith, length-append}
+use Rattle.std.specs.List.{AllByRecursion, cons_option}
 use Rattle.std.proofs.Math.ListN.{get_or-map, get_or-append}
 use Rattle.std.proofs.Math.Seq.{get_or-append_seam}
 use Rattle.std.proofs.lemmas.List.{map-set, get_or_past}
@@ -16,11 +16,12 @@ use Rattle.observables.specs.declared.face.FaceLabel.{FaceLabel}
 use Rattle.observables.specs.declared.face.FaceLabel.TheVariants.{Verif, DriverLine}
 use Rattle.flat_code.specs.Runs.{IsNode, AreNodes, entry_of, values_for, node_values, first_stop}
 use Rattle.mpp_inline.specs.declared.builder.Builder.{Builder}
-use Rattle.mpp_inline.specs.inner.Growth.{count, faces, face, at, stop_of, stop_read, denoted, outcome_of, run, IsCheckWithin, Sane, Known, Pushed, Checked, CheckedRule, CheckedLine, HasFaces, Longer, Grows, Gives, TermStep}
+use Rattle.mpp_inline.specs.inner.Growth.{count, faces, face, at, stop_of, stop_read, note_read, notes_read, so_far, told_more, denoted, outcome_of, run, IsVerif, IsCheckWithin, IsNoteWithin, Sane, Known, Pushed, Checked, CheckedRule, CheckedLine, NotedAt, HasFaces, Longer, Grows, Gives, TermStep}
 use Rattle.mpp_inline.specs.Inlined.{IsDriverLine}
 use Rattle.mpp_inline.specs.inner.Sizes.{load}
 use Rattle.mpp_inline.proofs.ListLemmas.{all-get, all-set, all-more, all-append, map-same}
-use Rattle.mpp_inline.proofs.RunLemmas.{value-kept, value-new, stop-kept, stop-push, read-or, face_fired, read-fired, read-kept}
+use Rattle.mpp_inline.proofs.RunLemmas.{value-kept, value-new, stop-kept, stop-push, read-or, face_fired, read-fired, read-kept, notes-kept, notes-push, notes-within}
+use Rattle.mpp_inline.proofs.OutcomeLemmas.{append-none, or-none}
 
 -- ---- labels
 
@@ -57,10 +58,10 @@ longer-then {a} {b} {c} p q = record {
 }
 
 pub grows-none : {b : Builder} → Sane b → Grows b b
-grows-none s = record { base = longer-none s; stop = λ inputs. refl }
+grows-none s = record { base = longer-none s; told = λ inputs. refl }
 
 pub grows-then : {a b c : Builder} → Grows a b → Grows b c → Grows a c
-grows-then p q = record { base = longer-then p.base q.base; stop = λ inputs. q.stop inputs ∙ p.stop inputs }
+grows-then p q = record { base = longer-then p.base q.base; told = λ inputs. q.told inputs ∙ p.told inputs }
 
 pub known-on : {b c : Builder} {env : List ℕ} → Longer b c → Known b env → Known c env
 known-on {b} {c} {env} l k = record { all = all-more (λ n. n < count b) (λ n. n < count c) (λ n h. omega (arith, l.longer, h)) env k.all }
@@ -69,7 +70,7 @@ pub denoted-on : {b c : Builder} {env : List ℕ} (inputs : List Value) → Long
 denoted-on {b} {c} {env} inputs l k = map-same (λ n. n < count b) (at c inputs) (at b inputs) (l.keeps inputs) env k.all
 
 pub run-on : {b c : Builder} {env : List ℕ} (inputs : List Value) → Grows b c → Known b env → run c inputs env ≡ run b inputs env
-run-on inputs g k = λ i. outcome_of (g.stop inputs i) (denoted-on inputs g.base k i)
+run-on inputs g k = λ i. outcome_of (g.told inputs i) (denoted-on inputs g.base k i)
 
 pub known-get : {b : Builder} {env : List ℕ} (x : ℕ) → Sane b → Known b env → get_or env x 0 < count b
 known-get {b} {env} x s k = all-get (λ n. n < count b) env x 0 (omega (arith, s.three)) k.all
@@ -105,6 +106,7 @@ pub pushed-grows : {b c : Builder} {n : Node} {k : ℕ} → Pushed b c n k → I
 pushed-grows {b} {c} {n} p w s =
     let more : count c ≡ count b + 1 = pushed-count p in
     let l = length b.labels.items in
+    let old : (j : ℕ) → j < l → get_or c.labels.items j (DriverLine 0) ≡ get_or b.labels.items j (DriverLine 0) = λ j h. ap (λ ls. get_or ls j (DriverLine 0)) p.labels in
     record {
       base = record {
         sane = record {
@@ -113,6 +115,8 @@ pushed-grows {b} {c} {n} p w s =
               (all-more (λ d. IsCheckWithin (count b) l d) (λ d. IsCheckWithin (count c) (length c.labels.items) d)
               (λ d h. record { guard = omega (arith, h.guard, more); condition = omega (arith, h.condition, more); label = omega (arith, h.label, ap length p.labels) })
               b.checks.items s.checks);
+          notes = subst (AllByRecursion (λ d. IsNoteWithin (count c) c.labels.items d)) (sym p.notes)
+              (notes-within b.labels.items c.labels.items (count b) (count c) b.notes.items (omega (arith, more)) (omega (arith, ap length p.labels)) old s.notes);
           three = omega (arith, s.three, more);
           undef = λ inputs. pushed-keeps p inputs 0 (omega (arith, s.three)) ∙ s.undef inputs;
           zero = λ inputs. pushed-keeps p inputs 1 (omega (arith, s.three)) ∙ s.zero inputs;
@@ -122,12 +126,17 @@ pushed-grows {b} {c} {n} p w s =
         longer = omega (arith, more);
         keeps = pushed-keeps p;
         more_faces = omega (arith, ap length p.labels);
-        keeps_face = λ j h. ap (λ ls. get_or ls j (DriverLine 0)) p.labels;
+        keeps_face = old;
         new_faces = λ j h. subst (λ ls. IsDriverLine (get_or ls j (DriverLine 0))) (sym p.labels) (past-line b.labels.items j h);
       };
-      stop = λ inputs.
+      told = λ inputs.
+          let stop : stop_of c inputs ≡ stop_of b inputs =
           (λ i. stop_read (p.labels i) (first_stop (node_values inputs c.nodes.items) (p.checks i)))
-          ∙ ap (stop_read b.labels.items) (stop-kept (node_values inputs b.nodes.items) (node_values inputs c.nodes.items) (count b) l b.checks.items (pushed-keeps p inputs) s.checks);
+          ∙ ap (stop_read b.labels.items) (stop-kept (node_values inputs b.nodes.items) (node_values inputs c.nodes.items) (count b) l b.checks.items (pushed-keeps p inputs) s.checks) in
+          let notes : notes_read c.labels.items (at c inputs) c.notes.items ≡ notes_read b.labels.items (at b inputs) b.notes.items =
+          ap (notes_read c.labels.items (at c inputs)) p.notes
+          ∙ notes-kept b.labels.items c.labels.items (at b inputs) (at c inputs) (count b) b.notes.items old (pushed-keeps p inputs) s.notes in
+          λ i. record { stop = stop i; notes = notes i };
     }
 
 -- one check more
@@ -157,7 +166,7 @@ faced-line {b} {c} {g} {k} {line} p =
       is = ap (λ ls. get_or ls (faces b) (DriverLine 0)) p.labels ∙ get_or-append_seam b.labels.items (DriverLine line) [] (DriverLine 0);
     }
 
-pub faced-rule : {labels : List Label} {b c : Builder} {g k : ℕ} (i : ℕ) (d : Label) → HasFaces labels b → i < length labels → CheckedRule b c g k i → Faced b c i (Verif (get_or labels i d))
+pub faced-rule : {labels : List Label} {b c : Builder} {g k : ℕ} {only : Bool} (i : ℕ) (d : Label) → HasFaces labels b → i < length labels → CheckedRule b c g k only i → Faced b c i (Verif (get_or labels i d))
 faced-rule {labels} {b} {c} i d h lt p = record {
   more = omega (arith, ap length p.labels);
   keeps = λ j k. ap (λ ls. get_or ls j (DriverLine 0)) p.labels;
@@ -182,6 +191,8 @@ checked-longer {b} {c} {g} {k} {l} {only} {f} p q hg hk s =
             (λ d h. record { guard = omega (arith, h.guard, same); condition = omega (arith, h.condition, same); label = omega (arith, h.label, q.more) })
             b.checks.items s.checks)
             (record { guard = omega (arith, hg, same); condition = omega (arith, hk, same); label = q.within }, tt));
+        notes = subst (AllByRecursion (λ d. IsNoteWithin (count c) c.labels.items d)) (sym p.notes)
+            (notes-within b.labels.items c.labels.items (count b) (count c) b.notes.items (omega (arith, same)) q.more q.keeps s.notes);
         three = omega (arith, s.three, same);
         undef = λ inputs. checked-keeps p inputs 0 ∙ s.undef inputs;
         zero = λ inputs. checked-keeps p inputs 1 ∙ s.zero inputs;
@@ -195,7 +206,7 @@ checked-longer {b} {c} {g} {k} {l} {only} {f} p q hg hk s =
       new_faces = q.further;
     }
 
-pub checked-stop : {b c : Builder} {g k l : ℕ} {only : Bool} {f : FaceLabel} → Checked b c g k only l → Faced b c l f → Sane b → (inputs : List Value) → stop_of c inputs ≡ option_or (stop_of b inputs) (face_fired (at b inputs g) only f (at b inputs k))
+checked-stop : {b c : Builder} {g k l : ℕ} {only : Bool} {f : FaceLabel} → Checked b c g k only l → Faced b c l f → Sane b → (inputs : List Value) → stop_of c inputs ≡ option_or (stop_of b inputs) (face_fired (at b inputs g) only f (at b inputs k))
 checked-stop {b} {c} {g} {k} {l} {only} {f} p q s inputs =
     let vs = node_values inputs b.nodes.items in
     let d : Check = record { guard = g; condition = k; over_only = only; label = l } in
@@ -205,6 +216,57 @@ checked-stop {b} {c} {g} {k} {l} {only} {f} p q s inputs =
     ∙ (λ i. option_or (read-kept b.labels.items c.labels.items q.keeps vs (count b) b.checks.items s.checks i)
     ((read-fired c.labels.items (at b inputs g) only l (at b inputs k)
     ∙ ap (λ h. face_fired (at b inputs g) only h (at b inputs k)) q.is) i))
+
+pub checked-told : {b c : Builder} {g k l : ℕ} {only : Bool} {f : FaceLabel} → Checked b c g k only l → Faced b c l f → Sane b → (inputs : List Value) → so_far c inputs ≡ told_more (so_far b inputs) (face_fired (at b inputs g) only f (at b inputs k)) []
+checked-told {b} {c} {g} {k} {l} {only} {f} p q s inputs =
+    let stop = checked-stop p q s inputs in
+    let notes : notes_read c.labels.items (at c inputs) c.notes.items ≡ notes_read b.labels.items (at b inputs) b.notes.items ++ [] =
+    ap (notes_read c.labels.items (at c inputs)) p.notes
+    ∙ notes-kept b.labels.items c.labels.items (at b inputs) (at c inputs) (count b) b.notes.items q.keeps (λ j h. checked-keeps p inputs j) s.notes
+    ∙ sym (append-none _) in
+    λ i. record { stop = stop i; notes = notes i }
+
+-- one note more
+noted-keeps : {b c : Builder} {k l : ℕ} → NotedAt b c k l → (inputs : List Value) (j : ℕ) → at c inputs j ≡ at b inputs j
+noted-keeps p inputs j = ap (λ ns. get_or (node_values inputs ns) j Undef) p.nodes
+
+pub noted-longer : {b c : Builder} {k l : ℕ} → NotedAt b c k l → k < count b → l < faces b → IsVerif (face b l) → Sane b → Longer b c
+noted-longer {b} {c} {k} {l} p hk hl v s =
+    let same : count c ≡ count b = ap length p.nodes in
+    let wide : faces c ≡ faces b = ap length p.labels in
+    let Within : ℕ × ℕ → Type 0 = λ d. IsNoteWithin (count c) c.labels.items d in
+    let old : (j : ℕ) → j < faces b → face c j ≡ face b j = λ j h. ap (λ ls. get_or ls j (DriverLine 0)) p.labels in
+    record {
+      sane = record {
+        nodes = subst (λ k. AreNodes k 0 c.nodes.items) (sym p.inputs) (subst (AreNodes b.inputs 0) (sym p.nodes) s.nodes);
+        checks = subst (AllByRecursion (λ d. IsCheckWithin (count c) (faces c) d)) (sym p.checks)
+            (all-more (λ d. IsCheckWithin (count b) (faces b) d) (λ d. IsCheckWithin (count c) (faces c) d)
+            (λ d h. record { guard = omega (arith, h.guard, same); condition = omega (arith, h.condition, same); label = omega (arith, h.label, wide) })
+            b.checks.items s.checks);
+        notes = subst (AllByRecursion Within) (sym p.notes)
+            (all-append Within b.notes.items _
+            (notes-within b.labels.items c.labels.items (count b) (count c) b.notes.items (omega (arith, same)) (omega (arith, wide)) old s.notes)
+            (record { node = omega (arith, hk, same); label = omega (arith, hl, wide); verif = subst IsVerif (sym (old l hl)) v }, tt));
+        three = omega (arith, s.three, same);
+        undef = λ inputs. noted-keeps p inputs 0 ∙ s.undef inputs;
+        zero = λ inputs. noted-keeps p inputs 1 ∙ s.zero inputs;
+        one = λ inputs. noted-keeps p inputs 2 ∙ s.one inputs;
+      };
+      inputs = p.inputs;
+      longer = omega (arith, same);
+      keeps = λ inputs j h. noted-keeps p inputs j;
+      more_faces = omega (arith, wide);
+      keeps_face = old;
+      new_faces = λ j h. subst (λ ls. IsDriverLine (get_or ls j (DriverLine 0))) (sym p.labels) (past-line b.labels.items j h);
+    }
+
+pub noted-told : {b c : Builder} {k l : ℕ} → NotedAt b c k l → (inputs : List Value) → so_far c inputs ≡ told_more (so_far b inputs) None (cons_option (note_read (face b l) (at b inputs k)) [])
+noted-told {b} {c} {k} {l} p inputs =
+    let stop : stop_of c inputs ≡ option_or (stop_of b inputs) None =
+    (λ i. stop_read (p.labels i) (first_stop (node_values inputs (p.nodes i)) (p.checks i))) ∙ sym (or-none _) in
+    let notes : notes_read c.labels.items (at c inputs) c.notes.items ≡ notes_read b.labels.items (at b inputs) b.notes.items ++ cons_option (note_read (face b l) (at b inputs k)) [] =
+    (λ i. notes_read (p.labels i) (λ j. get_or (node_values inputs (p.nodes i)) j Undef) (p.notes i)) ∙ notes-push b.labels.items (at b inputs) b.notes.items (k, l) in
+    λ i. record { stop = stop i; notes = notes i }
 
 -- nodes with a value
 pub gives-pushed : {b c : Builder} {n : Node} {k : ℕ} (value : List Value → Value) → Pushed b c n k → IsNode b.inputs (count b) n → Sane b → ((inputs : List Value) → entry_of (values_for inputs) (node_values inputs b.nodes.items) n ≡ value inputs) → Gives b c value k
@@ -239,13 +301,16 @@ denoted-set {b} {c} {env} inputs x k v l kn e =
 
 -- how much the program grows
 pub pushed-load : {b c : Builder} {n : Node} {k : ℕ} → Pushed b c n k → load c ≡ load b + 1
-pushed-load p = omega (arith, pushed-count p, ap length p.checks, ap length p.labels)
+pushed-load p = omega (arith, pushed-count p, ap length p.checks, ap length p.labels, ap length p.notes)
 
 checked-more : {b c : Builder} {g k l : ℕ} {o : Bool} → Checked b c g k o l → length c.checks.items ≡ length b.checks.items + 1
 checked-more {b} {c} {g} {k} {l} {o} p = ap length p.checks ∙ length-append b.checks.items (record { guard = g; condition = k; over_only = o; label = l } ∷ [])
 
 pub line-load : {b c : Builder} {g k line : ℕ} → CheckedLine b c g k line → load c ≡ load b + 2
-line-load {b} {c} {g} {k} {line} p = omega (arith, ap length p.base.nodes, checked-more p.base, ap length p.labels, length-append b.labels.items (DriverLine line ∷ []))
+line-load {b} {c} {g} {k} {line} p = omega (arith, ap length p.base.nodes, checked-more p.base, ap length p.labels, ap length p.base.notes, length-append b.labels.items (DriverLine line ∷ []))
 
-pub rule-load : {b c : Builder} {g k l : ℕ} → CheckedRule b c g k l → load c ≡ load b + 1
-rule-load p = omega (arith, ap length p.base.nodes, checked-more p.base, ap length p.labels)
+pub rule-load : {b c : Builder} {g k l : ℕ} {o : Bool} → CheckedRule b c g k o l → load c ≡ load b + 1
+rule-load p = omega (arith, ap length p.base.nodes, checked-more p.base, ap length p.labels, ap length p.base.notes)
+
+pub noted-load : {b c : Builder} {k l : ℕ} → NotedAt b c k l → load c ≡ load b + 1
+noted-load {b} {c} {k} {l} p = omega (arith, ap length p.nodes, ap length p.checks, ap length p.labels, ap length p.notes, length-append b.notes.items ((k, l) ∷ []))

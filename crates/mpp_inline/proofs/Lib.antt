@@ -1,4 +1,5 @@
 pub mod ListLemmas
+pub mod OutcomeLemmas
 pub mod RunLemmas
 pub mod GrowthLemmas
 pub mod StageLemmas

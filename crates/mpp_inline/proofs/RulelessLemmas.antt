@@ -8,7 +8,7 @@ use Rattle.m_symbols.specs.Declarations.{Declared}
 use Rattle.micro_m.specs.declared.base.Base.{Base}
 use Rattle.micro_m.specs.Bases.{definition_among}
 use Rattle.micro_m.specs.Values.{Environment, environment, term_value, value_in, value_of}
-use Rattle.micro_m.specs.Failures.{failure_among}
+use Rattle.micro_m.specs.Failures.{failure_among, notes_among}
 use Rattle.observables.specs.declared.face.FaceLabel.{FaceLabel}
 use Rattle.flat_code.specs.declared.program.Flat.{Flat}
 use Rattle.driver_core.specs.declared.program.Core.{Core}
@@ -17,9 +17,10 @@ use Rattle.driver_core.specs.ActionView.{block_of}
 use Rattle.driver_core.specs.Valid.{body_among}
 use Rattle.driver_core.specs.Weights.{names_changed, names_changed_in, action_weight, block_weight, body_weight, base_weight, weight_of}
 use Rattle.driver_core.specs.Answers.{answer_of, start_of, told_by}
-use Rattle.driver_core.specs.Meaning.{Env, RunState, goes, stops, then_do, with_values, without, formula_value, chosen_block, failure_cause, unless_stopped, rules_run, run_of, action_run, block_run, called}
+use Rattle.driver_core.specs.Meaning.{Env, RunState, goes, then_do, with_values, without, formula_value, chosen_block, failure_cause, unless_stopped, rules_run, run_of, action_run, block_run, called}
 use Rattle.mpp_inline.specs.Inlined.{IsInlined}
 use Rattle.mpp_inline.specs.inner.Ruleless.{IsRuleless, left, left_behind, body_left, left_in, core_left}
+use Rattle.mpp_inline.proofs.OutcomeLemmas.{goes-last, then-then}
 use Rattle.mpp_inline.proofs.ListLemmas.{with-same}
 
 -- ---- the rules
@@ -40,22 +41,15 @@ value-given base given c e =
     ∙ ap (λ ds. option_map_or (term_value (value_in base given (length base.definitions))) (definition_among ds c) (given c)) e
 
 -- a call of the rules changes nothing
-pub rules-rest : (base : Base) → IsRuleless base → (xs : List ℕ) (e : Env) → rules_run base xs e ≡ goes e
+pub rules-rest : (base : Base) → IsRuleless base → (xs : List ℕ) (e : Env) → rules_run base xs e ≡ goes [] e
 rules-rest base r xs e =
-    ap (λ cs. unless_stopped (option_and_then (failure_cause base.labels) (failure_among (value_of base (environment e)) cs)) (goes (with_values xs (value_of base (environment e)) e))) r.checks
-    ∙ ap goes (with-same xs (value_of base (environment e)) (environment e) e (λ c. value-given base (environment e) c r.definitions) ∙ own-values xs e)
+    let given = value_of base (environment e) in
+    ap (λ cs. unless_stopped (option_and_then (failure_cause base.labels) (failure_among base.labels given cs)) (goes (notes_among base.labels given cs) (with_values xs given e))) r.checks
+    ∙ ap (goes []) (with-same xs given (environment e) e (λ c. value-given base (environment e) c r.definitions) ∙ own-values xs e)
 
 -- ---- blocks
 
-then-goes : (o : RunState) → then_do o (λ e. goes e) ≡ o
-then-goes (goes e) = refl
-then-goes (stops cause) = refl
-
-then-then : (o : RunState) (f g : Env → RunState) → then_do (then_do o f) g ≡ then_do o (λ e. then_do (f e) g)
-then-then (goes e) f g = refl
-then-then (stops cause) f g = refl
-
-module _ (rules : List ℕ → Env → RunState) (b b' : ℕ → Env → RunState) (rest-of : (xs : List ℕ) (e : Env) → rules xs e ≡ goes e) (same : (f : ℕ) (e : Env) → b' f e ≡ b f e) where
+module _ (rules : List ℕ → Env → RunState) (b b' : ℕ → Env → RunState) (rest-of : (xs : List ℕ) (e : Env) → rules xs e ≡ goes [] e) (same : (f : ℕ) (e : Env) → b' f e ≡ b f e) where
   append-run : (xs ys : List Action) (e : Env) → block_run rules b' (block_of (xs ++ ys)) e ≡ then_do (block_run rules b' (block_of xs) e) (block_run rules b' (block_of ys))
   append-run [] ys e = refl
   append-run (x ∷ xs) ys e =
@@ -67,18 +61,18 @@ module _ (rules : List ℕ → Env → RunState) (b b' : ℕ → Env → RunStat
     one-left (assign line c t) e = refl
     one-left (clear line c) e = refl
     one-left (branch line t x y) e =
-        then-goes (chosen_block line (formula_value (environment e) t) (block_run rules b' (block_of (left_behind [] x)) e) (block_run rules b' (block_of (left_behind [] y)) e))
+        goes-last (chosen_block line (formula_value (environment e) t) (block_run rules b' (block_of (left_behind [] x)) e) (block_run rules b' (block_of (left_behind [] y)) e))
         ∙ (λ i. chosen_block line (formula_value (environment e) t) (all-left [] x e i) (all-left [] y e i))
     one-left (partition line xs x) e =
-        then-goes (then_do (block_run rules b' (block_of (left_behind [] x)) (without xs e)) (λ f. goes (with_values xs (environment e) f)))
-        ∙ ap (λ o. then_do o (λ f. goes (with_values xs (environment e) f))) (all-left [] x (without xs e))
+        goes-last (then_do (block_run rules b' (block_of (left_behind [] x)) (without xs e)) (λ f. goes [] (with_values xs (environment e) f)))
+        ∙ ap (λ o. then_do o (λ f. goes [] (with_values xs (environment e) f))) (all-left [] x (without xs e))
     one-left (call line names xs f) e =
-        then-goes (then_do (b' f e) (λ g. goes (with_values xs (environment g) e)))
-        ∙ ap (λ o. then_do o (λ g. goes (with_values xs (environment g) e))) (same f e)
+        goes-last (then_do (b' f e) (λ g. goes [] (with_values xs (environment g) e)))
+        ∙ ap (λ o. then_do o (λ g. goes [] (with_values xs (environment g) e))) (same f e)
     one-left (solve line names xs) e = sym (rest-of xs e)
 
     all-left : (before : List Action) (x : Block) (e : Env) → block_run rules b' (block_of (left_behind before x)) e ≡ then_do (block_run rules b' (block_of before) e) (block_run rules b x)
-    all-left before no_actions e = sym (then-goes (block_run rules b' (block_of before) e))
+    all-left before no_actions e = sym (goes-last (block_run rules b' (block_of before) e))
     all-left before (an_action a rest) e =
         all-left (before ++ left a) rest e
         ∙ ap (λ o. then_do o (block_run rules b rest)) (append-run before (left a) e)
@@ -93,7 +87,7 @@ body-left [] (suc f) = refl
 body-left (b ∷ bs) zero = refl
 body-left (b ∷ bs) (suc f) = body-left bs f
 
-called-left : (rules : List ℕ → Env → RunState) (bodies : List (List Action)) → ((xs : List ℕ) (e : Env) → rules xs e ≡ goes e) → (turns f : ℕ) (e : Env) → called rules (left_in bodies) turns f e ≡ called rules bodies turns f e
+called-left : (rules : List ℕ → Env → RunState) (bodies : List (List Action)) → ((xs : List ℕ) (e : Env) → rules xs e ≡ goes [] e) → (turns f : ℕ) (e : Env) → called rules (left_in bodies) turns f e ≡ called rules bodies turns f e
 called-left rules bodies rest-of zero f e = refl
 called-left rules bodies rest-of (suc turns) f e =
     ap (λ x. block_run rules (called rules (left_in bodies) turns) x e) (body-left bodies f)
@@ -159,20 +153,22 @@ left-lighter core base =
     omega (arith, same, body-lighter r base.cells core.bodies (suc (length core.bodies)) core.main)
 
 -- the flat program of what is left is that of the driver
-pub inlined-left : (core made : Core) (base : Base) (declared : Declared) (requests : List ℕ) (flat : Flat) (labels : List FaceLabel) → IsRuleless base → made ≡ core_left core → IsInlined made base declared requests flat labels → IsInlined core base declared requests flat labels
-inlined-left core made base declared requests flat labels r is h = record {
-  answer = λ inputs.
-      h.answer inputs
+pub inlined-left : (core made : Core) (base : Base) (declared : Declared) (requests : List ℕ) (flat : Flat) (labels : List FaceLabel) (notes : List ℕ) → IsRuleless base → made ≡ core_left core → IsInlined made base declared requests flat labels notes → IsInlined core base declared requests flat labels notes
+inlined-left core made base declared requests flat labels notes r is h = record {
+  answer = λ inputs typed.
+      h.answer inputs typed
       ∙ ap Some (ap (λ (k : Core). answer_of k base declared requests inputs) is
       ∙ ap (told_by requests) (run-left core base (start_of declared inputs) r));
   flat_program = h.flat_program;
   inputs = h.inputs;
   outputs = h.outputs;
+  noted = h.noted;
   first_labels = h.first_labels;
   further_labels = h.further_labels;
   labelled = h.labelled;
   nodes_fit = h.nodes_fit;
   checks_fit = h.checks_fit;
+  notes_fit = h.notes_fit;
   labels_fit = h.labels_fit;
   size = omega (arith, h.size, ap (λ (k : Core). weight_of k base) is, left-lighter core base);
 }

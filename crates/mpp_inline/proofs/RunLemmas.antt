@@ -1,7 +1,7 @@
 -- The values of nodes, and the first stop, as a flat program grows.
-use Rattle.std.proofs.Common.{◌≡◌, ℕ, ◌<◌, Bool, true, false, cond, List, [], ◌∷◌, ◌++◌, length, get_or, Option, Some, None, refl, sym, ap, ◌∙◌, arith}
+use Rattle.std.proofs.Common.{◌≡◌, ℕ, ◌<◌, ◌≤◌, Bool, true, false, cond, List, [], ◌∷◌, ◌++◌, length, get_or, Option, Some, None, refl, sym, ap, ◌∙◌, subst, arith}
 use mathlib.Core.Bool.{◌||◌}
-use Rattle.std.specs.List.{AllByRecursion}
+use Rattle.std.specs.List.{AllByRecursion, cons_option}
 use Rattle.std.specs.Option.{option_or}
 use Rattle.std.proofs.Math.ListN.{get_or-append}
 use Rattle.std.proofs.Math.Seq.{get_or-append_seam}
@@ -18,7 +18,10 @@ use Rattle.observables.specs.declared.face.FaceLabel.TheVariants.{Verif, DriverL
 use Rattle.observables.specs.Answers.{Cause, cause_of}
 use Rattle.flat_code.specs.Runs.{entry_of, values_for, node_values, is_one, stop_of, check_stop, first_stop}
 use Rattle.flat_code.proofs.RunLemmas.{length-node_values}
-use Rattle.mpp_inline.specs.inner.Growth.{stop_read, IsCheckWithin}
+use Rattle.m_places.specs.declared.verification.Label.{Label}
+use Rattle.mpp_inline.specs.inner.Growth.{stop_read, note_read, notes_read, IsVerif, IsCheckWithin, IsNoteWithin}
+use Rattle.mpp_inline.proofs.ListLemmas.{all-more}
+use Rattle.mpp_inline.proofs.OutcomeLemmas.{or-none}
 
 -- values
 pub values-push : (inputs : List Value) (ns : List Node) (n : Node) → node_values inputs (ns ++ n ∷ []) ≡ node_values inputs ns ++ entry_of (values_for inputs) (node_values inputs ns) n ∷ []
@@ -44,10 +47,6 @@ stop-same u v only l g h e f = λ i. cond (is_one (e i)) (stop_of only l (f i)) 
 pub stop-kept : (vs ws : List Value) (n l : ℕ) (cs : List Check) → ((k : ℕ) → k < n → get_or ws k Undef ≡ get_or vs k Undef) → AllByRecursion (λ c. IsCheckWithin n l c) cs → first_stop ws cs ≡ first_stop vs cs
 stop-kept vs ws n l [] same a = refl
 stop-kept vs ws n l (c ∷ cs) same a = λ i. option_or (stop-same (get_or ws c.condition Undef) (get_or vs c.condition Undef) c.over_only c.label (get_or ws c.guard Undef) (get_or vs c.guard Undef) (same c.guard a.0.guard) (same c.condition a.0.condition) i) (stop-kept vs ws n l cs same a.1 i)
-
-or-none : {A : Type 0} (o : Option A) → option_or o None ≡ o
-or-none None = refl
-or-none (Some s) = refl
 
 or-or : {A : Type 0} (o p q : Option A) → option_or o (option_or p q) ≡ option_or (option_or o p) q
 or-or None p q = refl
@@ -105,3 +104,25 @@ read-kept labels more same vs n (c ∷ cs) a =
     ∙ ap (λ h. face_fired g c.over_only h v) (same c.label a.0.label)
     ∙ sym (read-fired labels g c.over_only c.label v))
     ∙ sym (read-or labels (check_stop vs c) (first_stop vs cs))
+
+-- notes
+pub notes-kept : (labels more : List FaceLabel) (vs ws : ℕ → Value) (n : ℕ) (ns : List (ℕ × ℕ)) → ((l : ℕ) → l < length labels → get_or more l (DriverLine 0) ≡ get_or labels l (DriverLine 0)) → ((k : ℕ) → k < n → ws k ≡ vs k) → AllByRecursion (λ d. IsNoteWithin n labels d) ns → notes_read more ws ns ≡ notes_read labels vs ns
+notes-kept labels more vs ws n [] same old a = refl
+notes-kept labels more vs ws n (d ∷ ns) same old a =
+    λ i. cons_option (note_read (same d.1 a.0.label i) (old d.0 a.0.node i)) (notes-kept labels more vs ws n ns same old a.1 i)
+
+cons-append : (o : Option Label) (xs ys : List Label) → cons_option o (xs ++ ys) ≡ cons_option o xs ++ ys
+cons-append None xs ys = refl
+cons-append (Some x) xs ys = refl
+
+pub notes-push : (labels : List FaceLabel) (vs : ℕ → Value) (ns : List (ℕ × ℕ)) (d : ℕ × ℕ) → notes_read labels vs (ns ++ d ∷ []) ≡ notes_read labels vs ns ++ cons_option (note_read (get_or labels d.1 (DriverLine 0)) (vs d.0)) []
+notes-push labels vs [] d = refl
+notes-push labels vs (x ∷ ns) d =
+    let one = note_read (get_or labels x.1 (DriverLine 0)) (vs x.0) in
+    ap (cons_option one) (notes-push labels vs ns d) ∙ cons-append one (notes_read labels vs ns) _
+
+pub notes-within : (labels more : List FaceLabel) (n m : ℕ) (ns : List (ℕ × ℕ)) → n ≤ m → length labels ≤ length more → ((l : ℕ) → l < length labels → get_or more l (DriverLine 0) ≡ get_or labels l (DriverLine 0)) → AllByRecursion (λ d. IsNoteWithin n labels d) ns → AllByRecursion (λ d. IsNoteWithin m more d) ns
+notes-within labels more n m ns up wide same a =
+    all-more (λ d. IsNoteWithin n labels d) (λ d. IsNoteWithin m more d)
+    (λ d h. record { node = omega (arith, h.node, up); label = omega (arith, h.label, wide); verif = subst IsVerif (sym (same d.1 h.label)) h.verif })
+    ns a

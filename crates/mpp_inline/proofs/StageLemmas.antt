@@ -1,6 +1,7 @@
 -- Stages: the run so far against the meaning so far.
-use Rattle.std.proofs.Common.{length, ◌≡◌, ℕ, ◌<◌, Bool, true, false, cond, List, [], ◌∷◌, get_or, set, slice_get, Option, Some, None, ◌⊎◌, inl, inr, ⊎_elim, not, refl, sym, ap, ◌∙◌, arith, ℤ, pos}
-use Rattle.std.specs.Option.{option_or}
+use Rattle.std.proofs.Common.{length, ◌≡◌, ℕ, ◌<◌, Bool, true, false, cond, List, [], ◌∷◌, get_or, set, slice_get, Option, Some, None, ◌⊎◌, inl, inr, ⊎_elim, not, refl, sym, ap, ◌∙◌, subst, arith, pos}
+use mathlib.Core.Bool.{◌&&◌}
+use Rattle.std.specs.List.{cons_option}
 use Rattle.std.specs.Prelude.{option_and_then, option_map}
 use Rattle.std.proofs.lemmas.List.{map-set, set-get_or}
 use Rattle.std.proofs.lemmas.Option.{slice_get-get_or}
@@ -9,20 +10,22 @@ use Rattle.m_fixed.specs.declared.amount.Value.TheVariants.{Undef, Num, Over}
 use Rattle.m_fixed.specs.declared.operator.Op.TheVariants.{Choose, Truth}
 use Rattle.m_fixed.specs.Operators.{op_value, is_zero, truth, truth_of, chosen}
 use Rattle.m_places.specs.declared.verification.Label.{Label}
-use Rattle.micro_m.specs.Failures.{Check}
+use Rattle.micro_m.specs.Failures.{Check, is_stopping, kind_at}
 use Rattle.micro_m.specs.declared.base.Failure.TheVariants.{Failed}
 use Rattle.micro_m.specs.Values.{Environment, environment, term_value}
 use Rattle.flat_code.specs.declared.program.Node.TheVariants.{Do}
+use Rattle.flat_code.specs.Runs.{node_values}
 use Rattle.observables.specs.declared.face.FaceLabel.{FaceLabel}
 use Rattle.observables.specs.declared.face.FaceLabel.TheVariants.{Verif, DriverLine}
 use Rattle.observables.specs.Answers.{Cause, failed, over}
-use Rattle.driver_core.specs.Meaning.{Env, RunState, goes, stops, then_do, chosen_block, with_values, failure_cause, unless_stopped}
+use Rattle.driver_core.specs.Meaning.{Env, RunState, goes, then_do, chosen_block, with_values, failure_cause, unless_stopped}
 use Rattle.mpp_inline.specs.declared.builder.Builder.{Builder}
 use Rattle.mpp_inline.specs.inner.Cells.{picked, written, received}
-use Rattle.mpp_inline.specs.inner.Growth.{count, at, stop_of, denoted, outcome_of, run, Sane, Known, Placed, Ready, CheckedRule, CheckedLine, Pushed, Checked, Grows, TermStep, Computed, Stage, Opened, over_judged, judged, Held, Merged, entries}
+use Rattle.mpp_inline.specs.inner.Growth.{count, faces, face, at, SoFar, so_far, told_more, note_read, IsVerif, denoted, outcome_of, run, Sane, Known, Placed, Ready, CheckedRule, CheckedLine, NotedAt, Pushed, Checked, Longer, Grows, TermStep, Computed, Stage, Opened, over_judged, judged, Held, Merged, entries}
+use Rattle.mpp_inline.proofs.OutcomeLemmas.{goes-last, then-then, set-goes, wrap, both-steps, found-run, more-none, more-more}
 use Rattle.mpp_inline.proofs.ListLemmas.{all-picked, all-written, written-map, received-map, with-received}
 use Rattle.mpp_inline.proofs.RunLemmas.{face_judged, face_fired}
-use Rattle.mpp_inline.proofs.GrowthLemmas.{longer-none, longer-then, grows-none, grows-then, known-on, denoted-on, run-on, known-get, known-set, pushed-within, pushed-value, pushed-grows, checked-longer, checked-stop, denoted-set, faces-on, Faced, faced-line, faced-rule}
+use Rattle.mpp_inline.proofs.GrowthLemmas.{longer-none, longer-then, grows-none, grows-then, known-on, denoted-on, run-on, known-get, known-set, pushed-within, pushed-value, pushed-grows, checked-longer, checked-told, noted-longer, noted-told, denoted-set, faces-on, Faced, faced-line, faced-rule}
 
 -- the two operators of guards
 pub choose-value : (a b c : Value) → op_value Choose a b c ≡ chosen a b c
@@ -32,19 +35,6 @@ choose-value a b c = refl
 pub truth-value : (a b c : Value) → op_value Truth a b c ≡ truth_of a
 unfolding op_value
 truth-value a b c = refl
-
--- outcomes
-pub goes-last : (o : RunState) → then_do o (λ e. goes e) ≡ o
-goes-last (goes e) = refl
-goes-last (stops s) = refl
-
-pub then-then : (o : RunState) (f g : Env → RunState) → then_do (then_do o f) g ≡ then_do o (λ e. then_do (f e) g)
-then-then (goes e) f g = refl
-then-then (stops s) f g = refl
-
-or-none : (o : Option Cause) → option_or o None ≡ o
-or-none None = refl
-or-none (Some s) = refl
 
 -- stages one after the other
 pub stage-first : {b : Builder} {env : List ℕ} {g : ℕ} (does : Env → RunState) → Placed b env g → Stage b b g env env does does
@@ -56,7 +46,7 @@ stage-ready r s = record {
   labelled = faces-on s.base r.labelled;
 }
 
-pub stage-next : {labels : List Label} {b c d : Builder} {e f h : List ℕ} {g : ℕ} {does rest whole : Env → RunState} → Ready labels b e g → Stage b c g e f (λ x. then_do (does x) rest) whole → (Ready labels c f g → Stage c d g f h (λ x. goes x) does) → Stage b d g e h rest whole
+pub stage-next : {labels : List Label} {b c d : Builder} {e f h : List ℕ} {g : ℕ} {does rest whole : Env → RunState} → Ready labels b e g → Stage b c g e f (λ x. then_do (does x) rest) whole → (Ready labels c f g → Stage c d g f h (λ x. goes [] x) does) → Stage b d g e h rest whole
 stage-next {labels} {b} {c} {d} {e} {f} {h} {g} {does} {rest} {whole} r s t =
     let n = t (stage-ready r s) in
     record {
@@ -71,83 +61,149 @@ stage-next {labels} {b} {c} {d} {e} {f} {h} {g} {does} {rest} {whole} r s t =
     }
 
 -- a change of the environment alone
-pub set-goes : (s : Option Cause) (e : Env) (f : Env → Env) → outcome_of s (f e) ≡ then_do (outcome_of s e) (λ x. goes (f x))
-set-goes None e f = refl
-set-goes (Some s) e f = refl
-
-pub stage-simple : {b c : Builder} {env env' : List ℕ} {g : ℕ} (f : Env → Env) → Placed b env g → Grows b c → Known c env' → ((inputs : List Value) → denoted c inputs env' ≡ f (denoted b inputs env)) → Stage b c g env env' (λ e. goes e) (λ e. goes (f e))
+pub stage-simple : {b c : Builder} {env env' : List ℕ} {g : ℕ} (f : Env → Env) → Placed b env g → Grows b c → Known c env' → ((inputs : List Value) → denoted c inputs env' ≡ f (denoted b inputs env)) → Stage b c g env env' (λ e. goes [] e) (λ e. goes [] (f e))
 stage-simple {b} {c} {env} {env'} {g} f r grows kn e = record {
   base = grows.base;
   known = kn;
   taken = λ inputs h.
       goes-last (run c inputs env')
-      ∙ (λ i. outcome_of (grows.stop inputs i) (e inputs i))
-      ∙ set-goes (stop_of b inputs) (denoted b inputs env) f;
-  idle = λ inputs h. grows.stop inputs;
+      ∙ (λ i. outcome_of (grows.told inputs i) (e inputs i))
+      ∙ set-goes (so_far b inputs) (denoted b inputs env) f;
+  idle = λ inputs h. grows.told inputs;
 }
 
-pub set-stage : {b c : Builder} {env : List ℕ} {g k : ℕ} (t : Environment → Value) (x : ℕ) → (Sane b → Known b env → TermStep b c env t k) → Placed b env g → Stage b c g env (set env x k) (λ e. goes e) (λ e. goes (set e x (t (environment e))))
+pub set-stage : {b c : Builder} {env : List ℕ} {g k : ℕ} (t : Environment → Value) (x : ℕ) → (Sane b → Known b env → TermStep b c env t k) → Placed b env g → Stage b c g env (set env x k) (λ e. goes [] e) (λ e. goes [] (set e x (t (environment e))))
 set-stage {b} {c} {env} {g} {k} t x f r =
     let s = f r.sane r.known in
     let l = s.grows.base in
     stage-simple (λ e. set e x (t (environment e))) r s.grows (known-set x k s.within (known-on l r.known))
     (λ inputs. denoted-set inputs x k (t (environment (denoted b inputs env))) l r.known (s.value inputs))
 
-pub del-stage : {b : Builder} {env : List ℕ} {g : ℕ} (x : ℕ) → Placed b env g → Stage b b g env (set env x 0) (λ e. goes e) (λ e. goes (set e x Undef))
+pub del-stage : {b : Builder} {env : List ℕ} {g : ℕ} (x : ℕ) → Placed b env g → Stage b b g env (set env x 0) (λ e. goes [] e) (λ e. goes [] (set e x Undef))
 del-stage {b} {env} {g} x r =
     let zero_in : 0 < count b = omega (arith, r.sane.three) in
     stage-simple (λ e. set e x Undef) r (grows-none r.sane) (known-set x 0 zero_in r.known)
     (λ inputs. denoted-set inputs x 0 Undef (longer-none r.sane) r.known (r.sane.undef inputs))
 
--- a condition and its check
-check-run : (s : Option Cause) (e : Env) (t : Environment → Value) (only : Bool) (f : FaceLabel) (j : Value → Env → RunState) → ((v : Value) (x : Env) → outcome_of (face_judged only f v) x ≡ j v x) → outcome_of (option_or s (face_judged only f (t (environment e)))) e ≡ then_do (outcome_of s e) (λ x. j (t (environment x)) x)
-check-run None e t only f j same = same (t (environment e)) e
-check-run (Some s) e t only f j same = refl
+-- a stop and notes that a condition's value gives
+found-stage : {b d : Builder} {env : List ℕ} {g : ℕ} (t : Environment → Value) (j : Value → Env → RunState) (cause : Value → Option Cause) (more : Value → List Label) → ((v : Value) (x : Env) → unless_stopped (cause v) (goes (more v) x) ≡ j v x) → Longer b d → Placed b env g →
+    ((inputs : List Value) → at b inputs g ≡ Num (pos 1000000) → so_far d inputs ≡ told_more (so_far b inputs) (cause (t (environment (denoted b inputs env)))) (more (t (environment (denoted b inputs env))))) →
+    ((inputs : List Value) → at b inputs g ≡ Num (pos 0) → so_far d inputs ≡ so_far b inputs) →
+    Stage b d g env env (λ e. goes [] e) (λ e. j (t (environment e)) e)
+found-stage {b} {d} {env} {g} t j cause more same long r taken idle = record {
+  base = long;
+  known = known-on long r.known;
+  taken = λ inputs h.
+      let e = denoted b inputs env in
+      let v = t (environment e) in
+      goes-last (run d inputs env)
+      ∙ (λ i. outcome_of (taken inputs h i) (denoted-on inputs long r.known i))
+      ∙ found-run (so_far b inputs) e (cause v) (more v) (λ x. j (t (environment x)) x) (same v e);
+  idle = idle;
+}
 
-pub check-stage : {b c d : Builder} {env : List ℕ} {g k l : ℕ} {only : Bool} {f : FaceLabel} (t : Environment → Value) (j : Value → Env → RunState) → ((v : Value) (x : Env) → outcome_of (face_judged only f v) x ≡ j v x) → (Sane b → Known b env → TermStep b c env t k) → Checked c d g k only l → Faced c d l f → Placed b env g → Stage b d g env env (λ e. goes e) (λ e. j (t (environment e)) e)
+-- a condition and its check
+check-told : {b c d : Builder} (env : List ℕ) {g k l : ℕ} {only : Bool} {f : FaceLabel} (t : Environment → Value) → TermStep b c env t k → Checked c d g k only l → Faced c d l f → g < count b → (inputs : List Value) → so_far d inputs ≡ told_more (so_far b inputs) (face_fired (at b inputs g) only f (t (environment (denoted b inputs env)))) []
+check-told {b} {c} {d} env {g} {k} {l} {only} {f} t s p q h inputs =
+    checked-told p q s.grows.base.sane inputs
+    ∙ (λ i. told_more (s.grows.told inputs i) (face_fired (s.grows.base.keeps inputs g h i) only f (s.value inputs i)) [])
+
+check-longer : {b c d : Builder} (env : List ℕ) {g k l : ℕ} {only : Bool} {f : FaceLabel} (t : Environment → Value) → TermStep b c env t k → Checked c d g k only l → Faced c d l f → g < count b → Longer b d
+check-longer {b} {c} {d} env {g} t s p q h =
+    longer-then s.grows.base (checked-longer p q (omega (arith, h, s.grows.base.longer)) s.within s.grows.base.sane)
+
+pub check-stage : {b c d : Builder} {env : List ℕ} {g k l : ℕ} {only : Bool} {f : FaceLabel} (t : Environment → Value) (j : Value → Env → RunState) → ((v : Value) (x : Env) → unless_stopped (face_judged only f v) (goes [] x) ≡ j v x) → (Sane b → Known b env → TermStep b c env t k) → Checked c d g k only l → Faced c d l f → Placed b env g → Stage b d g env env (λ e. goes [] e) (λ e. j (t (environment e)) e)
 check-stage {b} {c} {d} {env} {g} {k} {l} {only} {f} t j same step p q r =
     let s = step r.sane r.known in
-    let lb = s.grows.base in
-    let guard_in : g < count c = omega (arith, r.guard, lb.longer) in
-    let long = longer-then lb (checked-longer p q guard_in s.within lb.sane) in
-    let stop : (inputs : List Value) → stop_of d inputs ≡ option_or (stop_of b inputs) (face_fired (at b inputs g) only f (t (environment (denoted b inputs env)))) =
-    λ inputs. checked-stop p q lb.sane inputs
-    ∙ (λ i. option_or (s.grows.stop inputs i) (face_fired (lb.keeps inputs g r.guard i) only f (s.value inputs i))) in
-    record {
-      base = long;
-      known = known-on long r.known;
-      taken = λ inputs h.
-          goes-last (run d inputs env)
-          ∙ (λ i. outcome_of ((stop inputs ∙ ap (λ v. option_or (stop_of b inputs) (face_fired v only f (t (environment (denoted b inputs env))))) h) i) (denoted-on inputs long r.known i))
-          ∙ check-run (stop_of b inputs) (denoted b inputs env) t only f j same;
-      idle = λ inputs h.
-          stop inputs
-          ∙ ap (λ v. option_or (stop_of b inputs) (face_fired v only f (t (environment (denoted b inputs env))))) h
-          ∙ or-none (stop_of b inputs);
-    }
+    let told = check-told env t s p q r.guard in
+    found-stage t j (face_judged only f) (λ v. []) same (check-longer env t s p q r.guard) r
+    (λ inputs h. told inputs ∙ ap (λ v. told_more (so_far b inputs) (face_fired v only f (t (environment (denoted b inputs env)))) []) h)
+    (λ inputs h.
+    told inputs
+    ∙ ap (λ v. told_more (so_far b inputs) (face_fired v only f (t (environment (denoted b inputs env)))) []) h
+    ∙ more-none (so_far b inputs))
 
-failed-label : (labels : List Label) (number : ℕ) (label : Label) (z : ℤ) (env : Env) → slice_get labels number ≡ Some label → outcome_of (face_judged false (Verif label) (Num z)) env ≡ judged labels number (Num z) env
-failed-label labels number label z env is = elim (is_zero z) as (λ b. outcome_of (cond b None (Some (failed label))) env ≡ unless_stopped (option_and_then (failure_cause labels) (cond b None (Some (Failed number)))) (goes env)) [
-  | true ↦ refl
-  | false ↦ sym (ap (λ o. unless_stopped (option_map failed o) (goes env)) is)
-]
+-- a verification that stops, and one that is noted, by its condition's value
+false-true : false ≡ true → ⊥
+false-true e = cc
 
-pub verif-face : (labels : List Label) (number : ℕ) (label : Label) → slice_get labels number ≡ Some label → (v : Value) (e : Env) → outcome_of (face_judged false (Verif label) v) e ≡ judged labels number v e
-verif-face labels number label is Undef e = refl
-verif-face labels number label is (Num z) e = failed-label labels number label z e is
-verif-face labels number label is Over e = sym (ap (λ o. unless_stopped (option_map over o) (goes e)) is)
+true-false : true ≡ false → ⊥
+true-false e = cc
 
-pub line-face : (line : ℕ) (v : Value) (e : Env) → outcome_of (face_judged true (DriverLine line) v) e ≡ over_judged line v e
+stopped-number : (labels : List Label) (number : ℕ) (label : Label) → slice_get labels number ≡ Some label → (stopping zero : Bool) (e : Env) → stopping ≡ true →
+    unless_stopped (cond zero None (Some (failed label))) (goes [] e)
+    ≡ unless_stopped (option_and_then (failure_cause labels) (cond (not zero && stopping) (Some (Failed number)) None)) (goes (cons_option (cond (not zero && not stopping) (slice_get labels number) None) []) e)
+stopped-number labels number label is true true e h = refl
+stopped-number labels number label is true false e h = sym (ap (λ o. unless_stopped (option_map failed o) (goes [] e)) is)
+stopped-number labels number label is false zero e h = absurd (false-true h)
+
+pub verif-face : (labels : List Label) (number : ℕ) (label : Label) → slice_get labels number ≡ Some label → is_stopping (kind_at labels number) ≡ true → (v : Value) (e : Env) → unless_stopped (face_judged false (Verif label) v) (goes [] e) ≡ judged labels number v e
+verif-face labels number label is kind Undef e = refl
+verif-face labels number label is kind (Num z) e = stopped-number labels number label is (is_stopping (kind_at labels number)) (is_zero z) e kind
+verif-face labels number label is kind Over e = sym (ap (λ o. unless_stopped (option_map over o) (goes [] e)) is)
+
+-- what a note tells whose node is 1 where this value is a number other than 0
+abbrev note_by : Label → Value → List Label
+note_by label v = cons_option (note_read (Verif label) (truth_of v)) []
+
+noted-number : (labels : List Label) (number : ℕ) (label : Label) → slice_get labels number ≡ Some label → (stopping zero : Bool) (e : Env) → stopping ≡ false →
+    goes (cons_option (note_read (Verif label) (Num (truth (not zero)))) []) e
+    ≡ unless_stopped (option_and_then (failure_cause labels) (cond (not zero && stopping) (Some (Failed number)) None)) (goes (cons_option (cond (not zero && not stopping) (slice_get labels number) None) []) e)
+noted-number labels number label is false true e h = refl
+noted-number labels number label is false false e h = sym (ap (λ o. goes (cons_option o []) e) is)
+noted-number labels number label is true zero e h = absurd (true-false h)
+
+noted-face : (labels : List Label) (number : ℕ) (label : Label) → slice_get labels number ≡ Some label → is_stopping (kind_at labels number) ≡ false → (v : Value) (e : Env) → unless_stopped (face_judged true (Verif label) v) (goes (note_by label v) e) ≡ judged labels number v e
+noted-face labels number label is kind Undef e = refl
+noted-face labels number label is kind (Num z) e = noted-number labels number label is (is_stopping (kind_at labels number)) (is_zero z) e kind
+noted-face labels number label is kind Over e = sym (ap (λ o. unless_stopped (option_map over o) (goes (cons_option (cond (false && not (is_stopping (kind_at labels number))) o None) []) e)) is)
+
+pub line-face : (line : ℕ) (v : Value) (e : Env) → unless_stopped (face_judged true (DriverLine line) v) (goes [] e) ≡ over_judged line v e
 line-face line Undef e = refl
 line-face line (Num z) e = refl
 line-face line Over e = refl
 
 -- a check of the rules
-pub rule-stage : {labels : List Label} {b c e : Builder} {env : List ℕ} {g k : ℕ} (d : Check) (label : Label) → d.1 < length labels → (Sane b → Known b env → TermStep b c env (λ x. term_value x d.0) k) → CheckedRule c e g k d.1 → Ready labels b env g → Stage b e g env env (λ x. goes x) (λ x. judged labels d.1 (term_value (environment x) d.0) x)
-rule-stage {labels} d label lt step p r =
-    check-stage (λ x. term_value x d.0) (judged labels d.1) (verif-face labels d.1 (get_or labels d.1 label) (slice_get-get_or labels d.1 label lt)) step p.base
+pub rule-stage : {labels : List Label} {b c e : Builder} {env : List ℕ} {g k : ℕ} (d : Check) (label : Label) → d.1 < length labels → is_stopping (kind_at labels d.1) ≡ true → (Sane b → Known b env → TermStep b c env (λ x. term_value x d.0) k) → CheckedRule c e g k false d.1 → Ready labels b env g → Stage b e g env env (λ x. goes [] x) (λ x. judged labels d.1 (term_value (environment x) d.0) x)
+rule-stage {labels} d label lt kind step p r =
+    check-stage (λ x. term_value x d.0) (judged labels d.1) (verif-face labels d.1 (get_or labels d.1 label) (slice_get-get_or labels d.1 label lt) kind) step p.base
     (faced-rule d.1 label (faces-on (step r.placed.sane r.placed.known).grows.base r.labelled) lt p)
     r.placed
+
+-- a check of the rules that is noted: the check, the truth of its condition, the choice of it by the guard, and the note
+pub noted-stage : {labels : List Label} {b c d0 d1 d2 e : Builder} {env : List ℕ} {g k i j : ℕ} (d : Check) (label : Label) → d.1 < length labels → is_stopping (kind_at labels d.1) ≡ false → (Sane b → Known b env → TermStep b c env (λ x. term_value x d.0) k) → CheckedRule c d0 g k true d.1 → Pushed d0 d1 (Do Truth k k k) i → Pushed d1 d2 (Do Choose g i 1) j → NotedAt d2 e j d.1 → Ready labels b env g → Stage b e g env env (λ x. goes [] x) (λ x. judged labels d.1 (term_value (environment x) d.0) x)
+noted-stage {labels} {b} {c} {d0} {d1} {d2} {e} {env} {g} {k} {i} {j} d label lt kind step p q1 q2 n r =
+    let own = get_or labels d.1 label in
+    let t : Environment → Value = λ x. term_value x d.0 in
+    let s = step r.placed.sane r.placed.known in
+    let faced = faced-rule d.1 label (faces-on s.grows.base r.labelled) lt p in
+    let l0 = check-longer env t s p.base faced r.placed.guard in
+    let k_in : k < count d0 = omega (arith, s.within, ap length p.base.nodes) in
+    let g_in : g < count d0 = omega (arith, r.placed.guard, l0.longer) in
+    let g1 = pushed-grows q1 (k_in, k_in, k_in) l0.sane in
+    let i_in : i < count d1 = pushed-within q1 in
+    let g_in1 : g < count d1 = omega (arith, g_in, g1.base.longer) in
+    let one_in : 1 < count d1 = omega (arith, g1.base.sane.three) in
+    let g2 = pushed-grows q2 (g_in1, i_in, one_in) g1.base.sane in
+    let grows = grows-then g1 g2 in
+    let l2 = longer-then l0 grows.base in
+    let labelled = faces-on l2 r.labelled in
+    let is : face d2 d.1 ≡ Verif own = labelled.same d.1 label lt in
+    let l_in : d.1 < faces d2 = omega (arith, labelled.within, lt) in
+    let long = longer-then l2 (noted-longer n (pushed-within q2) l_in (subst IsVerif (sym is) tt) l2.sane) in
+    let value : (inputs : List Value) → at d2 inputs j ≡ chosen (at b inputs g) (truth_of (t (environment (denoted b inputs env)))) (Num (pos 0)) = λ inputs.
+    pushed-value q2 inputs ∙ choose-value _ _ _
+    ∙ (λ x. chosen
+    ((g1.base.keeps inputs g g_in ∙ l0.keeps inputs g r.placed.guard) x)
+    ((pushed-value q1 inputs ∙ truth-value _ _ _ ∙ ap truth_of (ap (λ ns. get_or (node_values inputs ns) k Undef) p.base.nodes ∙ s.value inputs)) x)
+    (g1.base.sane.zero inputs x)) in
+    let told : (inputs : List Value) → so_far e inputs ≡ told_more (told_more (so_far b inputs) (face_fired (at b inputs g) true (Verif own) (t (environment (denoted b inputs env)))) []) None (cons_option (note_read (Verif own) (chosen (at b inputs g) (truth_of (t (environment (denoted b inputs env)))) (Num (pos 0)))) []) = λ inputs.
+    noted-told n inputs
+    ∙ (λ x. told_more ((grows.told inputs ∙ check-told env t s p.base faced r.placed.guard inputs) x) None (cons_option (note_read (is x) (value inputs x)) [])) in
+    let under_guard : List Value → Value → SoFar = λ inputs v. told_more (told_more (so_far b inputs) (face_fired v true (Verif own) (t (environment (denoted b inputs env)))) []) None (cons_option (note_read (Verif own) (chosen v (truth_of (t (environment (denoted b inputs env)))) (Num (pos 0)))) []) in
+    found-stage t (judged labels d.1) (face_judged true (Verif own)) (note_by own) (noted-face labels d.1 own (slice_get-get_or labels d.1 label lt) kind) long r.placed
+    (λ inputs h. told inputs ∙ ap (under_guard inputs) h ∙ more-more (so_far b inputs) (face_judged true (Verif own) (t (environment (denoted b inputs env)))) (note_by own (t (environment (denoted b inputs env)))))
+    (λ inputs h. told inputs ∙ ap (under_guard inputs) h ∙ more-more (so_far b inputs) None [] ∙ more-none (so_far b inputs))
 
 -- definitions
 pub computed-first : {b : Builder} {env : List ℕ} (f : Env → Env) → Sane b → Known b env → Computed b b env env f f
@@ -164,11 +220,7 @@ computed-next {b} {c} {d} {env} {env'} {k} {rest} {whole} t x s f =
     }
 
 -- a stage between a change of the environment and another
-pub wrap : (s : Option Cause) (e : Env) (before : Env → Env) (does : Env → RunState) (after : Env → Env → Env) → then_do (then_do (outcome_of s (before e)) does) (λ f. goes (after e f)) ≡ then_do (outcome_of s e) (λ x. then_do (does (before x)) (λ f. goes (after x f)))
-wrap None e before does after = refl
-wrap (Some s) e before does after = refl
-
-pub wrapped : {b c d : Builder} {env env1 env2 env3 : List ℕ} {g : ℕ} {does : Env → RunState} (before : Env → Env) (after : Env → Env → Env) → Placed b env g → Grows b c → ((inputs : List Value) → denoted c inputs env1 ≡ before (denoted b inputs env)) → Stage c d g env1 env2 (λ e. goes e) does → Known d env3 → ((inputs : List Value) → denoted d inputs env3 ≡ after (denoted b inputs env) (denoted d inputs env2)) → Stage b d g env env3 (λ e. goes e) (λ e. then_do (does (before e)) (λ f. goes (after e f)))
+pub wrapped : {b c d : Builder} {env env1 env2 env3 : List ℕ} {g : ℕ} {does : Env → RunState} (before : Env → Env) (after : Env → Env → Env) → Placed b env g → Grows b c → ((inputs : List Value) → denoted c inputs env1 ≡ before (denoted b inputs env)) → Stage c d g env1 env2 (λ e. goes [] e) does → Known d env3 → ((inputs : List Value) → denoted d inputs env3 ≡ after (denoted b inputs env) (denoted d inputs env2)) → Stage b d g env env3 (λ e. goes [] e) (λ e. then_do (does (before e)) (λ f. goes [] (after e f)))
 wrapped {b} {c} {d} {env} {env1} {env2} {env3} {g} {does} before after r grows first s kn last = record {
   base = longer-then grows.base s.base;
   known = kn;
@@ -176,12 +228,12 @@ wrapped {b} {c} {d} {env} {env1} {env2} {env3} {g} {does} before after r grows f
       let e = denoted b inputs env in
       let there : at c inputs g ≡ Num (pos 1000000) = grows.base.keeps inputs g r.guard ∙ h in
       goes-last (run d inputs env3)
-      ∙ ap (outcome_of (stop_of d inputs)) (last inputs)
-      ∙ set-goes (stop_of d inputs) (denoted d inputs env2) (after e)
-      ∙ ap (λ o. then_do o (λ f. goes (after e f)))
-      (sym (goes-last (run d inputs env2)) ∙ s.taken inputs there ∙ (λ i. then_do (outcome_of (grows.stop inputs i) (first inputs i)) does))
-      ∙ wrap (stop_of b inputs) e before does after;
-  idle = λ inputs h. s.idle inputs (grows.base.keeps inputs g r.guard ∙ h) ∙ grows.stop inputs;
+      ∙ ap (outcome_of (so_far d inputs)) (last inputs)
+      ∙ set-goes (so_far d inputs) (denoted d inputs env2) (after e)
+      ∙ ap (λ o. then_do o (λ f. goes [] (after e f)))
+      (sym (goes-last (run d inputs env2)) ∙ s.taken inputs there ∙ (λ i. then_do (outcome_of (grows.told inputs i) (first inputs i)) does))
+      ∙ wrap (so_far b inputs) e before does after;
+  idle = λ inputs h. s.idle inputs (grows.base.keeps inputs g r.guard ∙ h) ∙ grows.told inputs;
 }
 
 -- cells of one environment received by another
@@ -195,7 +247,7 @@ denoted-received {b} inputs xs from env s =
     received-map (at b inputs) 0 xs from env ∙ ap (λ v. received v xs (denoted b inputs from) (denoted b inputs env)) (s.undef inputs)
     ∙ sym (with-received xs (denoted b inputs from) (denoted b inputs env))
 
-pub rules-stage : {labels : List Label} {b c d : Builder} {env env' : List ℕ} {g : ℕ} {does : Env → RunState} {first : Env → Env} (xs : List ℕ) → (Sane b → Known b env → Computed b c env env' (λ e. e) first) → (Ready labels c env' g → Stage c d g env' env' (λ e. goes e) does) → Ready labels b env g → Stage b d g env (received 0 xs env' env) (λ e. goes e) (λ e. then_do (does (first e)) (λ f. goes (with_values xs (environment f) e)))
+pub rules-stage : {labels : List Label} {b c d : Builder} {env env' : List ℕ} {g : ℕ} {does : Env → RunState} {first : Env → Env} (xs : List ℕ) → (Sane b → Known b env → Computed b c env env' (λ e. e) first) → (Ready labels c env' g → Stage c d g env' env' (λ e. goes [] e) does) → Ready labels b env g → Stage b d g env (received 0 xs env' env) (λ e. goes [] e) (λ e. then_do (does (first e)) (λ f. goes [] (with_values xs (environment f) e)))
 rules-stage {labels} {b} {c} {d} {env} {env'} {g} {does} {first} xs defs checks r =
     let k = defs r.placed.sane r.placed.known in
     let s = checks (record { placed = record { sane = k.grows.base.sane; known = k.known; guard = omega (arith, r.placed.guard, k.grows.base.longer) }; labelled = faces-on k.grows.base r.labelled }) in
@@ -241,13 +293,13 @@ judged-second line Undef e a b h = refl
 judged-second line (Num z) e a b h = second-number (is_zero z) e a b h
 judged-second line Over e a b h = refl
 
-pub chosen-first : (s : Option Cause) (e : Env) (line : ℕ) (t : Environment → Value) (a b : Env → RunState) → truth_of (t (environment e)) ≡ Num (pos 1000000) → then_do (then_do (outcome_of s e) (λ x. over_judged line (t (environment x)) x)) a ≡ then_do (outcome_of s e) (λ x. chosen_block line (t (environment x)) (a x) (b x))
-chosen-first None e line t a b h = judged-first line (t (environment e)) e a b h
-chosen-first (Some s) e line t a b h = refl
+pub chosen-first : (s : SoFar) (e : Env) (line : ℕ) (t : Environment → Value) (a b : Env → RunState) → truth_of (t (environment e)) ≡ Num (pos 1000000) → then_do (then_do (outcome_of s e) (λ x. over_judged line (t (environment x)) x)) a ≡ then_do (outcome_of s e) (λ x. chosen_block line (t (environment x)) (a x) (b x))
+chosen-first s e line t a b h =
+    both-steps s e (λ x. over_judged line (t (environment x)) x) a (λ x. chosen_block line (t (environment x)) (a x) (b x)) (judged-first line (t (environment e)) e a b h)
 
-pub chosen-second : (s : Option Cause) (e : Env) (line : ℕ) (t : Environment → Value) (a b : Env → RunState) → truth_of (t (environment e)) ≡ Num (pos 0) → then_do (then_do (outcome_of s e) (λ x. over_judged line (t (environment x)) x)) b ≡ then_do (outcome_of s e) (λ x. chosen_block line (t (environment x)) (a x) (b x))
-chosen-second None e line t a b h = judged-second line (t (environment e)) e a b h
-chosen-second (Some s) e line t a b h = refl
+pub chosen-second : (s : SoFar) (e : Env) (line : ℕ) (t : Environment → Value) (a b : Env → RunState) → truth_of (t (environment e)) ≡ Num (pos 0) → then_do (then_do (outcome_of s e) (λ x. over_judged line (t (environment x)) x)) b ≡ then_do (outcome_of s e) (λ x. chosen_block line (t (environment x)) (a x) (b x))
+chosen-second s e line t a b h =
+    both-steps s e (λ x. over_judged line (t (environment x)) x) b (λ x. chosen_block line (t (environment x)) (a x) (b x)) (judged-second line (t (environment e)) e a b h)
 
 -- the guards of a choice, once its condition is there
 pub open-branches : {b c c1 c2 d : Builder} {env : List ℕ} {g line v k i j : ℕ} {t : Environment → Value} → (Sane b → Known b env → TermStep b c env t v) → CheckedLine c c1 g v line → {c3 : Builder} → Pushed c1 c2 (Do Truth v v v) k → Pushed c2 c3 (Do Choose k g 1) i → Pushed c3 d (Do Choose k 1 g) j → Placed b env g → Opened b d env g line t (record { truth = k; first = i; second = j })
@@ -277,8 +329,8 @@ open-branches {b} {c} {c1} {c2} {d} {env} {g} {line} {v} {k} {i} {j} {t} step p 
       stage = record {
         base = long;
         known = known-on grows.base s0.known;
-        taken = λ inputs h. ap (λ o. then_do o (λ e. goes e)) (run-on inputs grows s0.known) ∙ s0.taken inputs h;
-        idle = λ inputs h. grows.stop inputs ∙ s0.idle inputs h;
+        taken = λ inputs h. ap (λ o. then_do o (λ e. goes [] e)) (run-on inputs grows s0.known) ∙ s0.taken inputs h;
+        idle = λ inputs h. grows.told inputs ∙ s0.idle inputs h;
       };
       first_within = omega (arith, i_in, g3.base.longer);
       second_within = pushed-within q3;

@@ -18,15 +18,16 @@ use Rattle.mpp_inline.specs.declared.branches.Branches.{Branches}
 use Rattle.mpp_inline.specs.declared.work.Work.{Work}
 use Rattle.mpp_inline.specs.declared.work.Work.TheVariants.{Run, Under, Restore, Return}
 use Rattle.mpp_inline.specs.inner.Cells.{picked, written, received, blanked}
-use Rattle.mpp_inline.specs.inner.Growth.{count, at, stop_of, denoted, outcome_of, run, entries, Sane, Known, Held, Placed, Ready, Longer, TermStep, Computed, Stage, Opened, Merged, SameBut, over_judged, calls}
+use Rattle.mpp_inline.specs.inner.Growth.{count, at, so_far, denoted, outcome_of, run, entries, Sane, Known, Held, Placed, Ready, Longer, TermStep, Computed, Stage, Opened, Merged, SameBut, over_judged, calls}
 use Rattle.mpp_inline.specs.inner.Work.{under, Point, point, Whole, does, does_one, done, finish, ahead, block_ahead, IsBit, Guarding, Kept, Standing, Moves, Step}
 use Rattle.mpp_inline.proofs.ListLemmas.{all-more, all-append, all-picked, all-written, all-blanked, picked-map, written-map, blanked-map, restored, same-none, same-back, same-blanked, with-received, without-blanked}
 use Rattle.mpp_inline.proofs.GrowthLemmas.{longer-none, longer-then, known-on, denoted-on, faces-on}
-use Rattle.mpp_inline.proofs.StageLemmas.{goes-last, then-then, set-stage, del-stage, rules-stage, set-goes, wrap, truth-cases, both-zero, chosen-first, chosen-second, known-received, denoted-received}
+use Rattle.mpp_inline.proofs.OutcomeLemmas.{goes-last, then-then, set-goes, wrap}
+use Rattle.mpp_inline.proofs.StageLemmas.{set-stage, del-stage, rules-stage, truth-cases, both-zero, chosen-first, chosen-second, known-received, denoted-received}
 
 -- a guard of 0 or 1
-pub under-none : (v : Value) (o : RunState) → under v o (λ e. goes e) ≡ o
-under-none v o = elim (is_one v) as (λ b. cond b (then_do o (λ e. goes e)) o ≡ o) [ true ↦ goes-last o | false ↦ refl ]
+pub under-none : (v : Value) (o : RunState) → under v o (λ e. goes [] e) ≡ o
+under-none v o = elim (is_one v) as (λ b. cond b (then_do o (λ e. goes [] e)) o ≡ o) [ true ↦ goes-last o | false ↦ refl ]
 
 pub under-under : (v : Value) (o : RunState) (f g : Env → RunState) → under v (under v o f) g ≡ under v o (λ e. then_do (f e) g)
 under-under v o f g = elim (is_one v) as (λ b. cond b (then_do (cond b (then_do o f) o) g) (cond b (then_do o f) o) ≡ cond b (then_do o (λ e. then_do (f e) g)) o) [ true ↦ then-then o f g | false ↦ refl ]
@@ -41,7 +42,7 @@ bit-chosen t x y b p q = ⊎_elim
     b
 
 -- a change by writes that count where the guard is 1
-pub step-written : {b d f : Builder} {env env1 env2 : List ℕ} {g : ℕ} {next : Env → RunState} (given : List (ℕ × ℕ)) → Placed b env g → Stage b d g env env1 (λ e. goes e) next → env1 ≡ written given env → Merged d f g [] given env env2 → Step b f g env env2 next
+pub step-written : {b d f : Builder} {env env1 env2 : List ℕ} {g : ℕ} {next : Env → RunState} (given : List (ℕ × ℕ)) → Placed b env g → Stage b d g env env1 (λ e. goes [] e) next → env1 ≡ written given env → Merged d f g [] given env env2 → Step b f g env env2 next
 step-written {b} {d} {f} {env} {env1} {env2} {g} {next} given r s is m =
     let there : (inputs : List Value) → at d inputs g ≡ at b inputs g = λ inputs. s.base.keeps inputs g r.guard in
     record {
@@ -49,10 +50,10 @@ step-written {b} {d} {f} {env} {env1} {env2} {g} {next} given r s is m =
       known = m.known;
       moved = λ inputs bit. ⊎_elim
           (λ (h : at b inputs g ≡ Num (pos 0)).
-          (λ i. outcome_of ((m.grows.stop inputs ∙ s.idle inputs h) i) ((m.second inputs (there inputs ∙ h) ∙ denoted-on inputs s.base r.known) i))
+          (λ i. outcome_of ((m.grows.told inputs ∙ s.idle inputs h) i) ((m.second inputs (there inputs ∙ h) ∙ denoted-on inputs s.base r.known) i))
           ∙ sym (ap (λ v. under v (run b inputs env) next) h))
           (λ (h : at b inputs g ≡ Num (pos 1000000)).
-          (λ i. outcome_of (m.grows.stop inputs i) ((m.first inputs (there inputs ∙ h) ∙ sym (written-map (at d inputs) given env) ∙ ap (denoted d inputs) (sym is)) i))
+          (λ i. outcome_of (m.grows.told inputs i) ((m.first inputs (there inputs ∙ h) ∙ sym (written-map (at d inputs) given env) ∙ ap (denoted d inputs) (sym is)) i))
           ∙ sym (goes-last (run d inputs env1)) ∙ s.taken inputs h
           ∙ sym (ap (λ v. under v (run b inputs env) next) h))
           bit;
@@ -62,13 +63,13 @@ step-written {b} {d} {f} {env} {env1} {env2} {g} {next} given r s is m =
 held-picked : {b : Builder} (xs env : List ℕ) → Sane b → Known b env → Held b (picked 0 xs env)
 held-picked {b} xs env s k = record { all = all-picked (λ n. n < count b) 0 xs env (omega (arith, s.three)) k.all }
 
-pub set-step : {b c d : Builder} {env env' : List ℕ} {g k : ℕ} (t : Environment → Value) (x : ℕ) → (Sane b → Known b env → TermStep b c env t k) → (Placed c env g → k < count c → Merged c d g [] ((x, k) ∷ []) env env') → Placed b env g → Step b d g env env' (λ e. goes (set e x (t (environment e))))
+pub set-step : {b c d : Builder} {env env' : List ℕ} {g k : ℕ} (t : Environment → Value) (x : ℕ) → (Sane b → Known b env → TermStep b c env t k) → (Placed c env g → k < count c → Merged c d g [] ((x, k) ∷ []) env env') → Placed b env g → Step b d g env env' (λ e. goes [] (set e x (t (environment e))))
 set-step {b} {c} {d} {env} {env'} {g} {k} t x term write r =
     let t' = term r.sane r.known in
     let l = t'.grows.base in
     step-written ((x, k) ∷ []) r (set-stage t x term r) refl (write (record { sane = l.sane; known = known-on l r.known; guard = omega (arith, r.guard, l.longer) }) t'.within)
 
-pub del-step : {b d : Builder} {env env' : List ℕ} {g : ℕ} (x : ℕ) → (Placed b env g → 0 < count b → Merged b d g [] ((x, 0) ∷ []) env env') → Placed b env g → Step b d g env env' (λ e. goes (set e x Undef))
+pub del-step : {b d : Builder} {env env' : List ℕ} {g : ℕ} (x : ℕ) → (Placed b env g → 0 < count b → Merged b d g [] ((x, 0) ∷ []) env env') → Placed b env g → Step b d g env env' (λ e. goes [] (set e x Undef))
 del-step {b} {d} {env} {env'} {g} x write r = step-written ((x, 0) ∷ []) r (del-stage x r) refl (write r (omega (arith, r.sane.three)))
 
 -- each of these cells chosen, and then some cells taken from them
@@ -94,7 +95,7 @@ merged-received {d} {f} {env} {env1} {env2} {g} xs ds r frame m =
     }
 
 -- the rules, where the received cells are chosen, and where all defined cells are
-pub rules-step : {labels : List Label} {b c d f : Builder} {env env1 env2 : List ℕ} {g : ℕ} {checks' : Env → RunState} {first : Env → Env} (xs : List ℕ) → (Sane b → Known b env → Computed b c env env1 (λ e. e) first) → (Ready labels c env1 g → Stage c d g env1 env1 (λ e. goes e) checks') → (Placed d env g → Held d (picked 0 xs env1) → Merged d f g [] (picked 0 xs env1) env env2) → Ready labels b env g → Step b f g env env2 (λ e. then_do (checks' (first e)) (λ h. goes (with_values xs (environment h) e)))
+pub rules-step : {labels : List Label} {b c d f : Builder} {env env1 env2 : List ℕ} {g : ℕ} {checks' : Env → RunState} {first : Env → Env} (xs : List ℕ) → (Sane b → Known b env → Computed b c env env1 (λ e. e) first) → (Ready labels c env1 g → Stage c d g env1 env1 (λ e. goes [] e) checks') → (Placed d env g → Held d (picked 0 xs env1) → Merged d f g [] (picked 0 xs env1) env env2) → Ready labels b env g → Step b f g env env2 (λ e. then_do (checks' (first e)) (λ h. goes [] (with_values xs (environment h) e)))
 rules-step {labels} {b} {c} {d} {f} {env} {env1} {env2} {g} xs defs checks write r =
     let k = defs r.placed.sane r.placed.known in
     let l1 = k.grows.base in
@@ -103,7 +104,7 @@ rules-step {labels} {b} {c} {d} {f} {env} {env1} {env2} {g} xs defs checks write
     step-written (picked 0 xs env1) r.placed (rules-stage xs defs checks r) refl
     (write (record { sane = l.sane; known = known-on l r.placed.known; guard = omega (arith, r.placed.guard, l.longer) }) (held-picked xs env1 l.sane s.known))
 
-pub rules-step-all : {labels : List Label} {b c d f : Builder} {env env1 env2 : List ℕ} {g : ℕ} {checks' : Env → RunState} {first : Env → Env} (xs ds : List ℕ) → SameBut ds env env1 → (Sane b → Known b env → Computed b c env env1 (λ e. e) first) → (Ready labels c env1 g → Stage c d g env1 env1 (λ e. goes e) checks') → (Placed d env g → Held d (picked 0 ds env1) → Merged d f g [] (picked 0 ds env1) env env2) → Ready labels b env g → Step b f g env (received 0 xs env2 env) (λ e. then_do (checks' (first e)) (λ h. goes (with_values xs (environment h) e)))
+pub rules-step-all : {labels : List Label} {b c d f : Builder} {env env1 env2 : List ℕ} {g : ℕ} {checks' : Env → RunState} {first : Env → Env} (xs ds : List ℕ) → SameBut ds env env1 → (Sane b → Known b env → Computed b c env env1 (λ e. e) first) → (Ready labels c env1 g → Stage c d g env1 env1 (λ e. goes [] e) checks') → (Placed d env g → Held d (picked 0 ds env1) → Merged d f g [] (picked 0 ds env1) env env2) → Ready labels b env g → Step b f g env (received 0 xs env2 env) (λ e. then_do (checks' (first e)) (λ h. goes [] (with_values xs (environment h) e)))
 rules-step-all {labels} {b} {c} {d} {f} {env} {env1} {env2} {g} xs ds frame defs checks write r =
     let k = defs r.placed.sane r.placed.known in
     let l1 = k.grows.base in
@@ -121,8 +122,8 @@ entries-on inputs (p ∷ ps) l a = λ i. (p.0, l.keeps inputs p.1 a.0 i) ∷ ent
 pub done-on : {b c : Builder} (whole : Whole) (inputs : List Value) (w : Work) (p : Point) → Longer b c → Kept b w → done whole c inputs w p ≡ done whole b inputs w p
 done-on whole inputs (Run depth block) p l k = refl
 done-on whole inputs (Under g) p l k = λ i. record { guard = l.keeps inputs g k.within i; far = p.far }
-done-on whole inputs (Restore before) p l k = λ i. record { guard = p.guard; far = then_do p.far (λ e. goes (written (entries-on inputs before.items l k.all i) e)) }
-done-on whole inputs (Return cells outer) p l k = λ i. record { guard = p.guard; far = then_do p.far (λ e. goes (with_values cells.now (environment e) (denoted-on inputs l k i))) }
+done-on whole inputs (Restore before) p l k = λ i. record { guard = p.guard; far = then_do p.far (λ e. goes [] (written (entries-on inputs before.items l k.all i) e)) }
+done-on whole inputs (Return cells outer) p l k = λ i. record { guard = p.guard; far = then_do p.far (λ e. goes [] (with_values cells.now (environment e) (denoted-on inputs l k i))) }
 
 pub finish-on : {b c : Builder} (whole : Whole) (inputs : List Value) (ws : List Work) (p : Point) → Longer b c → AllByRecursion (Kept b) ws → finish whole c inputs ws p ≡ finish whole b inputs ws p
 finish-on whole inputs [] p l a = refl
@@ -213,14 +214,14 @@ guards-apart {b} {d} {env} {g} {line} {t} {r} p inputs one two bit o =
     let on : at d inputs r.second ≡ Num (pos 1000000) = o.second inputs ∙ (λ i. chosen ((o.truth inputs ∙ f) i) (Num (pos 0)) (h i)) in
     (λ i. under (on i) (under (off i) (run d inputs env) one) two)
     ∙ ap (λ x. then_do x two) opened
-    ∙ chosen-second (stop_of b inputs) e line t one two f
+    ∙ chosen-second (so_far b inputs) e line t one two f
     ∙ sym (ap (λ x. under x (run b inputs env) all) h))
     (λ (f : truth_of v ≡ Num (pos 1000000)).
     let on : at d inputs r.first ≡ Num (pos 1000000) = o.first inputs ∙ (λ i. chosen ((o.truth inputs ∙ f) i) (h i) (Num (pos 0))) in
     let off : at d inputs r.second ≡ Num (pos 0) = o.second inputs ∙ ap (λ x. chosen x (Num (pos 0)) (at b inputs g)) (o.truth inputs ∙ f) in
     (λ i. under (off i) (under (on i) (run d inputs env) one) two)
     ∙ ap (λ x. then_do x one) opened
-    ∙ chosen-first (stop_of b inputs) e line t one two f
+    ∙ chosen-first (so_far b inputs) e line t one two f
     ∙ sym (ap (λ x. under x (run b inputs env) all) h))
     (truth-cases v))
     bit
@@ -257,26 +258,26 @@ known-blanked {b} xs env s k = record { all = all-blanked (λ n. n < count b) 0 
 entries-picked : {b : Builder} (inputs : List Value) (xs env : List ℕ) → Sane b → entries b inputs (picked 0 xs env) ≡ picked Undef xs (denoted b inputs env)
 entries-picked {b} inputs xs env s = picked-map (at b inputs) 0 xs env ∙ ap (λ v. picked v xs (denoted b inputs env)) (s.undef inputs)
 
-around-part : (b : Builder) (env : List ℕ) (g : ℕ) (inputs : List Value) (xs : List ℕ) (next : Env → RunState) → Sane b → IsBit (at b inputs g) → then_do (under (at b inputs g) (run b inputs (blanked 0 xs env)) next) (λ e. goes (written (entries b inputs (picked 0 xs env)) e)) ≡ under (at b inputs g) (run b inputs env) (λ e. then_do (next (without xs e)) (λ f. goes (with_values xs (environment e) f)))
+around-part : (b : Builder) (env : List ℕ) (g : ℕ) (inputs : List Value) (xs : List ℕ) (next : Env → RunState) → Sane b → IsBit (at b inputs g) → then_do (under (at b inputs g) (run b inputs (blanked 0 xs env)) next) (λ e. goes [] (written (entries b inputs (picked 0 xs env)) e)) ≡ under (at b inputs g) (run b inputs env) (λ e. then_do (next (without xs e)) (λ f. goes [] (with_values xs (environment e) f)))
 around-part b env g inputs xs next s bit =
     let e = denoted b inputs env in
     let v = at b inputs g in
     let ps = picked 0 xs env in
     let before = blanked 0 xs env in
-    let after : Env → RunState = λ f. goes (written (entries b inputs ps) f) in
-    let all : Env → RunState = λ x. then_do (next (without xs x)) (λ f. goes (with_values xs (environment x) f)) in
+    let after : Env → RunState = λ f. goes [] (written (entries b inputs ps) f) in
+    let all : Env → RunState = λ x. then_do (next (without xs x)) (λ f. goes [] (with_values xs (environment x) f)) in
     let written-same : (f : Env) → written (entries b inputs ps) f ≡ with_values xs (environment e) f = λ f. ap (λ qs. written qs f) (entries-picked inputs xs env s) ∙ sym (with-received xs e f) in
     let blank-same : denoted b inputs before ≡ without xs e = blanked-map (at b inputs) 0 xs env ∙ ap (λ x. blanked x xs e) (s.undef inputs) ∙ sym (without-blanked xs e) in
     ⊎_elim
     (λ (h : v ≡ Num (pos 0)).
     ap (λ x. then_do (under x (run b inputs before) next) after) h
-    ∙ sym (set-goes (stop_of b inputs) (denoted b inputs before) (written (entries b inputs ps)))
-    ∙ ap (outcome_of (stop_of b inputs)) (sym (written-map (at b inputs) ps before) ∙ ap (denoted b inputs) (restored xs env before (same-blanked xs env)))
+    ∙ sym (set-goes (so_far b inputs) (denoted b inputs before) (written (entries b inputs ps)))
+    ∙ ap (outcome_of (so_far b inputs)) (sym (written-map (at b inputs) ps before) ∙ ap (denoted b inputs) (restored xs env before (same-blanked xs env)))
     ∙ sym (ap (λ x. under x (run b inputs env) all) h))
     (λ (h : v ≡ Num (pos 1000000)).
     ap (λ x. then_do (under x (run b inputs before) next) after) h
-    ∙ (λ i. then_do (then_do (outcome_of (stop_of b inputs) (blank-same i)) next) (λ f. goes (written-same f i)))
-    ∙ wrap (stop_of b inputs) e (without xs) next (λ x f. with_values xs (environment x) f)
+    ∙ (λ i. then_do (then_do (outcome_of (so_far b inputs) (blank-same i)) next) (λ f. goes [] (written-same f i)))
+    ∙ wrap (so_far b inputs) e (without xs) next (λ x f. with_values xs (environment x) f)
     ∙ sym (ap (λ x. under x (run b inputs env) all) h))
     bit
 
@@ -292,26 +293,26 @@ part-moves {whole} {b} {env} {g} {ws} depth line before xs block is s =
       same = λ inputs.
           finish-last whole b inputs ws1 (Run depth block) _
           ∙ finish-last whole b inputs ws (Restore before) _
-          ∙ (λ i. finish whole b inputs ws (record { guard = at b inputs g; far = then_do (under (at b inputs g) (run b inputs (blanked 0 xs env)) next) (λ e. goes (written (entries b inputs (is i)) e)) }))
+          ∙ (λ i. finish whole b inputs ws (record { guard = at b inputs g; far = then_do (under (at b inputs g) (run b inputs (blanked 0 xs env)) next) (λ e. goes [] (written (entries b inputs (is i)) e)) }))
           ∙ (λ i. finish whole b inputs ws (record { guard = at b inputs g; far = around-part b env g inputs xs next sane (s.bit inputs) i }));
     }
 
 -- a call
-around-call : (b : Builder) (env : List ℕ) (g : ℕ) (inputs : List Value) (xs : List ℕ) (next : Env → RunState) → Sane b → IsBit (at b inputs g) → then_do (under (at b inputs g) (run b inputs env) next) (λ e. goes (with_values xs (environment e) (denoted b inputs env))) ≡ under (at b inputs g) (run b inputs env) (λ e. then_do (next e) (λ f. goes (with_values xs (environment f) e)))
+around-call : (b : Builder) (env : List ℕ) (g : ℕ) (inputs : List Value) (xs : List ℕ) (next : Env → RunState) → Sane b → IsBit (at b inputs g) → then_do (under (at b inputs g) (run b inputs env) next) (λ e. goes [] (with_values xs (environment e) (denoted b inputs env))) ≡ under (at b inputs g) (run b inputs env) (λ e. then_do (next e) (λ f. goes [] (with_values xs (environment f) e)))
 around-call b env g inputs xs next s bit =
     let e = denoted b inputs env in
     let v = at b inputs g in
-    let after : Env → RunState = λ f. goes (with_values xs (environment f) e) in
-    let all : Env → RunState = λ x. then_do (next x) (λ f. goes (with_values xs (environment f) x)) in
+    let after : Env → RunState = λ f. goes [] (with_values xs (environment f) e) in
+    let all : Env → RunState = λ x. then_do (next x) (λ f. goes [] (with_values xs (environment f) x)) in
     ⊎_elim
     (λ (h : v ≡ Num (pos 0)).
     ap (λ x. then_do (under x (run b inputs env) next) after) h
-    ∙ sym (set-goes (stop_of b inputs) e (λ f. with_values xs (environment f) e))
-    ∙ ap (outcome_of (stop_of b inputs)) (sym (denoted-received inputs xs env env s) ∙ ap (denoted b inputs) (restored xs env env (same-none xs env)))
+    ∙ sym (set-goes (so_far b inputs) e (λ f. with_values xs (environment f) e))
+    ∙ ap (outcome_of (so_far b inputs)) (sym (denoted-received inputs xs env env s) ∙ ap (denoted b inputs) (restored xs env env (same-none xs env)))
     ∙ sym (ap (λ x. under x (run b inputs env) all) h))
     (λ (h : v ≡ Num (pos 1000000)).
     ap (λ x. then_do (under x (run b inputs env) next) after) h
-    ∙ wrap (stop_of b inputs) e (λ x. x) next (λ x f. with_values xs (environment f) x)
+    ∙ wrap (so_far b inputs) e (λ x. x) next (λ x f. with_values xs (environment f) x)
     ∙ sym (ap (λ x. under x (run b inputs env) all) h))
     bit
 
@@ -325,7 +326,7 @@ call-moves {whole} {b} {env} {g} {ws} depth line names deep f cells outer block 
       same = λ inputs.
           finish-last whole b inputs ws1 (Run deep block) _
           ∙ finish-last whole b inputs ws (Return cells outer) _
-          ∙ (λ i. finish whole b inputs ws (record { guard = at b inputs g; far = then_do (under (at b inputs g) (run b inputs env) (body i)) (λ e. goes (with_values cells.now (environment e) (denoted b inputs (is i)))) }))
+          ∙ (λ i. finish whole b inputs ws (record { guard = at b inputs g; far = then_do (under (at b inputs g) (run b inputs env) (body i)) (λ e. goes [] (with_values cells.now (environment e) (denoted b inputs (is i)))) }))
           ∙ (λ i. finish whole b inputs ws (record { guard = at b inputs g; far = around-call b env g inputs cells.now (calls whole.core whole.ordered.base whole.ordered.sequence depth f) sane (s.bit inputs) i }));
     }
 
@@ -359,7 +360,7 @@ restore-moves {whole} {b} {env} {g} {ws} before h s =
       base = l;
       standing = standing-on l (record { all = all-written (λ n. n < count b) before.items env h.all s.ready.placed.known.all }) s;
       same = λ inputs.
-          (λ i. finish whole b inputs ws (record { guard = at b inputs g; far = (ap (outcome_of (stop_of b inputs)) (written-map (at b inputs) before.items env) ∙ set-goes (stop_of b inputs) (denoted b inputs env) (written (entries b inputs before.items))) i }));
+          (λ i. finish whole b inputs ws (record { guard = at b inputs g; far = (ap (outcome_of (so_far b inputs)) (written-map (at b inputs) before.items env) ∙ set-goes (so_far b inputs) (denoted b inputs env) (written (entries b inputs before.items))) i }));
     }
 
 pub return-moves : {whole : Whole} {b : Builder} {env : List ℕ} {g : ℕ} {ws : List Work} (cells : Bor (List ℕ)) (outer : Vec ℕ Global) → Known b outer.items → Standing whole b env g ws → Moves whole b b (received 0 cells.now env outer.items) g ws ws (λ inputs. done whole b inputs (Return cells outer) (point b inputs env g))
@@ -370,7 +371,7 @@ return-moves {whole} {b} {env} {g} {ws} cells outer k s =
       base = l;
       standing = standing-on l (known-received cells.now env outer.items sane s.ready.placed.known k) s;
       same = λ inputs.
-          (λ i. finish whole b inputs ws (record { guard = at b inputs g; far = (ap (outcome_of (stop_of b inputs)) (denoted-received inputs cells.now env outer.items sane) ∙ set-goes (stop_of b inputs) (denoted b inputs env) (λ e. with_values cells.now (environment e) (denoted b inputs outer.items))) i }));
+          (λ i. finish whole b inputs ws (record { guard = at b inputs g; far = (ap (outcome_of (so_far b inputs)) (denoted-received inputs cells.now env outer.items sane) ∙ set-goes (so_far b inputs) (denoted b inputs env) (λ e. with_values cells.now (environment e) (denoted b inputs outer.items))) i }));
     }
 
 -- the loop

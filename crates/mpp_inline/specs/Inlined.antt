@@ -1,5 +1,5 @@
 -- What the flat program of a driver is, and when there is none.
-use Rattle.std.specs.Prelude.{◌≡◌, ℕ, ◌+◌, ◌*◌, ◌<◌, ◌≤◌, min, List, [], take, drop, map, length, Some, All}
+use Rattle.std.specs.Prelude.{◌≡◌, ℕ, ◌+◌, ◌*◌, ◌<◌, ◌≤◌, min, List, take, drop, map, length, Some, All}
 use Rattle.std.specs.List.{AllByRecursion}
 use Rattle.m_fixed.specs.declared.amount.Value.{Value}
 use Rattle.m_places.specs.declared.limits.TheConstants.{DRIVER_WEIGHT}
@@ -9,14 +9,16 @@ use Rattle.observables.specs.declared.face.FaceLabel.{FaceLabel}
 use Rattle.observables.specs.declared.face.FaceLabel.TheVariants.{Verif, DriverLine}
 use Rattle.flat_code.specs.declared.program.Flat.{Flat}
 use Rattle.observables.specs.Answers.{told_of}
+use Rattle.observables.specs.Inputs.{AreValuesOf}
 use Rattle.flat_code.specs.Runs.{IsFlat, flat_run}
 use Rattle.driver_core.specs.declared.program.Core.{Core}
 use Rattle.driver_core.specs.Answers.{answer_of}
+use Rattle.driver_core.specs.Inputs.{inputs_said}
 use Rattle.driver_core.specs.Weights.{weight_of}
 use Rattle.mpp_inline.specs.declared.fault.InlineFault.{InlineFault}
 use Rattle.mpp_inline.specs.declared.fault.InlineFault.TheVariants.{DriverTooLarge, Memory}
 
--- the most nodes, the most checks, and the most labels behind those of the base
+-- the most nodes, the most checks, the most notes, and the most labels behind those of the base
 abbrev pub most_nodes : ℕ
 most_nodes = 100_000_000
 
@@ -25,22 +27,24 @@ abbrev pub IsDriverLine : FaceLabel → Type 0
 IsDriverLine (Verif label) = ⊥
 IsDriverLine (DriverLine line) = Unit {0}
 
--- The flat program of a driver with what its labels tell.
-pub record IsInlined (core : Core) (base : Base) (declared : Declared) (requests : List ℕ) (flat : Flat) (labels : List FaceLabel) : Type 0 where
-  -- for every list of inputs its answer, read through the labels, is the driver's
-  pub answer : (inputs : List Value) → told_of labels [] (flat_run flat inputs) ≡ Some (answer_of core base declared requests inputs)
+-- The flat program of a driver with what its labels tell, and the numbers of the labels of its notes.
+pub record IsInlined (core : Core) (base : Base) (declared : Declared) (requests : List ℕ) (flat : Flat) (labels : List FaceLabel) (notes : List ℕ) : Type 0 where
+  -- for every list of values that the inputs may have its answer, read through the labels and the notes, is the driver's
+  pub answer : (inputs : List Value) → AreValuesOf (inputs_said declared) inputs → told_of labels notes (flat_run flat inputs) ≡ Some (answer_of core base declared requests inputs)
   pub flat_program : IsFlat flat
-  -- it has the inputs that are declared, and an output for each request
+  -- it has the inputs that are declared, and an output for each note and then for each request; a note is of a label of the base
   pub inputs : flat.inputs ≡ length (inputs_from 0 declared.variables)
-  pub outputs : length flat.outputs ≡ length requests
+  pub outputs : length flat.outputs ≡ length notes + length requests
+  pub noted : AllByRecursion (λ number. number < length base.labels) notes
   -- the first labels are those of the base, in order, all others are lines of the driver, and each check's label is there
   pub first_labels : take (length base.labels) labels ≡ map Verif base.labels
   pub further_labels : AllByRecursion IsDriverLine (drop (length base.labels) labels)
   pub labelled : All (λ check. check.label < length labels) flat.checks
   -- how large it is, which the driver's weight bounds, and how large it may be
-  pub size : length flat.nodes + length flat.checks + length labels ≤ 3 + length base.labels + base.cells + 6 * weight_of core base
+  pub size : length flat.nodes + length flat.checks + length labels + length notes ≤ 3 + length base.labels + 2 * base.cells + 6 * weight_of core base
   pub nodes_fit : length flat.nodes ≤ most_nodes
   pub checks_fit : length flat.checks ≤ most_nodes
+  pub notes_fit : length notes ≤ most_nodes
   pub labels_fit : length labels ≤ length base.labels + most_nodes
 
 -- a driver that isn't too large

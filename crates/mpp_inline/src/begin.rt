@@ -1,23 +1,25 @@
 //! The first nodes, and the outputs at the end.
 
-ghost use Rattle.std.specs.Prelude.{◌≡◌, ◌<◌, ◌≤◌, ◌+◌, ◌^◌, ◌++◌, pos, IfOk, OnOk, length, map, replicate, slice_index_or};
-ghost use Rattle.m_fixed.specs.declared.amount.Value.TheVariants.{Num};
+ghost use Rattle.std.specs.Prelude.{◌≡◌, ◌<◌, ◌≤◌, ◌+◌, ◌*◌, ◌^◌, ◌++◌, pos, IfOk, OnOk, length, map, replicate, slice_index_or};
+ghost use Rattle.m_fixed.specs.declared.amount.Value.TheVariants.{Undef, Num};
 ghost use Rattle.observables.specs.declared.face.FaceLabel.TheVariants.{Verif};
 ghost use Rattle.m_ast.specs.Items.{cells_in, size_in};
 ghost use Rattle.m_symbols.specs.Declarations.{inputs_from, owners_from, placed_from};
-ghost use Rattle.driver_core.specs.Answers.{start_from, first_value, next_input};
-ghost use Rattle.mpp_inline.specs.inner.Growth.{Sane, Gives, Begun, HasLiterals, InputIsThere};
+ghost use Rattle.driver_core.specs.Answers.{next_input};
+ghost use Rattle.driver_core.specs.Inputs.{type_said};
+ghost use Rattle.mpp_inline.specs.inner.Growth.{Sane, Gives, Begun, HasLiterals, InputIsThere, typed_value, begun_value, begun_from};
+ghost use Rattle.mpp_inline.specs.inner.Told.{nodes_of, numbers_of};
 ghost use Rattle.mpp_inline.specs.inner.Sizes.{load};
 
 use crate::builder::{Builder, UNDEF};
 use crate::cells::look;
 use flat_code::Node;
-use m_ast::Role;
-use m_fixed::{Amount, Value};
+use m_ast::{Role, VariableItem};
+use m_fixed::{Amount, Op, Value};
 use m_places::Label;
 use m_symbols::Symbols;
 use micro_m::Base;
-use observables::FaceLabel;
+use observables::{FaceLabel, InputType, type_of};
 use std::alloc::{AllocError, Global};
 
 /// The three literals, and the labels of the rules.
@@ -32,6 +34,7 @@ pub fn first_nodes(alloc: Global, inputs: u32, base: &Base) -> Result<Builder, A
         nodes: Vec::new(alloc),
         checks: Vec::new(alloc),
         labels: first_labels(alloc, base.labels.as_slice())?,
+        notes: Vec::new(alloc),
     };
     b.push(Node::Lit(Value::Undef))?;
     b.push(Node::Lit(Value::Num(Amount::zero())))?;
@@ -83,35 +86,60 @@ pub fn first_cells(
 ) -> Result<Vec<u32>, AllocError>
     requires inputs { b.old.inputs ≡ length (inputs_from 0 symbols.now.variables) }
     requires placed { symbols.now.variables ≡ placed_from 0 (map (λ v. v.item) symbols.now.variables) }
-    requires room { load b.old + length (owners_from 0 symbols.now.variables) < 2 ^ 32 }
+    requires room { load b.old + 2 * length (owners_from 0 symbols.now.variables) < 2 ^ 32 }
     ensures step { IfOk result (λ env. Sane b.old
-        → Begun b.old b.new (λ inputs. start_from inputs 0 symbols.now.variables) env.items) }
-    ensures size { OnOk result (load b.new ≤ load b.old + length (owners_from 0 symbols.now.variables)) }
+        → Begun b.old b.new (λ inputs. begun_from inputs 0 symbols.now.variables) env.items) }
+    ensures size { OnOk result (load b.new ≤ load b.old + 2 * length (owners_from 0 symbols.now.variables)) }
 {
     let inputs = b.inputs;
     let mut env = Vec::new(alloc);
     let mut next = 0;
     for v in 0..symbols.count() {
         let variable = symbols.variable(v);
-        let role = &variable.item.role;
-        let number = first_node(b, role, next)?;
-        next = input_behind(role, next, inputs);
+        let number = first_node(b, &variable.item, next)?;
+        next = input_behind(&variable.item.role, next, inputs);
         add_cells(&mut env, variable.cells, number)?;
     }
     Ok(env)
 }
 
 /// What a variable begins with, where the next input has this number.
-fn first_node(b: &mut Builder, role: &Role, next: u32) -> Result<u32, AllocError>
-    requires { load b.old + cells_in (size_in role.now) < 2 ^ 32 }
-    ensures step { IfOk result (λ k. Sane b.old → InputIsThere b.old.inputs next role.now
-        → Gives b.old b.new (λ inputs. first_value inputs next role.now) k) }
-    ensures size { OnOk result (load b.new ≤ load b.old + cells_in (size_in role.now)) }
+fn first_node(b: &mut Builder, item: &VariableItem, next: u32) -> Result<u32, AllocError>
+    requires { load b.old + 2 * cells_in (size_in item.now.role) < 2 ^ 32 }
+    ensures step { IfOk result (λ k. Sane b.old → InputIsThere b.old.inputs next item.now.role
+        → Gives b.old b.new (λ inputs. begun_value inputs next item.now) k) }
+    ensures size { OnOk result (load b.new ≤ load b.old + 2 * cells_in (size_in item.now.role)) }
 {
-    match role {
-        Role::Input(_) => b.push(Node::Input(next)),
+    match &item.role {
+        Role::Input(_) => input_node(b, kind_of(item), next),
         Role::Computed(_) => Ok(UNDEF),
         Role::Constant(amount) => b.push(Node::Lit(Value::Num(*amount))),
+    }
+}
+
+/// The node of an input: of the type `Truth` it is the `And` of the input with itself, which is undefined, 0 or 1 whatever the input
+/// is. Nothing else reads such an input.
+fn input_node(b: &mut Builder, kind: InputType, next: u32) -> Result<u32, AllocError>
+    requires { load b.old + 2 < 2 ^ 32 }
+    ensures step { IfOk result (λ k. Sane b.old → next < b.old.inputs
+        → Gives b.old b.new (λ inputs. typed_value kind (slice_index_or inputs next Undef)) k) }
+    ensures size { OnOk result (load b.new ≤ load b.old + 2) }
+{
+    let input = b.push(Node::Input(next))?;
+    match kind {
+        InputType::Any => Ok(input),
+        InputType::Whole => Ok(input),
+        InputType::Truth => b.push(Node::Do(Op::And, input, input, input)),
+    }
+}
+
+/// The type that a declaration says.
+fn kind_of(item: &VariableItem) -> InputType
+    ensures { result ≡ type_said item.now.value_word }
+{
+    match &item.value_word {
+        Some(word) => type_of(word.bytes()),
+        None => InputType::Any,
     }
 }
 
@@ -138,13 +166,50 @@ fn add_cells(env: &mut Vec<u32>, cells: u32, number: u32) -> Result<(), AllocErr
     Ok(())
 }
 
-/// The nodes of the requested cells.
-pub fn outputs_of(alloc: Global, env: &[u32], requests: &[u32]) -> Result<Vec<u32>, AllocError>
-    ensures { IfOk result (λ outputs. outputs.items ≡ map (λ x. slice_index_or env.now x 0) requests.now) }
+/// The nodes of the notes, and then those of the requested cells.
+pub fn outputs_of(
+    alloc: Global,
+    notes: &[(u32, u32)],
+    env: &[u32],
+    requests: &[u32],
+) -> Result<Vec<u32>, AllocError>
+    ensures { IfOk result (λ outputs. outputs.items
+        ≡ nodes_of notes.now ++ map (λ x. slice_index_or env.now x 0) requests.now) }
 {
-    let mut outputs = Vec::new(alloc);
+    let mut outputs = nodes_of(alloc, notes)?;
+    add_outputs(&mut outputs, env, requests)?;
+    Ok(outputs)
+}
+
+/// The nodes of notes.
+fn nodes_of(alloc: Global, notes: &[(u32, u32)]) -> Result<Vec<u32>, AllocError>
+    ensures { IfOk result (λ nodes. nodes.items ≡ nodes_of notes.now) }
+{
+    let mut nodes = Vec::new(alloc);
+    for (node, _) in notes {
+        nodes.push(*node)?;
+    }
+    Ok(nodes)
+}
+
+/// The numbers of the labels of notes.
+pub fn numbers_of(alloc: Global, notes: &[(u32, u32)]) -> Result<Vec<u32>, AllocError>
+    ensures { IfOk result (λ numbers. numbers.items ≡ numbers_of notes.now) }
+{
+    let mut numbers = Vec::new(alloc);
+    for (_, number) in notes {
+        numbers.push(*number)?;
+    }
+    Ok(numbers)
+}
+
+/// The nodes of the requested cells, behind others.
+fn add_outputs(outputs: &mut Vec<u32>, env: &[u32], requests: &[u32]) -> Result<(), AllocError>
+    ensures { OnOk result (outputs.new.items
+        ≡ outputs.old.items ++ map (λ x. slice_index_or env.now x 0) requests.now) }
+{
     for cell in requests {
         outputs.push(look(env, *cell as usize))?;
     }
-    Ok(outputs)
+    Ok(())
 }

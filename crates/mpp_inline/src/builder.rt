@@ -1,7 +1,7 @@
 //! A flat program that grows.
 
 ghost use Rattle.std.specs.Prelude.{◌<◌, ◌^◌, IfOk, OnOk};
-ghost use Rattle.mpp_inline.specs.inner.Growth.{Pushed, CheckedRule, CheckedLine};
+ghost use Rattle.mpp_inline.specs.inner.Growth.{Pushed, CheckedRule, CheckedLine, NotedAt};
 ghost use Rattle.mpp_inline.specs.inner.Sizes.{load};
 
 use flat_code::{Check, Node};
@@ -15,13 +15,15 @@ pub const ZERO: u32 = 1;
 /// The literal 1, the guard of what is always reached.
 pub const ONE: u32 = 2;
 
-/// The program so far: how many inputs there are, the nodes, the checks, and what the labels tell.
+/// The program so far: how many inputs there are, the nodes, the checks, what the labels tell, and for each note its node and the
+/// number of its label.
 #[derive(Drop)]
 pub struct Builder {
     pub inputs: u32,
     pub nodes: Vec<Node>,
     pub checks: Vec<Check>,
     pub labels: Vec<FaceLabel>,
+    pub notes: Vec<(u32, u32)>,
 }
 
 impl Builder {
@@ -36,15 +38,29 @@ impl Builder {
     }
 
     /// A check of the rules, whose label is there.
-    pub fn check_rule(&mut self, guard: u32, condition: u32, label: u32) -> Result<(), AllocError>
-        ensures { OnOk result (CheckedRule self.old self.new guard condition label) }
+    pub fn check_rule(
+        &mut self,
+        guard: u32,
+        condition: u32,
+        over_only: bool,
+        label: u32,
+    ) -> Result<(), AllocError>
+        ensures { OnOk result (CheckedRule self.old self.new guard condition over_only label) }
     {
         self.checks.push(Check {
             guard,
             condition,
-            over_only: false,
+            over_only,
             label,
         })?;
+        Ok(())
+    }
+
+    /// A note of the label with this number, told where the node is a number other than 0.
+    pub fn note(&mut self, node: u32, label: u32) -> Result<(), AllocError>
+        ensures { OnOk result (NotedAt self.old self.new node label) }
+    {
+        self.notes.push((node, label))?;
         Ok(())
     }
 

@@ -13,10 +13,10 @@ ghost use Rattle.driver_core.specs.Weights.{weight_of};
 ghost use Rattle.mpp_inline.specs.Inlined.{IsInlined, HasWeight, IsTooLarge};
 ghost use Rattle.mpp_inline.specs.inner.Growth.{HasLiterals};
 ghost use Rattle.mpp_inline.specs.inner.Sizes.{load};
-ghost use Rattle.mpp_inline.specs.inner.Told.{Answers};
+ghost use Rattle.mpp_inline.specs.inner.Told.{Answers, numbers_of};
 
 use crate::InlineFault;
-use crate::begin::{first_cells, first_nodes, outputs_of};
+use crate::begin::{first_cells, first_nodes, numbers_of, outputs_of};
 use crate::blocks::emit_all;
 use crate::builder::Builder;
 use crate::ruleless::{is_ruleless, without_rules};
@@ -30,19 +30,20 @@ use observables::FaceLabel;
 use rule_order::Ordered;
 use std::alloc::{AllocError, Global};
 
-/// The flat program of a driver over the rules of an ordered base, and what its labels tell: for every list of inputs it
-/// answers what the driver does. The inputs are those of the symbols in order, and there is an output for each requested cell.
+/// The flat program of a driver over the rules of an ordered base, what its labels tell, and the numbers of the labels of its notes:
+/// for every list of values that the inputs may have it answers what the driver does. The inputs are those of the symbols in order.
+/// There is an output for each note, in order, and then one for each requested cell.
 ///
-/// The base has the cells of the symbols and is ordered, as `order` answers it. Where the driver weighs more than 4,000,000,
-/// it is refused before any node is made; else the program has at most 6 nodes, checks and labels for each unit of the weight, one
-/// node for each cell, and 3 nodes and the labels of the base besides. No call is as deep as a chain of functions.
+/// The base has the cells of the symbols and is ordered, as `order` answers it. Where the driver weighs more than 4,000,000, it is
+/// refused before any node is made; else the program has at most 6 nodes, checks, labels and notes for each unit of the weight, two
+/// nodes for each cell, and 3 nodes and the labels of the base besides. No call is as deep as a chain of functions.
 pub fn inline(
     alloc: Global,
     core: &Core,
     ordered: &Ordered,
     symbols: &Symbols,
     requests: &[u32],
-) -> Result<(Flat, Seq<FaceLabel>), InlineFault>
+) -> Result<(Flat, Seq<FaceLabel>, Seq<u32>), InlineFault>
     requires base { IsValidBase ordered.now.base }
     requires order { IsOrder ordered.now.base ordered.now.sequence }
     requires cells { ordered.now.base.cells ≡ length (owners_from 0 symbols.now.variables) }
@@ -51,7 +52,7 @@ pub fn inline(
     requires few_labels { length ordered.now.base.labels ≤ PARTS }
     ensures outcome { Outcome Memory result
         (λ made. HasWeight core.now ordered.now.base
-        × IsInlined core.now ordered.now.base symbols.now requests.now made.0 made.1)
+        × IsInlined core.now ordered.now.base symbols.now requests.now made.0 made.1 made.2)
         (IsTooLarge core.now ordered.now.base) }
 {
     let weight = weight(alloc, core, &ordered.base)?;
@@ -72,7 +73,7 @@ fn flat_program(
     ordered: &Ordered,
     symbols: &Symbols,
     requests: &[u32],
-) -> Result<(Flat, Seq<FaceLabel>), AllocError>
+) -> Result<(Flat, Seq<FaceLabel>, Seq<u32>), AllocError>
     requires base { IsValidBase ordered.now.base }
     requires order { IsOrder ordered.now.base ordered.now.sequence }
     requires cells { ordered.now.base.cells ≡ length (owners_from 0 symbols.now.variables) }
@@ -80,7 +81,7 @@ fn flat_program(
     requires few_cells { ordered.now.base.cells ≤ CELLS }
     requires few_labels { length ordered.now.base.labels ≤ PARTS }
     requires light { weight_of core.now ordered.now.base ≤ DRIVER_WEIGHT }
-    ensures { IfOk result (λ made. IsInlined core.now ordered.now.base symbols.now requests.now made.0 made.1) }
+    ensures { IfOk result (λ made. IsInlined core.now ordered.now.base symbols.now requests.now made.0 made.1 made.2) }
 {
     if is_ruleless(&ordered.base) {
         let left = without_rules(alloc, core)?;
@@ -96,7 +97,7 @@ fn whole_program(
     ordered: &Ordered,
     symbols: &Symbols,
     requests: &[u32],
-) -> Result<(Flat, Seq<FaceLabel>), AllocError>
+) -> Result<(Flat, Seq<FaceLabel>, Seq<u32>), AllocError>
     requires base { IsValidBase ordered.now.base }
     requires order { IsOrder ordered.now.base ordered.now.sequence }
     requires cells { ordered.now.base.cells ≡ length (owners_from 0 symbols.now.variables) }
@@ -104,11 +105,12 @@ fn whole_program(
     requires few_cells { ordered.now.base.cells ≤ CELLS }
     requires few_labels { length ordered.now.base.labels ≤ PARTS }
     requires light { weight_of core.now ordered.now.base ≤ DRIVER_WEIGHT }
-    ensures { IfOk result (λ made. IsInlined core.now ordered.now.base symbols.now requests.now made.0 made.1) }
+    ensures { IfOk result (λ made. IsInlined core.now ordered.now.base symbols.now requests.now made.0 made.1 made.2) }
 {
     let mut b = first_nodes(alloc, symbols.inputs(), &ordered.base)?;
     let outputs = emit_driver(alloc, &mut b, core, ordered, symbols, requests)?;
-    Ok(finished(b, outputs))
+    let notes = numbers_of(alloc, &b.notes)?;
+    Ok(finished(b, outputs, notes))
 }
 
 /// What the driver does, from its inputs to the nodes of the requested cells.
@@ -125,29 +127,30 @@ fn emit_driver(
     requires cells { ordered.now.base.cells ≡ length (owners_from 0 symbols.now.variables) }
     requires inputs { b.old.inputs ≡ length (inputs_from 0 symbols.now.variables) }
     requires placed { symbols.now.variables ≡ placed_from 0 (map (λ v. v.item) symbols.now.variables) }
-    requires room { load b.old + ordered.now.base.cells + 6 * weight_of core.now ordered.now.base < 2 ^ 32 }
-    ensures size { OnOk result (load b.new ≤ load b.old + ordered.now.base.cells + 6 * weight_of core.now ordered.now.base) }
+    requires room { load b.old + 2 * ordered.now.base.cells + 6 * weight_of core.now ordered.now.base < 2 ^ 32 }
+    ensures size { OnOk result (load b.new ≤ load b.old + 2 * ordered.now.base.cells + 6 * weight_of core.now ordered.now.base) }
     ensures answers { IfOk result (λ outputs. HasLiterals ordered.now.base.labels b.old
         → Answers core.now ordered.now.base symbols.now requests.now b.new outputs.items) }
 {
     let mut env = first_cells(alloc, b, symbols)?;
     emit_all(alloc, b, &mut env, core, ordered)?;
-    outputs_of(alloc, &env, requests)
+    outputs_of(alloc, &b.notes, &env, requests)
 }
 
-/// The program with its outputs.
-fn finished(b: Builder, outputs: Vec<u32>) -> (Flat, Seq<FaceLabel>)
+/// The program with its outputs, and the numbers of the labels of its notes.
+fn finished(b: Builder, outputs: Vec<u32>, notes: Vec<u32>) -> (Flat, Seq<FaceLabel>, Seq<u32>)
     ensures { (core : Core) (base : Base) (declared : Declared) (requests : List ℕ)
-        → Answers core base declared requests b outputs.items
+        → Answers core base declared requests b outputs.items → notes.items ≡ numbers_of b.notes.items
         → base.cells ≤ CELLS → weight_of core base ≤ DRIVER_WEIGHT
-        → load b ≤ 3 + length base.labels + base.cells + 6 * weight_of core base
-        → IsInlined core base declared requests result.0 result.1 }
+        → load b ≤ 3 + length base.labels + 2 * base.cells + 6 * weight_of core base
+        → IsInlined core base declared requests result.0 result.1 result.2 }
 {
     let Builder {
         inputs,
         nodes,
         checks,
         labels,
+        notes: _,
     } = b;
     let flat = Flat {
         inputs,
@@ -155,5 +158,5 @@ fn finished(b: Builder, outputs: Vec<u32>) -> (Flat, Seq<FaceLabel>)
         checks: Seq::from_vec(checks),
         outputs: Seq::from_vec(outputs),
     };
-    (flat, Seq::from_vec(labels))
+    (flat, Seq::from_vec(labels), Seq::from_vec(notes))
 }

@@ -1,21 +1,27 @@
 //! The rules, written out.
 
-ghost use Rattle.std.specs.Prelude.{◌≡◌, ◌<◌, ◌≤◌, ◌+◌, ◌*◌, ◌^◌, length, OnOk, IfOk};
+ghost use Rattle.std.specs.Prelude.{◌≡◌, ℕ, List, [], ◌<◌, ◌≤◌, ◌+◌, ◌*◌, ◌^◌, length, OnOk, IfOk};
 ghost use Rattle.std.specs.List.{sum_by};
 ghost use Rattle.micro_m.specs.Bases.{IsValidBase};
+ghost use Rattle.micro_m.specs.Failures.{Check};
+ghost use Rattle.micro_m.specs.Values.{environment, term_value};
 ghost use Rattle.rule_order.specs.Orders.{IsOrder, cells_at};
 ghost use Rattle.driver_core.specs.Meaning.{goes};
 ghost use Rattle.driver_core.specs.Weights.{check_weight, base_weight};
+ghost use Rattle.mpp_inline.specs.declared.builder.Builder.{Builder};
 ghost use Rattle.mpp_inline.specs.inner.Cells.{picked};
-ghost use Rattle.mpp_inline.specs.inner.Growth.{Sane, Known, Ready, Computed, Stage, SameBut, checked, computed, rules_in_turn};
+ghost use Rattle.mpp_inline.specs.inner.Growth.{Sane, Known, Ready, TermStep, Computed, Stage, SameBut, judged, checked, computed, rules_in_turn};
 ghost use Rattle.mpp_inline.specs.inner.Work.{Step};
 ghost use Rattle.mpp_inline.specs.inner.Sizes.{load, positions_weight};
 
-use crate::builder::Builder;
+use crate::builder::{Builder, ZERO};
 use crate::cells::{look, pick_cells, put, write};
 use crate::terms::emit_term;
 use crate::writes::write_under;
-use micro_m::Base;
+use flat_code::Node;
+use m_fixed::Op;
+use m_places::Label;
+use micro_m::{Base, is_stopping, kind_at};
 use rule_order::Ordered;
 use std::alloc::{AllocError, Global};
 
@@ -57,17 +63,43 @@ fn emit_definitions(b: &mut Builder, env: &mut [u32], ordered: &Ordered) -> Resu
     Ok(())
 }
 
+/// A check under this guard: it stops a run, or, where its error's kind doesn't, it stops over alone and is noted. The note's node is
+/// 1 where the guard is 1 and the condition is a number other than 0, and else 0.
+fn emit_check(
+    b: &mut Builder,
+    guard: u32,
+    condition: u32,
+    label: u32,
+    labels: &[Label],
+) -> Result<(), AllocError>
+    requires { load b.old + 4 < 2 ^ 32 }
+    ensures step { OnOk result ((before : Builder) (env : List ℕ) (d : Check)
+        → (Sane before → Known before env → TermStep before b.old env (λ e. term_value e d.0) condition)
+        → d.1 ≡ label → label < length labels.now → Ready labels.now before env guard
+        → Stage before b.new guard env env (λ e. goes [] e)
+        (λ e. judged labels.now d.1 (term_value (environment e) d.0) e)) }
+    ensures size { OnOk result (load b.new ≤ load b.old + 4) }
+{
+    if is_stopping(kind_at(labels, label)) {
+        return b.check_rule(guard, condition, false, label);
+    }
+    b.check_rule(guard, condition, true, label)?;
+    let truth = b.push(Node::Do(Op::Truth, condition, condition, condition))?;
+    let node = b.push(Node::Do(Op::Choose, guard, truth, ZERO))?;
+    b.note(node, label)
+}
+
 /// Each check in turn, under this guard.
 fn emit_checks(b: &mut Builder, env: &[u32], guard: u32, base: &Base) -> Result<(), AllocError>
     requires valid { IsValidBase base.now }
-    requires room { load b.old + 2 * sum_by check_weight base.now.checks < 2 ^ 32 }
+    requires room { load b.old + 4 * sum_by check_weight base.now.checks < 2 ^ 32 }
     ensures step { OnOk result (Ready base.now.labels b.old env.now guard
-        → Stage b.old b.new guard env.now env.now (λ e. goes e) (checked base.now.labels base.now.checks)) }
-    ensures size { OnOk result (load b.new ≤ load b.old + 2 * sum_by check_weight base.now.checks) }
+        → Stage b.old b.new guard env.now env.now (λ e. goes [] e) (checked base.now.labels base.now.checks)) }
+    ensures size { OnOk result (load b.new ≤ load b.old + 4 * sum_by check_weight base.now.checks) }
 {
     for (condition, label, _) in base.checks.as_slice() {
         let value = emit_term(b, env, condition)?;
-        b.check_rule(guard, value, *label)?;
+        emit_check(b, guard, value, *label, base.labels.as_slice())?;
     }
     Ok(())
 }
@@ -85,10 +117,10 @@ pub fn emit_rules(
 ) -> Result<(), AllocError>
     requires valid { IsValidBase ordered.now.base }
     requires order { IsOrder ordered.now.base ordered.now.sequence }
-    requires room { load b.old + 2 * base_weight ordered.now.base < 2 ^ 32 }
+    requires room { load b.old + 4 * base_weight ordered.now.base < 2 ^ 32 }
     ensures step { OnOk result (Ready ordered.now.base.labels b.old env.old guard
         → Step b.old b.new guard env.old env.new (rules_in_turn ordered.now.base ordered.now.sequence cells.now)) }
-    ensures size { OnOk result (load b.new ≤ load b.old + 2 * base_weight ordered.now.base) }
+    ensures size { OnOk result (load b.new ≤ load b.old + 4 * base_weight ordered.now.base) }
 {
     let before = pick_defined(alloc, env, ordered)?;
     emit_definitions(b, env, ordered)?;

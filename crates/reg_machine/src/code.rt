@@ -1,6 +1,6 @@
 //! Code, as it is kept: 12 bytes an instruction.
 ghost use Rattle.std.specs.Prelude.{◌≡◌, ◌<◌, length, slice_index_or};
-ghost use Rattle.reg_machine.specs.inner.Packed.{unpacked, IsUnder};
+ghost use Rattle.reg_machine.specs.inner.Packed.{unpacked, IsUnder, AreParts};
 
 use crate::instr::Instr;
 use m_fixed::{Op, Value};
@@ -16,6 +16,14 @@ pub enum Packed {
     Load(u8, u32),
     Check(u8, u8, bool, u32),
     Output(u32, u8),
+}
+
+/// Code as it is kept: its instructions, the literals' pool, and the slots that are used.
+#[derive(Clone, Copy)]
+pub struct Parts<'a> {
+    pub packed: &'a [Packed],
+    pub pool: &'a [Value],
+    pub used: &'a [u32],
 }
 
 /// Instructions with which nothing is wrong: each number is below its count, each register and slot that is read was
@@ -76,6 +84,17 @@ impl Code {
         ensures { result ≡ slice_index_or self.now.instrs place result }
     {
         unpacked(&self.pool, &self.used, self.packed[place])
+    }
+
+    /// The code as it is kept, for another machine. Takes no memory.
+    pub fn parts(&self) -> Parts<'_>
+        ensures { AreParts self.now result }
+    {
+        Parts {
+            packed: self.packed.as_slice(),
+            pool: self.pool.as_slice(),
+            used: self.used.as_slice(),
+        }
     }
 
     /// How many inputs there are.

@@ -14,7 +14,7 @@ mod used;
 mod wrong;
 
 pub use builder::CodeBuilder;
-pub use code::Code;
+pub use code::{Code, Packed, Parts};
 pub use instr::{Instr, REGISTERS};
 pub use laws::code_runs_its_program;
 pub use machine::Machine;

@@ -14,6 +14,7 @@ use micro_m::Base;
 use rule_base::RuleBase;
 use std::alloc::{AllocError, Global};
 use std::test::Fail;
+use std::thread::Threads;
 use why_report::{ReportFault, ReportLine, first_unsound, print_report, read_report};
 
 // The cells of REV and SEUIL.
@@ -286,14 +287,15 @@ fn judged(
 }
 
 // Whether this is found of a report over the rule with these formulas.
-fn is_judged(
+fn is_judged<R: Threads + Sync>(
+    rt: &R,
     alloc: Global,
     formulas: &[u8],
     given: Option<i128>,
     report: &[u8],
     wanted: &[u8],
 ) -> Result<bool, AllocError> {
-    match base_of(alloc, formulas) {
+    match base_of(rt, alloc, formulas) {
         Ok(made) => Ok(judged(alloc, &made, given, report)?.as_slice() == wanted),
         Err(_) => Ok(false),
     }
@@ -303,7 +305,7 @@ fn is_judged(
 fn sound_and_unsound(rt: HostRuntime) -> Result<(), Fail> {
     for (formulas, given, report, wanted) in all_judged() {
         assert!(rt;
-            is_judged(rt.alloc(), formulas, *given, report, wanted)?,
+            is_judged(&rt, rt.alloc(), formulas, *given, report, wanted)?,
             "in {formulas:?} at {report:?}"
         );
     }
@@ -336,7 +338,7 @@ fn all_are_bad(alloc: Global, symbols: &Symbols) -> Result<(), Fail>
 
 #[test]
 fn bad_lines(rt: HostRuntime) -> Result<(), Fail> {
-    match base_of(rt.alloc(), COPIED) {
+    match base_of(&rt, rt.alloc(), COPIED) {
         Ok(made) => all_are_bad(rt.alloc(), &made.symbols),
         Err(_) => Err(Fail::from("refused rules")),
     }
@@ -383,7 +385,7 @@ fn all_are_printed(alloc: Global, symbols: &Symbols) -> Result<(), Fail>
 
 #[test]
 fn read_and_printed(rt: HostRuntime) -> Result<(), Fail> {
-    match base_of(rt.alloc(), COPIED) {
+    match base_of(&rt, rt.alloc(), COPIED) {
         Ok(made) => all_are_printed(rt.alloc(), &made.symbols),
         Err(_) => Err(Fail::from("refused rules")),
     }

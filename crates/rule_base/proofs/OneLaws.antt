@@ -2,6 +2,12 @@
 use Rattle.std.proofs.Common.{◌≡◌, ℕ, List, map, Option, Some, None, Result, Ok, Err, sym, ap, ◌∙◌, subst}
 use Rattle.rule_text.specs.declared.Text.{Text}
 use Rattle.m_ast.specs.declared.item.Item.{Item}
+use Rattle.m_lexer.specs.declared.fault.LexFault.{LexFault}
+use Rattle.m_items.specs.declared.fault.ParseFault.{ParseFault}
+use Rattle.m_read_all.specs.declared.fault.ReadFault.{ReadFault}
+use Rattle.m_read_all.specs.declared.fault.ReadFault.TheVariants as read
+use Rattle.m_read_all.specs.Files.{SayAll, IsFirstFileFault}
+use Rattle.m_read_all.proofs.OneFiles.{say_one, say_or_fail, fail_once}
 use Rattle.m_symbols.specs.Declarations.{Declared, declared_by}
 use Rattle.m_symbols.specs.Faults.{first_fault}
 use Rattle.m_symbols.specs.declared.fault.DeclareFault.{DeclareFault}
@@ -14,11 +20,9 @@ use Rattle.micro_m.specs.Reads.{IsCycle, HasNoCycle}
 use Rattle.micro_m.specs.declared.base.Base.{Base}
 use Rattle.m_requests.specs.Cells.{cell_name}
 use Rattle.rule_base.specs.declared.fault.RuleFault.{RuleFault}
-use Rattle.rule_base.specs.declared.fault.RuleFault.TheVariants.{Declare, Expand, Resolve, Cycle}
-use Rattle.rule_base.specs.Files.{SayAll, IsFirstFileFault}
+use Rattle.rule_base.specs.declared.fault.RuleFault.TheVariants.{Lex, Parse, Declare, Expand, Resolve, Cycle}
 use Rattle.rule_base.specs.Base.{Declares, IsBaseOf}
-use Rattle.rule_base.specs.Faults.{IsRuleFault, of_a_file, of_declarations, of_loops, of_names, of_a_cycle, AreOneRuleFault, the_same, both_cycles}
-use Rattle.rule_base.proofs.OneFiles.{say_one, say_or_fail, fail_once}
+use Rattle.rule_base.specs.Faults.{IsRuleFault, of_tokens, of_items, of_declarations, of_loops, of_names, of_a_cycle, AreOneRuleFault, the_same, both_cycles}
 
 some_one : {A : Type 0} {o : Option A} {x y : A} → o ≡ Some x → o ≡ Some y → x ≡ y
 some_one e f = cc
@@ -73,7 +77,8 @@ base_or_names : (texts : List Text) (application : List ℕ) (declared : Declare
 base_or_names texts application declared base items fault made d e = ok_or_err (sym (names_one texts application made.items items made.declares d) ∙ made_resolves made) e
 
 pub no_base_and_fault : (texts : List Text) (application : List ℕ) (declared : Declared) (base : Base) (fault : RuleFault) → IsBaseOf texts application declared base → HasNoCycle base → IsRuleFault texts application fault → ⊥
-no_base_and_fault texts application declared base fault made free (of_a_file f) = say_or_fail 0 texts made.items fault made.declares.said f
+no_base_and_fault texts application declared base _ made free (of_tokens {fault = f} h) = say_or_fail 0 texts made.items (read.Lex f) made.declares.said h
+no_base_and_fault texts application declared base _ made free (of_items {fault = f} h) = say_or_fail 0 texts made.items (read.Parse f) made.declares.said h
 no_base_and_fault texts application declared base _ made free (of_declarations {items = is} {fault = f} s e) = declared_well texts made.items is f made.declares s e
 no_base_and_fault texts application declared base _ made free (of_loops {items = is} {fault = f} d e) = base_or_loops texts application declared base is f made d e
 no_base_and_fault texts application declared base _ made free (of_names {items = is} {fault = f} d x e) = base_or_names texts application declared base is f made d e
@@ -81,16 +86,26 @@ no_base_and_fault texts application declared base _ made free (of_a_cycle {decla
     free cells (subst (λ (k : Base). IsCycle k cells) (sym (one_base texts application declared others base other made also).1) c)
 
 -- The faults of an earlier step stand before those of a later one.
-by_file : (texts : List Text) (application : List ℕ) (fault other : RuleFault) → IsFirstFileFault 0 texts fault → IsRuleFault texts application other → AreOneRuleFault fault other
-by_file texts application fault other f (of_a_file g) = the_same (fail_once 0 texts fault other f g)
-by_file texts application fault _ f (of_declarations {items = is} s e) = absurd (say_or_fail 0 texts is fault s f)
-by_file texts application fault _ f (of_loops {items = is} d e) = absurd (say_or_fail 0 texts is fault d.said f)
-by_file texts application fault _ f (of_names {items = is} d x e) = absurd (say_or_fail 0 texts is fault d.said f)
-by_file texts application fault _ f (of_a_cycle cells made c b) = absurd (say_or_fail 0 texts made.items fault made.declares.said f)
+by_tokens : (texts : List Text) (application : List ℕ) (fault : LexFault) (other : RuleFault) → IsFirstFileFault 0 texts (read.Lex fault) → IsRuleFault texts application other → AreOneRuleFault (Lex fault) other
+by_tokens texts application fault _ f (of_tokens {fault = other} g) = the_same (let e = fail_once 0 texts (read.Lex fault) (read.Lex other) f g in let same : fault ≡ other = cc in ap Lex same)
+by_tokens texts application fault _ f (of_items {fault = other} g) = absurd (let e = fail_once 0 texts (read.Lex fault) (read.Parse other) f g in cc)
+by_tokens texts application fault _ f (of_declarations {items = is} s e) = absurd (say_or_fail 0 texts is (read.Lex fault) s f)
+by_tokens texts application fault _ f (of_loops {items = is} d e) = absurd (say_or_fail 0 texts is (read.Lex fault) d.said f)
+by_tokens texts application fault _ f (of_names {items = is} d x e) = absurd (say_or_fail 0 texts is (read.Lex fault) d.said f)
+by_tokens texts application fault _ f (of_a_cycle cells made c b) = absurd (say_or_fail 0 texts made.items (read.Lex fault) made.declares.said f)
+
+by_items : (texts : List Text) (application : List ℕ) (fault : ParseFault) (other : RuleFault) → IsFirstFileFault 0 texts (read.Parse fault) → IsRuleFault texts application other → AreOneRuleFault (Parse fault) other
+by_items texts application fault _ f (of_items {fault = other} g) = the_same (let e = fail_once 0 texts (read.Parse fault) (read.Parse other) f g in let same : fault ≡ other = cc in ap Parse same)
+by_items texts application fault _ f (of_tokens {fault = other} g) = absurd (let e = fail_once 0 texts (read.Parse fault) (read.Lex other) f g in cc)
+by_items texts application fault _ f (of_declarations {items = is} s e) = absurd (say_or_fail 0 texts is (read.Parse fault) s f)
+by_items texts application fault _ f (of_loops {items = is} d e) = absurd (say_or_fail 0 texts is (read.Parse fault) d.said f)
+by_items texts application fault _ f (of_names {items = is} d x e) = absurd (say_or_fail 0 texts is (read.Parse fault) d.said f)
+by_items texts application fault _ f (of_a_cycle cells made c b) = absurd (say_or_fail 0 texts made.items (read.Parse fault) made.declares.said f)
 
 by_declarations : (texts : List Text) (application : List ℕ) (items : List Item) (fault : DeclareFault) (other : RuleFault) → SayAll 0 texts items → first_fault items ≡ Some fault → IsRuleFault texts application other
     → AreOneRuleFault (Declare fault) other
-by_declarations texts application items fault other s e (of_a_file g) = absurd (say_or_fail 0 texts items other s g)
+by_declarations texts application items fault _ s e (of_tokens {fault = f} g) = absurd (say_or_fail 0 texts items (read.Lex f) s g)
+by_declarations texts application items fault _ s e (of_items {fault = f} g) = absurd (say_or_fail 0 texts items (read.Parse f) s g)
 by_declarations texts application items fault _ s e (of_declarations {items = is} {fault = f} u g) = the_same (ap Declare (some_one e (ap first_fault (say_one 0 texts items is s u) ∙ g)))
 by_declarations texts application items fault _ s e (of_loops {items = is} d g) = absurd (declared_well texts is items fault d s e)
 by_declarations texts application items fault _ s e (of_names {items = is} d x g) = absurd (declared_well texts is items fault d s e)
@@ -98,7 +113,8 @@ by_declarations texts application items fault _ s e (of_a_cycle cells made c b) 
 
 by_loops : (texts : List Text) (application : List ℕ) (items : List Item) (fault : ExpandFault) (other : RuleFault) → Declares texts items → expand_fault items application (declared_by items) ≡ Some fault
     → IsRuleFault texts application other → AreOneRuleFault (Expand fault) other
-by_loops texts application items fault other d e (of_a_file g) = absurd (say_or_fail 0 texts items other d.said g)
+by_loops texts application items fault _ d e (of_tokens {fault = f} g) = absurd (say_or_fail 0 texts items (read.Lex f) d.said g)
+by_loops texts application items fault _ d e (of_items {fault = f} g) = absurd (say_or_fail 0 texts items (read.Parse f) d.said g)
 by_loops texts application items fault _ d e (of_declarations {items = is} {fault = f} u g) = absurd (declared_well texts items is f d u g)
 by_loops texts application items fault _ d e (of_loops {items = is} {fault = f} c g) = the_same (ap Expand (some_one e (loops_one texts application items is d c ∙ g)))
 by_loops texts application items fault _ d e (of_names {items = is} c x g) = absurd (some_or_none e (loops_one texts application items is d c ∙ x))
@@ -106,7 +122,8 @@ by_loops texts application items fault _ d e (of_a_cycle {declared = k} {base = 
 
 by_names : (texts : List Text) (application : List ℕ) (items : List Item) (fault : ResolveFault) (other : RuleFault) → Declares texts items → expand_fault items application (declared_by items) ≡ None
     → resolved (declared_by items) (expansion items application (declared_by items)) ≡ Err fault → IsRuleFault texts application other → AreOneRuleFault (Resolve fault) other
-by_names texts application items fault other d x e (of_a_file g) = absurd (say_or_fail 0 texts items other d.said g)
+by_names texts application items fault _ d x e (of_tokens {fault = f} g) = absurd (say_or_fail 0 texts items (read.Lex f) d.said g)
+by_names texts application items fault _ d x e (of_items {fault = f} g) = absurd (say_or_fail 0 texts items (read.Parse f) d.said g)
 by_names texts application items fault _ d x e (of_declarations {items = is} {fault = f} u g) = absurd (declared_well texts items is f d u g)
 by_names texts application items fault _ d x e (of_loops {items = is} c g) = absurd (some_or_none g (loops_one texts application is items c d ∙ x))
 by_names texts application items fault _ d x e (of_names {items = is} {fault = f} c y g) = the_same (ap Resolve (err_one e (names_one texts application items is d c ∙ g)))
@@ -114,14 +131,16 @@ by_names texts application items fault _ d x e (of_a_cycle {declared = k} {base 
 
 by_cycle : (texts : List Text) (application : List ℕ) (declared : Declared) (base : Base) (names : List (List ℕ)) (other : RuleFault) → IsBaseOf texts application declared base → IsRuleFault texts application other
     → AreOneRuleFault (Cycle names) other
-by_cycle texts application declared base names other made (of_a_file g) = absurd (say_or_fail 0 texts made.items other made.declares.said g)
+by_cycle texts application declared base names _ made (of_tokens {fault = f} g) = absurd (say_or_fail 0 texts made.items (read.Lex f) made.declares.said g)
+by_cycle texts application declared base names _ made (of_items {fault = f} g) = absurd (say_or_fail 0 texts made.items (read.Parse f) made.declares.said g)
 by_cycle texts application declared base names _ made (of_declarations {items = is} {fault = f} s e) = absurd (declared_well texts made.items is f made.declares s e)
 by_cycle texts application declared base names _ made (of_loops {items = is} {fault = f} d e) = absurd (base_or_loops texts application declared base is f made d e)
 by_cycle texts application declared base names _ made (of_names {items = is} {fault = f} d x e) = absurd (base_or_names texts application declared base is f made d e)
 by_cycle texts application declared base names _ made (of_a_cycle cells also c b) = both_cycles
 
 pub one_fault : (texts : List Text) (application : List ℕ) (fault other : RuleFault) → IsRuleFault texts application fault → IsRuleFault texts application other → AreOneRuleFault fault other
-one_fault texts application fault other (of_a_file f) h = by_file texts application fault other f h
+one_fault texts application _ other (of_tokens {fault = f} g) h = by_tokens texts application f other g h
+one_fault texts application _ other (of_items {fault = f} g) h = by_items texts application f other g h
 one_fault texts application _ other (of_declarations {items = is} {fault = f} s e) h = by_declarations texts application is f other s e h
 one_fault texts application _ other (of_loops {items = is} {fault = f} d e) h = by_loops texts application is f other d e h
 one_fault texts application _ other (of_names {items = is} {fault = f} d x e) h = by_names texts application is f other d x e h

@@ -1,4 +1,4 @@
--- A base has few cells and few labels: the declarations' limit and that of the parts bound them.
+-- A base has few cells, few labels and few checks: the declarations' limit and that of the parts bound them.
 use Rattle.std.proofs.Common.{◌≡◌, ℕ, zero, suc, ◌+◌, ◌<◌, ◌≤◌, Bool, true, false, cond, List, [], ◌∷◌, ◌++◌, map, filter, length, Option, Some, None, Result, Ok, Err, refl, sym, ap, ◌∙◌, subst, arith, replicate, length-append}
 use Rattle.std.specs.Prelude.{nat_lt}
 use Rattle.std.specs.List.{flat_map, sum_by}
@@ -118,6 +118,40 @@ base-labels declared conditions (Ok ds) (Ok checks) base is e =
     let same : base_with declared ds checks ≡ base = cc in
     omega (arith, ap (λ (b : Base). length b.labels) same, labels-are declared ([], []) checks conditions is)
 
+-- ---- checks
+
+check-more : (declared : Declared) (before said : Checks) (condition : Condition) → with_condition declared before condition ≡ Ok said → length said.0 ≡ length before.0 + 1
+check-more declared before said condition e = by (term_said declared condition.term) (label_said condition (error_named declared condition.error)) e
+  where
+    counted : Result Checks ResolveFault → ℕ
+    counted (Ok checks) = length checks.0
+    counted (Err fault) = 0
+
+    by : (t : Result Tree ResolveFault) (l : Result Label ResolveFault) → if_said (λ tree. if_said (λ label. Ok (before.0 ++ (tree, length before.1, condition.place) ∷ [], before.1 ++ label ∷ [])) l) t ≡ Ok said → length said.0 ≡ length before.0 + 1
+    by (Err f) l h = absurd (cc)
+    by (Ok tree) (Err f) h = absurd (cc)
+    by (Ok tree) (Ok label) h = sym (ap counted h) ∙ length-append before.0 ((tree, length before.1, condition.place) ∷ [])
+
+checks-are : (declared : Declared) (before said : Checks) (conditions : List Condition) → conditions_said declared before conditions ≡ Ok said → length said.0 ≡ length before.0 + length conditions
+checks-are declared before said [] e =
+    let same : before ≡ said = cc in
+    omega (arith, ap (λ (c : Checks). length c.0) same)
+checks-are declared before said (condition ∷ conditions) e = by (with_condition declared before condition) refl e (λ next h. checks-are declared next said conditions h)
+  where
+    by : (r : Result Checks ResolveFault) → with_condition declared before condition ≡ r → if_said (λ next. conditions_said declared next conditions) r ≡ Ok said
+        → ((next : Checks) → conditions_said declared next conditions ≡ Ok said → length said.0 ≡ length next.0 + length conditions) → length said.0 ≡ length before.0 + length (condition ∷ conditions)
+    by (Err f) is h more = absurd (cc)
+    by (Ok next) is h more = omega (arith, check-more declared before next condition is, more next h)
+
+base-checks : (declared : Declared) (conditions : List Condition) (d : Result (List Definition) ResolveFault) (c : Result Checks ResolveFault) (base : Base) → conditions_said declared ([], []) conditions ≡ c → if_said (λ definitions. if_said (λ checks. Ok (base_with declared definitions checks)) c) d ≡ Ok base → length base.checks ≡ length conditions
+base-checks declared conditions (Err f) c base is e = absurd (cc)
+base-checks declared conditions (Ok ds) (Err f) base is e = absurd (cc)
+base-checks declared conditions (Ok ds) (Ok checks) base is e =
+    let same : base_with declared ds checks ≡ base = cc in
+    omega (arith, ap (λ (b : Base). length b.checks) same, checks-are declared ([], []) checks conditions is)
+
+-- ---- limits
+
 base-cells : (declared : Declared) (d : Result (List Definition) ResolveFault) (c : Result Checks ResolveFault) (base : Base) → if_said (λ definitions. if_said (λ checks. Ok (base_with declared definitions checks)) c) d ≡ Ok base → base.cells ≡ length (owners_from 0 declared.variables)
 base-cells declared (Err f) c base e = absurd (cc)
 base-cells declared (Ok ds) (Err f) base e = absurd (cc)
@@ -174,5 +208,15 @@ few-labels {texts} {application} {declared} {base} m =
     omega (
       arith,
       base-labels declared plain.conditions (definitions_said declared [] plain.definitions) (conditions_said declared ([], []) plain.conditions) base refl m.resolves,
+      all-few declared 0 counted (or-none (least None (flat_map item_faults counted)) (too_many declared 0 counted) m.expands) (omega arith),
+    )
+
+pub few-checks : {texts : List Text} {application : List ℕ} {declared : Declared} {base : Base} → IsBaseOf texts application declared base → length base.checks ≤ PARTS
+few-checks {texts} {application} {declared} {base} m =
+    let counted = filter (counts_in application) m.items in
+    let plain = expansion m.items application declared in
+    omega (
+      arith,
+      base-checks declared plain.conditions (definitions_said declared [] plain.definitions) (conditions_said declared ([], []) plain.conditions) base refl m.resolves,
       all-few declared 0 counted (or-none (least None (flat_map item_faults counted)) (too_many declared 0 counted) m.expands) (omega arith),
     )

@@ -22,13 +22,9 @@ use Rattle.m_resolve.proofs.Valid.{said_by}
 use Rattle.m_resolve.specs.declared.fault.ResolveFault.{ResolveFault}
 use Rattle.m_resolve.specs.declared.fault.ResolveFault.TheVariants as resolve
 use Rattle.rule_text.specs.declared.Text.{Text}
-use Rattle.m_lexer.specs.declared.token.Token.{Token}
-use Rattle.m_lexer.specs.declared.fault.LexFault.{LexFault}
-use Rattle.m_lexer.specs.declared.fault.LexFault.TheVariants as lex
-use Rattle.m_lexer.specs.Tokens.{start_of, Lexes, FirstFault}
-use Rattle.m_items.specs.declared.fault.ParseFault.{ParseFault}
-use Rattle.m_items.specs.declared.fault.ParseFault.TheVariants as parse
-use Rattle.m_items.specs.Faults.{IsParseFault}
+use Rattle.m_read_all.specs.declared.fault.ReadFault.{ReadFault}
+use Rattle.m_read_all.specs.declared.fault.ReadFault.TheVariants as read
+use Rattle.m_read_all.specs.Files.{SayAll, IsFirstFileFault}
 use Rattle.rule_base.specs.declared.fault.RuleFault.{RuleFault}
 use Rattle.rule_base.specs.declared.fault.RuleFault.TheVariants.{Cycle, Memory}
 use Rattle.micro_m.specs.declared.base.Base.{Base}
@@ -40,22 +36,19 @@ use Rattle.rule_order.specs.declared.fault.OrderFault.{OrderFault}
 use Rattle.rule_order.specs.declared.fault.OrderFault.TheVariants as order
 use Rattle.m_requests.specs.Cells.{cell_name}
 use Rattle.rule_base.proofs.Cycles.{cycle_within}
-use Rattle.rule_base.specs.Files.{IsFileFault, of_tokens, of_items, SayAll}
-use Rattle.rule_base.specs.Faults.{IsRuleFault, of_declarations, of_loops, of_names, of_a_cycle}
-use Rattle.rule_base.specs.inner.Parts.{IsBaseOver, IsOverFault, loops, names, ShowsNamedCycle, shown}
-use Rattle.rule_base.specs.inner.Steps.{lex_step, parse_step, declare_step, expand_step, resolve_step}
+use Rattle.rule_base.specs.Faults.{IsRuleFault, of_tokens, of_items, of_declarations, of_loops, of_names, of_a_cycle}
+use Rattle.rule_base.specs.inner.Parts.{IsReadFault, bad_tokens, bad_items, IsBaseOver, IsOverFault, loops, names, ShowsNamedCycle, shown}
+use Rattle.rule_base.specs.inner.Steps.{read_step, declare_step, expand_step, resolve_step}
 
-pub lex_told : (number : ℕ) (text : Text) (fault : LexFault) → (fault ≢ lex.Memory → FirstFault (start_of number) text.bytes fault) → lex_step fault ≢ Memory → IsFileFault number text (lex_step fault)
-lex_told number text lex.Memory h k = absurd (k refl)
-lex_told number text (lex.BadByte p) h k = of_tokens (h (λ e. cc))
-lex_told number text (lex.OpenString p) h k = of_tokens (h (λ e. cc))
-lex_told number text (lex.NumberTooGreat p) h k = of_tokens (h (λ e. cc))
+pub read_told : (texts : List Text) (fault : ReadFault) → (fault ≢ read.Memory → IsFirstFileFault 0 texts fault) → read_step fault ≢ Memory → IsReadFault texts (read_step fault)
+read_told texts (read.Lex f) h k = bad_tokens (h (λ e. cc))
+read_told texts (read.Parse f) h k = bad_items (h (λ e. cc))
+read_told texts read.Memory h k = absurd (k refl)
 
-pub parse_told : (number : ℕ) (text : Text) (tokens : List Token) (fault : ParseFault) → Lexes (start_of number) text.bytes tokens → (fault ≢ parse.Memory → IsParseFault tokens fault)
-    → parse_step fault ≢ Memory → IsFileFault number text (parse_step fault)
-parse_told number text tokens parse.Memory l h k = absurd (k refl)
-parse_told number text tokens (parse.TooDeep p) l h k = of_items tokens l (λ e. cc) (h (λ e. cc))
-parse_told number text tokens (parse.Syntax p) l h k = of_items tokens l (λ e. cc) (h (λ e. cc))
+-- a fault of the files is one of their base
+pub file_told : (texts : List Text) (application : List ℕ) (fault : RuleFault) → IsReadFault texts fault → IsRuleFault texts application fault
+file_told texts application _ (bad_tokens f) = of_tokens f
+file_told texts application _ (bad_items f) = of_items f
 
 -- the faults of the steps behind the declarations
 pub expand_told : (items : List Item) (application : List ℕ) (declared : Declared) (fault : ExpandFault) → (fault ≢ expand.Memory → expand_fault items application declared ≡ Some fault)

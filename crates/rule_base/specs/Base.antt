@@ -2,13 +2,13 @@
 use Rattle.std.specs.Prelude.{◌≡◌, ℕ, List, None, Ok}
 use Rattle.rule_text.specs.declared.Text.{Text}
 use Rattle.m_ast.specs.declared.item.Item.{Item}
+use Rattle.m_read_all.specs.Files.{SayAll}
 use Rattle.m_symbols.specs.Declarations.{Declared, declared_by}
 use Rattle.m_symbols.specs.Faults.{first_fault}
 use Rattle.index_expand.specs.Expansion.{expansion}
 use Rattle.index_expand.specs.Faults.{expand_fault}
 use Rattle.micro_m.specs.declared.base.Base.{Base}
 use Rattle.m_resolve.specs.Bases.{resolved}
-use Rattle.rule_base.specs.Files.{SayAll}
 
 -- The texts say these items, and no declaration among them has a fault.
 pub record Declares (texts : List Text) (items : List Item) : Type 0 where

@@ -2,6 +2,10 @@
 use Rattle.std.specs.Prelude.{◌≡◌, ℕ, List, map, Some, None, Err}
 use Rattle.rule_text.specs.declared.Text.{Text}
 use Rattle.m_ast.specs.declared.item.Item.{Item}
+use Rattle.m_lexer.specs.declared.fault.LexFault.{LexFault}
+use Rattle.m_items.specs.declared.fault.ParseFault.{ParseFault}
+use Rattle.m_read_all.specs.Files.{SayAll, IsFirstFileFault}
+use Rattle.m_read_all.specs.declared.fault.ReadFault.TheVariants as read
 use Rattle.m_symbols.specs.Declarations.{Declared, declared_by}
 use Rattle.m_symbols.specs.Faults.{first_fault}
 use Rattle.m_symbols.specs.declared.fault.DeclareFault.{DeclareFault}
@@ -14,14 +18,14 @@ use Rattle.micro_m.specs.Reads.{IsCycle, BeginsWithLeast}
 use Rattle.micro_m.specs.declared.base.Base.{Base}
 use Rattle.m_requests.specs.Cells.{cell_name}
 use Rattle.rule_base.specs.declared.fault.RuleFault.{RuleFault}
-use Rattle.rule_base.specs.declared.fault.RuleFault.TheVariants.{Declare, Expand, Resolve, Cycle}
-use Rattle.rule_base.specs.Files.{SayAll, IsFirstFileFault}
+use Rattle.rule_base.specs.declared.fault.RuleFault.TheVariants.{Lex, Parse, Declare, Expand, Resolve, Cycle}
 use Rattle.rule_base.specs.Base.{Declares, IsBaseOf}
 
 -- The steps in their order: the files one after the other, declarations, loops, names, and whether a cell reads itself on some way. Of
 -- several cycles any true one may be shown, from its least cell on.
 pub data IsRuleFault (texts : List Text) (application : List ℕ) : RuleFault → Type 0 where
-  of_a_file : {fault : RuleFault} → IsFirstFileFault 0 texts fault → IsRuleFault texts application fault
+  of_tokens : {fault : LexFault} → IsFirstFileFault 0 texts (read.Lex fault) → IsRuleFault texts application (Lex fault)
+  of_items : {fault : ParseFault} → IsFirstFileFault 0 texts (read.Parse fault) → IsRuleFault texts application (Parse fault)
   of_declarations : {items : List Item} {fault : DeclareFault} → SayAll 0 texts items → first_fault items ≡ Some fault → IsRuleFault texts application (Declare fault)
   of_loops : {items : List Item} {fault : ExpandFault} → Declares texts items → expand_fault items application (declared_by items) ≡ Some fault → IsRuleFault texts application (Expand fault)
   of_names : {items : List Item} {fault : ResolveFault} → Declares texts items → expand_fault items application (declared_by items) ≡ None

@@ -1,4 +1,3 @@
-pub mod Files
 pub mod Base
 pub mod Faults
 pub mod inner

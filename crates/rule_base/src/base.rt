@@ -27,6 +27,7 @@ use micro_m::Base;
 use rule_order::{OrderFault, Ordered, order};
 use rule_text::Text;
 use std::alloc::{AllocError, Global};
+use std::thread::Threads;
 
 /// What rule files declare, and the rules of one application over the cells of that.
 #[derive(Drop)]
@@ -40,7 +41,12 @@ pub struct RuleBase {
 ///
 /// Of the one file `A : const = 1 ; B : calculee : "b" ; regle 1 : application : iliad ; B = A ;` the base for `iliad` has
 /// two cells and one definition.
-pub fn rule_base(alloc: Global, texts: &[Text], application: &[u8]) -> Result<RuleBase, RuleFault>
+pub fn rule_base<R: Threads + Sync>(
+    rt: &R,
+    alloc: Global,
+    texts: &[Text],
+    application: &[u8],
+) -> Result<RuleBase, RuleFault>
     requires { TextsAreWithin texts.now }
     ensures outcome { Outcome Memory result
         (λ made. IsBaseOf texts.now application.now made.symbols made.ordered.base × IsOrder made.ordered.base made.ordered.sequence)
@@ -50,7 +56,7 @@ pub fn rule_base(alloc: Global, texts: &[Text], application: &[u8]) -> Result<Ru
     ensures placed { IfOk result (λ made. IsPlaced made.symbols) }
     ensures cells { IfOk result (λ made. made.ordered.base.cells ≡ length (owners_from 0 made.symbols.variables)) }
 {
-    let items = items_of(alloc, texts)?;
+    let items = items_of(rt, alloc, texts)?;
     let symbols = declare(alloc, &items)?;
     let base = base_over(alloc, &items, application, &symbols)?;
     ordered_base(alloc, symbols, base)

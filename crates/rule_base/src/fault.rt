@@ -2,12 +2,13 @@
 
 ghost use Rattle.std.specs.Prelude.{◌≡◌};
 ghost use Rattle.rule_base.specs.declared.fault.RuleFault.TheVariants.{Memory};
-ghost use Rattle.rule_base.specs.inner.Steps.{lex_step, parse_step, declare_step, expand_step, resolve_step};
+ghost use Rattle.rule_base.specs.inner.Steps.{read_step, declare_step, expand_step, resolve_step};
 
 use index_expand::ExpandFault;
 use m_items::ParseFault;
 use m_lexer::LexFault;
 use m_places::{Name, Seq};
+use m_read_all::ReadFault;
 use m_resolve::ResolveFault;
 use m_symbols::DeclareFault;
 use std::alloc::{AllocError, AllocFailed};
@@ -32,27 +33,14 @@ pub enum RuleFault {
     Memory,
 }
 
-impl From<LexFault> for RuleFault {
-    ghost from_gives = { λ e f. f ≡ lex_step e };
+impl From<ReadFault> for RuleFault {
+    ghost from_gives = { λ e f. f ≡ read_step e };
 
-    fn from(fault: LexFault) -> RuleFault {
+    fn from(fault: ReadFault) -> RuleFault {
         match fault {
-            LexFault::Memory => RuleFault::Memory,
-            LexFault::BadByte(place) => RuleFault::Lex(LexFault::BadByte(place)),
-            LexFault::OpenString(place) => RuleFault::Lex(LexFault::OpenString(place)),
-            LexFault::NumberTooGreat(place) => RuleFault::Lex(LexFault::NumberTooGreat(place)),
-        }
-    }
-}
-
-impl From<ParseFault> for RuleFault {
-    ghost from_gives = { λ e f. f ≡ parse_step e };
-
-    fn from(fault: ParseFault) -> RuleFault {
-        match fault {
-            ParseFault::Memory => RuleFault::Memory,
-            ParseFault::TooDeep(place) => RuleFault::Parse(ParseFault::TooDeep(place)),
-            ParseFault::Syntax(place) => RuleFault::Parse(ParseFault::Syntax(place)),
+            ReadFault::Lex(fault) => RuleFault::Lex(fault),
+            ReadFault::Parse(fault) => RuleFault::Parse(fault),
+            ReadFault::Memory => RuleFault::Memory,
         }
     }
 }

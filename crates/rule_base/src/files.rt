@@ -1,54 +1,44 @@
 //! The items of rule files.
 
+ghost use Rattle.std.specs.Prelude.{◌≡◌, All, IfOk};
 ghost use Rattle.m_places.specs.Refusals.{Outcome};
-ghost use Rattle.m_places.specs.declared.limits.TheConstants.{FILE_BYTES};
-ghost use Rattle.std.specs.Prelude.{◌≡◌, ◌≤◌, ◌+◌, All, IfOk, length};
 ghost use Rattle.rule_text.specs.Limits.{TextsAreWithin};
 ghost use Rattle.m_ast.specs.Whole.{IsWholeItem};
-ghost use Rattle.rule_base.specs.Files.{SaysItems, IsFileFault, SayAll, IsFirstFileFault};
+ghost use Rattle.m_read_all.specs.Files.{SayAll, all_items};
+ghost use Rattle.rule_base.specs.inner.Parts.{IsReadFault};
 ghost use Rattle.rule_base.specs.declared.fault.RuleFault.TheVariants.{Memory};
 
 use crate::RuleFault;
 use m_ast::Item;
-use m_items::parse;
-use m_lexer::lex;
+use m_places::{Open, Seq};
+use m_read_all::read_all;
 use rule_text::Text;
-use std::alloc::Global;
+use std::alloc::{AllocError, Global};
+use std::thread::Threads;
 
-/// The items of all files in order, or the fault of the first file that has one. The tokens of a file are dropped
-/// before the next one is read.
-pub(crate) fn items_of(alloc: Global, texts: &[Text]) -> Result<Vec<Item>, RuleFault>
+/// The items of all files in order, or the fault of the first file that has one. The files are read by several workers.
+pub(crate) fn items_of<R: Threads + Sync>(
+    rt: &R,
+    alloc: Global,
+    texts: &[Text],
+) -> Result<Vec<Item>, RuleFault>
     requires { TextsAreWithin texts.now }
-    ensures outcome { Outcome Memory result (λ items. SayAll 0 texts.now items.items) (IsFirstFileFault 0 texts.now) }
+    ensures outcome { Outcome Memory result (λ items. SayAll 0 texts.now items.items) (IsReadFault texts.now) }
     ensures whole { IfOk result (λ items. All IsWholeItem items.items) }
 {
-    let mut items = Vec::new(alloc);
-    let mut number = 0u32;
-    for text in texts {
-        let mut more = file_items(alloc, text, number)?;
-        items.append(&mut more)?;
-        number = number_behind(number)?;
-    }
+    let files = read_all(rt, alloc, texts, &Open)?;
+    let items = joined(alloc, files)?;
     Ok(items)
 }
 
-// The number of the next file. There is no room for more files than a `u32` counts.
-fn number_behind(number: u32) -> Result<u32, RuleFault>
-    ensures { Outcome Memory result (λ next. next ≡ number + 1) (λ _. ⊥) }
+// The items of files, one file's behind another's. Its only error is want of memory.
+fn joined(alloc: Global, files: Seq<Seq<Item>>) -> Result<Vec<Item>, AllocError>
+    ensures { IfOk result (λ items. items.items ≡ all_items files) }
 {
-    match number.checked_add(1) {
-        Some(next) => Ok(next),
-        None => Err(RuleFault::Memory),
+    let mut items = Vec::new(alloc);
+    for file in files.into_vec() {
+        let mut more = file.into_vec();
+        items.append(&mut more)?;
     }
-}
-
-// The items of the file with this number, or its fault.
-fn file_items(alloc: Global, text: &Text, number: u32) -> Result<Vec<Item>, RuleFault>
-    requires { length text.now.bytes ≤ FILE_BYTES }
-    ensures outcome { Outcome Memory result (λ items. SaysItems number text.now items.items) (IsFileFault number text.now) }
-    ensures whole { IfOk result (λ items. All IsWholeItem items.items) }
-{
-    let tokens = lex(alloc, text.bytes.as_slice(), number)?;
-    let items = parse(alloc, tokens.as_slice())?;
-    Ok(items.into_vec())
+    Ok(items)
 }

@@ -4,6 +4,7 @@ use m_places::Name;
 use rule_base::RuleFault;
 use std::alloc::{AllocError, Global};
 use std::test::Fail;
+use std::thread::Threads;
 
 // Formulas, and the positions of their definitions in the one order that they have, or the cells of the one cycle.
 const ORDERS: [(&[u8], &[u8]); 27] = [
@@ -57,23 +58,35 @@ fn cycle(alloc: Global, names: &[Name]) -> Result<Vec<u8>, AllocError> {
     Ok(text)
 }
 
-fn answer(alloc: Global, formulas: &[u8]) -> Result<Vec<u8>, AllocError> {
-    match base_of(alloc, formulas, CELLS) {
+fn answer<R: Threads + Sync>(
+    rt: &R,
+    alloc: Global,
+    formulas: &[u8],
+) -> Result<Vec<u8>, AllocError> {
+    match base_of(rt, alloc, formulas, CELLS) {
         Ok(made) => positions(alloc, made.ordered.sequence.as_slice()),
         Err(RuleFault::Cycle(names)) => cycle(alloc, names.as_slice()),
         Err(_) => Vec::from_slice(alloc, b"refused"),
     }
 }
 
-fn gives(alloc: Global, formulas: &[u8], wanted: &[u8]) -> Result<bool, AllocError> {
-    let answer = answer(alloc, formulas)?;
+fn gives<R: Threads + Sync>(
+    rt: &R,
+    alloc: Global,
+    formulas: &[u8],
+    wanted: &[u8],
+) -> Result<bool, AllocError> {
+    let answer = answer(rt, alloc, formulas)?;
     Ok(answer.as_slice() == wanted)
 }
 
 #[test]
 fn definitions_are_ordered_and_cycles_shown(rt: HostRuntime) -> Result<(), Fail> {
     for (formulas, wanted) in ORDERS {
-        assert!(rt; gives(rt.alloc(), formulas, wanted)?, "in {formulas:?}");
+        assert!(rt;
+            gives(&rt, rt.alloc(), formulas, wanted)?,
+            "in {formulas:?}"
+        );
     }
     Ok(())
 }

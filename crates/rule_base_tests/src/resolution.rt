@@ -7,6 +7,7 @@ use micro_m::{Base, MNode, MTerm};
 use rule_base::RuleFault;
 use std::alloc::{AllocError, Global};
 use std::test::Fail;
+use std::thread::Threads;
 
 // What each row declares.
 const DECLARED: &[u8] =
@@ -191,8 +192,12 @@ fn told(alloc: Global, fault: ResolveFault) -> Result<Vec<u8>, AllocError> {
     }
 }
 
-fn answer(alloc: Global, formulas: &[u8]) -> Result<Vec<u8>, AllocError> {
-    match base_of(alloc, formulas, DECLARED) {
+fn answer<R: Threads + Sync>(
+    rt: &R,
+    alloc: Global,
+    formulas: &[u8],
+) -> Result<Vec<u8>, AllocError> {
+    match base_of(rt, alloc, formulas, DECLARED) {
         Ok(made) => shown(alloc, &made.ordered.base),
         Err(RuleFault::Resolve(fault)) => told(alloc, fault),
         Err(_) => Vec::from_slice(alloc, b"refused"),
@@ -200,15 +205,23 @@ fn answer(alloc: Global, formulas: &[u8]) -> Result<Vec<u8>, AllocError> {
 }
 
 // Whether these formulas give this.
-fn gives(alloc: Global, formulas: &[u8], wanted: &[u8]) -> Result<bool, AllocError> {
-    let answer = answer(alloc, formulas)?;
+fn gives<R: Threads + Sync>(
+    rt: &R,
+    alloc: Global,
+    formulas: &[u8],
+    wanted: &[u8],
+) -> Result<bool, AllocError> {
+    let answer = answer(rt, alloc, formulas)?;
     Ok(answer.as_slice() == wanted)
 }
 
 #[test]
 fn names_become_cells(rt: HostRuntime) -> Result<(), Fail> {
     for (formulas, wanted) in BASES {
-        assert!(rt; gives(rt.alloc(), formulas, wanted)?, "in {formulas:?}");
+        assert!(rt;
+            gives(&rt, rt.alloc(), formulas, wanted)?,
+            "in {formulas:?}"
+        );
     }
     Ok(())
 }
@@ -216,7 +229,10 @@ fn names_become_cells(rt: HostRuntime) -> Result<(), Fail> {
 #[test]
 fn faults_of_names(rt: HostRuntime) -> Result<(), Fail> {
     for (formulas, wanted) in FAULTS {
-        assert!(rt; gives(rt.alloc(), formulas, wanted)?, "in {formulas:?}");
+        assert!(rt;
+            gives(&rt, rt.alloc(), formulas, wanted)?,
+            "in {formulas:?}"
+        );
     }
     Ok(())
 }

@@ -9,6 +9,7 @@ use micro_m::{Base, Failure, slow_value};
 use rule_order::{Ordered, fill_values, first_failure};
 use std::alloc::{AllocError, Global};
 use std::test::Fail;
+use std::thread::Threads;
 
 // More turns than any base of these tests has definitions.
 const ENOUGH: u32 = 9;
@@ -20,7 +21,7 @@ const GIVEN: usize = 7;
 const GREATEST: i128 = 10_000_000_000_000_000_000;
 
 // Formulas, E in millionths, and the whole units of A to D with the number of the label that stops.
-const RUNS: [(&[u8], Option<i128>, &[u8]); 17] = [
+const RUNS: [(&[u8], Option<i128>, &[u8]); 20] = [
     (b"B = A - 1 ; A = E + E ;", Some(3_000_000), b"6 5 ? ?"),
     (b"B = A - 1 ; A = E + E ;", None, b"? -1 ? ?"),
     (
@@ -62,6 +63,21 @@ const RUNS: [(&[u8], Option<i128>, &[u8]); 17] = [
         b"A = E ; verif 1 : application : iliad ; si A alors erreur P ; si A * A > 0 alors erreur Q ;",
         Some(GREATEST),
         b"10000000000000 ? ? ? failed 0",
+    ),
+    (
+        b"A = E ; verif 1 : application : iliad ; si A alors erreur R ; si A alors erreur S ;",
+        Some(1_000_000),
+        b"1 ? ? ?",
+    ),
+    (
+        b"A = E ; verif 1 : application : iliad ; si A alors erreur R ; si A alors erreur P ;",
+        Some(1_000_000),
+        b"1 ? ? ? failed 1",
+    ),
+    (
+        b"A = E ; verif 1 : application : iliad ; si A * A > 0 alors erreur S ; si A alors erreur P ;",
+        Some(GREATEST),
+        b"10000000000000 ? ? ? over 0",
     ),
     (
         b"A = E ; verif 1 : application : iliad ; si A - A alors erreur P ;",
@@ -156,20 +172,26 @@ fn run(alloc: Global, ordered: &Ordered, given: Option<i128>) -> Result<Vec<u8>,
     shown(alloc, ordered, &values)
 }
 
-fn answer(alloc: Global, formulas: &[u8], given: Option<i128>) -> Result<Vec<u8>, AllocError> {
-    match base_of(alloc, formulas, CELLS) {
+fn answer<R: Threads + Sync>(
+    rt: &R,
+    alloc: Global,
+    formulas: &[u8],
+    given: Option<i128>,
+) -> Result<Vec<u8>, AllocError> {
+    match base_of(rt, alloc, formulas, CELLS) {
         Ok(made) => run(alloc, &made.ordered, given),
         Err(_) => Vec::from_slice(alloc, b"refused"),
     }
 }
 
-fn gives(
+fn gives<R: Threads + Sync>(
+    rt: &R,
     alloc: Global,
     formulas: &[u8],
     given: Option<i128>,
     wanted: &[u8],
 ) -> Result<bool, AllocError> {
-    let answer = answer(alloc, formulas, given)?;
+    let answer = answer(rt, alloc, formulas, given)?;
     Ok(answer.as_slice() == wanted)
 }
 
@@ -177,7 +199,7 @@ fn gives(
 fn values_and_verifications(rt: HostRuntime) -> Result<(), Fail> {
     for (formulas, given, wanted) in RUNS {
         assert!(rt;
-            gives(rt.alloc(), formulas, given, wanted)?,
+            gives(&rt, rt.alloc(), formulas, given, wanted)?,
             "in {formulas:?} at {given:?}"
         );
     }
@@ -191,8 +213,13 @@ fn worth(alloc: Global, base: &Base, turns: u32) -> Result<Vec<u8>, AllocError> 
     Ok(text)
 }
 
-fn has_with_turns(alloc: Global, turns: u32, wanted: &[u8]) -> Result<bool, AllocError> {
-    match base_of(alloc, b"B = max(0, A - 1) ; A = E ;", CELLS) {
+fn has_with_turns<R: Threads + Sync>(
+    rt: &R,
+    alloc: Global,
+    turns: u32,
+    wanted: &[u8],
+) -> Result<bool, AllocError> {
+    match base_of(rt, alloc, b"B = max(0, A - 1) ; A = E ;", CELLS) {
         Ok(made) => Ok(worth(alloc, &made.ordered.base, turns)?.as_slice() == wanted),
         Err(_) => Ok(false),
     }
@@ -202,7 +229,7 @@ fn has_with_turns(alloc: Global, turns: u32, wanted: &[u8]) -> Result<bool, Allo
 fn values_by_turns(rt: HostRuntime) -> Result<(), Fail> {
     for (turns, wanted) in BY_TURNS {
         assert!(rt;
-            has_with_turns(rt.alloc(), turns, wanted)?,
+            has_with_turns(&rt, rt.alloc(), turns, wanted)?,
             "with {turns} turns"
         );
     }

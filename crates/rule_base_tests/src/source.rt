@@ -7,13 +7,19 @@ use m_places::{Name, Seq};
 use rule_base::{RuleBase, RuleFault, rule_base};
 use rule_text::Text;
 use std::alloc::{AllocError, Global};
+use std::thread::Threads;
 
 /// Declarations in which A to D are the cells 0 to 3, T is the cells 4 to 6, and E is the cell 7.
 pub const CELLS: &[u8] =
-    b" A : calculee : \"a\" ; B : calculee : \"b\" ; C : calculee : \"c\" ; D : calculee : \"d\" ; T : tableau[3] calculee : \"t\" ; E : saisie alias 1AA : \"e\" ; P : anomalie : \"p\" : \"p\" : \"p\" : \"p\" ; Q : anomalie : \"q\" : \"q\" : \"q\" : \"q\" ;";
+    b" A : calculee : \"a\" ; B : calculee : \"b\" ; C : calculee : \"c\" ; D : calculee : \"d\" ; T : tableau[3] calculee : \"t\" ; E : saisie alias 1AA : \"e\" ; P : anomalie : \"p\" : \"p\" : \"p\" : \"p\" ; Q : anomalie : \"q\" : \"q\" : \"q\" : \"q\" ; R : discordance : \"r\" : \"r\" : \"r\" : \"r\" ; S : informative : \"s\" : \"s\" : \"s\" : \"s\" ;";
 
 /// The base of a rule of iliad with these formulas, whatever stands behind them, and declarations.
-pub fn base_of(alloc: Global, formulas: &[u8], declared: &[u8]) -> Result<RuleBase, RuleFault>
+pub fn base_of<R: Threads + Sync>(
+    rt: &R,
+    alloc: Global,
+    formulas: &[u8],
+    declared: &[u8],
+) -> Result<RuleBase, RuleFault>
     ensures valid { IfOk result (λ made. IsValidBase made.ordered.base) }
     ensures order { IfOk result (λ made. IsOrder made.ordered.base made.ordered.sequence) }
 {
@@ -21,7 +27,7 @@ pub fn base_of(alloc: Global, formulas: &[u8], declared: &[u8]) -> Result<RuleBa
     if bytes.len() > 4_096 {
         return Err(RuleFault::Memory);
     }
-    base_over(alloc, bytes)
+    base_over(rt, alloc, bytes)
 }
 
 fn source(alloc: Global, formulas: &[u8], declared: &[u8]) -> Result<Vec<u8>, AllocError> {
@@ -31,7 +37,11 @@ fn source(alloc: Global, formulas: &[u8], declared: &[u8]) -> Result<Vec<u8>, Al
     Ok(text)
 }
 
-fn base_over(alloc: Global, bytes: Vec<u8>) -> Result<RuleBase, RuleFault>
+fn base_over<R: Threads + Sync>(
+    rt: &R,
+    alloc: Global,
+    bytes: Vec<u8>,
+) -> Result<RuleBase, RuleFault>
     requires { length bytes.items ≤ 4096 }
     ensures valid { IfOk result (λ made. IsValidBase made.ordered.base) }
     ensures order { IfOk result (λ made. IsOrder made.ordered.base made.ordered.sequence) }
@@ -40,7 +50,7 @@ fn base_over(alloc: Global, bytes: Vec<u8>) -> Result<RuleBase, RuleFault>
         name: Name::new(alloc, b"rules.m")?,
         bytes: Seq::from_vec(bytes),
     };
-    rule_base(alloc, &[text], b"iliad")
+    rule_base(rt, alloc, &[text], b"iliad")
 }
 
 /// Appends a number in decimal.

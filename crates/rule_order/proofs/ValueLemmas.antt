@@ -5,14 +5,15 @@ use Rattle.std.proofs.lemmas.List.{length-set, get_or-set_same, get_or-set_other
 use Rattle.std.proofs.Math.ListN.{length-map}
 use Rattle.std.proofs.Math.Seq.{drop-cons}
 use Rattle.std.specs.Option.{option_map_or, option_or}
-use Rattle.std.specs.List.{All}
+use Rattle.std.specs.List.{All, cons_option}
 use Rattle.m_fixed.specs.declared.amount.Value.{Value}
 use Rattle.m_fixed.specs.declared.amount.Value.TheVariants.{Undef}
+use Rattle.m_places.specs.declared.verification.Label.{Label}
 use Rattle.micro_m.specs.Trees.{Tree}
 use Rattle.micro_m.specs.declared.base.Base.{Base}
 use Rattle.micro_m.specs.Bases.{Definition, is_among, AreDistinctCells, target_at, term_at, definition_of, IsValidBase}
 use Rattle.micro_m.specs.Values.{Environment, environment, term_value, value_of, IsSolution}
-use Rattle.micro_m.specs.Failures.{Check, failure_of, failure_among}
+use Rattle.micro_m.specs.Failures.{Check, kind_at, failure_of, failure_among, note_of, notes_among}
 use Rattle.micro_m.proofs.NumberLemmas.{same, itself, cases, or-false, clash}
 use Rattle.micro_m.proofs.PositionLemmas.{definition_of-target, definition_of-position, definition-at}
 use Rattle.micro_m.proofs.TermLemmas.{term_value-same}
@@ -90,10 +91,16 @@ filled-values base sequence values valid order size c =
     one-solution base (environment values) (environment (filled base sequence values)) (ordered-free base sequence valid order)
     (filled-solves base sequence values valid order size) c
 
--- the first failure depends on no more than the values
-pub failure_among-same : (e f : Environment) (checks : List Check) → ((c : ℕ) → e c ≡ f c) → failure_among e checks ≡ failure_among f checks
-failure_among-same e f [] h = refl
-failure_among-same e f (check ∷ checks) h = λ i. option_or (failure_of (term_value-same check.0 e f (λ c r. h c) i) check.1) (failure_among-same e f checks h i)
+-- the first failure and the notes depend on no more than the values
+pub failure_among-same : (labels : List Label) (e f : Environment) (checks : List Check) → ((c : ℕ) → e c ≡ f c) → failure_among labels e checks ≡ failure_among labels f checks
+failure_among-same labels e f [] h = refl
+failure_among-same labels e f (check ∷ checks) h =
+    λ i. option_or (failure_of (term_value-same check.0 e f (λ c r. h c) i) (kind_at labels check.1) check.1) (failure_among-same labels e f checks h i)
+
+pub notes_among-same : (labels : List Label) (e f : Environment) (checks : List Check) → ((c : ℕ) → e c ≡ f c) → notes_among labels e checks ≡ notes_among labels f checks
+notes_among-same labels e f [] h = refl
+notes_among-same labels e f (check ∷ checks) h =
+    λ i. cons_option (note_of labels (term_value-same check.0 e f (λ c r. h c) i) check.1) (notes_among-same labels e f checks h i)
 
 -- ---- the loop over the positions
 

@@ -27,8 +27,9 @@ pub fn fill_values(ordered: &Ordered, values: &mut [Value])
     }
 }
 
-/// The first check of an ordered base, in the order of the source, that fails or is over, where the cells have the values that
-/// `fill_values` gives over an environment. Takes no memory.
+/// The first check of an ordered base, in the order of the source, that stops a run where the cells have the values that
+/// `fill_values` gives over an environment: its condition is over, or it is a number other than 0 and its error is an `anomalie`.
+/// Takes no memory.
 pub fn first_failure(ordered: &Ordered, values: &[Value]) -> Option<Failure>
     ensures { (given : Environment)
         → ((c : ℕ) → environment values.now c ≡ value_of ordered.now.base given c)

@@ -1,13 +1,18 @@
 -- Sources whose files keep the limits of a file.
 use Rattle.std.specs.Prelude.{ℕ, ◌≤◌, List, [], ◌∷◌, length, Option, IfSome}
-use Rattle.m_places.specs.declared.limits.TheConstants.{FILE_BYTES}
+use Rattle.m_places.specs.declared.limits.TheConstants.{FILE_BYTES, LIST_FILES}
 use Rattle.rule_text.specs.declared.Text.{Text}
 use Rattle.rule_text.specs.declared.Source.{Source}
 
 -- no rule file has more bytes than a file may have
-abbrev pub TextsAreWithin : List Text → Type 0
-TextsAreWithin [] = Unit {0}
-TextsAreWithin (text ∷ texts) = (length text.bytes ≤ FILE_BYTES) × TextsAreWithin texts
+abbrev pub EachIsWithin : List Text → Type 0
+EachIsWithin [] = Unit {0}
+EachIsWithin (text ∷ texts) = (length text.bytes ≤ FILE_BYTES) × EachIsWithin texts
+
+-- the rule files are no more than a list may have, and none has more bytes than a file may have
+pub record TextsAreWithin (texts : List Text) : Type 0 where
+  pub few : length texts ≤ LIST_FILES
+  pub each : EachIsWithin texts
 
 -- nor has a driver or a file of requests, where there is one
 abbrev pub FileIsWithin : Option (List ℕ) → Type 0

@@ -8,8 +8,8 @@ use crate::sessions::{codes, face, number};
 use household::{Household, read_table};
 use m_batch::{run_batch, run_household};
 use m_fixed::{Amount, Op, Value};
-use m_places::Seq;
-use observables::{Answer, Stop};
+use m_places::{Open, Seq};
+use observables::{Answer, InputType, Stop};
 use reg_machine::{Code, Instr, make_code};
 use std::alloc::{AllocError, Global};
 use std::test::Fail;
@@ -62,10 +62,10 @@ fn told(alloc: Global, answers: &[Answer]) -> Result<Vec<u8>, Fail> {
 
 fn batch<R: Threads + Sync>(rt: &R, alloc: Global, bytes: &[u8]) -> Result<Vec<u8>, Fail> {
     let code = code(alloc)?;
-    let face = face(alloc)?;
+    let face = face(alloc, InputType::Any)?;
     let codes = codes(alloc, face.inputs.as_slice())?;
     let rows = read_table(alloc, bytes, &codes)?;
-    let answers = run_batch(rt, alloc, &code, rows.as_slice())?;
+    let answers = run_batch(rt, alloc, &code, rows.as_slice(), &Open)?;
     told(alloc, answers.as_slice())
 }
 

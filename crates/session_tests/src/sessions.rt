@@ -2,7 +2,6 @@
 //! square of REV is.
 ghost use Rattle.std.specs.Prelude.{◌≡◌, ◌≤◌, ◌<◌, IfOk, length};
 ghost use Rattle.std.specs.List.{AllByRecursion};
-ghost use Rattle.observables.specs.Inputs.{codes_of};
 ghost use Rattle.flat_code.specs.Runs.{IsFlat};
 
 use dead_rules::tidy;
@@ -77,14 +76,14 @@ fn one_name(alloc: Global) -> Result<Seq<Name>, AllocError>
     Ok(Seq::from_vec(names))
 }
 
-// The list of the input 1AJ.
-fn one_input(alloc: Global) -> Result<Seq<Coded>, AllocError>
+// The list of the input 1AJ, with amounts of this type.
+fn one_input(alloc: Global, kind: InputType) -> Result<Seq<Coded>, AllocError>
     ensures { IfOk result (λ inputs. length inputs ≡ 1) }
 {
     let mut inputs = Vec::new(alloc);
     inputs.push(Coded {
         code: Name::new(alloc, b"1AJ")?,
-        kind: InputType::Any,
+        kind,
     })?;
     Ok(Seq::from_vec(inputs))
 }
@@ -97,10 +96,10 @@ fn one_label(alloc: Global) -> Result<Seq<FaceLabel>, AllocError>
     Ok(Seq::from_vec(labels))
 }
 
-pub(crate) fn face(alloc: Global) -> Result<Face, AllocError>
+pub(crate) fn face(alloc: Global, kind: InputType) -> Result<Face, AllocError>
     ensures { IfOk result (λ face. (length face.inputs ≡ 1) × (length face.labels ≡ 1) × (length face.outputs ≡ 1)) }
 {
-    let inputs = one_input(alloc)?;
+    let inputs = one_input(alloc, kind)?;
     let labels = one_label(alloc)?;
     let names = one_name(alloc)?;
     named_face(alloc, inputs, labels, names)
@@ -108,18 +107,23 @@ pub(crate) fn face(alloc: Global) -> Result<Face, AllocError>
 
 pub(crate) fn codes(alloc: Global, inputs: &[Coded]) -> Result<Codes, AllocError>
     requires { length inputs.now ≡ 1 }
-    ensures { IfOk result (λ codes. codes ≡ codes_of inputs.now) }
+    ensures { IfOk result (λ codes. codes ≡ inputs.now) }
 {
     Codes::new(alloc, inputs)
 }
 
-// A session of the program without amounts.
+// A session of the program without amounts, whose input takes each amount.
 fn started(alloc: Global) -> Result<Session, Fail> {
+    started_with(alloc, InputType::Any)
+}
+
+// The same, where the amounts are of this type.
+fn started_with(alloc: Global, kind: InputType) -> Result<Session, Fail> {
     let household = Household {
         pairs: Seq::from_vec(Vec::new(alloc)),
     };
     let tidy = tidied(alloc)?;
-    let face = face(alloc)?;
+    let face = face(alloc, kind)?;
     let codes = codes(alloc, face.inputs.as_slice())?;
     Ok(Session::start(alloc, tidy, face, codes, &household)?)
 }
@@ -175,20 +179,54 @@ const LINES: [(&[u8], &[u8]); 30] = [
     (b"show", b"IRN = -1000.5\n.\n"),
 ];
 
-// The table, out of reach of the proof of what goes over it.
-fn rows() -> &'static [(&'static [u8], &'static [u8])] {
-    &LINES
+/// Lines of a session whose input takes whole units alone, each with its reply.
+const WHOLE: [(&[u8], &[u8]); 12] = [
+    (b"set 1AJ 2.5", b"refused not of its type\n"),
+    (b"show", b"IRN = -1000\n.\n"),
+    (b"set 1AJ 3", b"ok\n"),
+    (b"set 1AJ -0.000001", b"refused not of its type\n"),
+    (b"set 1AJ x", b"refused bad amount\n"),
+    (b"set 9ZZ 2.5", b"refused unknown code\n"),
+    (b"show", b"IRN = -997\n.\n"),
+    (b"set 1AJ -2.0000004", b"ok\n"),
+    (b"show", b"IRN = -1002\n.\n"),
+    (b"set 1AJ 10000000000000", b"ok\n"),
+    (b"clear 1AJ", b"ok\n"),
+    (b"show", b"IRN = -1000\n.\n"),
+];
+
+/// Lines of a session whose input takes 0 and 1 alone, each with its reply.
+const TRUTH: [(&[u8], &[u8]); 10] = [
+    (b"set 1AJ 2", b"refused not of its type\n"),
+    (b"set 1AJ -1", b"refused not of its type\n"),
+    (b"set 1AJ 0.5", b"refused not of its type\n"),
+    (b"show", b"IRN = -1000\n.\n"),
+    (b"set 1AJ 1", b"ok\n"),
+    (b"set 1AJ 1.000001", b"refused not of its type\n"),
+    (b"show", b"IRN = -999\n.\n"),
+    (b"set 1AJ 0", b"ok\n"),
+    (b"set 1AJ -0", b"ok\n"),
+    (b"show", b"IRN = -1000\n.\n"),
+];
+
+// The tables, out of reach of the proof of what goes over them.
+fn rows(kind: InputType) -> &'static [(&'static [u8], &'static [u8])] {
+    match kind {
+        InputType::Any => &LINES,
+        InputType::Whole => &WHOLE,
+        InputType::Truth => &TRUTH,
+    }
 }
 
-// The lines of the table, one after another.
-fn check_lines<L: Ledger>(alloc: Global, blank: Blank) -> Result<(), Fail>
+// The lines of a table, one after another.
+fn check_lines<L: Ledger>(alloc: Global, kind: InputType, blank: Blank) -> Result<(), Fail>
     requires name { blank.name ≡ L.name }
     requires parts { blank.parts ≡ L.parts }
     requires some { 0 < L.parts }
 {
-    let mut session = started(alloc)?;
+    let mut session = started_with(alloc, kind)?;
     let mut steps = Steps::<L>::begin(blank);
-    for (line, reply) in rows() {
+    for (line, reply) in rows(kind) {
         check_line(alloc, &mut session, line, reply, &mut steps)?;
     }
     Ok(())
@@ -196,7 +234,17 @@ fn check_lines<L: Ledger>(alloc: Global, blank: Blank) -> Result<(), Fail>
 
 #[test]
 fn lines(rt: HostRuntime) -> Result<(), Fail> {
-    check_lines::<Brand>(rt.alloc(), Blank::new(1))
+    check_lines::<Brand>(rt.alloc(), InputType::Any, Blank::new(1))
+}
+
+#[test]
+fn lines_of_whole_units(rt: HostRuntime) -> Result<(), Fail> {
+    check_lines::<Brand>(rt.alloc(), InputType::Whole, Blank::new(1))
+}
+
+#[test]
+fn lines_of_truths(rt: HostRuntime) -> Result<(), Fail> {
+    check_lines::<Brand>(rt.alloc(), InputType::Truth, Blank::new(1))
 }
 
 // A line of this byte, with a carriage return at its end.

@@ -5,3 +5,12 @@ pub mod MeaningLemmas
 pub mod StandingLemmas
 pub mod PlaceLemmas
 pub mod CheckLemmas
+pub mod FindingLaws
+pub mod ReadLemmas
+pub mod DownLemmas
+pub mod ReasonLemmas
+pub mod MarkLemmas
+pub mod PlanLemmas
+pub mod PassLemmas
+pub mod FillLemmas
+pub mod StartLemmas

@@ -1,3 +1,5 @@
 -- What the contracts of inner functions speak of. Those of the public calls need none of it.
 pub mod Checked
+pub mod Held
+pub mod Plans
 pub mod Standing

@@ -136,7 +136,7 @@ fn derived_value(
 }
 
 /// The value at a cell's number, and undefined beyond the last.
-fn value_at(values: &[Value], cell: usize) -> Value
+pub(crate) fn value_at(values: &[Value], cell: usize) -> Value
     ensures { result ≡ environment values.now cell }
 {
     match values.get(cell) {

@@ -1,37 +1,15 @@
--- What a reader of records has left.
-use Rattle.std.specs.Prelude.{◌≡◌, ℕ, List, [], ◌∷◌, ◌++◌, drop, Bool, true, false, if◌then◌else◌}
-use Rattle.csv.specs.Machine.{step, is_end, ends_at_end, fields_after, field_after}
-use Rattle.csv.specs.Reading.{default_config}
+-- What a step of a reader of records does.
+use Rattle.std.specs.Prelude.{◌≡◌, ℕ, List, [], ◌∷◌, Bool, true, false}
 use Rattle.csv.specs.declared.parser.State.{State}
-use Rattle.csv.specs.declared.parser.State.TheVariants as st
 use Rattle.csv.specs.declared.parser.Action.{Action as CsvAction}
 use Rattle.csv.specs.declared.parser.Action.TheVariants as act
-use Rattle.household.specs.declared.records.Place.{Place}
-use Rattle.household.specs.declared.records.Place.TheVariants.{Record, Field, Plain, Quoted, Quote, Return}
 use Rattle.household.specs.declared.records.Action.{Action}
 use Rattle.household.specs.declared.records.Action.TheVariants.{Skip, Copy, EndField, EndRecord}
 use Rattle.household.specs.declared.records.Step.{Step}
 use Rattle.household.specs.declared.records.Records.{Records}
+use Rattle.household.specs.Reader.{left_of, records_from_state, state_of}
 
--- The records that a text gives from a state of the crate's machine on, with the fields and the bytes of
--- the record that was begun.
-abbrev pub records_from_state : State → List (List ℕ) → List ℕ → List ℕ → List (List (List ℕ))
-records_from_state s fields field [] = if ends_at_end s then (fields ++ field ∷ []) ∷ [] else []
-records_from_state s fields field (c ∷ rest) =
-    if is_end (step default_config s c).1
-    then fields_after (step default_config s c).1 fields field ∷ records_from_state (step default_config s c).0 [] [] rest
-    else records_from_state (step default_config s c).0 (fields_after (step default_config s c).1 fields field) (field_after (step default_config s c).1 c field) rest
-
--- the state of the crate's machine at a place
-abbrev pub state_of : Place → State
-state_of Record = st.StartRecord
-state_of Field = st.StartField
-state_of Plain = st.InField
-state_of Quoted = st.InQuoted
-state_of Quote = st.AfterQuote
-state_of Return = st.AfterCr
-
--- and what it does
+-- what an action of a reader is in the crate's machine
 abbrev pub action_of : Action → CsvAction
 action_of Skip = act.Skip
 action_of Copy = act.Copy
@@ -41,15 +19,6 @@ action_of EndRecord = act.EndRecord
 -- a step is that of the crate's machine
 abbrev pub Steps : Step → State × CsvAction → Type 0
 Steps step of_machine = (state_of step.place ≡ of_machine.0) × (action_of step.action ≡ of_machine.1)
-
--- the records that a reader has left
-abbrev pub left_of : Records → List (List (List ℕ))
-left_of records = records_from_state (state_of records.place) [] [] (drop records.at records.bytes.now)
-
--- What a read did: a record with these fields was the next, and the reader is behind it; or there was none.
-abbrev pub IsNext : Records → Bool → List (List ℕ) → Records → Type 0
-IsNext old true fields new = left_of old ≡ fields ∷ left_of new
-IsNext old false fields new = left_of old ≡ []
 
 -- What the end of the bytes did, where a record was begun with these fields and these bytes of a field: it is the last one; or none was begun.
 abbrev pub IsLast : State → List (List ℕ) → List ℕ → Bool → List (List ℕ) → Records → Type 0

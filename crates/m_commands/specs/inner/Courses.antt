@@ -8,9 +8,12 @@ use Rattle.m_plan.specs.declared.ending.Ending.{Ending}
 use Rattle.m_plan.specs.declared.status.Status.{Status}
 use Rattle.m_plan.specs.declared.status.Status.TheVariants.{Usage, Memory}
 use Rattle.m_work.specs.Batches.{BatchReplies, IsWrittenInParts}
+use Rattle.m_work.specs.Cases.{CasesReplies}
+use Rattle.m_work.specs.Checks.{CheckReplies}
 use Rattle.m_work.specs.Compiles.{CompileReplies}
 use Rattle.m_work.specs.Execs.{ExecReplies}
 use Rattle.m_work.specs.LargeAnswers.{LargeReplies}
+use Rattle.m_work.specs.Lints.{LintReplies}
 use Rattle.m_work.specs.Runs.{RunReplies}
 use Rattle.m_work.specs.Serves.{IsServed}
 use Rattle.m_commands.specs.Command.{command_of, plan_of}
@@ -19,7 +22,7 @@ use Rattle.m_commands.specs.declared.command.Command.TheVariants as command
 use Rattle.m_commands.specs.declared.command.Form.{Form}
 use Rattle.m_commands.specs.declared.command.Form.TheVariants as form
 use Rattle.m_commands.specs.declared.work.Work.{Work}
-use Rattle.m_commands.specs.declared.work.Work.TheVariants.{Run, Serve, Batch, Large, Compile, Exec}
+use Rattle.m_commands.specs.declared.work.Work.TheVariants.{Run, Serve, Batch, Large, Compile, Exec, Check, Lint, Cases}
 
 -- the form of a command over a source and one more file
 abbrev pub command_form : Command → Option Form
@@ -29,6 +32,9 @@ command_form (command.Batch names table) = Some form.Batch
 command_form (command.Large n) = None
 command_form (command.Compile names) = None
 command_form (command.Exec code household) = None
+command_form (command.Check list household report) = None
+command_form (command.Lint names) = None
+command_form (command.Cases names table) = Some form.Cases
 
 -- the form of the command that gathered this
 abbrev pub work_form : Work → Option Form
@@ -38,6 +44,9 @@ work_form (Batch source table) = Some form.Batch
 work_form (Large n) = None
 work_form (Compile source) = None
 work_form (Exec code rows) = None
+work_form (Check source rows report) = None
+work_form (Lint source) = None
+work_form (Cases source table) = Some form.Cases
 
 -- this is what such a command gathers
 abbrev pub IsWorkOf : Command → Work → Type 0
@@ -51,6 +60,9 @@ WorkIsAnswered (Batch source table) heard told old new status = (told ≡ heard)
 WorkIsAnswered (Large n) heard told old new status = (told ≡ heard) × IsAnswered (LargeReplies n) old new status
 WorkIsAnswered (Compile source) heard told old new status = (told ≡ heard) × IsAnswered (CompileReplies source) old new status
 WorkIsAnswered (Exec code rows) heard told old new status = (told ≡ heard) × IsAnswered (ExecReplies code rows) old new status
+WorkIsAnswered (Check source rows report) heard told old new status = (told ≡ heard) × IsAnswered (CheckReplies source rows report) old new status
+WorkIsAnswered (Lint source) heard told old new status = (told ≡ heard) × IsAnswered (LintReplies source) old new status
+WorkIsAnswered (Cases source table) heard told old new status = (told ≡ heard) × IsWrittenInParts (CasesReplies source table) old new status
 
 -- The words were no command, or there was no memory to copy them, or their command's plan ended before its files were
 -- there, or it was gathered and answered.

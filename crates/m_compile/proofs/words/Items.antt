@@ -18,7 +18,7 @@ use Rattle.rule_items.specs.Many.{Many, no_more, one_more}
 use Rattle.rule_items.specs.Grammar.{head, verification}
 use Rattle.m_items.specs.Grammar.{SpellsItem, a_declaration, a_rule, a_verification}
 use Rattle.m_items.proofs.ItemLaws.{item_passes}
-use Rattle.rule_base.specs.Files.{SayAll, no_files, a_file}
+use Rattle.m_read_all.specs.Files.{SayAll, no_files, a_file}
 use Rattle.code_file.specs.Printable.{IsFreeWord, IsPlainName}
 use Rattle.m_compile.proofs.words.Tokens.{AreSpelled, lexed_spelled, behind_spelled, word_free, name_plain, IsWholeNumber, whole_number}
 

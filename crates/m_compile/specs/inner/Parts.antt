@@ -1,5 +1,5 @@
 -- The last steps by themselves: from rules in an order and what is asked for to a program with its face.
-use Rattle.std.specs.Prelude.{◌≡◌, ℕ, ◌+◌, ◌<◌, ◌≤◌, ◌^◌, List, [], Option, length, map, take, drop, Some, Ok, Err}
+use Rattle.std.specs.Prelude.{◌≡◌, ℕ, ◌+◌, ◌<◌, ◌≤◌, ◌^◌, List, Option, length, map, take, drop, Some, Ok, Err}
 use Rattle.std.specs.List.{AllByRecursion}
 use Rattle.m_places.specs.declared.limits.TheConstants.{DRIVER_WEIGHT, REQUESTS}
 use Rattle.m_fixed.specs.declared.amount.Value.{Value}
@@ -9,16 +9,17 @@ use Rattle.micro_m.specs.declared.base.Base.{Base}
 use Rattle.observables.specs.declared.face.Face.{Face}
 use Rattle.observables.specs.declared.face.FaceLabel.TheVariants.{Verif}
 use Rattle.flat_code.specs.declared.program.Flat.{Flat}
-use Rattle.observables.specs.declared.face.FaceOutput.TheVariants.{Named}
 use Rattle.flat_code.specs.Faces.{IsFaceOf}
-use Rattle.flat_code.specs.Facts.{ArePlain}
 use Rattle.flat_code.specs.Runs.{IsFlat, flat_run}
 use Rattle.flat_code.specs.Tidy.{IsTidy}
 use Rattle.observables.specs.Answers.{told_of}
+use Rattle.observables.specs.Inputs.{AreValuesOf}
+use Rattle.observables.specs.Outputs.{names_of, notes_of}
 use Rattle.reg_machine.specs.Flow.{Listing}
 use Rattle.register_alloc.specs.Allocation.{IsAllocation, IsSmall}
 use Rattle.driver_core.specs.declared.program.Core.{Core}
 use Rattle.driver_core.specs.Answers.{answer_of}
+use Rattle.driver_core.specs.Inputs.{inputs_said}
 use Rattle.driver_core.specs.Weights.{weight_of}
 use Rattle.m_requests.specs.Cells.{cell_name}
 use Rattle.m_requests.specs.declared.fault.RequestFault.{RequestFault}
@@ -34,7 +35,7 @@ use Rattle.m_compile.specs.declared.fault.SourceFault.{SourceFault}
 use Rattle.m_compile.specs.declared.fault.SourceFault.TheVariants.{Driver as DriverIs, Core as CoreIs, Requests, DriverTooLarge}
 use Rattle.m_compile.specs.Sources.{IsWritten, running}
 use Rattle.m_compile.specs.Faults.{told_weight}
-use Rattle.m_compile.specs.Compiled.{inputs_said, IsCompiled, IsRunnable}
+use Rattle.m_compile.specs.Compiled.{IsCompiled, IsRunnable}
 
 -- Why a driver is refused over what is declared: its lines, or else its names. Where there is none there is no fault.
 pub data IsDriverFault (declared : Declared) : Option (List ℕ) → SourceFault → Type 0 where
@@ -61,14 +62,16 @@ pub record IsProgram (declared : Declared) (base : Base) (core : Core) (requests
   pub tidy : IsTidy flat
   pub shown : IsFaceOf face flat
   pub inputs : face.inputs ≡ inputs_said declared
-  pub outputs : face.outputs ≡ map Named (map (cell_name declared) requests)
+  pub names : names_of face.outputs ≡ map (cell_name declared) requests
+  pub notes : AllByRecursion (λ number. number < length base.labels) (notes_of face.outputs)
   pub first_labels : take (length base.labels) face.labels ≡ map Verif base.labels
   pub further_labels : AllByRecursion IsDriverLine (drop (length base.labels) face.labels)
   pub nodes_fit : length flat.nodes ≤ most_nodes
   pub checks_fit : length flat.checks ≤ most_nodes
   pub labels_fit : length face.labels ≤ length base.labels + most_nodes
-  pub few_outputs : length face.outputs ≤ REQUESTS
-  pub answers : (inputs : List Value) → ArePlain inputs → told_of face.labels [] (flat_run flat inputs) ≡ Some (answer_of core base declared requests inputs)
+  pub few_outputs : length face.outputs ≤ most_nodes + REQUESTS
+  pub answers : (inputs : List Value) → AreValuesOf face.inputs inputs
+      → told_of face.labels (notes_of face.outputs) (flat_run flat inputs) ≡ Some (answer_of core base declared requests inputs)
 
 -- a program, its face and its code
 abbrev pub compiled_of : Flat → Face → Listing → Compiled

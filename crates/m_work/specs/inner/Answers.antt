@@ -1,7 +1,6 @@
 -- What code answers to a household, and the session that a tidy program begins.
 use Rattle.std.specs.Prelude.{◌≡◌, ℕ, ℤ, List, Ok}
 use Rattle.observables.specs.declared.answer.Answer.{Answer}
-use Rattle.observables.specs.Inputs.{codes_of}
 use Rattle.reg_machine.specs.Machine.{machine_run}
 use Rattle.code_file.specs.Loading.{text_with}
 use Rattle.code_file.specs.declared.loaded.Loaded.{Loaded}
@@ -14,7 +13,7 @@ use Rattle.m_work.specs.declared.program.Program.{Program}
 -- the household of these bytes has no fault, and the code answers this to it
 pub record IsAnswerOf (loaded : Loaded) (rows : List ℕ) (answer : Answer) : Type 0 where
   pub pairs : List (ℕ × ℤ)
-  pub given : household_of (codes_of loaded.face.inputs) rows ≡ Ok pairs
+  pub given : household_of loaded.face.inputs rows ≡ Ok pairs
   pub ran : answer ≡ machine_run loaded.code (values_of pairs loaded.code.counts.inputs)
 
 -- the text is the code file of the code, and the command has done its work
@@ -24,5 +23,5 @@ pub data IsFileOf (loaded : Loaded) : List ℕ → Status → Type 0 where
 -- the household of these bytes has no fault, and the session begins with it
 pub record IsBegun (program : Program) (rows : List ℕ) (session : Sitting) : Type 0 where
   pub pairs : List (ℕ × ℤ)
-  pub given : household_of (codes_of program.face.inputs) rows ≡ Ok pairs
+  pub given : household_of program.face.inputs rows ≡ Ok pairs
   pub begins : session ≡ begun program.tidy program.face pairs

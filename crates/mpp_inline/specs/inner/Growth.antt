@@ -1,26 +1,35 @@
 -- What a flat program so far is worth, and what a step adds to it.
-use Rattle.std.specs.Prelude.{◌≡◌, ℕ, zero, suc, ◌+◌, ◌*◌, ◌<◌, ◌≤◌, Bool, true, false, pos, negsuc, List, [], ◌∷◌, ◌++◌, Option, Some, None, map, length, slice_index_or, slice_set, option_and_then}
-use Rattle.std.specs.List.{AllByRecursion}
+use Rattle.std.specs.Prelude.{◌≡◌, ℕ, zero, suc, ◌+◌, ◌*◌, ◌<◌, ◌≤◌, Bool, true, false, pos, negsuc, if◌then◌else◌, List, [], ◌∷◌, ◌++◌, Option, Some, None, map, length, replicate, slice_index_or, slice_set, option_and_then}
+use Rattle.std.specs.List.{AllByRecursion, cons_option}
+use Rattle.std.specs.Option.{option_or}
 use Rattle.m_fixed.specs.declared.amount.Value.{Value}
 use Rattle.m_fixed.specs.declared.amount.Value.TheVariants.{Undef, Num, Over as OverValue}
-use Rattle.m_fixed.specs.declared.operator.Op.TheVariants.{At, Le}
+use Rattle.m_fixed.specs.declared.operator.Op.TheVariants.{And, At, Le}
 use Rattle.m_fixed.specs.Operators.{op_value, truth_of, chosen}
 use Rattle.m_places.specs.declared.verification.Label.{Label}
+use Rattle.m_ast.specs.declared.variable.VariableItem.{VariableItem}
 use Rattle.m_ast.specs.declared.variable.Role.{Role}
 use Rattle.m_ast.specs.declared.variable.Role.TheVariants.{Input as InputRole, Computed as ComputedRole, Constant}
+use Rattle.m_ast.specs.Items.{is_input}
+use Rattle.m_symbols.specs.declared.variable.Variable.{Variable}
 use Rattle.micro_m.specs.declared.base.Base.{Base}
 use Rattle.micro_m.specs.Bases.{is_among, target_at, term_at}
-use Rattle.micro_m.specs.Failures.{Check, failure_of}
+use Rattle.micro_m.specs.Failures.{Check, kind_at, failure_of, note_of}
 use Rattle.micro_m.specs.Values.{Environment, environment, term_value}
 use Rattle.observables.specs.declared.answer.Stop.{Stop}
 use Rattle.flat_code.specs.declared.program.Node.{Node}
 use Rattle.flat_code.specs.declared.program.Check.{Check as Guarded}
 use Rattle.observables.specs.declared.face.FaceLabel.{FaceLabel}
 use Rattle.observables.specs.declared.face.FaceLabel.TheVariants.{Verif, DriverLine}
-use Rattle.observables.specs.Answers.{Cause, over_driver, label_number, cause_of}
+use Rattle.observables.specs.declared.inputs.InputType.{InputType}
+use Rattle.observables.specs.declared.inputs.InputType.TheVariants.{Any, Whole, Truth}
+use Rattle.observables.specs.Answers.{Cause, over_driver, label_number, cause_of, is_told}
+use Rattle.observables.specs.Outputs.{verif_of}
 use Rattle.flat_code.specs.Runs.{AreNodes, node_values, first_stop}
 use Rattle.driver_core.specs.declared.program.Core.{Core}
 use Rattle.driver_core.specs.Actions.{Action, Block}
+use Rattle.driver_core.specs.Answers.{first_value, next_input}
+use Rattle.driver_core.specs.Inputs.{type_said}
 use Rattle.driver_core.specs.Meaning.{Env, RunState, goes, stops, then_do, with_values, unless_stopped, failure_cause, action_run, block_run, called}
 use Rattle.mpp_inline.specs.Inlined.{IsDriverLine}
 use Rattle.mpp_inline.specs.inner.Cells.{written}
@@ -46,16 +55,37 @@ stop_read labels (Some stop) = Some (read_stop labels stop)
 abbrev pub stop_of : Builder → List Value → Option Cause
 stop_of b inputs = stop_read b.labels.items (first_stop (node_values inputs b.nodes.items) b.checks.items)
 
+-- the verification that a note of this label tells by its node's value, if it tells one
+abbrev pub note_read : FaceLabel → Value → Option Label
+note_read label value = if is_told value then verif_of label else None
+
+-- the verifications that notes tell, in order: each is a node and the number of a label
+abbrev pub notes_read : List FaceLabel → (ℕ → Value) → List (ℕ × ℕ) → List Label
+notes_read labels values [] = []
+notes_read labels values (n ∷ ns) = cons_option (note_read (slice_index_or labels n.1 (DriverLine 0)) (values n.0)) (notes_read labels values ns)
+
+-- what is told so far: the first stop, and the notes
+pub record SoFar : Type 0 where
+  pub stop : Option Cause
+  pub notes : List Label
+
+abbrev pub so_far : Builder → List Value → SoFar
+so_far b inputs = record { stop = stop_of b inputs; notes = notes_read b.labels.items (at b inputs) b.notes.items }
+
+-- the same, and then a stop and notes
+abbrev pub told_more : SoFar → Option Cause → List Label → SoFar
+told_more s cause notes = record { stop = option_or s.stop cause; notes = s.notes ++ notes }
+
 -- the values of the cells
 abbrev pub denoted : Builder → List Value → List ℕ → Env
 denoted b inputs env = map (at b inputs) env
 
-abbrev pub outcome_of : Option Cause → Env → RunState
-outcome_of cause env = unless_stopped cause (goes env)
+abbrev pub outcome_of : SoFar → Env → RunState
+outcome_of s env = unless_stopped s.stop (goes s.notes env)
 
--- the run so far: its first stop, and else the values of the cells
+-- the run so far: its first stop, and else its notes and the values of the cells
 abbrev pub run : Builder → List Value → List ℕ → RunState
-run b inputs env = outcome_of (stop_of b inputs) (denoted b inputs env)
+run b inputs env = outcome_of (so_far b inputs) (denoted b inputs env)
 
 -- a check's nodes and its label are there
 pub record IsCheckWithin (nodes labels : ℕ) (c : Guarded) : Type 0 where
@@ -63,9 +93,21 @@ pub record IsCheckWithin (nodes labels : ℕ) (c : Guarded) : Type 0 where
   pub condition : c.condition < nodes
   pub label : c.label < labels
 
--- What nodes and checks name is there, and the first three nodes are undefined, 0 and 1.
+-- a label that stands for a verification
+abbrev pub IsVerif : FaceLabel → Type 0
+IsVerif (Verif label) = Unit {0}
+IsVerif (DriverLine line) = ⊥
+
+-- a note's node and its label are there, and the label is a verification's
+pub record IsNoteWithin (nodes : ℕ) (labels : List FaceLabel) (n : ℕ × ℕ) : Type 0 where
+  pub node : n.0 < nodes
+  pub label : n.1 < length labels
+  pub verif : IsVerif (slice_index_or labels n.1 (DriverLine 0))
+
+-- What nodes, checks and notes name is there, and the first three nodes are undefined, 0 and 1.
 pub record Sane (b : Builder) : Type 0 where
   pub nodes : AreNodes b.inputs 0 b.nodes.items
+  pub notes : AllByRecursion (λ n. IsNoteWithin (count b) b.labels.items n) b.notes.items
   pub checks : AllByRecursion (λ c. IsCheckWithin (count b) (length b.labels.items) c) b.checks.items
   pub three : 3 ≤ count b
   pub undef : (inputs : List Value) → at b inputs 0 ≡ Undef
@@ -89,17 +131,27 @@ pub record Pushed (b c : Builder) (node : Node) (k : ℕ) : Type 0 where
   pub nodes : c.nodes.items ≡ b.nodes.items ++ node ∷ []
   pub checks : c.checks.items ≡ b.checks.items
   pub labels : c.labels.items ≡ b.labels.items
+  pub notes : c.notes.items ≡ b.notes.items
 
 -- one check more, with this label
 pub record Checked (b c : Builder) (guard condition : ℕ) (over_only : Bool) (label : ℕ) : Type 0 where
   pub inputs : c.inputs ≡ b.inputs
   pub nodes : c.nodes.items ≡ b.nodes.items
   pub checks : c.checks.items ≡ b.checks.items ++ record { guard = guard; condition = condition; over_only = over_only; label = label } ∷ []
+  pub notes : c.notes.items ≡ b.notes.items
 
 -- a check of the rules, whose label is there
-pub record CheckedRule (b c : Builder) (guard condition label : ℕ) : Type 0 where
-  pub base : Checked b c guard condition false label
+pub record CheckedRule (b c : Builder) (guard condition : ℕ) (over_only : Bool) (label : ℕ) : Type 0 where
+  pub base : Checked b c guard condition over_only label
   pub labels : c.labels.items ≡ b.labels.items
+
+-- one note more
+pub record NotedAt (b c : Builder) (node label : ℕ) : Type 0 where
+  pub inputs : c.inputs ≡ b.inputs
+  pub nodes : c.nodes.items ≡ b.nodes.items
+  pub checks : c.checks.items ≡ b.checks.items
+  pub labels : c.labels.items ≡ b.labels.items
+  pub notes : c.notes.items ≡ b.notes.items ++ (node, label) ∷ []
 
 -- a check of the driver's line, with a label of its own
 pub record CheckedLine (b c : Builder) (guard condition line : ℕ) : Type 0 where
@@ -133,10 +185,10 @@ pub record Longer (b c : Builder) : Type 0 where
   pub keeps_face : (l : ℕ) → l < faces b → face c l ≡ face b l
   pub new_faces : (l : ℕ) → faces b ≤ l → IsDriverLine (face c l)
 
--- more nodes, and no check
+-- more nodes, and neither a check nor a note
 pub record Grows (b c : Builder) : Type 0 where
   pub base : Longer b c
-  pub stop : (inputs : List Value) → stop_of c inputs ≡ stop_of b inputs
+  pub told : (inputs : List Value) → so_far c inputs ≡ so_far b inputs
 
 -- a node whose value, once the rest is computed, is that of the whole
 pub record Along (b c : Builder) (rest : List Value → Value → Value) (whole : List Value → Value) (k : ℕ) : Type 0 where
@@ -159,12 +211,12 @@ pub record Computed (b c : Builder) (env env' : List ℕ) (rest whole : Env → 
   pub value : (inputs : List Value) → rest (denoted c inputs env') ≡ whole (denoted b inputs env)
 
 -- The run so far, and then the rest, is the run before and then the whole, where this place is
--- reached. Where it isn't, no stop is added.
+-- reached. Where it isn't, neither a stop nor a note is added.
 pub record Stage (b c : Builder) (guard : ℕ) (env env' : List ℕ) (rest whole : Env → RunState) : Type 0 where
   pub base : Longer b c
   pub known : Known c env'
   pub taken : (inputs : List Value) → at b inputs guard ≡ Num (pos 1000000) → then_do (run c inputs env') rest ≡ then_do (run b inputs env) whole
-  pub idle : (inputs : List Value) → at b inputs guard ≡ Num (pos 0) → stop_of c inputs ≡ stop_of b inputs
+  pub idle : (inputs : List Value) → at b inputs guard ≡ Num (pos 0) → so_far c inputs ≡ so_far b inputs
 
 -- two environments that differ at these cells alone
 pub record SameBut (xs : List ℕ) (env env' : List ℕ) : Type 0 where
@@ -179,13 +231,13 @@ pub record SameButSome (rest whole : List ℕ) (env env' : List ℕ) : Type 0 wh
 
 -- a stop where the condition is Over
 abbrev pub over_judged : ℕ → Value → Env → RunState
-over_judged line Undef env = goes env
-over_judged line (Num x) env = goes env
+over_judged line Undef env = goes [] env
+over_judged line (Num x) env = goes [] env
 over_judged line OverValue env = stops (over_driver line)
 
 -- the condition of a choice, with the guards of its blocks
 pub record Opened (b c : Builder) (env : List ℕ) (g line : ℕ) (term : Environment → Value) (r : Branches) : Type 0 where
-  pub stage : Stage b c g env env (λ e. goes e) (λ e. over_judged line (term (environment e)) e)
+  pub stage : Stage b c g env env (λ e. goes [] e) (λ e. over_judged line (term (environment e)) e)
   pub first_within : r.first < count c
   pub second_within : r.second < count c
   pub truth_within : r.truth < count c
@@ -211,18 +263,34 @@ pub record Merged (b c : Builder) (truth : ℕ) (rest whole : List (ℕ × ℕ))
   pub first : (inputs : List Value) → at b inputs truth ≡ Num (pos 1000000) → written (entries b inputs rest) (denoted c inputs env') ≡ written (entries b inputs whole) (denoted b inputs env)
   pub second : (inputs : List Value) → at b inputs truth ≡ Num (pos 0) → denoted c inputs env' ≡ denoted b inputs env
 
--- the three literals, and no check
+-- the three literals, and neither a check nor a note
 pub record HasLiterals (labels : List Label) (b : Builder) : Type 0 where
   pub sane : Sane b
   pub labelled : HasFaces labels b
   pub one : (inputs : List Value) → at b inputs 2 ≡ Num (pos 1000000)
-  pub stop : (inputs : List Value) → stop_of b inputs ≡ None
+  pub told : (inputs : List Value) → so_far b inputs ≡ record { stop = None; notes = [] }
 
 -- a node for each cell, with the values that the cells begin with
 pub record Begun (b c : Builder) (start : List Value → Env) (env : List ℕ) : Type 0 where
   pub grows : Grows b c
   pub known : Known c env
   pub value : (inputs : List Value) → denoted c inputs env ≡ start inputs
+
+-- What the first node of a variable is worth: for an input of the type `Truth` it is the `And` of the input with itself, which is the
+-- input where that is undefined, 0 or 1.
+abbrev pub typed_value : InputType → Value → Value
+typed_value Any value = value
+typed_value Whole value = value
+typed_value Truth value = op_value And value value value
+
+abbrev pub begun_value : List Value → ℕ → VariableItem → Value
+begun_value inputs n item =
+    if is_input item.role then typed_value (type_said item.value_word) (slice_index_or inputs n Undef) else first_value inputs n item.role
+
+-- what the first nodes of the cells of variables are worth, where the first input among them has this number
+abbrev pub begun_from : List Value → ℕ → List Variable → Env
+begun_from inputs n [] = []
+begun_from inputs n (v ∷ vs) = replicate v.cells (begun_value inputs n v.item) ++ begun_from inputs (next_input n v.item.role) vs
 
 -- the input of a variable that is one is there
 abbrev pub InputIsThere : ℕ → ℕ → Role → Type 0
@@ -246,11 +314,13 @@ outside index = chosen (op_value Le index (Num (negsuc 999999)) Undef) (Num (pos
 
 -- what a check of the rules does, by its condition's value
 abbrev pub judged : List Label → ℕ → Value → Env → RunState
-judged labels number value env = unless_stopped (option_and_then (failure_cause labels) (failure_of value number)) (goes env)
+judged labels number value env =
+    unless_stopped (option_and_then (failure_cause labels) (failure_of value (kind_at labels number) number))
+    (goes (cons_option (note_of labels value number) []) env)
 
--- the first check that stops
+-- the first check that stops, and the notes
 abbrev pub checked : List Label → List Check → Env → RunState
-checked labels [] env = goes env
+checked labels [] env = goes [] env
 checked labels (c ∷ cs) env = then_do (judged labels c.1 (term_value (environment env) c.0) env) (checked labels cs)
 
 -- the definitions at these positions, computed one after the other
@@ -260,7 +330,7 @@ computed base (p ∷ later) env = computed base later (slice_set env (target_at 
 
 abbrev pub rules_in_turn : Base → List ℕ → List ℕ → Env → RunState
 rules_in_turn base sequence received env =
-    then_do (checked base.labels base.checks (computed base sequence env)) (λ values. goes (with_values received (environment values) env))
+    then_do (checked base.labels base.checks (computed base sequence env)) (λ values. goes [] (with_values received (environment values) env))
 
 -- what calls and blocks do, where the definitions are computed one after the other
 abbrev pub calls : Core → Base → List ℕ → ℕ → ℕ → Env → RunState

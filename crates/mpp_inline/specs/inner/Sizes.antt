@@ -11,9 +11,9 @@ use Rattle.mpp_inline.specs.declared.work.Work.{Work}
 use Rattle.mpp_inline.specs.declared.work.Work.TheVariants.{Run, Under, Restore, Return}
 use Rattle.mpp_inline.specs.inner.Work.{Whole}
 
--- the nodes, the checks and the labels
+-- the nodes, the checks, the labels and the notes
 abbrev pub load : Builder → ℕ
-load b = length b.nodes.items + length b.checks.items + length b.labels.items
+load b = length b.nodes.items + length b.checks.items + length b.labels.items + length b.notes.items
 
 -- ---- weights
 

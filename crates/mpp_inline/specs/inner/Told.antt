@@ -1,25 +1,40 @@
 -- What a program tells at its end.
-use Rattle.std.specs.Prelude.{◌≡◌, ℕ, ◌<◌, List, [], Option, Some, None, map, length}
+use Rattle.std.specs.Prelude.{◌≡◌, ℕ, ◌<◌, List, ◌++◌, Option, Some, None, map, length}
 use Rattle.std.specs.List.{AllByRecursion}
 use Rattle.m_fixed.specs.declared.amount.Value.{Value}
 use Rattle.m_symbols.specs.Declarations.{Declared, inputs_from}
 use Rattle.micro_m.specs.declared.base.Base.{Base}
+use Rattle.m_places.specs.declared.verification.Label.{Label}
 use Rattle.observables.specs.Answers.{Cause, Told, values, stopped}
+use Rattle.observables.specs.Inputs.{AreValuesOf}
 use Rattle.driver_core.specs.declared.program.Core.{Core}
 use Rattle.driver_core.specs.Answers.{answer_of}
+use Rattle.driver_core.specs.Inputs.{inputs_said}
 use Rattle.mpp_inline.specs.declared.builder.Builder.{Builder}
-use Rattle.mpp_inline.specs.inner.Growth.{count, at, stop_of, Sane, HasFaces}
+use Rattle.mpp_inline.specs.inner.Growth.{count, at, SoFar, so_far, Sane, HasFaces}
 
--- the stop if there is one, and else these values
-abbrev pub ended : Option Cause → List Value → Told
-ended None vs = values [] vs
-ended (Some cause) vs = stopped cause
+-- the stop if there is one, and else these notes and values
+abbrev pub ended : Option Cause → List Label → List Value → Told
+ended None notes vs = values notes vs
+ended (Some cause) notes vs = stopped cause
 
--- a whole program with these outputs, which tells what the driver answers
+abbrev pub ended_so : SoFar → List Value → Told
+ended_so s vs = ended s.stop s.notes vs
+
+-- the nodes of notes, and the numbers of their labels
+abbrev pub nodes_of : List (ℕ × ℕ) → List ℕ
+nodes_of notes = map (λ n. n.0) notes
+
+abbrev pub numbers_of : List (ℕ × ℕ) → List ℕ
+numbers_of notes = map (λ n. n.1) notes
+
+-- a whole program with these outputs, the notes and then what was asked for, which tells what the driver answers
 pub record Answers (core : Core) (base : Base) (declared : Declared) (requests : List ℕ) (b : Builder) (outputs : List ℕ) : Type 0 where
   pub sane : Sane b
   pub labelled : HasFaces base.labels b
   pub inputs : b.inputs ≡ length (inputs_from 0 declared.variables)
-  pub outputs_known : AllByRecursion (λ k. k < count b) outputs
-  pub outputs_long : length outputs ≡ length requests
-  pub answer : (inputs : List Value) → ended (stop_of b inputs) (map (at b inputs) outputs) ≡ answer_of core base declared requests inputs
+  pub asked : List ℕ
+  pub outputs_are : outputs ≡ nodes_of b.notes.items ++ asked
+  pub asked_known : AllByRecursion (λ k. k < count b) asked
+  pub asked_long : length asked ≡ length requests
+  pub answer : (inputs : List Value) → AreValuesOf (inputs_said declared) inputs → ended_so (so_far b inputs) (map (at b inputs) asked) ≡ answer_of core base declared requests inputs

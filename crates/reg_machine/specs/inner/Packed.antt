@@ -4,13 +4,14 @@ use Rattle.std.specs.List.{AllByRecursion}
 use Rattle.std.specs.Ordering.{nat_cmp}
 use Rattle.std.specs.BTreeMap.{BTreeMap, get}
 use Rattle.std.specs.BTreeSet.{BTreeSet, contains}
-use Rattle.reg_machine.specs.Flow.{Listing, State, reading, wrong_behind}
+use Rattle.reg_machine.specs.Flow.{Listing, State, code_fault, reading, wrong_behind}
 use Rattle.m_fixed.specs.declared.amount.Value.{Value}
 use Rattle.m_fixed.specs.declared.amount.Value.TheVariants.{Undef}
 use Rattle.reg_machine.specs.declared.instr.Instr.{Instr}
 use Rattle.reg_machine.specs.declared.instr.Instr.TheVariants.{Take, Lit, Do, Store, Load, Check, Output}
 use Rattle.reg_machine.specs.declared.instr.TheConstants.{REGISTERS}
 use Rattle.reg_machine.specs.declared.code.Packed.{Packed}
+use Rattle.reg_machine.specs.declared.code.Parts.{Parts}
 use Rattle.reg_machine.specs.declared.code.Packed.TheVariants.{Take as Takes, Lit as Lits, Do as Does, Store as Stores, Load as Loads, Check as Checks, Output as Outputs}
 
 -- the instruction, by the pool and the slots that are used
@@ -57,6 +58,13 @@ IsAmong k slots = (d : ℕ) × (d < length slots) × (slice_index slots d ≡ k)
 -- no number stands twice in a list
 abbrev pub AreDistinct : List ℕ → Type 0
 AreDistinct slots = (i j : ℕ) → i < length slots → j < length slots → slice_index slots i ≡ slice_index slots j → i ≡ j
+
+-- Code with which nothing is wrong, as it is kept.
+pub record AreParts (code : Listing) (parts : Parts) : Type 0 where
+  pub listing : listing_of code.counts.inputs code.counts.slots code.counts.labels code.counts.outputs parts.pool.now parts.used.now parts.packed.now ≡ code
+  pub right : code_fault code ≡ None
+  pub packed : AllByRecursion (IsPacked code.counts.inputs code.counts.outputs (length parts.pool.now) (length parts.used.now)) parts.packed.now
+  pub distinct : AreDistinct parts.used.now
 
 -- each slot that is used has its place among them as its number
 pub record IsNumbered (numbers : BTreeMap ℕ ℕ) (used : List ℕ) : Type 0 where

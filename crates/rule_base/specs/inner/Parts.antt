@@ -1,6 +1,11 @@
--- The steps behind the declarations, each by itself.
+-- The steps from rule files to a base, each by itself.
 use Rattle.std.specs.Prelude.{◌≡◌, ℕ, List, map, Some, None, Ok, Err}
+use Rattle.rule_text.specs.declared.Text.{Text}
+use Rattle.m_lexer.specs.declared.fault.LexFault.{LexFault}
 use Rattle.m_ast.specs.declared.item.Item.{Item}
+use Rattle.m_items.specs.declared.fault.ParseFault.{ParseFault}
+use Rattle.m_read_all.specs.Files.{IsFirstFileFault}
+use Rattle.m_read_all.specs.declared.fault.ReadFault.TheVariants as read
 use Rattle.m_symbols.specs.Declarations.{Declared}
 use Rattle.index_expand.specs.Expansion.{expansion}
 use Rattle.index_expand.specs.Faults.{expand_fault}
@@ -11,7 +16,12 @@ use Rattle.micro_m.specs.declared.base.Base.{Base}
 use Rattle.micro_m.specs.Reads.{IsCycle, BeginsWithLeast}
 use Rattle.m_requests.specs.Cells.{cell_name}
 use Rattle.rule_base.specs.declared.fault.RuleFault.{RuleFault}
-use Rattle.rule_base.specs.declared.fault.RuleFault.TheVariants.{Expand, Resolve, Cycle}
+use Rattle.rule_base.specs.declared.fault.RuleFault.TheVariants.{Lex, Parse, Expand, Resolve, Cycle}
+
+-- why the rule files say no items
+pub data IsReadFault (texts : List Text) : RuleFault → Type 0 where
+  bad_tokens : {fault : LexFault} → IsFirstFileFault 0 texts (read.Lex fault) → IsReadFault texts (Lex fault)
+  bad_items : {fault : ParseFault} → IsFirstFileFault 0 texts (read.Parse fault) → IsReadFault texts (Parse fault)
 
 -- the rules of the items are this base over what is declared
 pub record IsBaseOver (items : List Item) (application : List ℕ) (declared : Declared) (base : Base) : Type 0 where

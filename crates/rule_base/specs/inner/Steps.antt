@@ -1,8 +1,6 @@
 -- The fault of rule files that the fault of a step is: the step's want of memory is the one of all.
-use Rattle.m_lexer.specs.declared.fault.LexFault.{LexFault}
-use Rattle.m_lexer.specs.declared.fault.LexFault.TheVariants as lex
-use Rattle.m_items.specs.declared.fault.ParseFault.{ParseFault}
-use Rattle.m_items.specs.declared.fault.ParseFault.TheVariants as parse
+use Rattle.m_read_all.specs.declared.fault.ReadFault.{ReadFault}
+use Rattle.m_read_all.specs.declared.fault.ReadFault.TheVariants as read
 use Rattle.m_symbols.specs.declared.fault.DeclareFault.{DeclareFault}
 use Rattle.m_symbols.specs.declared.fault.DeclareFault.TheVariants as declare
 use Rattle.index_expand.specs.declared.fault.ExpandFault.{ExpandFault}
@@ -12,13 +10,10 @@ use Rattle.m_resolve.specs.declared.fault.ResolveFault.TheVariants as resolve
 use Rattle.rule_base.specs.declared.fault.RuleFault.{RuleFault}
 use Rattle.rule_base.specs.declared.fault.RuleFault.TheVariants.{Lex, Parse, Declare, Expand, Resolve, Memory}
 
-abbrev pub lex_step : LexFault → RuleFault
-lex_step lex.Memory = Memory
-lex_step fault = Lex fault
-
-abbrev pub parse_step : ParseFault → RuleFault
-parse_step parse.Memory = Memory
-parse_step fault = Parse fault
+abbrev pub read_step : ReadFault → RuleFault
+read_step read.Memory = Memory
+read_step (read.Lex fault) = Lex fault
+read_step (read.Parse fault) = Parse fault
 
 abbrev pub declare_step : DeclareFault → RuleFault
 declare_step declare.Memory = Memory

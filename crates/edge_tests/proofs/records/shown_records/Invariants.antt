@@ -1,5 +1,5 @@
 use Rattle.std.proofs.Common.{length}
-use Rattle.household.specs.inner.Left.{left_of}
+use Rattle.household.specs.Reader.{left_of}
 use Rattle.edge_tests.proofs.records.shown_records.Given as goal
 
 abbrev pub decreases-loop-text : goal.decreases-loop-text

@@ -65,3 +65,6 @@ returns-in-Unreadable g c = rw c.in-Unreadable.is c.give_words-in-Unreadable.ens
 
 pub returns-in-UnreadableInput : goal.returns-in-UnreadableInput
 returns-in-UnreadableInput g c = rw c.in-UnreadableInput.is c.give_words-in-UnreadableInput.ensures
+
+pub returns-in-ReportLine : goal.returns-in-ReportLine
+returns-in-ReportLine g c = rw c.in-ReportLine.is (rw (c.into-in-ReportLine.ensures, c.words-in-ReportLine.ensures) at c.give_number-in-ReportLine.ensures)

@@ -1,8 +1,8 @@
 use Rattle.std.proofs.Common.{◌≡◌, [], length}
 use Rattle.household.specs.InTurn.{in_turn}
 use Rattle.household.specs.Household.{inputs_of, row_of}
-use Rattle.household.specs.inner.Left.{left_of}
-use Rattle.household.specs.inner.Marks.{Marks}
+use Rattle.household.specs.Reader.{left_of}
+use Rattle.household.specs.Marks.{Marks}
 use Rattle.household.proofs.read.read_rows.Given as goal
 
 abbrev pub invariant-loop-pairs : goal.invariant-loop-pairs

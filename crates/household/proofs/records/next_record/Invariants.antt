@@ -1,6 +1,6 @@
 use Rattle.std.proofs.Common.{◌≡◌, ◌-◌, length, [], drop}
 use Rattle.csv.specs.Records.{fields_of, partial_of}
-use Rattle.household.specs.inner.Left.{left_of, records_from_state, state_of}
+use Rattle.household.specs.Reader.{left_of, records_from_state, state_of}
 use Rattle.household.proofs.records.next_record.Given as goal
 
 abbrev pub invariant-loop-records : goal.invariant-loop-records

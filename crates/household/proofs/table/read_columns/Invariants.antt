@@ -2,7 +2,7 @@ use Rattle.std.proofs.Common.{◌≡◌, [], drop, length}
 use Rattle.csv.specs.Records.{fields_of}
 use Rattle.household.specs.InTurn.{in_turn}
 use Rattle.household.specs.Table.{column_of}
-use Rattle.household.specs.inner.Marks.{Marks}
+use Rattle.household.specs.Marks.{Marks}
 use Rattle.household.proofs.table.read_columns.Given as goal
 
 abbrev pub invariant-loop-place : goal.invariant-loop-place

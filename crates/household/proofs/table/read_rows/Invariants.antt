@@ -1,12 +1,12 @@
 use Rattle.std.proofs.Common.{◌≡◌, [], length}
 use Rattle.household.specs.InTurn.{in_turn}
 use Rattle.household.specs.Table.{table_row}
-use Rattle.household.specs.inner.Left.{left_of}
+use Rattle.household.specs.Reader.{left_of}
 use Rattle.household.proofs.table.read_rows.Given as goal
 
 abbrev pub invariant-loop-rows : goal.invariant-loop-rows
 invariant-loop-rows l = record {
-  whole : in_turn (table_row l.columns) l.rows.items (left_of l.records) ≡ in_turn (table_row l.columns) [] (left_of l.fn.records);
+  whole : in_turn (table_row l.codes l.columns) l.rows.items (left_of l.records) ≡ in_turn (table_row l.codes l.columns) [] (left_of l.fn.records);
 }
 
 abbrev pub decreases-loop-rows : goal.decreases-loop-rows

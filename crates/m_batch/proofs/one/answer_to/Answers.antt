@@ -1,4 +1,4 @@
-use Rattle.std.proofs.Common.{sym, ap, ◌∙◌}
+use Rattle.std.proofs.Common.{ap, ◌∙◌}
 use Rattle.reg_machine.specs.Flow.{Listing}
 use Rattle.m_batch.proofs.OutputLemmas.{outputs-long}
 use Rattle.m_batch.proofs.one.answer_to.Goals as goal

@@ -1,9 +1,7 @@
 use Rattle.std.proofs.Common.{◌≡◌, take}
 use Rattle.std.specs.List.{filter_map}
-use Rattle.std.specs.Option.{option_map}
-use Rattle.m_symbols.specs.Declarations.{code_of}
-use Rattle.m_compile.specs.Compiled.{input_said}
+use Rattle.driver_core.specs.Inputs.{input_said}
 use Rattle.m_compile.proofs.face.inputs_of.Given as goal
 
 abbrev pub invariant-loop-number : goal.invariant-loop-number
-invariant-loop-number l = l.inputs.items ≡ filter_map (λ v. option_map input_said (code_of v)) (take l.number l.symbols.variables)
+invariant-loop-number l = l.inputs.items ≡ filter_map input_said (take l.number l.symbols.variables)

@@ -1,6 +1,5 @@
 use Rattle.std.proofs.Common.{◌≡◌, Err, sym, subst}
 use Rattle.household.specs.Household.{household_of, values_of}
-use Rattle.observables.specs.Inputs.{codes_of}
 use Rattle.reg_machine.specs.Machine.{machine_run}
 use Rattle.m_large.specs.Large.{household_text}
 use Rattle.tax_print.specs.Lines.{AnswerIsWithin}
@@ -25,5 +24,5 @@ returns-in-Ok g c = λ scheme shown.
 pub returns-in-Err : goal.returns-in-Err
 returns-in-Err g c = λ scheme shown.
     rows_refused (large_line c.args.n) scheme c.args.loaded.now.face (machine_run c.args.loaded.now.code) (household_text c.args.n) c.in-Err.fault _ _ _ shown
-    (household_refused c.in-Err.fault {IsFault = household_of (codes_of c.args.loaded.now.face.inputs) (household_text c.args.n) ≡ Err c.in-Err.fault} _ _ _ (rw c.requires.generated at c.in-Err.ensures)
+    (household_refused c.in-Err.fault {IsFault = household_of c.args.loaded.now.face.inputs (household_text c.args.n) ≡ Err c.in-Err.fault} _ _ _ (rw c.requires.generated at c.in-Err.ensures)
     (rw c.told_household.ensures at c.tell_refusal.ensures))

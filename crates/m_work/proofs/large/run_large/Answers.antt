@@ -6,8 +6,8 @@ use Rattle.m_work.proofs.Refusals.{source_told}
 use Rattle.m_work.proofs.Ways.{large_answered, large_refused}
 use Rattle.m_work.proofs.large.run_large.Goals as goal
 
-pub prepare_code-requires : goal.prepare_code-requires
-prepare_code-requires g c = rw c.in-Ok.ensures (large_within c.args.n c.requires.some c.requires.few)
+pub prepare_code-requires-clause-limits : goal.prepare_code-requires-clause-limits
+prepare_code-requires-clause-limits g c = λ κs held. rw c.in-Ok.ensures (large_within c.args.n c.requires.some c.requires.few)
 
 pub returns-in-Ok-prepare_code : goal.returns-in-Ok-prepare_code
 returns-in-Ok-prepare_code g c =

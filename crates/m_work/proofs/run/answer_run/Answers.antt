@@ -1,6 +1,5 @@
 use Rattle.std.proofs.Common.{◌≡◌, [], Err, sym, subst}
 use Rattle.household.specs.Household.{household_of, values_of}
-use Rattle.observables.specs.Inputs.{codes_of}
 use Rattle.reg_machine.specs.Machine.{machine_run}
 use Rattle.tax_print.specs.Lines.{AnswerIsWithin}
 use Rattle.m_work.proofs.Printings.{prints_given}
@@ -22,5 +21,5 @@ returns-in-Ok-answer_of g c = λ scheme shown.
 pub returns : goal.returns
 returns g c = λ scheme shown.
     rows_refused [] scheme c.args.loaded.now.face (machine_run c.args.loaded.now.code) c.args.household.now c.in-Err.fault _ _ _ shown
-    (household_refused c.in-Err.fault {IsFault = household_of (codes_of c.args.loaded.now.face.inputs) c.args.household.now ≡ Err c.in-Err.fault} _ _ _ c.in-Err.ensures
+    (household_refused c.in-Err.fault {IsFault = household_of c.args.loaded.now.face.inputs c.args.household.now ≡ Err c.in-Err.fault} _ _ _ c.in-Err.ensures
     (rw c.told_household.ensures at c.tell_refusal.ensures))

@@ -1,7 +1,6 @@
 use Rattle.std.proofs.Common.{◌≡◌, Err}
 use Rattle.flat_code.specs.Runs.{flat_run}
 use Rattle.household.specs.Household.{household_of}
-use Rattle.observables.specs.Inputs.{codes_of}
 use Rattle.m_work.proofs.Refusals.{household_refused}
 use Rattle.m_work.proofs.Ways.{session_refused, session_served}
 use Rattle.m_work.proofs.serving.answer_serve.Goals as goal
@@ -13,5 +12,5 @@ returns-in-Ok g c = λ scheme shown.
 pub returns-in-Err : goal.returns-in-Err
 returns-in-Err g c = λ scheme shown.
     session_refused scheme c.args.program.face (flat_run c.args.program.tidy) c.args.household.now c.in-Err.fault _ _ _ _ shown
-    (household_refused c.in-Err.fault {IsFault = household_of (codes_of c.args.program.face.inputs) c.args.household.now ≡ Err c.in-Err.fault} _ _ _ c.in-Err.ensures
+    (household_refused c.in-Err.fault {IsFault = household_of c.args.program.face.inputs c.args.household.now ≡ Err c.in-Err.fault} _ _ _ c.in-Err.ensures
     (rw c.told_household.ensures at c.tell_refusal.ensures))

@@ -1,4 +1,4 @@
-use Rattle.std.proofs.Common.{◌≡◌, ◌+◌, ◌≤◌, drop, length}
+use Rattle.std.proofs.Common.{◌≡◌, ◌+◌, ◌*◌, ◌≤◌, drop, length}
 use Rattle.m_symbols.specs.Declarations.{inputs_from, owners_from}
 use Rattle.mpp_inline.specs.inner.Growth.{Sane}
 use Rattle.mpp_inline.specs.inner.Sizes.{load}
@@ -9,5 +9,5 @@ abbrev pub invariant-loop-v : goal.invariant-loop-v
 invariant-loop-v l = record {
   step : Sane l.initial.b → Starting l.initial.b l.b l.symbols.variables (drop l.v l.symbols.variables) l.next l.env.items;
   counted : l.next + length (inputs_from 0 (drop l.v l.symbols.variables)) ≡ length (inputs_from 0 l.symbols.variables);
-  size : load l.b + length (owners_from 0 (drop l.v l.symbols.variables)) ≤ load l.initial.b + length (owners_from 0 l.symbols.variables);
+  size : load l.b + 2 * length (owners_from 0 (drop l.v l.symbols.variables)) ≤ load l.initial.b + 2 * length (owners_from 0 l.symbols.variables);
 }

@@ -1,26 +1,33 @@
-use Rattle.std.proofs.Common.{refl, sym, subst}
+use Rattle.std.proofs.Common.{◌<◌, sym, subst, cond}
 use Rattle.std.specs.Prelude.{slice_index_or}
 use Rattle.std.proofs.lemmas.Result.{IfOk-weaker}
 use Rattle.m_fixed.specs.declared.amount.Value.TheVariants.{Undef, Num}
-use Rattle.flat_code.specs.declared.program.Node.TheVariants.{Input, Lit}
+use Rattle.m_ast.specs.Items.{is_input}
+use Rattle.flat_code.specs.declared.program.Node.TheVariants.{Lit}
 use Rattle.driver_core.specs.Answers.{first_value}
-use Rattle.mpp_inline.specs.inner.Growth.{Pushed, Gives, InputIsThere}
-use Rattle.mpp_inline.proofs.GrowthLemmas.{gives-lit, gives-pushed}
+use Rattle.driver_core.specs.Inputs.{type_said}
+use Rattle.mpp_inline.specs.inner.Growth.{Pushed, Gives, Sane, InputIsThere, typed_value}
+use Rattle.mpp_inline.proofs.GrowthLemmas.{gives-lit}
 use Rattle.mpp_inline.proofs.begin.first_node.Goals as goal
 
 pub returns-in-Input-clause-step : goal.returns-in-Input-clause-step
 returns-in-Input-clause-step c =
     let b = c.args.b.now in
+    let d = c.input_node.new.b in
     let next = c.args.next in
-    IfOk-weaker _ (λ k. Pushed b c.push.new.self (Input next) k) _
-    (λ k p s h. subst (λ r. InputIsThere b.inputs next r → Gives b c.push.new.self (λ inputs. first_value inputs next r) k) (sym c.in-Input.is)
-    (λ low. gives-pushed (λ inputs. slice_index_or inputs next Undef) p low s (λ inputs. refl)) h)
-    c.push.ensures
+    let word = c.args.item.now.value_word in
+    let is = c.in-Input.is in
+    IfOk-weaker _ (λ k. Sane b → next < b.inputs → Gives b d (λ inputs. typed_value c.kind_of.result (slice_index_or inputs next Undef)) k) _
+    (λ k step s. subst (λ r. InputIsThere b.inputs next r → Gives b d (λ inputs. cond (is_input r) (typed_value (type_said word) (slice_index_or inputs next Undef)) (first_value inputs next r)) k) (sym is)
+    (λ low. subst (λ kind. Gives b d (λ inputs. typed_value kind (slice_index_or inputs next Undef)) k) c.kind_of.ensures (step s low)))
+    c.input_node.ensures.step
 
 pub returns-in-Constant-clause-step : goal.returns-in-Constant-clause-step
 returns-in-Constant-clause-step c =
     let b = c.args.b.now in
+    let d = c.push.new.self in
     let next = c.args.next in
-    IfOk-weaker _ (λ k. Pushed b c.push-in-Constant.new.self (Lit (Num c.in-Constant.amount)) k) _
-    (λ k p s h. subst (λ r. Gives b c.push-in-Constant.new.self (λ inputs. first_value inputs next r) k) (sym c.in-Constant.is) (gives-lit (Num c.in-Constant.amount) p s))
-    c.push-in-Constant.ensures
+    let word = c.args.item.now.value_word in
+    IfOk-weaker _ (λ k. Pushed b d (Lit (Num c.in-Constant.amount)) k) _
+    (λ k p s h. subst (λ r. Gives b d (λ inputs. cond (is_input r) (typed_value (type_said word) (slice_index_or inputs next Undef)) (first_value inputs next r)) k) (sym c.in-Constant.is) (gives-lit (Num c.in-Constant.amount) p s))
+    c.push.ensures

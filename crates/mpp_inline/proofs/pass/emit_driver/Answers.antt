@@ -1,13 +1,13 @@
-use Rattle.std.proofs.Common.{◌≡◌, ◌+◌, ◌<◌, map, length, get_or, sym, ap, ◌∙◌, subst, arith}
-use Rattle.std.specs.List.{AllByRecursion}
+use Rattle.std.proofs.Common.{◌+◌, ◌++◌, map, length, get_or, sym, ap, ◌∙◌, arith}
 use Rattle.std.proofs.lemmas.Result.{IfOk-weaker}
 use Rattle.std.proofs.lemmas.List.{length-map}
 use Rattle.driver_core.specs.Answers.{start_from, told_by}
 use Rattle.driver_core.specs.Meaning.{called}
-use Rattle.mpp_inline.specs.inner.Growth.{count, Ready, HasLiterals, Begun, rules_in_turn}
+use Rattle.mpp_inline.specs.inner.Growth.{Ready, HasLiterals, Begun, begun_from, rules_in_turn}
+use Rattle.mpp_inline.specs.inner.Told.{nodes_of}
 use Rattle.mpp_inline.specs.inner.Work.{Step}
 use Rattle.mpp_inline.proofs.GrowthLemmas.{faces-on}
-use Rattle.mpp_inline.proofs.BeginLemmas.{last-answer, last-known, whole-run, start-long}
+use Rattle.mpp_inline.proofs.BeginLemmas.{last-answer, last-known, whole-run, begun-same, start-long}
 use Rattle.mpp_inline.proofs.OrderLemmas.{run-same}
 use Rattle.mpp_inline.proofs.pass.emit_driver.Goals as goal
 
@@ -26,19 +26,22 @@ returns-clause-answers c =
     let next = called (rules_in_turn base sequence) core.bodies (length core.bodies + 1) core.main in
     IfOk-weaker c.outputs_of.result _ _
     (λ outputs given. λ (literal : HasLiterals base.labels b0).
-    let begun : Begun b0 b1 (λ inputs. start_from inputs 0 vars) e = c.in_ok-env.ensures.step literal.sane in
+    let begun : Begun b0 b1 (λ inputs. begun_from inputs 0 vars) e = c.in_ok-env.ensures.step literal.sane in
     let ready : Ready base.labels b1 e 2 = record { placed = record { sane = begun.grows.base.sane; known = begun.known; guard = omega (arith, begun.grows.base.sane.three) }; labelled = faces-on begun.grows.base literal.labelled } in
     let step : Step b1 b2 2 e f next = c.in_ok-emit_all.ensures.step ready in
-    let outs : outputs.items ≡ map (λ x. get_or f x 0) requests = given ∙ ap (λ l. map (λ x. get_or l x 0) requests) c.deref.ensures.value in
+    let asked = map (λ x. get_or f x 0) requests in
     record {
       sane = step.base.sane;
       labelled = faces-on step.base ready.labelled;
       inputs = step.base.inputs ∙ begun.grows.base.inputs ∙ c.requires.inputs;
-      outputs_known = subst (AllByRecursion (λ k. k < count b2)) (sym outs) (last-known b2 f requests step.base.sane step.known);
-      outputs_long = ap length outs ∙ length-map requests (λ x. get_or f x 0);
-      answer = λ inputs.
-          last-answer b2 f requests outputs.items inputs step.base.sane outs
+      asked = asked;
+      outputs_are = given ∙ (λ i. nodes_of (c.deref.ensures.value i) ++ map (λ x. get_or (c.deref-2.ensures.value i) x 0) requests);
+      asked_known = last-known b2 f requests step.base.sane step.known;
+      asked_long = length-map requests (λ x. get_or f x 0);
+      answer = λ inputs typed.
+          last-answer b2 f requests inputs step.base.sane
           ∙ ap (told_by requests) (whole-run inputs literal begun step
+          ∙ ap next (begun-same c.args.symbols.now inputs typed)
           ∙ run-same core base sequence (start_from inputs 0 vars) c.requires.base c.requires.order (start-long inputs 0 0 vars ∙ sym c.requires.cells));
     })
     c.outputs_of.ensures

@@ -1,4 +1,5 @@
-use Rattle.std.proofs.Common.{arith, ◌∙◌}
+use Rattle.std.proofs.Common.{ap, arith, ◌∙◌}
+use Rattle.mpp_inline.specs.inner.Told.{numbers_of}
 use Rattle.mpp_inline.proofs.pass.whole_program.Goals as goal
 
 pub emit_driver-requires : goal.emit_driver-requires
@@ -14,4 +15,5 @@ emit_driver-requires c = record {
 pub returns : goal.returns
 returns c =
     c.finished.ensures c.args.core.now c.args.ordered.now.base c.args.symbols.now c.args.requests.now (c.in_ok-outputs.ensures.answers c.in_ok-b.ensures.literals)
+    (c.in_ok-notes.ensures ∙ ap numbers_of c.deref.ensures.value)
     c.requires.few_cells c.requires.light (omega (arith, c.in_ok-b.ensures.size, c.in_ok-outputs.ensures.size))

@@ -1,17 +1,13 @@
 use Rattle.std.proofs.Common.{◌≡◌, ◌+◌, ◌<◌, [], ◌∷◌, length, get_or, drop, sym, ap, ◌∙◌, subst, arith}
-use Rattle.m_places.specs.declared.verification.Label.{Label}
-use Rattle.m_places.specs.declared.verification.ErrorKind.TheVariants.{Anomalie}
-use Rattle.mpp_inline.specs.inner.Growth.{Stage, checked}
 use Rattle.std.specs.List.{sum_by}
 use Rattle.std.proofs.lemmas.List.Sums.{sum_by-cons}
+use Rattle.micro_m.specs.Values.{environment, term_value}
+use Rattle.driver_core.specs.Meaning.{goes}
 use Rattle.driver_core.specs.Weights.{check_weight}
-use Rattle.mpp_inline.proofs.GrowthLemmas.{rule-load}
+use Rattle.mpp_inline.specs.inner.Growth.{Ready, Stage, judged, checked}
 use Rattle.mpp_inline.proofs.ListLemmas.{drop_next}
-use Rattle.mpp_inline.proofs.StageLemmas.{stage-next, rule-stage}
+use Rattle.mpp_inline.proofs.StageLemmas.{stage-next}
 use Rattle.mpp_inline.proofs.rules.emit_checks.Goals as goal
-
-no-label : Label
-no-label = record { verif = []; error = []; kind = Anomalie; text = [] }
 
 pub loop-condition-preserved : goal.loop-condition-preserved
 loop-condition-preserved c =
@@ -25,11 +21,17 @@ loop-condition-preserved c =
     let is : d ≡ get_or base.checks i d = c.loop-condition-item.is ∙ ap (λ l. get_or l i d) same in
     let low : d.1 < length base.labels = subst (λ x. x.1 < length base.labels) (sym is) (c.requires.valid.labels i d within) in
     let next : drop i items ≡ d ∷ drop (i + 1) items = drop_next items i d c.loop-condition-test.true c.loop-condition-item.is in
+    let b1 = c.loop-condition.b in
+    let b2 = c.emit_check.new.b in
+    let g = c.args.guard in
+    let tried : Ready base.labels b1 env g → Stage b1 b2 g env env (λ x. goes [] x) (λ x. judged base.labels d.1 (term_value (environment x) d.0) x) =
+    subst (λ ls. Ready ls b1 env g → Stage b1 b2 g env env (λ x. goes [] x) (λ x. judged ls d.1 (term_value (environment x) d.0) x)) c.as_slice.ensures
+    (c.in_ok-emit_check.ensures.step b1 env d c.in_ok-value.ensures.step (λ j. d.1) (subst (λ ls. d.1 < length ls) (sym c.as_slice.ensures) low)) in
     record {
       step = λ r. stage-next r
           (subst (λ ds. Stage c.args.b.now c.loop-condition.b c.args.guard env env (checked base.labels ds) (checked base.labels base.checks)) next (c.loop-condition.invariant.step r))
-          (rule-stage d no-label low c.in_ok-value.ensures.step c.in_ok-check_rule.ensures);
-      size = omega (arith, c.loop-condition.invariant.size, ap (sum_by check_weight) next, sum_by-cons check_weight d (drop (i + 1) items), c.in_ok-value.ensures.size, rule-load c.in_ok-check_rule.ensures);
+          tried;
+      size = omega (arith, c.loop-condition.invariant.size, ap (sum_by check_weight) next, sum_by-cons check_weight d (drop (i + 1) items), c.in_ok-value.ensures.size, c.in_ok-emit_check.ensures.size);
     }
 
 pub emit_term-requires : goal.emit_term-requires

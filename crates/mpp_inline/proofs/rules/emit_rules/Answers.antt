@@ -89,7 +89,7 @@ returns-then-cells-len-clause-size c =
     let given : c.deref-then-cells-len.result.now ≡ picked 0 xs f = c.deref-then-cells-len.ensures.value ∙ c.in_ok-given.ensures in
     on_ok_weaker c.write_under.result
     (λ (m : load last ≤ load d2 + length c.deref-then-cells-len.result.now).
-    let goal' : load last ≤ load b + 2 * base_weight base = omega (
+    let goal' : load last ≤ load b + 4 * base_weight base = omega (
       arith,
       m,
       c.if-cells-len.true,

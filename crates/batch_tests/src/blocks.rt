@@ -1,0 +1,139 @@
+//! Rows of several blocks, some of which stop, are answered what each of them is alone.
+ghost use Rattle.std.specs.Prelude.{◌≡◌, ◌<◌, IfOk};
+ghost use Rattle.std.specs.List.{AllByRecursion};
+ghost use Rattle.household.specs.Household.{inputs_of};
+ghost use Rattle.m_batch.specs.Batch.{HasInputsBelow};
+
+use crate::two_threads::number;
+use household::{Household, Row};
+use m_batch::{run_batch, run_household};
+use m_fixed::{Amount, Op};
+use m_places::{Name, Open, Seq};
+use observables::Answer;
+use reg_machine::{Code, Instr, make_code};
+use std::alloc::{AllocError, Global};
+use std::test::Fail;
+
+// Input 7 and twice input 3, of nine inputs. It stops where input 5 is a number other than 0, or where input 3 squared is over.
+fn code(alloc: Global) -> Result<Code, Fail>
+    ensures { IfOk result (λ code. code.counts.inputs ≡ 9) }
+{
+    let instrs = [
+        Instr::Take(0, 3),
+        Instr::Store(4_000_000_000, 0),
+        Instr::Take(1, 7),
+        Instr::Output(1, 1),
+        Instr::Lit(2, number(1_000_000)),
+        Instr::Take(1, 5),
+        Instr::Check(2, 1, false, 0),
+        Instr::Do(Op::Mul, 0, 0, 0, 0),
+        Instr::Check(2, 0, true, 1),
+        Instr::Load(15, 4_000_000_000),
+        Instr::Do(Op::Add, 15, 15, 15, 15),
+        Instr::Output(0, 15),
+    ];
+    match make_code(alloc, 9, 4_294_967_295, 2, 2, &instrs) {
+        Ok(code) => Ok(code),
+        Err(_) => Err(Fail::from("no code")),
+    }
+}
+
+fn amount(units: u32) -> Amount {
+    Amount::new(i128::from(units) * 1_000_000).unwrap_or(Amount::zero())
+}
+
+fn pairs(alloc: Global, k: u32) -> Result<Vec<(u32, Amount)>, AllocError>
+    ensures { IfOk result (λ pairs. AllByRecursion (λ input. input < 9) (inputs_of pairs.items)) }
+{
+    let pairs = match k % 5 {
+        0 => vec![in alloc; (3, amount(k)), (7, amount(1))]?,
+        1 => vec![in alloc; (5, amount(0)), (8, amount(2)), (3, amount(k))]?,
+        2 => vec![in alloc; (5, amount(k)), (3, amount(4))]?,
+        3 => vec![in alloc; (0, amount(9)), (3, amount(4_000_000_000))]?,
+        _ => Vec::new(alloc),
+    };
+    Ok(pairs)
+}
+
+fn row(alloc: Global, k: u32) -> Result<Row, AllocError>
+    ensures { IfOk result (HasInputsBelow 9) }
+{
+    let pairs = pairs(alloc, k)?;
+    Ok(Row {
+        label: Name::new(alloc, b"h")?,
+        household: Household {
+            pairs: Seq::from_vec(pairs),
+        },
+    })
+}
+
+fn is_same(one: &Answer, other: &Answer) -> bool {
+    match one {
+        Answer::Stopped(stop) => match other {
+            Answer::Stopped(another) => stop == another,
+            Answer::Values(_) => false,
+        },
+        Answer::Values(values) => match other {
+            Answer::Stopped(_) => false,
+            Answer::Values(others) => values.as_slice() == others.as_slice(),
+        },
+    }
+}
+
+// Three blocks and a part of one.
+const ROWS: u32 = 200;
+
+fn rows(alloc: Global) -> Result<Vec<Row>, AllocError>
+    ensures { IfOk result (λ rows. AllByRecursion (HasInputsBelow 9) rows.items) }
+{
+    let mut rows = Vec::new(alloc);
+    for k in 0..ROWS {
+        rows.push(row(alloc, k)?)?;
+    }
+    Ok(rows)
+}
+
+// Whether the answer is that of row k alone.
+fn is_alone(alloc: Global, code: &Code, k: u32, answer: &Answer) -> Result<bool, Fail>
+    requires { code.now.counts.inputs ≡ 9 }
+{
+    let row = row(alloc, k)?;
+    let alone = run_household(alloc, code, &row.household)?;
+    Ok(is_same(&alone, answer))
+}
+
+// How many answers aren't those of the rows alone.
+fn wrong(alloc: Global, code: &Code, answers: &[Answer]) -> Result<usize, Fail>
+    requires { code.now.counts.inputs ≡ 9 }
+{
+    let mut count: usize = 0;
+    for (k, answer) in answers.iter().enumerate() {
+        if !is_alone(alloc, code, u32::try_from(k).unwrap_or(0), answer)? {
+            count = count.saturating_add(1);
+        }
+    }
+    Ok(count)
+}
+
+// How many answers are stops.
+fn stopped(answers: &[Answer]) -> usize {
+    let mut count: usize = 0;
+    for answer in answers {
+        if matches!(answer, Answer::Stopped(_)) {
+            count = count.saturating_add(1);
+        }
+    }
+    count
+}
+
+#[test]
+fn rows_alone(rt: HostRuntime) -> Result<(), Fail> {
+    let alloc = rt.alloc();
+    let code = code(alloc)?;
+    let rows = rows(alloc)?;
+    let answers = run_batch(&rt, alloc, &code, &rows, &Open)?;
+    assert_eq!(rt; answers.as_slice().len(), ROWS as usize);
+    assert_eq!(rt; stopped(answers.as_slice()), 80);
+    assert_eq!(rt; wrong(alloc, &code, answers.as_slice())?, 0);
+    Ok(())
+}

@@ -1,0 +1,173 @@
+//! Households and tables whose inputs have types: `1AJ` takes whole units, `C08` takes 0 and 1, and `2AA` takes each amount.
+use crate::households::three_typed;
+use crate::tables::shown_rows;
+use household::{Codes, HouseholdFault, read_household, read_table};
+use m_fixed::Amount;
+use observables::InputType;
+use std::alloc::Global;
+use std::test::Fail;
+
+fn typed_codes(alloc: Global) -> Result<Codes, Fail> {
+    three_typed(alloc, &[InputType::Whole, InputType::Truth])
+}
+
+/// Numbers of inputs and millionths, and whether the input takes them.
+const FITS: [(u32, i128, bool); 15] = [
+    (0, 3_000_000, true),
+    (0, -3_000_000, true),
+    (0, 0, true),
+    (0, 10_000_000_000_000_000_000, true),
+    (0, 2_500_000, false),
+    (0, 1, false),
+    (0, -1, false),
+    (1, 0, true),
+    (1, 1_000_000, true),
+    (1, 2_000_000, false),
+    (1, -1_000_000, false),
+    (1, 1, false),
+    (1, 999_999, false),
+    (2, 1, true),
+    (2, -2_500_000, true),
+];
+
+#[test]
+fn amounts_that_fit(rt: HostRuntime) -> Result<(), Fail> {
+    let codes = typed_codes(rt.alloc())?;
+    for (input, millionths, fits) in FITS {
+        let taken = match Amount::new(millionths) {
+            Some(amount) => codes.fits(input, amount),
+            None => !fits,
+        };
+        assert_eq!(rt; taken, fits, "{input} {millionths}");
+    }
+    Ok(())
+}
+
+/// Households, and the inputs and millionths of their pairs.
+const HOUSEHOLDS: [(&[u8], &[(u32, i128)]); 6] = [
+    (
+        b"code,amount\n1AJ,3\nC08,1\n2AA,2.5\n",
+        &[(0, 3_000_000), (1, 1_000_000), (2, 2_500_000)],
+    ),
+    (b"code,amount\nC08,0\n1AJ,-7", &[(1, 0), (0, -7_000_000)]),
+    (b"code,amount\n1AJ,2.0000004", &[(0, 2_000_000)]),
+    (b"code,amount\nC08,-0", &[(1, 0)]),
+    (b"code,amount\nC08,0.9999995", &[(1, 1_000_000)]),
+    (
+        b"code,amount\n1AJ,10000000000000",
+        &[(0, 10_000_000_000_000_000_000)],
+    ),
+];
+
+#[test]
+fn households(rt: HostRuntime) -> Result<(), Fail> {
+    let codes = typed_codes(rt.alloc())?;
+    for (bytes, pairs) in HOUSEHOLDS {
+        let household = read_household(rt.alloc(), bytes, &codes)?;
+        let read = household.pairs.as_slice();
+        assert_eq!(rt; read.len(), pairs.len(), "{bytes:?}");
+        for (pair, (input, millionths)) in read.iter().zip(pairs) {
+            assert_eq!(rt; pair.0, *input, "{bytes:?}");
+            assert_eq!(rt; pair.1.millionths(), *millionths, "{bytes:?}");
+        }
+    }
+    Ok(())
+}
+
+/// Refused households, and the first fault of each.
+const REFUSED: [(&[u8], HouseholdFault); 17] = [
+    (b"code,amount\n1AJ,2500.5\n", HouseholdFault::NotOfType(2)),
+    (
+        b"code,amount\n1AJ,-0.000001\n",
+        HouseholdFault::NotOfType(2),
+    ),
+    (b"code,amount\nC08,2\n", HouseholdFault::NotOfType(2)),
+    (b"code,amount\nC08,-1\n", HouseholdFault::NotOfType(2)),
+    (b"code,amount\nC08,0.5\n", HouseholdFault::NotOfType(2)),
+    (b"code,amount\nC08,1.000001\n", HouseholdFault::NotOfType(2)),
+    (
+        b"code,amount\n2AA,2.5\n1AJ,2.5\n",
+        HouseholdFault::NotOfType(3),
+    ),
+    // what comes before it in a record
+    (b"code,amount\n1AJ,2.5,3\n", HouseholdFault::BadRow(2)),
+    (b"code,amount\n9ZZ,2.5\n", HouseholdFault::UnknownCode(2)),
+    (b"code,amount\n1AJ,2.5x\n", HouseholdFault::BadAmount(2)),
+    // and behind it
+    (
+        b"code,amount\n1AJ,1\n1AJ,2.5\n",
+        HouseholdFault::NotOfType(3),
+    ),
+    (b"code,amount\n1AJ,1\n1AJ,2\n", HouseholdFault::CodeTwice(3)),
+    // faults of other records
+    (
+        b"code,amount\n1AJ,2.5\n9ZZ,1\n",
+        HouseholdFault::NotOfType(2),
+    ),
+    (b"code,amount\n1AJ,2.5\n1AJ\n", HouseholdFault::NotOfType(2)),
+    (
+        b"code,amount\n9ZZ,1\n1AJ,2.5\n",
+        HouseholdFault::UnknownCode(2),
+    ),
+    (b"code,amount\n1AJ,x\nC08,2\n", HouseholdFault::BadAmount(2)),
+    (
+        b"code,amount\n\n\nC08,1\n\n1AJ,.5\n",
+        HouseholdFault::BadAmount(3),
+    ),
+];
+
+#[test]
+fn refused_households(rt: HostRuntime) -> Result<(), Fail> {
+    let codes = typed_codes(rt.alloc())?;
+    for (bytes, wanted) in REFUSED {
+        let fault = read_household(rt.alloc(), bytes, &codes).err();
+        assert_eq!(rt; fault, Some(wanted), "{bytes:?}");
+    }
+    Ok(())
+}
+
+#[test]
+fn tables(rt: HostRuntime) -> Result<(), Fail> {
+    let codes = typed_codes(rt.alloc())?;
+    let bytes = b"name,1AJ,C08,2AA\na,3,1,2.5\nb,,,\nc,-4,0,-0.5\n";
+    let rows = read_table(rt.alloc(), bytes, &codes)?;
+    let shown = shown_rows(rt.alloc(), rows.as_slice())?;
+    let wanted = b"a 0=3000000 1=1000000 2=2500000;b;c 0=-4000000 1=0 2=-500000;";
+    assert!(rt; shown.as_slice() == wanted.as_slice());
+    Ok(())
+}
+
+/// Refused tables, and the first fault of each.
+const REFUSED_TABLES: [(&[u8], HouseholdFault); 12] = [
+    (b"name,1AJ\na,2.5\n", HouseholdFault::NotOfType(2)),
+    (b"name,C08\na,1\nb,2\n", HouseholdFault::NotOfType(3)),
+    (b"name,C08,1AJ\na,2,2.5\n", HouseholdFault::NotOfType(2)),
+    (
+        b"name,2AA,1AJ\na,2.5,\nb,2.5,2.5\n",
+        HouseholdFault::NotOfType(3),
+    ),
+    // a bad amount anywhere in the record comes first
+    (b"name,1AJ,2AA\na,2.5,x\n", HouseholdFault::BadAmount(2)),
+    (b"name,2AA,1AJ\na,x,2.5\n", HouseholdFault::BadAmount(2)),
+    (
+        b"name,1AJ,C08\na,3,1\nb,2.5,x\nc\n",
+        HouseholdFault::BadAmount(3),
+    ),
+    // and so does a bad row
+    (b"name,1AJ,C08\na,2.5,1,\n", HouseholdFault::BadRow(2)),
+    (b"name,1AJ\n,2.5\n", HouseholdFault::BadRow(2)),
+    // faults of other records
+    (b"name,1AJ\na,2.5\nb,x\n", HouseholdFault::NotOfType(2)),
+    (b"name,1AJ\na,2.5\nb\n", HouseholdFault::NotOfType(2)),
+    (b"name,1AJ,1AJ\na,2.5,x\n", HouseholdFault::CodeTwice(1)),
+];
+
+#[test]
+fn refused_tables(rt: HostRuntime) -> Result<(), Fail> {
+    let codes = typed_codes(rt.alloc())?;
+    for (bytes, wanted) in REFUSED_TABLES {
+        let fault = read_table(rt.alloc(), bytes, &codes).err();
+        assert_eq!(rt; fault, Some(wanted), "{bytes:?}");
+    }
+    Ok(())
+}

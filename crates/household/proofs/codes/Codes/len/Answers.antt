@@ -1,0 +1,6 @@
+use Rattle.std.proofs.Common.{length, sym, ap, ◌∙◌}
+use Rattle.household.proofs.KeptLemmas.{length_kept}
+use Rattle.household.proofs.codes.Codes.len.Goals as goal
+
+pub returns : goal.returns
+returns c = c.len.ensures ∙ sym (length_kept c.self.inside.names c.self.inside.kinds.items c.self.invariant) ∙ ap length c.self.view_is

@@ -1,0 +1,57 @@
+//! The amounts of rows, put at the places of their inputs.
+ghost use Rattle.std.specs.Prelude.{◌≡◌, ◌<◌, ◌≤◌, ℕ, [], length, slice_index_or};
+ghost use Rattle.std.specs.List.{AllByRecursion};
+ghost use Rattle.household.specs.declared.table.Row.{Row};
+ghost use Rattle.household.specs.Household.{values_of};
+ghost use Rattle.column_machine.specs.Rows.{row_at, row_inputs};
+ghost use Rattle.m_batch.specs.inner.Places.{IsPlacing, HasPlaces, IsFilled, AreRows, RowHasPlaces};
+
+use crate::places::Places;
+use household::{Household, Row};
+use m_fixed::Value;
+
+/// Puts the amounts of each row into the list of values that stands at its place. What stood in it is gone.
+pub(crate) fn put_rows(rows: &[Row], places: &Places, block: &mut [Vec<Value>])
+    requires many { length rows.now ≤ length block.old }
+    requires placing { IsPlacing places.now }
+    requires placed { AllByRecursion (RowHasPlaces places.now) rows.now }
+    requires width { AreRows (length places.now.inputs.items) block.old }
+    ensures many { length block.new ≡ length block.old }
+    ensures width { AreRows (length places.now.inputs.items) block.new }
+    ensures values { (r : ℕ) (d : Row) → r < length rows.now → row_inputs places.now.of.items (row_at block.new r) ≡ values_of (slice_index_or rows.now r d).household.pairs (length places.now.of.items) }
+{
+    for r in 0..rows.len() {
+        put_row(&rows[r], places, block[r].as_mut_slice());
+    }
+}
+
+// Puts the amounts of a row.
+fn put_row(given: &Row, places: &Places, row: &mut [Value])
+    requires placing { IsPlacing places.now }
+    requires placed { RowHasPlaces places.now given.now }
+    requires width { length row.old ≡ length places.now.inputs.items }
+    ensures width { length row.new ≡ length row.old }
+    ensures values { row_inputs places.now.of.items row.new ≡ values_of given.now.household.pairs (length places.now.of.items) }
+{
+    row.fill(Value::Undef);
+    put_pairs(&given.household, places, row);
+}
+
+// Puts the amounts of a household where nothing stands yet. The first pair of an input decides.
+fn put_pairs(household: &Household, places: &Places, row: &mut [Value])
+    requires placing { IsPlacing places.now }
+    requires placed { HasPlaces places.now household.now.pairs }
+    requires width { length row.old ≡ length places.now.inputs.items }
+    requires empty { IsFilled places.now row.old [] }
+    ensures width { length row.new ≡ length row.old }
+    ensures values { IsFilled places.now row.new household.now.pairs }
+{
+    let pairs = household.pairs.as_slice();
+    let mut left = pairs.len();
+    while left > 0 {
+        left -= 1;
+        let pair = pairs[left];
+        let place = places.of[pair.0 as usize];
+        row[place] = Value::Num(pair.1);
+    }
+}

@@ -1,0 +1,10 @@
+pub mod Named
+pub mod Shown
+pub mod ToldLemmas
+pub mod Found
+pub mod SeenLemmas
+pub mod Cells
+pub mod Few
+pub mod CaseLemmas
+pub mod Told
+pub mod Records

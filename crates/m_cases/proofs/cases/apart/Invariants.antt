@@ -1,0 +1,8 @@
+use Rattle.std.proofs.Common.{◌≡◌, map}
+use Rattle.m_cases.proofs.cases.apart.Given as goal
+
+abbrev pub invariant-loop-case : goal.invariant-loop-case
+invariant-loop-case l = record {
+  rows : l.rows.items ≡ map (λ c. c.row) l.yielded;
+  expected : l.expected.items ≡ map (λ c. c.expected) l.yielded;
+}

@@ -1,0 +1,57 @@
+-- What the columns of a table of cases are for.
+use Rattle.std.specs.Prelude.{ℕ, ◌==◌, Bool, false, List, [], ◌∷◌, Option, Some, None, Result, Ok, Err, if◌then◌else◌}
+use Rattle.std.specs.List.{list_any}
+use Rattle.m_names.specs.Names.{index_of}
+use Rattle.observables.specs.declared.inputs.Coded.{Coded}
+use Rattle.observables.specs.Inputs.{codes_of}
+use Rattle.household.specs.InTurn.{if_read}
+use Rattle.m_cases.specs.declared.columns.Column.{Column}
+use Rattle.m_cases.specs.declared.columns.Column.TheVariants.{Input, Output}
+use Rattle.m_cases.specs.declared.fault.CasesFault.{CasesFault}
+use Rattle.m_cases.specs.declared.fault.CasesFault.TheVariants.{UnknownCode, UnknownOutput, CodeTwice}
+
+-- a column of amounts of an input
+abbrev pub input_said : Option ℕ → Result Column CasesFault
+input_said None = Err (UnknownCode 1)
+input_said (Some input) = Ok (Input input)
+
+-- a column of what is expected of an output
+abbrev pub output_said : Option ℕ → Result Column CasesFault
+output_said None = Err (UnknownOutput 1)
+output_said (Some output) = Ok (Output output)
+
+-- What a field of the first record says by itself: behind an equals sign, which is the byte 61, the name of an output, of which the first
+-- that has the name is meant; and else the code of an input. `names` are the names of the outputs that have one, and the number of an
+-- output is its place among them: where the requests are `REV` and `IRN`, the field `=IRN` says the output 1.
+abbrev pub field_said : List Coded → List (List ℕ) → List ℕ → Result Column CasesFault
+field_said inputs names [] = input_said (index_of [] (codes_of inputs))
+field_said inputs names (byte ∷ bytes) =
+    if byte == 61 then output_said (index_of bytes names) else input_said (index_of (byte ∷ bytes) (codes_of inputs))
+
+-- whether two columns are for one thing
+abbrev pub is_same_column : Column → Column → Bool
+is_same_column (Input a) (Input b) = b == a
+is_same_column (Output a) (Output b) = b == a
+is_same_column (Input a) (Output b) = false
+is_same_column (Output a) (Input b) = false
+
+-- a column, which may not be for the same thing as one before it
+abbrev pub new_column : List Column → Column → Result Column CasesFault
+new_column before column = if list_any (is_same_column column) before then Err (CodeTwice 1) else Ok column
+
+-- What a field of the first record says behind those of these columns.
+abbrev pub column_of : List Coded → List (List ℕ) → List Column → List ℕ → Result Column CasesFault
+column_of inputs names before field = if_read (new_column before) (field_said inputs names field)
+
+-- the inputs of the columns of amounts, in order
+abbrev pub column_inputs : List Column → List ℕ
+column_inputs [] = []
+column_inputs (Input input ∷ columns) = input ∷ column_inputs columns
+column_inputs (Output output ∷ columns) = column_inputs columns
+
+-- the cells below the columns of amounts, in order
+abbrev pub input_cells : List Column → List (List ℕ) → List (List ℕ)
+input_cells [] cells = []
+input_cells (column ∷ columns) [] = []
+input_cells (Input input ∷ columns) (cell ∷ cells) = cell ∷ input_cells columns cells
+input_cells (Output output ∷ columns) (cell ∷ cells) = input_cells columns cells

@@ -1,0 +1,4 @@
+pub mod Columns
+pub mod Cases
+pub mod Mismatches
+pub mod inner

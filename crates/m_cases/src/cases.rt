@@ -1,0 +1,326 @@
+//! The cases of a table: rows, and what is expected of each.
+ghost use Rattle.std.specs.Prelude.{◌≡◌, ◌<◌, ◌≤◌, ◌+◌, ◌^◌, ◌++◌, ◌∷◌, [], drop, length, IfOk, OnOk, Ok, Err};
+ghost use Rattle.std.specs.List.{AllByRecursion};
+ghost use Rattle.csv.specs.Records.{fields_of};
+ghost use Rattle.m_places.specs.Refusals.{Outcome};
+ghost use Rattle.m_places.specs.declared.limits.TheConstants.{ROWS};
+ghost use Rattle.m_fixed.specs.Text.{amount_read, text_value};
+ghost use Rattle.observables.specs.Outputs.{names_of};
+ghost use Rattle.household.specs.Household.{AreInputs, AreOfTypes};
+ghost use Rattle.household.specs.InTurn.{if_read, in_turn};
+ghost use Rattle.household.specs.Reader.{left_of};
+ghost use Rattle.household.specs.Table.{cells_read, is_table_header, pairs_read};
+ghost use Rattle.m_cases.specs.Cases.{AreExpected, amount_expected, case_of, case_said, cases_made, cases_of, expected_read, expected_said, of_household};
+ghost use Rattle.m_cases.specs.Columns.{column_inputs, column_of, input_cells};
+ghost use Rattle.m_cases.specs.inner.Cells.{amounts_behind, expected_behind};
+ghost use Rattle.m_cases.specs.declared.expected.Expected.TheVariants.{Is, Stop};
+ghost use Rattle.m_cases.specs.declared.fault.CasesFault.TheVariants.{Memory};
+
+use crate::columns::{Column, read_columns};
+use crate::outputs::Outputs;
+use crate::{CasesFault, Expected};
+use csv::ByteRecord;
+use household::records::{Records, field_at, next_line, next_record, records_of};
+use household::{Codes, Household, Row, is_label, read_cell};
+use m_fixed::{Amount, Value, read_amount};
+use m_places::{Name, Seq};
+use observables::Face;
+use std::alloc::{AllocError, Global};
+
+/// The cases of a table: its rows in order, and at the same place what is expected of each, in the order of the fields. The number
+/// of an output is its place among the outputs with names, from 0.
+#[derive(Drop)]
+pub struct Cases {
+    pub rows: Seq<Row>,
+    pub expected: Seq<Seq<(u32, Expected)>>,
+}
+
+/// A row, and what is expected of it.
+#[derive(Drop)]
+pub struct Case {
+    pub row: Row,
+    pub expected: Seq<(u32, Expected)>,
+}
+
+/// Reads a table of cases: records set apart by commas, of which the first is `name` and then codes of inputs and names of outputs
+/// behind `=`, and each other a label and for each column an amount, what is expected, or nothing, as `dupont,2500.5,1500.5`.
+pub fn read_cases(
+    alloc: Global,
+    bytes: &[u8],
+    codes: &Codes,
+    face: &Face,
+) -> Result<Cases, CasesFault>
+    requires { length face.now.outputs < 2 ^ 32 }
+    ensures outcome { Outcome Memory result
+        (λ cases. cases_of codes.now (names_of face.now.outputs) bytes.now ≡ Ok cases)
+        (λ fault. cases_of codes.now (names_of face.now.outputs) bytes.now ≡ Err fault) }
+    ensures inputs { IfOk result (λ cases. AllByRecursion (λ row. AreInputs (length codes.now) row.household.pairs) cases.rows) }
+    ensures amounts { IfOk result (λ cases. AllByRecursion (λ row. AreOfTypes codes.now row.household.pairs) cases.rows) }
+    ensures many { IfOk result (λ cases. length cases.expected ≡ length cases.rows) }
+    ensures few { IfOk result (λ cases. length cases.rows ≤ ROWS) }
+    ensures expected { IfOk result (λ cases. AllByRecursion (AreExpected (length (names_of face.now.outputs))) cases.expected) }
+{
+    let mut records = records_of(alloc, bytes);
+    let mut row = ByteRecord::new(alloc);
+    if !next_record(&mut records, &mut row)? {
+        return Err(CasesFault::BadHeader);
+    }
+    if !is_header(&row) {
+        return Err(CasesFault::BadHeader);
+    }
+    let columns = columns_of(alloc, &row, codes, face)?;
+    let cases = read_rows(alloc, &mut records, &mut row, &columns, codes)?;
+    Ok(apart(alloc, cases)?)
+}
+
+// Whether a record is the first of a table.
+fn is_header(row: &ByteRecord) -> bool
+    ensures { result ≡ is_table_header (fields_of row.now) }
+{
+    field_at(row, 0) == b"name".as_slice()
+}
+
+// The columns of a table of cases, by its first record.
+fn columns_of(
+    alloc: Global,
+    row: &ByteRecord,
+    codes: &Codes,
+    face: &Face,
+) -> Result<Vec<Column>, CasesFault>
+    requires { length face.now.outputs < 2 ^ 32 }
+    ensures { Outcome Memory result
+        (λ columns. in_turn (column_of codes.now (names_of face.now.outputs)) [] (drop 1 (fields_of row.now)) ≡ Ok columns.items)
+        (λ fault. in_turn (column_of codes.now (names_of face.now.outputs)) [] (drop 1 (fields_of row.now)) ≡ Err fault) }
+{
+    let outputs = Outputs::new(alloc, face.outputs.as_slice())?;
+    read_columns(alloc, row, codes, &outputs)
+}
+
+// The cases that are left.
+fn read_rows(
+    alloc: Global,
+    records: &mut Records<'_>,
+    row: &mut ByteRecord,
+    columns: &[Column],
+    codes: &Codes,
+) -> Result<Vec<Case>, CasesFault>
+    ensures { Outcome Memory result
+        (λ cases. in_turn (case_of codes.now columns.now) [] (left_of records.old) ≡ Ok cases.items)
+        (λ fault. in_turn (case_of codes.now columns.now) [] (left_of records.old) ≡ Err fault) }
+{
+    let mut cases = Vec::new(alloc);
+    while next_record(records, row)? {
+        let line = next_line(cases.len())?;
+        cases.push(read_case(alloc, row, line, columns, codes)?)?;
+    }
+    Ok(cases)
+}
+
+// The case that the record with this number says.
+fn read_case(
+    alloc: Global,
+    row: &ByteRecord,
+    line: u32,
+    columns: &[Column],
+    codes: &Codes,
+) -> Result<Case, CasesFault>
+    ensures { Outcome Memory result
+        (λ read. case_said codes.now line columns.now (fields_of row.now) ≡ Ok read)
+        (λ fault. case_said codes.now line columns.now (fields_of row.now) ≡ Err fault) }
+{
+    let label = field_at(row, 0);
+    if row.len() != columns.len() + 1 || !is_label(label) {
+        return Err(CasesFault::BadRow(line));
+    }
+    let pairs = read_pairs(alloc, row, line, columns, codes)?;
+    let expected = read_expected(alloc, row, line, columns)?;
+    Ok(Case {
+        row: Row {
+            label: Name::new(alloc, label)?,
+            household: Household { pairs },
+        },
+        expected,
+    })
+}
+
+// The pairs of the cells below inputs, each of its input's type.
+fn read_pairs(
+    alloc: Global,
+    row: &ByteRecord,
+    line: u32,
+    columns: &[Column],
+    codes: &Codes,
+) -> Result<Seq<(u32, Amount)>, CasesFault>
+    requires { length (fields_of row.now) ≡ length columns.now + 1 }
+    ensures { Outcome Memory result
+        (λ pairs. pairs_read codes.now line (column_inputs columns.now) (input_cells columns.now (drop 1 (fields_of row.now))) ≡ Ok pairs)
+        (λ fault. of_household (pairs_read codes.now line (column_inputs columns.now) (input_cells columns.now (drop 1 (fields_of row.now)))) ≡ Err fault) }
+{
+    let pairs = read_amounts(alloc, row, line, columns)?;
+    if !codes.all_fit(&pairs) {
+        return Err(CasesFault::NotOfType(line));
+    }
+    Ok(Seq::from_vec(pairs))
+}
+
+// The pairs of the cells below inputs.
+fn read_amounts(
+    alloc: Global,
+    row: &ByteRecord,
+    line: u32,
+    columns: &[Column],
+) -> Result<Vec<(u32, Amount)>, CasesFault>
+    requires { length (fields_of row.now) ≡ length columns.now + 1 }
+    ensures { Outcome Memory result
+        (λ pairs. cells_read line [] (column_inputs columns.now) (input_cells columns.now (drop 1 (fields_of row.now))) ≡ Ok pairs.items)
+        (λ fault. of_household (cells_read line [] (column_inputs columns.now) (input_cells columns.now (drop 1 (fields_of row.now)))) ≡ Err fault) }
+{
+    let mut pairs = Vec::new(alloc);
+    for place in 0..columns.len() {
+        add_amount(field_at(row, place + 1), columns[place], line, &mut pairs)?;
+    }
+    Ok(pairs)
+}
+
+// Adds the pair of a cell below this column, if it is one of amounts and the cell isn't empty.
+fn add_amount(
+    cell: &[u8],
+    column: Column,
+    line: u32,
+    pairs: &mut Vec<(u32, Amount)>,
+) -> Result<(), CasesFault>
+    ensures { Outcome Memory result
+        (λ _. amounts_behind line pairs.old.items column cell.now ≡ Ok pairs.new.items)
+        (λ fault. of_household (amounts_behind line pairs.old.items column cell.now) ≡ Err fault) }
+{
+    match column {
+        Column::Input(input) => {
+            if !cell.is_empty() {
+                pairs.push(read_cell(cell, input, line)?)?;
+            }
+            Ok(())
+        }
+        Column::Output(_) => Ok(()),
+    }
+}
+
+// What the cells below outputs expect.
+fn read_expected(
+    alloc: Global,
+    row: &ByteRecord,
+    line: u32,
+    columns: &[Column],
+) -> Result<Seq<(u32, Expected)>, CasesFault>
+    requires { length (fields_of row.now) ≡ length columns.now + 1 }
+    ensures { Outcome Memory result
+        (λ expected. expected_read line [] columns.now (drop 1 (fields_of row.now)) ≡ Ok expected)
+        (λ fault. expected_read line [] columns.now (drop 1 (fields_of row.now)) ≡ Err fault) }
+{
+    let mut expected = Vec::new(alloc);
+    for place in 0..columns.len() {
+        add_expected(
+            field_at(row, place + 1),
+            columns[place],
+            line,
+            &mut expected,
+        )?;
+    }
+    Ok(Seq::from_vec(expected))
+}
+
+// Adds what a cell below this column expects, if it is one of an output and the cell isn't empty.
+fn add_expected(
+    cell: &[u8],
+    column: Column,
+    line: u32,
+    expected: &mut Vec<(u32, Expected)>,
+) -> Result<(), CasesFault>
+    ensures { Outcome Memory result
+        (λ _. expected_behind line expected.old.items column cell.now ≡ Ok expected.new.items)
+        (λ fault. expected_behind line expected.old.items column cell.now ≡ Err fault) }
+{
+    match column {
+        Column::Input(_) => Ok(()),
+        Column::Output(output) => {
+            if cell.is_empty() {
+                return Ok(());
+            }
+            put_expected(cell, output, line, expected)
+        }
+    }
+}
+
+// Adds what a cell that isn't empty expects of the output with this number.
+fn put_expected(
+    cell: &[u8],
+    output: u32,
+    line: u32,
+    expected: &mut Vec<(u32, Expected)>,
+) -> Result<(), CasesFault>
+    ensures { Outcome Memory result
+        (λ _. if_read (λ one. Ok (expected.old.items ++ (output, one) ∷ [])) (expected_said line cell.now) ≡ Ok expected.new.items)
+        (λ fault. if_read (λ one. Ok (expected.old.items ++ (output, one) ∷ [])) (expected_said line cell.now) ≡ Err fault) }
+{
+    match expected_said(cell, line)? {
+        Expected::Is(value) => Ok(push_value(output, value, expected)?),
+        Expected::Stop => Ok(push_stop(output, expected)?),
+    }
+}
+
+fn push_value(
+    output: u32,
+    value: Value,
+    expected: &mut Vec<(u32, Expected)>,
+) -> Result<(), AllocError>
+    ensures { OnOk result (expected.new.items ≡ expected.old.items ++ (output, Is value) ∷ []) }
+{
+    expected.push((output, Expected::Is(value)))?;
+    Ok(())
+}
+
+fn push_stop(output: u32, expected: &mut Vec<(u32, Expected)>) -> Result<(), AllocError>
+    ensures { OnOk result (expected.new.items ≡ expected.old.items ++ (output, Stop) ∷ []) }
+{
+    expected.push((output, Expected::Stop))?;
+    Ok(())
+}
+
+// What a cell that isn't empty expects.
+fn expected_said(cell: &[u8], line: u32) -> Result<Expected, CasesFault>
+    ensures { result ≡ expected_said line cell.now }
+{
+    if cell == b"undefined".as_slice() {
+        Ok(Expected::Is(Value::Undef))
+    } else if cell == b"over".as_slice() {
+        Ok(Expected::Is(Value::Over))
+    } else if cell == b"stop".as_slice() {
+        Ok(Expected::Stop)
+    } else {
+        amount_expected(cell, line)
+    }
+}
+
+fn amount_expected(cell: &[u8], line: u32) -> Result<Expected, CasesFault>
+    ensures { result ≡ amount_expected line (amount_read (text_value cell.now)) }
+{
+    match read_amount(cell) {
+        Ok(amount) => Ok(Expected::Is(Value::Num(amount))),
+        Err(_) => Err(CasesFault::BadExpected(line)),
+    }
+}
+
+// The rows of cases, and what each expects. Its only error is want of memory.
+fn apart(alloc: Global, cases: Vec<Case>) -> Result<Cases, AllocError>
+    ensures { IfOk result (λ made. made ≡ cases_made cases.items) }
+{
+    let mut rows = Vec::new(alloc);
+    let mut expected = Vec::new(alloc);
+    for case in cases {
+        rows.push(case.row)?;
+        expected.push(case.expected)?;
+    }
+    Ok(Cases {
+        rows: Seq::from_vec(rows),
+        expected: Seq::from_vec(expected),
+    })
+}

@@ -1,0 +1,66 @@
+//! Why a table of cases is refused.
+
+ghost use Rattle.std.specs.Prelude.{◌≡◌};
+ghost use Rattle.m_cases.specs.Cases.{case_fault};
+ghost use Rattle.m_cases.specs.declared.fault.CasesFault.TheVariants.{Memory};
+
+use household::HouseholdFault;
+use std::alloc::{AllocError, AllocFailed};
+
+/// Why a table of cases is refused. The number is that of a record, from 1.
+#[derive(Clone, Copy, Debug, PartialEq, Eq)]
+pub enum CasesFault {
+    /// The first record doesn't begin with `name`.
+    BadHeader,
+    /// More rows than a table may have.
+    TooManyRows,
+    /// A record that has no label, or not a field for each column.
+    BadRow(u32),
+    /// A field of the first record that is the code of no input.
+    UnknownCode(u32),
+    /// A field of the first record that is `=` and the name of no output.
+    UnknownOutput(u32),
+    /// An input or an output that stands a second time.
+    CodeTwice(u32),
+    /// A cell below an input that is no amount.
+    BadAmount(u32),
+    /// An amount that isn't of its input's type.
+    NotOfType(u32),
+    /// A cell below an output that is neither an amount nor `undefined`, `over` or `stop`.
+    BadExpected(u32),
+    /// Want of memory.
+    Memory,
+}
+
+impl From<HouseholdFault> for CasesFault {
+    ghost from_gives = { λ e f. f ≡ case_fault e };
+
+    fn from(fault: HouseholdFault) -> CasesFault {
+        match fault {
+            HouseholdFault::BadHeader => CasesFault::BadHeader,
+            HouseholdFault::TooManyRows => CasesFault::TooManyRows,
+            HouseholdFault::BadRow(line) => CasesFault::BadRow(line),
+            HouseholdFault::UnknownCode(line) => CasesFault::UnknownCode(line),
+            HouseholdFault::BadAmount(line) => CasesFault::BadAmount(line),
+            HouseholdFault::NotOfType(line) => CasesFault::NotOfType(line),
+            HouseholdFault::CodeTwice(line) => CasesFault::CodeTwice(line),
+            HouseholdFault::Memory => CasesFault::Memory,
+        }
+    }
+}
+
+impl From<AllocError> for CasesFault {
+    ghost from_gives = { λ _ f. f ≡ Memory };
+
+    fn from(_error: AllocError) -> CasesFault {
+        CasesFault::Memory
+    }
+}
+
+impl<T: Drop> From<AllocFailed<T>> for CasesFault {
+    ghost from_gives = { λ _ f. f ≡ Memory };
+
+    fn from(_error: AllocFailed<T>) -> CasesFault {
+        CasesFault::Memory
+    }
+}

@@ -1,0 +1,56 @@
+-- Cases have one answer.
+use Rattle.std.proofs.Common.{◌≡◌, ℕ, zero, suc, List, Some, Result, Ok, Err, refl, ap, subst}
+use Rattle.rule_text.specs.declared.Source.{Source}
+use Rattle.m_cases.specs.Cases.{cases_of}
+use Rattle.m_cases.specs.declared.cases.Cases.{Cases}
+use Rattle.m_cases.specs.declared.fault.CasesFault.{CasesFault}
+use Rattle.m_compile.specs.Faults.{IsSourceFault}
+use Rattle.m_compile.specs.declared.fault.SourceFault.{SourceFault}
+use Rattle.m_compile.proofs.OneLaws.{no_valid_and_fault, one_fault}
+use Rattle.m_plan.specs.Status.{IsComplete}
+use Rattle.m_plan.specs.declared.status.Status.{Status}
+use Rattle.m_work.specs.Cases.{CasesHasAnswer, CasesReplies, ComparedReplies, cases_count, cases_fault_line, cases_text, count_status, source_is_refused, is_answered, table_is_refused, is_compared}
+use Rattle.m_work.specs.Schemes.{Scheme}
+use Rattle.m_work.specs.Sources.{IsScheme}
+use Rattle.m_commands.specs.Output.{AreOneOutput, the_same}
+use Rattle.m_commands.proofs.Schemes.{one_line, one_scheme}
+
+-- a source that has a scheme has no fault
+no_scheme_and_fault : (source : Source) (scheme : Scheme) (fault : SourceFault) → IsScheme source scheme → IsSourceFault source fault → ⊥
+no_scheme_and_fault source scheme fault v is = no_valid_and_fault source v.declared v.base v.written v.requests fault v.valid is
+
+same_fault_line : (fault other : CasesFault) (t u : List ℕ) → fault ≡ other → cases_fault_line fault ≡ Some t → cases_fault_line other ≡ Some u → t ≡ u
+same_fault_line fault other t u e a b =
+    let c : cases_fault_line other ≡ Some t = subst (λ (f : CasesFault). cases_fault_line f ≡ Some t) e a in
+    cc (c, b)
+
+-- a scheme answers in one way
+one_compared : (scheme : Scheme) (table t u : List ℕ) (s r : Status) → ComparedReplies scheme table t s → ComparedReplies scheme table u r → AreOneOutput t s u r
+one_compared scheme table t u s r (table_is_refused fault g k) (table_is_refused other h l) = the_same (same_fault_line fault other t u (cc (g, h)) k l) refl
+one_compared scheme table t u s r (table_is_refused fault g k) (is_compared cases h) = cc (g, h)
+one_compared scheme table t u s r (is_compared cases g) (table_is_refused other h l) = cc (g, h)
+one_compared scheme table t u s r (is_compared one g) (is_compared other h) =
+    let e : one ≡ other = cc (g, h) in
+    the_same (ap (cases_text scheme) e) (ap (λ (c : Cases). count_status (cases_count scheme c.rows c.expected)) e)
+
+-- `cases` answers in one way
+pub one_cases : (source : Source) (table t u : List ℕ) (s r : Status) → CasesReplies source table t s → CasesReplies source table u r → AreOneOutput t s u r
+one_cases source table t u s r (source_is_refused fault f k) (source_is_refused other g l) = one_line source.texts fault other t u (one_fault source fault other f g) k l
+one_cases source table t u s r (source_is_refused fault f k) (is_answered scheme v b) = absurd (no_scheme_and_fault source scheme fault v f)
+one_cases source table t u s r (is_answered scheme v a) (source_is_refused fault f k) = absurd (no_scheme_and_fault source scheme fault v f)
+one_cases source table t u s r (is_answered one v a) (is_answered other w b) =
+    one_compared other table t u s r (subst (λ (x : Scheme). ComparedReplies x table t s) (one_scheme source one other v w) a) b
+
+count_complete : (count : ℕ) → IsComplete (count_status count)
+count_complete zero = tt
+count_complete (suc count) = tt
+
+given_complete : (scheme : Scheme) (table text : List ℕ) (status : Status) (cases : Cases) → cases_of scheme.inputs scheme.names table ≡ Ok cases → ComparedReplies scheme table text status → IsComplete status
+given_complete scheme table text status cases g (table_is_refused fault h k) = cc (g, h)
+given_complete scheme table text status cases g (is_compared other h) = count_complete (cases_count scheme other.rows other.expected)
+
+-- what has an answer isn't refused
+pub compared_complete : (source : Source) (table text : List ℕ) (status : Status) → CasesHasAnswer source table → CasesReplies source table text status → IsComplete status
+compared_complete source table text status h (source_is_refused fault f k) = absurd (no_scheme_and_fault source h.scheme fault h.valid f)
+compared_complete source table text status h (is_answered scheme v a) =
+    given_complete h.scheme table text status h.cases h.given (subst (λ (x : Scheme). ComparedReplies x table text status) (one_scheme source scheme h.scheme v h.valid) a)

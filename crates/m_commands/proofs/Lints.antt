@@ -1,0 +1,69 @@
+-- A lint has one answer, but for what the source is compiled to, and what it says is true.
+use Rattle.std.proofs.Common.{◌≡◌, ℕ, List, Option, refl, sym, ap, subst}
+use Rattle.std.specs.List.{AllByRecursion}
+use Rattle.rule_text.specs.declared.Source.{Source}
+use Rattle.m_symbols.specs.Declarations.{Declared}
+use Rattle.micro_m.specs.declared.base.Base.{Base}
+use Rattle.driver_core.specs.declared.program.Core.{Core}
+use Rattle.m_lint.specs.Findings.{findings_of}
+use Rattle.m_lint.specs.Lines.{findings_text}
+use Rattle.m_lint.specs.Truths.{IsTrueFinding}
+use Rattle.m_lint.specs.declared.finding.Finding.{Finding}
+use Rattle.m_lint.proofs.TruthLemmas.{all_true}
+use Rattle.m_compile.specs.Answers.{answer_to}
+use Rattle.driver_core.specs.Inputs.{inputs_said}
+use Rattle.m_compile.specs.Compiled.{IsCompiled}
+use Rattle.m_compile.specs.Faults.{IsSourceFault}
+use Rattle.m_compile.specs.Sources.{HasRules, IsValid}
+use Rattle.m_compile.specs.declared.compiling.Compiled.{Compiled}
+use Rattle.m_compile.specs.declared.fault.SourceFault.{SourceFault}
+use Rattle.m_compile.proofs.OneLaws.{no_valid_and_fault, one_fault, one_rules, one_validity}
+use Rattle.m_plan.specs.Status.{IsComplete}
+use Rattle.m_plan.specs.declared.status.Status.{Status}
+use Rattle.m_plan.specs.declared.status.Status.TheVariants.{Done}
+use Rattle.m_work.specs.Compiles.{CompileHasAnswer}
+use Rattle.m_work.specs.Lints.{LintReplies, is_linted, is_refused, lint_text}
+use Rattle.m_commands.specs.Output.{AreOneOutput, both_linted}
+use Rattle.m_commands.proofs.Codes.{compiled_not_refused}
+use Rattle.m_commands.proofs.Schemes.{one_line}
+
+-- what is compiled has no fault
+no_fault : (source : Source) (compiled : Compiled) (fault : SourceFault) → IsCompiled source compiled → IsSourceFault source fault → ⊥
+no_fault source compiled fault is f = no_valid_and_fault source is.declared is.base is.written is.requests fault is.valid f
+
+-- `lint` answers in one way, but for what the source is compiled to
+pub one_lint : (source : Source) (t u : List ℕ) (s r : Status) → LintReplies source t s → LintReplies source u r → AreOneOutput t s u r
+one_lint source t u s r (is_refused fault f k) (is_refused other g l) = one_line source.texts fault other t u (one_fault source fault other f g) k l
+one_lint source t u s r (is_refused fault f k) (is_linted declared base compiled rules is) = absurd (no_fault source compiled fault is f)
+one_lint source t u s r (is_linted declared base compiled rules is) (is_refused fault f k) = absurd (no_fault source compiled fault is f)
+one_lint source t u s r (is_linted declared base one rules is) (is_linted others other two also was) =
+    let same = one_rules source declared others base other rules also in
+    let e : lint_text declared base two ≡ lint_text others other two = λ i. lint_text (same.0 i) (same.1 i) two in
+    subst (λ (x : List ℕ). AreOneOutput (lint_text declared base one) Done x Done) e (both_linted source declared base one two rules is was)
+
+-- what has an answer isn't refused
+pub linted_complete : (source : Source) (text : List ℕ) (status : Status) → CompileHasAnswer source → LintReplies source text status → IsComplete status
+linted_complete source text status h (is_refused fault f k) = absurd (compiled_not_refused source fault h f)
+linted_complete source text status h (is_linted declared base compiled rules is) = tt
+
+-- what is found is true of what the source answers
+found_true : (source : Source) (declared : Declared) (base : Base) (compiled : Compiled) (others : Declared) (other : Base) (written : Option Core) (requests : List ℕ) → HasRules source declared base
+    → (is : IsCompiled source compiled) → IsValid source others other written requests
+    → (findings : List Finding) × (lint_text declared base compiled ≡ findings_text others other findings) × AllByRecursion (IsTrueFinding others other (inputs_said others) (answer_to others other written requests)) findings
+found_true source declared base compiled others other written requests rules is valid =
+    let same = one_validity source is.declared others is.base other is.written written is.requests requests is.valid valid in
+    let also = one_rules source declared others base other rules valid.rules in
+    let found = all_true is.declared is.base compiled.tidy compiled.face (answer_to is.declared is.base is.written is.requests) is.runnable.valid is.runnable.shown is.answers in (
+      findings_of others other compiled.tidy compiled.face,
+      (λ i. lint_text (also.0 i) (also.1 i) compiled),
+      subst (λ (d : Declared). AllByRecursion (IsTrueFinding d other (inputs_said d) (answer_to d other written requests)) (findings_of d other compiled.tidy compiled.face)) same.0
+          (subst (λ (b : Base). AllByRecursion (IsTrueFinding is.declared b (inputs_said is.declared) (answer_to is.declared b written requests)) (findings_of is.declared b compiled.tidy compiled.face)) same.1
+          (subst (λ (w : Option Core). AllByRecursion (IsTrueFinding is.declared is.base (inputs_said is.declared) (answer_to is.declared is.base w requests)) (findings_of is.declared is.base compiled.tidy compiled.face)) same.2
+          (subst (λ (rs : List ℕ). AllByRecursion (IsTrueFinding is.declared is.base (inputs_said is.declared) (answer_to is.declared is.base is.written rs)) (findings_of is.declared is.base compiled.tidy compiled.face)) same.3
+          (rw is.inputs at found)))),
+    )
+
+pub lint_true : (source : Source) (text : List ℕ) (status : Status) (declared : Declared) (base : Base) (written : Option Core) (requests : List ℕ) → IsValid source declared base written requests
+    → LintReplies source text status → (findings : List Finding) × (text ≡ findings_text declared base findings) × AllByRecursion (IsTrueFinding declared base (inputs_said declared) (answer_to declared base written requests)) findings
+lint_true source text status declared base written requests valid (is_refused fault f k) = absurd (no_valid_and_fault source declared base written requests fault valid f)
+lint_true source text status declared base written requests valid (is_linted others other compiled rules is) = found_true source others other compiled declared base written requests rules is valid

@@ -1,0 +1,9 @@
+use Rattle.m_plan.proofs.Trips.{along_then, along_done, exits_ended}
+use Rattle.m_source.specs.Source.{source_plan}
+use Rattle.m_commands.proofs.gather.gather_lint.Goals as goal
+
+pub returns-in_err-source-clause-along : goal.returns-in_err-source-clause-along
+returns-in_err-source-clause-along g c = exits_ended (source_plan c.args.names.now) _ _ _ _ _ c.in_err-source.ensures.along c.from_residual.ensures.1
+
+pub returns-clause-along : goal.returns-clause-along
+returns-clause-along g c = along_then (source_plan c.args.names.now) _ _ _ _ _ _ c.in_ok-source.ensures.along (along_done _ _)

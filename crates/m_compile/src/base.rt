@@ -1,0 +1,40 @@
+//! The base of rule files, as the first step of the compiler and by itself.
+
+ghost use Rattle.std.specs.Prelude.{◌≡◌, IfOk, length};
+ghost use Rattle.m_places.specs.Refusals.{Outcome};
+ghost use Rattle.rule_text.specs.Limits.{TextsAreWithin};
+ghost use Rattle.m_symbols.specs.Declarations.{owners_from};
+ghost use Rattle.m_requests.specs.Placed.{IsPlaced};
+ghost use Rattle.micro_m.specs.Bases.{IsValidBase};
+ghost use Rattle.micro_m.specs.Reads.{HasNoCycle};
+ghost use Rattle.rule_order.specs.Orders.{IsOrder};
+ghost use Rattle.rule_base.specs.Base.{IsBaseOf};
+ghost use Rattle.m_compile.specs.Faults.{IsBaseFault};
+ghost use Rattle.m_compile.specs.declared.fault.SourceFault.TheVariants.{Memory};
+
+use crate::SourceFault;
+use rule_base::{RuleBase, rule_base};
+use rule_text::Text;
+use std::alloc::Global;
+use std::thread::Threads;
+
+/// Compiles rule files alone, without a driver or requests: the base of the application in them, in an order of its definitions, or
+/// the fault of the earliest step that has one. The files are read by several workers, whose order doesn't change the answer.
+pub fn compile_base<R: Threads + Sync>(
+    rt: &R,
+    alloc: Global,
+    texts: &[Text],
+    application: &[u8],
+) -> Result<RuleBase, SourceFault>
+    requires { TextsAreWithin texts.now }
+    ensures outcome { Outcome Memory result
+        (λ made. IsBaseOf texts.now application.now made.symbols made.ordered.base × IsOrder made.ordered.base made.ordered.sequence)
+        (IsBaseFault texts.now application.now) }
+    ensures valid { IfOk result (λ made. IsValidBase made.ordered.base) }
+    ensures no_cycle { IfOk result (λ made. HasNoCycle made.ordered.base) }
+    ensures placed { IfOk result (λ made. IsPlaced made.symbols) }
+    ensures cells { IfOk result (λ made. made.ordered.base.cells ≡ length (owners_from 0 made.symbols.variables)) }
+{
+    let made = rule_base(rt, alloc, texts, application)?;
+    Ok(made)
+}

@@ -1,0 +1,5 @@
+pub mod Readings
+pub mod Findings
+pub mod Truths
+pub mod Lines
+pub mod inner

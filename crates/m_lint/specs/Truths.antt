@@ -1,0 +1,60 @@
+-- When a finding is true: what it says holds of whatever households are told.
+use Rattle.std.specs.Prelude.{◌≡◌, ◌≢◌, ℕ, ◌⊎◌, false, List, Contains, Some, None, slice_index_or}
+use Rattle.m_fixed.specs.declared.amount.Value.{Value}
+use Rattle.m_fixed.specs.declared.amount.Value.TheVariants.{Undef}
+use Rattle.m_places.specs.declared.verification.Label.{Label}
+use Rattle.observables.specs.declared.inputs.Coded.{Coded}
+use Rattle.observables.specs.Inputs.{AreValuesOf}
+use Rattle.observables.specs.Answers.{Told, values, stopped, failed, over}
+use Rattle.m_symbols.specs.Declarations.{Declared}
+use Rattle.micro_m.specs.Trees.{Tree}
+use Rattle.micro_m.specs.declared.base.Base.{Base}
+use Rattle.micro_m.specs.Bases.{definition_of, terms_of}
+use Rattle.micro_m.specs.Reads.{TermReads}
+use Rattle.m_lint.specs.declared.finding.Finding.{Finding}
+use Rattle.m_lint.specs.declared.finding.Finding.TheVariants.{NeverDefined, NeverStops, Unused}
+use Rattle.m_lint.specs.Readings.{conditions_of}
+use Rattle.m_lint.specs.Findings.{is_given, label_of_check}
+
+-- ---- a cell that is never defined
+
+-- one of these terms reads the cell
+abbrev pub AreRead : List Tree → ℕ → Type 0
+AreRead terms c = (term : Tree) × Contains terms term × TermReads term c
+
+-- A definition or a check's condition reads the cell, it belongs to no input and no constant, and it has no definition.
+pub record IsNeverDefined (declared : Declared) (base : Base) (c : ℕ) : Type 0 where
+  pub read : AreRead (terms_of base) c ⊎ AreRead (conditions_of base) c
+  pub given : is_given declared c ≡ false
+  pub undefined : definition_of base c ≡ None
+
+-- ---- a check that never stops
+
+-- what is told names the label: as what ended the run, or among the notes
+abbrev pub Tells : Told → Label → Type 0
+Tells (stopped cause) label = (cause ≡ failed label) ⊎ (cause ≡ over label)
+Tells (values notes vs) label = Contains notes label
+
+-- Whatever values the inputs have, the check's label isn't told.
+abbrev pub IsNeverStopping : Base → List Coded → (List Value → Told) → ℕ → Type 0
+IsNeverStopping base inputs tells k =
+    (label : Label) → label_of_check base k ≡ Some label → (given : List Value) → AreValuesOf inputs given → Tells (tells given) label → ⊥
+
+-- ---- an input that isn't used
+
+-- the lists have the same values but for the one with this number
+abbrev pub AreEqualBut : ℕ → List Value → List Value → Type 0
+AreEqualBut n given other = (m : ℕ) → m ≢ n → slice_index_or given m Undef ≡ slice_index_or other m Undef
+
+-- Whatever values the inputs have, another value of this one changes nothing that is told.
+abbrev pub IsUnused : List Coded → (List Value → Told) → ℕ → Type 0
+IsUnused inputs tells n =
+    (given other : List Value) → AreValuesOf inputs given → AreValuesOf inputs other → AreEqualBut n given other → tells given ≡ tells other
+
+-- ---- findings
+
+-- A finding is true of the rules that are declared and of what is told to households, whose inputs are these.
+abbrev pub IsTrueFinding : Declared → Base → List Coded → (List Value → Told) → Finding → Type 0
+IsTrueFinding declared base inputs tells (NeverDefined c) = IsNeverDefined declared base c
+IsTrueFinding declared base inputs tells (NeverStops k) = IsNeverStopping base inputs tells k
+IsTrueFinding declared base inputs tells (Unused n) = IsUnused inputs tells n

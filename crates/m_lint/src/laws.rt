@@ -1,0 +1,32 @@
+//! Laws of findings. Each function does nothing: its contract is the law.
+
+ghost use Rattle.std.specs.Prelude.{◌≡◌, ℕ, List, Some, true, ◌⊎◌};
+ghost use Rattle.std.specs.List.{AllByRecursion};
+ghost use Rattle.m_fixed.specs.declared.amount.Value.{Value};
+ghost use Rattle.observables.specs.declared.face.Face.{Face};
+ghost use Rattle.observables.specs.Answers.{Told, told_of};
+ghost use Rattle.observables.specs.Inputs.{AreValuesOf};
+ghost use Rattle.observables.specs.Outputs.{notes_of};
+ghost use Rattle.flat_code.specs.declared.program.Flat.{Flat};
+ghost use Rattle.flat_code.specs.Faces.{IsFaceOf};
+ghost use Rattle.flat_code.specs.Runs.{IsFlat, flat_run};
+ghost use Rattle.m_symbols.specs.Declarations.{Declared};
+ghost use Rattle.micro_m.specs.declared.base.Base.{Base};
+ghost use Rattle.micro_m.specs.Bases.{terms_of};
+ghost use Rattle.m_lint.specs.Readings.{conditions_of, is_read};
+ghost use Rattle.m_lint.specs.Findings.{findings_of};
+ghost use Rattle.m_lint.specs.Truths.{AreRead, IsTrueFinding};
+
+/// Each finding is true, whatever answers the program gives in the place of a source: where its run, read through its face, tells to
+/// each list of values of its inputs what `tells` does.
+pub fn findings_are_true()
+    ensures { (declared : Declared) (base : Base) (flat : Flat) (face : Face) (tells : List Value → Told) → IsFlat flat → IsFaceOf face flat
+        → ((given : List Value) → AreValuesOf face.inputs given → told_of face.labels (notes_of face.outputs) (flat_run flat given) ≡ Some (tells given))
+        → AllByRecursion (IsTrueFinding declared base face.inputs tells) (findings_of declared base flat face) }
+{}
+
+/// The test whether a cell is read says what it is to be read.
+pub fn reads_agree()
+    ensures sound { (base : Base) (c : ℕ) → is_read base c ≡ true → AreRead (terms_of base) c ⊎ AreRead (conditions_of base) c }
+    ensures complete { (base : Base) (c : ℕ) → AreRead (terms_of base) c ⊎ AreRead (conditions_of base) c → is_read base c ≡ true }
+{}

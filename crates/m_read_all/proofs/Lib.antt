@@ -1,0 +1,4 @@
+pub mod Rows
+pub mod Pieces
+pub mod OneFiles
+pub mod Steps

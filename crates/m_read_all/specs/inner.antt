@@ -1,0 +1,2 @@
+-- What inner functions' contracts speak of. No reader of the public contract needs it.
+pub mod Parts

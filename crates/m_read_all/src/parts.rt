@@ -1,0 +1,26 @@
+//! What the workers give, joined.
+
+ghost use Rattle.std.specs.Prelude.{◌≡◌, Ok, Err};
+ghost use Rattle.m_places.specs.Refusals.{Outcome};
+ghost use Rattle.m_read_all.specs.inner.Parts.{joined};
+ghost use Rattle.m_read_all.specs.declared.fault.ReadFault.TheVariants.{Memory};
+
+use crate::ReadFault;
+use m_ast::Item;
+use m_places::Seq;
+use std::alloc::Global;
+
+/// What workers give, in the order of their files, or the fault of the first worker that has one.
+pub(crate) fn joined(
+    alloc: Global,
+    parts: Vec<Result<Vec<Seq<Item>>, ReadFault>>,
+) -> Result<Vec<Seq<Item>>, ReadFault>
+    ensures { Outcome Memory result (λ files. joined parts.items ≡ Ok files.items) (λ fault. joined parts.items ≡ Err fault) }
+{
+    let mut files = Vec::new(alloc);
+    for part in parts {
+        let mut part = part?;
+        files.append(&mut part)?;
+    }
+    Ok(files)
+}

@@ -1,0 +1,1 @@
+REV : saisie revenu classe = 0 alias 1AJ : "s

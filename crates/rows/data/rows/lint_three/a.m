@@ -1,0 +1,10 @@
+REV : saisie revenu classe = 0 alias 1AJ : "s" ;
+SEUIL : const = 1000 ;
+IRN : calculee restituee : "n" ;
+Z : saisie alias 1ZZ : "z" ;
+U : calculee : "u" ;
+regle 10 : application : iliad ;
+IRN = max(0, REV - SEUIL) + U ;
+A20 : anomalie : "A" : "20" : "00" : "revenu nul" : "N" ;
+verif 2000 : application : iliad ; si IRN < 5000 alors erreur A20 ;
+verif 7 : application : iliad ; si min(REV, 1) > 2 alors erreur A20 ;

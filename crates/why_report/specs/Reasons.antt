@@ -1,0 +1,115 @@
+-- The reason of a cell's value: the cells that it needs, and the derivation over them.
+use Rattle.std.specs.Prelude.{◌≡◌, ℕ, zero, suc, ◌+◌, ◌==◌, ◌&&◌, ◌||◌, nat_le, nat_lt, Bool, true, false, List, [], ◌∷◌, ◌++◌, is_some, if◌then◌else◌}
+use Rattle.std.specs.List.{list_any}
+use Rattle.std.specs.Option.{option_map_or}
+use Rattle.micro_m.specs.Trees.{Tree, lit, cell, pick, apply, chain, Trees, none, more, Steps, end, step}
+use Rattle.micro_m.specs.declared.table.Picked.{Picked}
+use Rattle.micro_m.specs.declared.table.Picked.TheVariants.{Cell, Fixed}
+use Rattle.micro_m.specs.declared.base.Base.{Base}
+use Rattle.micro_m.specs.Bases.{is_among, target_at, definition_of}
+use Rattle.micro_m.specs.Reads.{Reads}
+use Rattle.micro_m.specs.Values.{Environment, picked, term_value}
+use Rattle.rule_order.specs.declared.ordered.Ordered.{Ordered}
+use Rattle.why_report.specs.declared.line.ReportLine.{ReportLine}
+use Rattle.why_report.specs.Derivations.{cells_told, values_told, IsSound}
+
+-- ---- what a reason is
+
+-- one of these cells reads the cell
+abbrev pub IsReadAmong : Base → List ℕ → ℕ → Type 0
+IsReadAmong base cells d = (x : ℕ) × (is_among x cells ≡ true) × Reads base x d
+
+-- the last of these cells is this one, and each other is read by a later one
+abbrev pub AreNeededBy : Base → ℕ → List ℕ → Type 0
+AreNeededBy base c [] = ⊥
+AreNeededBy base c (d ∷ []) = d ≡ c
+AreNeededBy base c (d ∷ x ∷ later) = IsReadAmong base (x ∷ later) d × AreNeededBy base c (x ∷ later)
+
+-- The reason of a cell's value over an environment: a sound derivation, of which the last line is the cell's and each other line's
+-- cell is read by a later line.
+pub record IsReasonOf (base : Base) (given : Environment) (c : ℕ) (lines : List ReportLine) : Type 0 where
+  pub sound : IsSound base given lines
+  pub needed : AreNeededBy base c (cells_told lines)
+
+-- ---- what is read
+
+abbrev pub picked_reads : Picked → ℕ → Bool
+picked_reads (Cell d) c = c == d
+picked_reads (Fixed value) c = false
+
+-- whether a cell is one of so many from a first one on
+abbrev pub is_in_run : ℕ → ℕ → ℕ → Bool
+is_in_run first size c = nat_le first c && nat_lt c (first + size)
+
+-- whether a table read reads a cell of its table
+abbrev pub table_reads : ℕ → ℕ → Tree → ℕ → Bool
+table_reads first size (lit index) c = picked_reads (picked first size index) c
+table_reads first size _ c = is_in_run first size c
+
+abbrev mutual
+  -- whether a term reads a cell
+  pub term_reads : Tree → ℕ → Bool
+  term_reads (lit value) c = false
+  term_reads (cell d) c = c == d
+  term_reads (pick first size index) c = term_reads index c || table_reads first size index c
+  term_reads (apply op arguments) c = arguments_read arguments c
+  term_reads (chain first steps) c = term_reads first c || steps_read steps c
+
+  pub arguments_read : Trees → ℕ → Bool
+  arguments_read none c = false
+  arguments_read (more argument rest) c = term_reads argument c || arguments_read rest c
+
+  pub steps_read : Steps → ℕ → Bool
+  steps_read end c = false
+  steps_read (step op operand rest) c = term_reads operand c || steps_read rest c
+
+-- whether the definition of a cell, if it has one, reads another
+abbrev pub cell_reads : Base → ℕ → ℕ → Bool
+cell_reads base x c = option_map_or (λ term. term_reads term c) (definition_of base x) false
+
+-- ---- the cells that are needed
+
+-- the cells below a number that have no definition, from the greatest on
+abbrev pub bare_below : Base → ℕ → List ℕ
+bare_below base zero = []
+bare_below base (suc c) = if is_some (definition_of base c) then bare_below base c else c ∷ bare_below base c
+
+-- the cells of the definitions at these positions from the last on, and then further cells
+abbrev pub targets_down : Base → List ℕ → List ℕ → List ℕ
+targets_down base [] further = further
+targets_down base (p ∷ later) further = targets_down base later (target_at base p ∷ further)
+
+-- The cells of an ordered base, each before all that it reads: those with definitions from the last of the order on, and then those
+-- without, from the greatest on. Where `B = A` and `C = B` are ordered so, they are `C`, `B` and `A`.
+abbrev pub cells_down : Ordered → List ℕ
+cells_down ordered = targets_down ordered.base ordered.sequence (bare_below ordered.base ordered.base.cells)
+
+-- whether a cell is this one, or is read by one of these
+abbrev pub is_needed : Base → ℕ → List ℕ → ℕ → Bool
+is_needed base c later d = d == c || list_any (λ x. cell_reads base x d) later
+
+-- Going down along cells, those that are needed by a cell or by one of those that were found, which stand later: the needed cells, each
+-- behind those that it reads.
+abbrev pub needed_along : Base → ℕ → List ℕ → List ℕ → List ℕ
+needed_along base c later [] = later
+needed_along base c later (d ∷ ds) = needed_along base c (if is_needed base c later d then d ∷ later else later) ds
+
+-- The cells that a cell needs, with itself, each behind those that it reads: the cell is the last.
+abbrev pub needed_cells : Ordered → ℕ → List ℕ
+needed_cells ordered c = needed_along ordered.base c [] (cells_down ordered)
+
+-- ---- the lines
+
+-- the line of a cell behind earlier lines
+abbrev pub line_over : Base → Environment → List ReportLine → ℕ → ReportLine
+line_over base given earlier c = record { cell = c; value = option_map_or (term_value (values_told earlier)) (definition_of base c) (given c) }
+
+-- the lines of cells in order, behind earlier lines
+abbrev pub lines_over : Base → Environment → List ReportLine → List ℕ → List ReportLine
+lines_over base given earlier [] = earlier
+lines_over base given earlier (c ∷ cells) = lines_over base given (earlier ++ line_over base given earlier c ∷ []) cells
+
+-- The lines that say why a cell has its value over an environment: a line for each cell that it needs. Where `IRN = REV` is defined and
+-- `REV` is 2500.5, the lines for `IRN` are `REV = 2500.5` and `IRN = 2500.5`.
+abbrev pub why_lines : Ordered → Environment → ℕ → List ReportLine
+why_lines ordered given c = lines_over ordered.base given [] (needed_cells ordered c)

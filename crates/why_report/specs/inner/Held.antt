@@ -1,0 +1,34 @@
+-- What a reporter holds, and what is true of it.
+use Rattle.std.specs.Prelude.{◌≡◌, ℕ, ◌<◌, true, false, List, [], ◌∷◌, length, replicate, slice_index_or, All}
+use Rattle.micro_m.specs.Bases.{is_among, IsValidBase}
+use Rattle.micro_m.specs.Reads.{Reads}
+use Rattle.micro_m.specs.declared.base.Base.{Base}
+use Rattle.rule_order.specs.declared.ordered.Ordered.{Ordered}
+use Rattle.rule_order.specs.Orders.{IsOrder}
+use Rattle.why_report.specs.declared.plan.Plan.{Plan}
+use Rattle.why_report.specs.declared.room.Room.{Room}
+use Rattle.why_report.specs.inner.Plans.{IsPlanOf}
+
+-- Room for the cells of a base in which nothing is marked.
+pub record IsRoomFor (cells : ℕ) (room : Room) : Type 0 where
+  pub marked : room.marked ≡ replicate cells false
+  pub known_size : length room.known.items ≡ cells
+  pub known : (c : ℕ) → slice_index_or room.known.items c 0 ≡ 0
+  pub needed : length room.needed.items ≡ cells
+  pub values : length room.values.items ≡ cells
+  pub lines : length room.lines.items ≡ cells
+
+-- The parts of a reporter fit: the base is valid and ordered, the plan is its, there is room, and the inputs have cells.
+pub record IsReady (ordered : Ordered) (plan : Plan) (room : Room) (input_cells : List ℕ) (inputs cells : ℕ) : Type 0 where
+  pub valid : IsValidBase ordered.base
+  pub order : IsOrder ordered.base ordered.sequence
+  pub plan_of : IsPlanOf ordered plan
+  pub room_for : IsRoomFor ordered.base.cells room
+  pub each : length input_cells ≡ inputs
+  pub within : All (λ c. c < cells) input_cells
+
+-- Cells that stand behind all that they read, where these stand before them: none stands twice.
+abbrev pub AreFollowing : Base → List ℕ → List ℕ → Type 0
+AreFollowing base front [] = Unit {0}
+AreFollowing base front (x ∷ cells) =
+    (is_among x front ≡ false) × ((c : ℕ) → Reads base x c → is_among c front ≡ true) × AreFollowing base (x ∷ front) cells

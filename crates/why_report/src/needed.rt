@@ -1,0 +1,69 @@
+//! The cells that a cell needs.
+
+ghost use Rattle.std.specs.Prelude.{◌≡◌, ℕ, ◌<◌, ◌≤◌, true, false, All, drop, length, replicate, slice_index_or};
+ghost use Rattle.micro_m.specs.Bases.{IsValidBase, is_among};
+ghost use Rattle.rule_order.specs.Orders.{IsOrder};
+ghost use Rattle.why_report.specs.Reasons.{needed_cells};
+ghost use Rattle.why_report.specs.inner.Plans.{IsPlanOf};
+
+use crate::marks::{mark_cell, mark_read};
+use crate::plan::Plan;
+use dirty_set::Bits;
+use rule_order::Ordered;
+
+/// Puts the cells that a cell needs, with itself, to the end of a list, each behind those that it reads, and tells where the first of
+/// them stands. Of the spots only the marked ones are visited.
+pub(crate) fn find_needed(
+    ordered: &Ordered,
+    plan: &Plan,
+    cell: u32,
+    marked: &mut Bits,
+    known: &mut [usize],
+    needed: &mut [u32],
+) -> usize
+    requires valid { IsValidBase ordered.now.base }
+    requires order { IsOrder ordered.now.base ordered.now.sequence }
+    requires plan { IsPlanOf ordered.now plan.now }
+    requires cell { cell < ordered.now.base.cells }
+    requires empty { marked.old ≡ replicate ordered.now.base.cells false }
+    requires known { length known.old ≡ ordered.now.base.cells }
+    requires none { (c : ℕ) → slice_index_or known.old c 0 ≡ 0 }
+    requires room { length needed.old ≡ ordered.now.base.cells }
+    ensures within { result ≤ length needed.new }
+    ensures needed { drop result needed.new ≡ needed_cells ordered.now cell }
+    ensures marks { length marked.new ≡ ordered.now.base.cells }
+    ensures known { (c : ℕ) → (slice_index_or known.new c 0 ≡ 0 → ⊥) → is_among c (needed_cells ordered.now cell) ≡ true }
+{
+    mark_cell(cell as usize, &plan.spots, marked);
+    let mut at = needed.len();
+    let mut from = 0;
+    while let Some(spot) = marked.next_from(from) {
+        let found = plan.cells[spot as usize];
+        at -= 1;
+        needed[at] = found;
+        mark_read(
+            &ordered.base,
+            &plan.places,
+            found as usize,
+            &plan.spots,
+            marked,
+            known,
+        );
+        from = spot + 1;
+    }
+    at
+}
+
+/// Takes all marks away, where what is known is of these cells.
+pub(crate) fn forget(cells: &[u32], marked: &mut Bits, known: &mut [usize])
+    requires cells { All (λ c. c < length known.old) cells.now }
+    requires known { (c : ℕ) → (slice_index_or known.old c 0 ≡ 0 → ⊥) → is_among c cells.now ≡ true }
+    ensures marked { marked.new ≡ replicate (length marked.old) false }
+    ensures known { (c : ℕ) → slice_index_or known.new c 0 ≡ 0 }
+    ensures size { length known.new ≡ length known.old }
+{
+    marked.clear();
+    for cell in cells {
+        known[*cell as usize] = 0;
+    }
+}

@@ -1,0 +1,149 @@
+//! A reporter: an ordered base and an environment, of which it is told why a cell has its value.
+
+ghost use Rattle.std.specs.Prelude.{◌≡◌, ◌<◌, All, IfOk, length};
+ghost use Rattle.micro_m.specs.Bases.{IsValidBase};
+ghost use Rattle.micro_m.specs.Values.{environment};
+ghost use Rattle.m_symbols.specs.Declarations.{Declared};
+ghost use Rattle.m_requests.specs.Placed.{IsPlaced};
+ghost use Rattle.rule_order.specs.Orders.{IsOrder};
+ghost use Rattle.why_report.specs.Reasons.{IsReasonOf, why_lines};
+ghost use Rattle.why_report.specs.Starts.{IsStart, begun, with_input, with_lines};
+
+use crate::ReportLine;
+use crate::lines::fill_lines;
+use crate::needed::{find_needed, forget};
+use crate::plan::{Plan, plan_of};
+use crate::room::{Room, room_for};
+use crate::starts::{input_cells, start_env};
+use m_fixed::Value;
+use m_symbols::Symbols;
+use micro_m::Base;
+use rule_order::Ordered;
+use std::alloc::{AllocError, Global};
+use std::marker::Model;
+
+/// An ordered base with an environment, whose inputs can be put. Contracts see the base and its order, the cells of the inputs,
+/// their values, the environment, and the lines that were found last.
+#[derive(Drop)]
+pub struct Reporter {
+    ordered: Ordered,
+    plan: Plan,
+    room: Room,
+    input_cells: Vec<u32>,
+    inputs: Vec<Value>,
+    env: Vec<Value>,
+    found: usize,
+}
+
+impl Model for Reporter {
+    ghost use Rattle.std.specs.Prelude.{take, length, ◌≤◌};
+    ghost use Rattle.std.specs.Coded.{codes};
+    ghost use Rattle.micro_m.specs.inner.Coding.{coded_tree};
+    ghost use Rattle.why_report.specs.Starts.{Reporting};
+    ghost use Rattle.why_report.specs.inner.Held.{IsReady};
+
+    ghost Value = { Reporting };
+
+    ghost coded = { Prim.hlevel (codes, coded_tree) };
+
+    ghost view = { λ r. record {
+      ordered = r.ordered;
+      input_cells = r.input_cells.items;
+      inputs = r.inputs.items;
+      env = r.env.items;
+      lines = take r.found r.room.lines.items;
+    } };
+
+    ghost invariant = { λ r. IsReady r.ordered r.plan r.room r.input_cells.items (length r.inputs.items) (length r.env.items) × (r.found ≤ r.ordered.base.cells) };
+}
+
+impl Reporter {
+    /// A reporter over an ordered valid base and what is declared. All inputs are undefined at first, and constants have their amounts.
+    /// Its only error is want of memory, and no later call takes memory.
+    pub fn new(alloc: Global, ordered: Ordered, symbols: &Symbols) -> Result<Reporter, AllocError>
+        requires valid { IsValidBase ordered.base }
+        requires order { IsOrder ordered.base ordered.sequence }
+        requires placed { IsPlaced symbols.now }
+        ensures begun { IfOk result (λ reporter. reporter ≡ begun ordered symbols.now) }
+        ensures start { IfOk result (IsStart symbols.now) }
+    {
+        let plan = plan_of(alloc, &ordered)?;
+        let room = room_for(alloc, ordered.base.cells)?;
+        let input_cells = input_cells(alloc, symbols)?;
+        let inputs = vec![in alloc; Value::Undef; input_cells.len()]?;
+        let env = start_env(alloc, symbols)?;
+        Ok(Reporter {
+            ordered,
+            plan,
+            room,
+            input_cells,
+            inputs,
+            env,
+            found: 0,
+        })
+    }
+
+    /// The base.
+    pub fn base(&self) -> &Base
+        ensures { result.now ≡ self.now.ordered.base }
+    {
+        &self.ordered.base
+    }
+
+    /// The value of each cell before any definition is computed.
+    pub fn env(&self) -> &[Value]
+        ensures { result.now ≡ self.now.env }
+    {
+        &self.env
+    }
+
+    /// Sets an input, by its number, to a value.
+    pub fn put(&mut self, input: u32, v: Value)
+        requires { input < length self.old.inputs }
+        ensures put { self.new ≡ with_input self.old input v }
+        ensures start { (declared : Declared) → IsStart declared self.old → IsStart declared self.new }
+    {
+        let cell = self.input_cells[input as usize];
+        self.inputs[input as usize] = v;
+        self.env[cell as usize] = self.inputs[input as usize];
+    }
+
+    /// Finds why a cell has its value: the lines of a sound derivation, of which the last is the cell's, and each other line's cell is
+    /// read by a later line. The time goes with the lines and the parts of their cells' terms. All else that is held stays as it was,
+    /// and no memory is taken.
+    pub fn why(&mut self, cell: u32)
+        requires { cell < self.old.ordered.base.cells }
+        ensures lines { self.new ≡ with_lines self.old (why_lines self.old.ordered (environment self.old.env) cell) }
+        ensures reason { IsReasonOf self.old.ordered.base (environment self.old.env) cell self.new.lines }
+        ensures known { All (λ line. line.cell < self.old.ordered.base.cells) self.new.lines }
+        ensures start { (declared : Declared) → IsStart declared self.old → IsStart declared self.new }
+    {
+        let room = &mut self.room;
+        let from = find_needed(
+            &self.ordered,
+            &self.plan,
+            cell,
+            &mut room.marked,
+            &mut room.known,
+            &mut room.needed,
+        );
+        let cells = &room.needed[from..];
+        forget(cells, &mut room.marked, &mut room.known);
+        fill_lines(
+            &self.ordered.base,
+            &self.plan.places,
+            &self.env,
+            cells,
+            &mut room.values,
+            &mut room.lines,
+        );
+        self.found = cells.len();
+    }
+
+    /// The lines that were found last, and none before the first.
+    pub fn lines(&self) -> &[ReportLine]
+        ensures { result.now ≡ self.now.lines }
+    {
+        &self.room.lines[..self.found]
+    }
+}

@@ -1,0 +1,38 @@
+//! Room in which derivations are found without memory.
+
+ghost use Rattle.std.specs.Prelude.{IfOk};
+ghost use Rattle.why_report.specs.inner.Held.{IsRoomFor};
+
+use crate::ReportLine;
+use dirty_set::Bits;
+use m_fixed::Value;
+use std::alloc::{AllocError, Global};
+
+/// Room for the cells of a base: the marks of those that are needed at their spots, from each cell on how many are known to be marked,
+/// the needed cells at the end of a list, the values of those that have lines, and the lines.
+#[derive(Drop)]
+pub(crate) struct Room {
+    pub(crate) marked: Bits,
+    pub(crate) known: Vec<usize>,
+    pub(crate) needed: Vec<u32>,
+    pub(crate) values: Vec<Value>,
+    pub(crate) lines: Vec<ReportLine>,
+}
+
+/// Room for so many cells.
+pub(crate) fn room_for(alloc: Global, cells: u32) -> Result<Room, AllocError>
+    ensures { IfOk result (IsRoomFor cells) }
+{
+    let count = cells as usize;
+    let none = ReportLine {
+        cell: 0,
+        value: Value::Undef,
+    };
+    Ok(Room {
+        marked: Bits::new(alloc, cells)?,
+        known: vec![in alloc; 0; count]?,
+        needed: vec![in alloc; 0u32; count]?,
+        values: vec![in alloc; Value::Undef; count]?,
+        lines: vec![in alloc; none; count]?,
+    })
+}
