@@ -43,7 +43,7 @@ awk -F'|' '/^## /{in_table = /^## Limits/} in_table && $3 ~ /`[A-Z_]+`/{gsub(/[`
 same "the limits of m_places and those of FORMATS" "$room/constants" "$room/limits"
 
 # The usage line: one text wherever it stands.
-git grep -hoE 'usage: m_tax run[^"\\]*large N' -- README.md docs crates tests/started.sh | sort -u >"$room/usages"
+git grep -hoE 'usage: m_tax run[^"\\]*TABLE' -- README.md docs crates tests/started.sh | sort -u >"$room/usages"
 head -n 1 "$room/usages" >"$room/usage"
 same "the copies of the usage line" "$room/usage" "$room/usages"
 

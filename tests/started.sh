@@ -11,7 +11,7 @@ root=$PWD
 program=$root/m_tax
 list=examples/first/rules.list
 household=examples/first/household.csv
-usage="usage: m_tax run|serve LIST DRIVER REQUESTS HOUSEHOLD, batch LIST DRIVER REQUESTS TABLE, compile LIST DRIVER REQUESTS, exec CODEFILE HOUSEHOLD, large N"
+usage="usage: m_tax run|serve LIST DRIVER REQUESTS HOUSEHOLD, batch LIST DRIVER REQUESTS TABLE, compile LIST DRIVER REQUESTS, exec CODEFILE HOUSEHOLD, large N, check LIST HOUSEHOLD REPORT, lint LIST DRIVER REQUESTS, cases LIST DRIVER REQUESTS TABLE"
 trial="m_tax: this is a trial of the same sources, which are not proved yet; ./build proves and builds the program"
 dir=$(mktemp -d) || exit 1
 trap 'rm -rf "$dir"' EXIT

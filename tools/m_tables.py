@@ -15,6 +15,7 @@ AMOUNT = rb"-?[0-9]+(?:\.[0-9]{1,6})?"
 VALUE = rb"(?: = " + AMOUNT + rb"| undefined| over)\n"
 NAMED = re.compile(rb"([A-Z0-9_]+(?:\[[0-9]{1,4}\])?)" + VALUE)
 HEAD = re.compile(rb"household ([^\n]*)\n")
+NOTES = re.compile(rb"(?:noted [^ \n]+ [^ \n]+ (?:discordance|informative)\n[^\n]*\n)*")
 STOP = re.compile(
     rb"failed [^ \n]+ [^ \n]+ (?:anomalie|discordance|informative)\n[^\n]*\n|over (?:verification [^ \n]+ [^ \n]+|driver line [0-9]+)\n"
 )
@@ -73,8 +74,8 @@ def strange(text, at):
 
 
 def read_answer(path, names=None):
-    """The labels of an answer of `batch`, and the names of its values, where they aren't given. Each household has a line for each name, in one order,
-    or a stop and nothing else."""
+    """The labels of an answer of `batch`, and the names of its values, where they aren't given. Each household has its notes and then a line for each
+    name, in one order, or a stop and nothing else."""
     labels = []
     with open(path, "rb") as file:
         if os.fstat(file.fileno()).st_size == 0:
@@ -91,6 +92,7 @@ def read_answer(path, names=None):
                 if stop:
                     at = stop.end()
                     continue
+                at = NOTES.match(text, at).end()
                 if forms is None:
                     names = names_at(text, at)
                     forms = values_of(names)

@@ -86,7 +86,8 @@ def compare_rows(rows):
     different = 0
     for name, (row, text, status, _) in rows.items():
         said = output(row.words, row.files, row.typed)
-        same = (said.text, said.status) == (text, status) if said.compiled is None else said.is_one_with(text, status)
+        several = said.compiled is not None or said.findings is not None
+        same = said.is_one_with(text, status) if several else (said.text, said.status) == (text, status)
         if not same:
             different += 1
             print("second: row %s: the reading says %r with status %d" % (name, said.text[:200], said.status))
@@ -99,7 +100,7 @@ def compare_rows(rows):
 NAMED = re.compile(
     r"(declared twice|alias twice|unknown name|not a table|is a table|bad target|defined twice|unknown error"
     r"|function twice|file too long|too large|recursion|cycle|failed|over verification|over driver|unreadable"
-    r"|usage:) .*"
+    r"|usage:|mismatch) .*"
 )
 
 
@@ -109,7 +110,7 @@ def answer_kind(said):
         return "answered"
     line = said.text.split(b"\n")[0].decode("latin-1")
     line = re.sub(r"^refused .* line \d+ byte \d+: ", "refused rules: ", line)
-    line = re.sub(r"^refused (driver|household|list|requests|code) line \d+", r"refused \1", line)
+    line = re.sub(r"^refused (driver|household|list|requests|code|report) line \d+", r"refused \1", line)
     return NAMED.sub(r"\1", re.sub(r"^(refused driver: unknown) .*", r"\1", line))
 
 

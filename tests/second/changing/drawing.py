@@ -21,8 +21,9 @@ OF_TWO = b"max min".split()
 OF_ONE = b"abs positif positif_ou_nul null arr inf present".split()
 ERROR_KINDS = b"anomalie discordance informative".split()
 ROLES = b"saisie calculee const".split()
+TYPES = b"REEL BOOLEEN ENTIER".split()
 SORTS = [
-    ARITHMETIC, COMPARISONS, DRIVER_COMPARISONS, CONNECTIVES, DRIVER_CONNECTIVES, OF_TWO, OF_ONE, ERROR_KINDS, ROLES,
+    ARITHMETIC, COMPARISONS, DRIVER_COMPARISONS, CONNECTIVES, DRIVER_CONNECTIVES, OF_TWO, OF_ONE, ERROR_KINDS, ROLES, TYPES,
 ]
 
 PIECE = re.compile(

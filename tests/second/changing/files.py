@@ -63,11 +63,40 @@ def new_requests(random, names, wild):
     """Requests of some names."""
     lines = []
     for _ in range(random.randrange(5)):
-        name = some(random, names.all, b"REV")
-        lines.append(name + b"[%d]" % random.randrange(5) if name in names.tables else name)
+        lines.append(requested(random, names))
     if wild:
         lines.append(random.choice(SPOILT_REQUESTS))
     return b"".join(line + random.choice([b"\n", b"\n", b"\r\n"]) for line in lines)
+
+
+def requested(random, names):
+    """The name of a cell, as requests have it; now and then one that is none."""
+    name = some(random, names.all, b"REV")
+    return name + b"[%d]" % random.randrange(5) if name in names.tables else name
+
+
+def new_report(random, names):
+    """A report, mostly of an input and of what reads it."""
+    lines = []
+    for _ in range(random.randrange(1, 5)):
+        said = random.choice([b"undefined", b"over", b"= " + random.choice(AMOUNTS)])
+        lines.append(requested(random, names) + b" " + said)
+    if chance(random, 30):
+        lines.append(random.choice([b".", b"", b".", b"REV", b"= 1", b"REV  = 1", b"REV =1", b"REV = ", b"REV = 1 "]))
+    return b"\n".join(lines) + random.choice([b"", b"\n"])
+
+
+def new_cases(random, names):
+    """A table of cases: codes and names of what is asked for, and a few rows."""
+    codes = random.sample(names.codes, random.randrange(len(names.codes) + 1))
+    outputs = [b"=" + requested(random, names) for _ in range(random.randrange(3))]
+    header = random.sample(codes + outputs, len(codes + outputs))
+    rows = [[b"name"] + header]
+    for label in random.sample(LABELS, random.randrange(4)):
+        expected = AMOUNTS + [b"", b"undefined", b"over", b"stop", b"0", b"0"]
+        given = AMOUNTS + [b""] * 5 if chance(random, 90) else SPOILT_AMOUNTS
+        rows.append([label] + [random.choice(expected if field.startswith(b"=") else given) for field in header])
+    return b"".join(b",".join(row) + random.choice(ENDS) for row in rows)
 
 
 def new_session(random, names):
@@ -76,7 +105,8 @@ def new_session(random, names):
     for _ in range(random.randrange(1, 8)):
         code = some(random, names.codes, b"1AJ") if chance(random, 95) else b"9ZZ"
         amount = random.choice(AMOUNTS if chance(random, 90) else SPOILT_AMOUNTS)
-        lines.append(random.choice([b"show", b" show ", b"set %s  %s" % (code, amount), b"clear %s" % code]))
+        edits = [b"set %s  %s" % (code, amount), b"clear %s" % code]
+        lines.append(random.choice([b"show", b" show ", *edits]))
     if chance(random, 15):
         lines.insert(random.randrange(len(lines)), random.choice(SPOILT_COMMANDS))
     return b"\n".join(lines) + random.choice([b"", b"\n", b"\r\n"])

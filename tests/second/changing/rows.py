@@ -3,19 +3,29 @@
 from .codes import code_row
 from .drawing import chance, flip_byte
 from .drivers import change_driver, new_driver
-from .files import change_household, change_list, new_requests, new_session, new_table
+from .files import change_household, change_list, new_cases, new_report, new_requests, new_session, new_table
 from .naming import Names, Row, listed
 from .rules import change_rules
 
 
 def changed_row(number, random, good, bad):
-    """The row with this number: each eighth is one of `exec`, and another eighth of `compile`."""
+    """The row with this number: each eighth is one of `exec`, another one of `compile` or `lint`, some of `check` and `cases`."""
     if number % 8 == 7:
         return code_row(random, good)
     row = changed(random, good, bad)
     if number % 8 == 3 and len(row.words) == 5:
-        return Row([b"compile", *row.words[1:4]], row.files, b"")
+        return Row([random.choice([b"compile", b"compile", b"lint"]), *row.words[1:4]], row.files, b"")
+    if number % 8 == 5 and len(row.words) == 5 and chance(random, 40):
+        return checked_row(random, row)
     return row
+
+
+def checked_row(random, row):
+    """The row as one of `check`, or as one of `cases`."""
+    names = Names(row)
+    if chance(random, 50):
+        return Row([b"check", row.words[1], row.words[4], b"p.txt"], {**row.files, b"p.txt": new_report(random, names)}, b"")
+    return Row([b"cases", *row.words[1:4], b"t.csv"], {**row.files, b"t.csv": new_cases(random, names)}, b"")
 
 
 def changed(random, good, bad):

@@ -4,7 +4,7 @@ import re
 
 from reading.texts import NUMBER
 
-from .drawing import ERROR_KINDS, NUMBERS, PIECE, SPOILT_NUMBERS, chance, change_pieces, exchange
+from .drawing import ERROR_KINDS, NUMBERS, PIECE, SPOILT_NUMBERS, TYPES, chance, change_pieces, exchange
 from .terms import rule_term, single_operator
 
 WORDS = b"""
@@ -125,6 +125,7 @@ def new_inputs(random, new):
     """A few inputs, a computed variable and a constant, with attributes as drivers look for them."""
     inputs = b""
     for k in (b"A", b"B", b"C"):
-        inputs += b'%s%s : saisie revenu %s alias %s%s : "" ;\n' % (new, k, random.choice(KINDS), new, k)
+        kind = b" type " + random.choice(TYPES) if chance(random, 40) else b""
+        inputs += b'%s%s : saisie revenu %s alias %s%s : ""%s ;\n' % (new, k, random.choice(KINDS), new, k, kind)
     computed = b'%sD : calculee %s restituee : "" type REEL ;\n' % (new, random.choice(KINDS))
     return b"%s%s%sE : const = %s ;\n" % (inputs, computed, new, random.choice([b"- 2", b"0", b"0.0000005", b"12"]))

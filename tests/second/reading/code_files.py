@@ -9,7 +9,8 @@ import re
 
 from .amounts import GREATEST, OVER, UNDEFINED, UNIT, operate
 from .faults import Refused
-from .sources import value_line
+from .findings import amount_of_type
+from .reports import value_line
 from .texts import decimal, is_word
 from .tokens import RESERVED
 
@@ -314,7 +315,6 @@ def read_code(text):
 # ---- the code of a source
 
 TRIED = 4
-AMOUNTS = [0, 1, UNIT, -UNIT, 2 * UNIT, 500_000, 1_234 * UNIT, 2_500_500_000, 30_000 * UNIT, GREATEST, -GREATEST, 999_999_999_999]
 
 
 def why_not_of(text, compiled):
@@ -324,18 +324,21 @@ def why_not_of(text, compiled):
     except Refused as refusal:
         return refusal.line
     declared = compiled.declared
-    if list(code.inputs) != list(declared.inputs) or any(code.types):
+    if list(code.inputs) != list(declared.inputs) or code.types != list(declared.types.values()):
         return b"other inputs"
     checks = [(b"verif", label.verification, label.error, label.kind, label.text) for _, label in compiled.base.checks]
     if code.labels[:len(checks)] != checks or any(label[0] != b"driver" for label in code.labels[len(checks):]):
         return b"other labels"
-    if code.outputs != [(b"output", name) for name in compiled.request_names]:
+    notes = [number for kind, number in code.outputs if kind == b"note"]
+    if code.outputs != [(b"note", number) for number in notes] + [(b"output", name) for name in compiled.request_names]:
         return b"other outputs"
+    if any(number >= len(checks) or checks[number][3] == b"anomalie" for number in notes):
+        return b"a note of another label"
     cells = list(declared.inputs.values())
     draw = random.Random(len(text))
     for number in range(TRIED):
         chosen = [k for k in range(len(cells)) if number and draw.random() < 0.6]
-        amounts = [draw.choice(AMOUNTS) if draw.random() < 0.8 else draw.randrange(-GREATEST, GREATEST) for _ in chosen]
+        amounts = [amount_of_type(draw, code.types[k]) for k in chosen]
         wanted = compiled.told([(cells[k], amount) for k, amount in zip(chosen, amounts)])
         if code.told(zip(chosen, amounts)) != wanted:
             return b"another answer to a household"

@@ -4,16 +4,19 @@ import re
 from typing import NamedTuple, Optional
 
 from .amounts import OVER, UNDEFINED, read_amount
+from .cases import last_line, mismatches, read_cases
 from .code_files import read_code, why_not_of
 from .faults import Refused, RingRefused, Unreadable
-from .files import read_household, read_list, read_table
+from .findings import Findings
+from .files import is_of_type, read_household, read_list, read_table
 from .generated import large_household, large_source
-from .sources import Compiled, Source
+from .reports import first_unsound, read_report
+from .sources import Compiled, Rules, Source
 from .texts import decimal, is_utf8
 
 USAGE = (
     b"usage: m_tax run|serve LIST DRIVER REQUESTS HOUSEHOLD, batch LIST DRIVER REQUESTS TABLE, "
-    b"compile LIST DRIVER REQUESTS, exec CODEFILE HOUSEHOLD, large N\n"
+    b"compile LIST DRIVER REQUESTS, exec CODEFILE HOUSEHOLD, large N, check LIST HOUSEHOLD REPORT, lint LIST DRIVER REQUESTS, cases LIST DRIVER REQUESTS TABLE\n"
 )
 DONE, REFUSED, NO_COMMAND, NOT_READ, STOPPED = 0, 1, 2, 3, 6
 FILE_BYTES = 16_777_216
@@ -24,13 +27,14 @@ MOST_GENERATED = 100_000
 
 
 class Output(NamedTuple):
-    """What is printed, and the number that the program ends with; `ring` where a cycle or a recursion is shown, and `compiled`
-    where a code file of a source is due, which has several."""
+    """What is printed, and the number that the program ends with; `ring` where a cycle or a recursion is shown, `compiled`
+    where a code file of a source is due, which has several, and `findings` where those of a source are due."""
 
     text: bytes
     status: int
     ring: Optional[RingRefused] = None
     compiled: Optional[Compiled] = None
+    findings: Optional[Findings] = None
 
     def is_one_with(self, text, status):
         """Whether this text and this status are the same output. A ring that is shown may be another true one, and a code file
@@ -39,6 +43,8 @@ class Output(NamedTuple):
             return status == self.status and why_not_of(text, self.compiled) is None
         if self.ring is not None and status == self.status and text.endswith(b"\n"):
             return self.ring.shows_one(text[:-1])
+        if self.findings is not None:
+            return status == self.status and self.findings.are(text)
         return (text, status) == (self.text, self.status)
 
 
@@ -66,6 +72,12 @@ def answer(words, files, typed):
         if len(words) == 4 and words[0] == b"compile":
             compiled = Compiled(gathered(words[1:], files))
             return b"a code file of the source\n", DONE, None, compiled
+        if len(words) == 4 and words[0] == b"lint":
+            return b"findings\n", DONE, None, None, Findings(Compiled(gathered(words[1:], files)))
+        if len(words) == 4 and words[0] == b"check":
+            source = gathered([words[1], b"-", b"-"], files)
+            household = fetched(words[2], files, FILE_BYTES)
+            return answer_check(source, household, fetched(words[3], files, CODE_FILE_BYTES))
         if len(words) == 3 and words[0] == b"exec":
             code = fetched(words[1], files, CODE_FILE_BYTES)
             return answer_exec(code, fetched(words[2], files, FILE_BYTES))
@@ -108,42 +120,60 @@ def gathered(names, files):
 
 def answer_run(compiled, household, _typed):
     """The lines that a household is told."""
-    lines, stopped = compiled.told(read_household(household, compiled.declared.inputs))
+    lines, stopped = compiled.told(read_household(household, compiled.declared.inputs, compiled.declared.types))
     return lines, STOPPED if stopped else DONE
 
 
 def answer_batch(compiled, table, _typed):
     """For each household of a table its label and its lines. A stop is an answer like another."""
     text = b""
-    for row in read_table(table, compiled.declared.inputs):
+    for row in read_table(table, compiled.declared.inputs, compiled.declared.types):
         text += b"household " + row.label + b"\n" + compiled.told(row.amounts)[0]
     return text, DONE
+
+
+def answer_cases(compiled, table, _typed):
+    """For each case of a table what isn't met, and at the end a line that counts."""
+    names = compiled.request_names
+    cases = read_cases(table, compiled.declared.inputs, compiled.declared.types, names)
+    lines = [line for case in cases for line in mismatches(case, compiled.values(case.row.amounts), names)]
+    return b"".join(lines) + last_line(len(cases), len(lines)), STOPPED if lines else DONE
 
 
 def answer_large(number):
     """The answer of the generated source to the generated household."""
     compiled = Compiled(large_source(number))
-    lines, stopped = compiled.told(read_household(large_household(number), compiled.declared.inputs))
+    lines, stopped = compiled.told(read_household(large_household(number), compiled.declared.inputs, compiled.declared.types))
     return b"large " + decimal(number) + b"\n" + lines, STOPPED if stopped else DONE
 
 
 def answer_exec(code_file, household):
     """The lines that a household is told by the code of a code file."""
     code = read_code(code_file)
-    lines, stopped = code.told(read_household(household, code.inputs))
+    lines, stopped = code.told(read_household(household, code.inputs, dict(zip(code.inputs, code.types))))
     return lines, STOPPED if stopped else DONE
+
+
+def answer_check(source, household, report):
+    """Whether a report is sound for the rules and a household."""
+    rules = Rules(source)
+    environment = rules.start(read_household(household, rules.declared.inputs, rules.declared.types))
+    unsound = first_unsound(rules.base, environment, read_report(report, rules.declared))
+    if unsound is not None:
+        raise Refused(b"refused report line " + decimal(unsound) + b": not sound")
+    return b"sound\n", DONE
 
 
 def answer_serve(compiled, household, typed):
     """The replies to all lines that are typed, each by the household as the lines before it left it."""
-    amounts = dict(read_household(household, compiled.declared.inputs))
+    amounts = dict(read_household(household, compiled.declared.inputs, compiled.declared.types))
     lines = typed.split(b"\n")
     if lines[-1] == b"":
         lines.pop()
     return b"".join(reply(line, amounts, compiled) for line in lines), DONE
 
 
-ANSWERS = {b"run": answer_run, b"batch": answer_batch, b"serve": answer_serve}
+ANSWERS = {b"run": answer_run, b"batch": answer_batch, b"serve": answer_serve, b"cases": answer_cases}
 
 
 def reply(line, amounts, compiled):
@@ -168,5 +198,7 @@ def reply(line, amounts, compiled):
     amount = read_amount(words[2])
     if amount is UNDEFINED or amount is OVER:
         return b"refused bad amount\n"
+    if not is_of_type(amount, compiled.declared.types[words[1]]):
+        return b"refused not of its type\n"
     amounts[cell] = amount
     return b"ok\n"

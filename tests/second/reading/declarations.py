@@ -6,6 +6,7 @@ from .trees import Error, Variable
 
 MOST_CELLS = 1_000_000
 MOST_OF_A_TABLE = 1_024
+TYPES = {b"BOOLEEN": b"truth", b"ENTIER": b"whole"}
 
 
 class Declared:
@@ -17,6 +18,7 @@ class Declared:
         self.cells = 0
         self.by_name = {}
         self.inputs = {}
+        self.types = {}
         self.errors = {}
 
     def add_variable(self, variable):
@@ -35,6 +37,7 @@ class Declared:
         self.cells += cells_of(variable)
         if variable.role == "input":
             self.inputs[variable.code] = self.first_cells[variable.name]
+            self.types[variable.code] = TYPES.get(variable.type_word, b"")
 
     def add_error(self, error):
         """Takes an error in, or refuses it."""

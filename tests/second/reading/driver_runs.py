@@ -65,10 +65,13 @@ class Run:
         self.driver = driver
         self.base = base
         self.order = order
+        self.notes = []
 
     def run_main(self, environment):
-        """Does `main` over an environment, which it changes."""
+        """Does `main` over an environment, which it changes, and tells the labels that are noted, in order of occurrence."""
+        self.notes = []
         self.run_block(self.driver.blocks[b"main"], environment)
+        return self.notes
 
     def run_block(self, block, environment):
         """Does commands one after the other."""
@@ -108,7 +111,8 @@ class Run:
     def run_call(self, command, environment):
         """Calls the rules, or a function on a copy; only what is received comes back."""
         if command.function == RULES:
-            after = rules_values(self.base, self.order, environment)
+            after, notes = rules_values(self.base, self.order, environment)
+            self.notes += notes
         else:
             after = list(environment)
             self.run_block(self.driver.blocks[command.function], after)

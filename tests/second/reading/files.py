@@ -3,7 +3,7 @@
 import re
 from typing import List, NamedTuple, Tuple
 
-from .amounts import OVER, UNDEFINED, read_amount
+from .amounts import OVER, UNDEFINED, UNIT, read_amount
 from .faults import Refused
 from .texts import decimal, is_utf8, is_word, lines_of
 
@@ -108,8 +108,15 @@ def at_record(number, words):
     return Refused(b"refused household line " + decimal(number) + b": " + words)
 
 
-def read_household(text, inputs):
-    """Cells of inputs with their amounts. `inputs` has the cell of each code."""
+def is_of_type(amount, kind):
+    """Whether an amount is one of a type: of `truth` 0 and 1, of `whole` whole units, and of no type each."""
+    if kind == b"truth":
+        return amount in (0, UNIT)
+    return kind != b"whole" or amount % UNIT == 0
+
+
+def read_household(text, inputs, types):
+    """Cells of inputs with their amounts. `inputs` has the cell of each code, and `types` its type."""
     records = records_of(text)
     if not records or records[0] != [b"code", b"amount"]:
         raise Refused(b"refused household: bad header")
@@ -122,6 +129,8 @@ def read_household(text, inputs):
         if fields[0] not in inputs:
             raise at_record(number, b"unknown code")
         amount = amount_of(number, fields[1])
+        if not is_of_type(amount, types[fields[0]]):
+            raise at_record(number, b"not of its type")
         if inputs[fields[0]] in amounts:
             raise at_record(number, b"code twice")
         amounts[inputs[fields[0]]] = amount
@@ -136,7 +145,7 @@ def amount_of(number, text):
     return amount
 
 
-def read_table(text, inputs):
+def read_table(text, inputs, types):
     """The households of a table, in order."""
     records = records_of(text)
     if not records or records[0][0] != b"name":
@@ -148,13 +157,18 @@ def read_table(text, inputs):
         if inputs[code] in columns:
             raise at_record(1, b"code twice")
         columns.append(inputs[code])
-    rows = []
-    for number, fields in enumerate(records[1:], 2):
-        if len(rows) == MOST_ROWS:
-            raise Refused(b"refused household: too many rows")
-        label = fields[0]
-        if len(fields) != len(columns) + 1 or not label or min(label) < 32:
-            raise at_record(number, b"bad row")
-        given = [(cell, field) for cell, field in zip(columns, fields[1:]) if field]
-        rows.append(TableRow(label, [(cell, amount_of(number, field)) for cell, field in given]))
-    return rows
+    return [table_row(number, records[0], fields, inputs, types) for number, fields in enumerate(records[1:], 2)]
+
+
+def table_row(number, header, fields, inputs, types):
+    """The household of a record, by the codes of the header; of fields that are expected values nothing is read."""
+    if number - 2 >= MOST_ROWS:
+        raise Refused(b"refused household: too many rows")
+    label = fields[0]
+    if len(fields) != len(header) or not label or min(label) < 32:
+        raise at_record(number, b"bad row")
+    given = [(code, field) for code, field in zip(header[1:], fields[1:]) if field and not code.startswith(b"=")]
+    amounts = [(code, amount_of(number, field)) for code, field in given]
+    if not all(is_of_type(amount, types[code]) for code, amount in amounts):
+        raise at_record(number, b"not of its type")
+    return TableRow(label, [(inputs[code], amount) for code, amount in amounts])

@@ -157,8 +157,7 @@ def declaration(cursor, place):
         attribute_words, pairs = attributes(cursor)
         cursor.key(b"alias")
         code = cursor.take("word").text
-        description(cursor)
-        return Variable(place, name, "input", code=code, words=attribute_words, pairs=pairs)
+        return Variable(place, name, "input", code=code, words=attribute_words, pairs=pairs, type_word=description(cursor))
     if cursor.take_if("key", b"const"):
         cursor.sign(b"=")
         value = amount(cursor)
@@ -199,12 +198,12 @@ def amount(cursor):
 
 
 def description(cursor):
-    """`: "text" type REEL ;`, of which nothing has an effect."""
+    """`: "text" type REEL ;`: the word behind `type`, if there is one, which has an effect on an input alone."""
     cursor.sign(b":")
     cursor.take("text")
-    if cursor.take_if("key", b"type"):
-        cursor.take("word")
+    word = cursor.take("word").text if cursor.take_if("key", b"type") else None
     cursor.sign(b";")
+    return word
 
 
 def error(cursor, place, name, kind):

@@ -2,7 +2,7 @@
 
 from typing import List, NamedTuple, Optional, Tuple
 
-from .amounts import OVER, UNDEFINED, print_amount
+from .amounts import UNDEFINED
 from .declarations import declared_by
 from .driver_grammar import Call, functions_of
 from .driver_lines import driver_lines
@@ -13,9 +13,10 @@ from .faults import Refused, Stopped
 from .files import read_requests
 from .items import items_of
 from .names import base_of
+from .reports import value_line
 from .texts import decimal
 from .tokens import tokens_of
-from .values import order_of
+from .values import label_lines, order_of
 
 MOST_WEIGHT = 4_000_000
 MOST_TOLD_WEIGHT = 2**64 - 1
@@ -30,18 +31,36 @@ class Source(NamedTuple):
     requests: Optional[bytes]
 
 
-class Compiled:
-    """A source without a fault."""
+class Rules:
+    """Rule files without a fault."""
 
     def __init__(self, source):
-        """Goes through the steps in order; the first that finds a fault refuses the source."""
+        """Goes through the steps of rule files in order; the first that finds a fault refuses them."""
         items = []
         for number, (name, text) in enumerate(source.rule_files):
             items += items_of(tokens_of(number, name, text))
         self.declared = declared_by(items)
         definitions, conditions = expanded(items, source.application, self.declared)
         self.base = base_of(definitions, conditions, self.declared)
-        order = order_of(self.base)
+        self.order = order_of(self.base)
+
+    def start(self, amounts):
+        """The values of all cells at the start of a run, for cells of inputs with their amounts."""
+        environment = [UNDEFINED] * self.declared.cells
+        for variable in self.declared.variables:
+            if variable.role == "constant":
+                environment[self.declared.first_cells[variable.name]] = variable.amount
+        for cell, amount in amounts:
+            environment[cell] = amount
+        return environment
+
+
+class Compiled(Rules):
+    """A source without a fault."""
+
+    def __init__(self, source):
+        """Goes through the steps in order; the first that finds a fault refuses the source."""
+        super().__init__(source)
         driver = None
         if source.driver is not None:
             driver = driver_over_cells(functions_of(driver_lines(source.driver)), self.declared)
@@ -51,7 +70,7 @@ class Compiled:
         weight = driver_weight(driver, self.base)
         if weight > MOST_WEIGHT:
             raise Refused(b"refused driver too large " + decimal(min(weight, MOST_TOLD_WEIGHT)))
-        self.run = Run(driver, self.base, order)
+        self.run = Run(driver, self.base, self.order)
         printed = self.declared.printed_names()
         self.request_names = [printed[cell] for cell in self.requests]
 
@@ -61,26 +80,22 @@ class Compiled:
         received = [cell for cell in self.requests if cell not in constants]
         return Driver({b"main": [Call(1, received, RULES)]}, [b"main"])
 
-    def told(self, amounts):
-        """The lines that a household is told, and whether it was stopped. It is cells of inputs with their amounts."""
-        environment = [UNDEFINED] * self.declared.cells
-        for variable in self.declared.variables:
-            if variable.role == "constant":
-                environment[self.declared.first_cells[variable.name]] = variable.amount
-        for cell, amount in amounts:
-            environment[cell] = amount
+    def values(self, amounts):
+        """The values of what is asked for, or None where the run is stopped."""
+        environment = self.start(amounts)
         try:
             self.run.run_main(environment)
+        except Stopped:
+            return None
+        return [environment[cell] for cell in self.requests]
+
+    def told(self, amounts):
+        """The lines that a household is told, and whether it was stopped. It is cells of inputs with their amounts."""
+        environment = self.start(amounts)
+        try:
+            notes = self.run.run_main(environment)
         except Stopped as stop:
             return stop.lines, True
         named = zip(self.request_names, self.requests)
-        return b"".join(value_line(name, environment[cell]) for name, cell in named), False
-
-
-def value_line(name, value):
-    """The line of a name and its value."""
-    if value is UNDEFINED:
-        return name + b" undefined\n"
-    if value is OVER:
-        return name + b" over\n"
-    return name + b" = " + print_amount(value) + b"\n"
+        noted = b"".join(label_lines(b"noted", label) for label in notes)
+        return noted + b"".join(value_line(name, environment[cell]) for name, cell in named), False

@@ -105,7 +105,8 @@ class Header(NamedTuple):
 
 
 class Variable(NamedTuple):
-    """A declaration: an input has a code, a constant an amount, a table a size; attributes are `words` and `pairs`."""
+    """A declaration: an input has a code and perhaps the word of a type, a constant an amount, a table a size; attributes are
+    `words` and `pairs`."""
 
     place: Any
     name: bytes
@@ -115,6 +116,7 @@ class Variable(NamedTuple):
     amount: Optional[int] = None
     words: Tuple[bytes, ...] = ()
     pairs: Tuple[Tuple[bytes, int], ...] = ()
+    type_word: Optional[bytes] = None
 
 
 class Error(NamedTuple):

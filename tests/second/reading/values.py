@@ -89,18 +89,26 @@ def order_of(base):
 
 
 def rules_values(base, order, environment):
-    """The values of all cells over an environment. The first check that fails or is over stops the run."""
+    """The values of all cells over an environment, and the labels of the verifications that are noted, in source order. The first
+    check that is over, or that fails with an anomaly, stops the run."""
     values = list(environment)
     for cell in order:
         values[cell] = value_of(base.terms[cell], values)
+    notes = []
     for condition, label in base.checks:
         value = value_of(condition, values)
         if value is OVER:
             raise Stopped(b"over verification " + label.verification + b" " + label.error + b"\n")
         if value is not UNDEFINED and value != 0:
-            told = b" ".join([b"failed", label.verification, label.error, label.kind])
-            raise Stopped(told + b"\n" + label.text + b"\n")
-    return values
+            if label.kind == b"anomalie":
+                raise Stopped(label_lines(b"failed", label))
+            notes.append(label)
+    return values, notes
+
+
+def label_lines(word, label):
+    """The two lines of a verification behind a word."""
+    return b" ".join([word, label.verification, label.error, label.kind]) + b"\n" + label.text + b"\n"
 
 
 def base_weight(base):

@@ -1,0 +1,102 @@
+"""Reports for people: which formula sets a cell, with its letters, and which cells it reads; what a declaration says of it."""
+import re
+
+import m_items
+import m_source
+from m_loops import instances, reads_of, replaced
+
+
+class Formula:
+    """The formula of a cell: its text as the file has it, its file, line and rule, the letters of its instance, the cell's number in a whole table."""
+
+    def __init__(self, name, content, reader, formula, letters, number):
+        self.formula, self.letters, self.number = formula, letters, number
+        self.name, self.line = name, content.count(b"\n", 0, formula.byte) + 1
+        tokens = reader.tokens
+        first = next(k for k, token in enumerate(tokens) if token.byte == formula.byte)
+        end = next((k for k in range(first, len(tokens)) if tokens[k].text == ";" and tokens[k].kind == "sign"), len(tokens) - 1)
+        self.text = plain(content[formula.byte : tokens[end].byte])
+        rule = max(k for k in range(first) if tokens[k].text == "regle")
+        self.rule = next(token.text for token in tokens[rule:first] if token.kind == "number")
+
+    def place(self):
+        return f"{self.name} line {self.line}, rule {self.rule}"
+
+    def reads(self, sizes):
+        """The cells that the formula reads, each once, in their order. `sizes` has the number of cells of each table."""
+        found = {}
+        own = {letter: [(value, value)] for letter, value in self.letters.items()}
+        loops = [list(own.items())] if own else []
+        for word, index, _, round_it in reads_of(self.formula.term, []):
+            for letters in instances([*loops, *round_it], [word, *words_in(index)]):
+                for cell in self.cells(replaced(word, letters), index, letters, sizes):
+                    found[cell] = True
+        return list(found)
+
+    def cells(self, word, index, letters, sizes):
+        if index is None:
+            return [] if word.isdigit() else [word]
+        number = self.number if index == ("X",) else whole(index, letters)
+        return [f"{word}[{k}]" for k in (range(sizes.get(word, 0)) if number is None else [number])]
+
+
+def plain(content):
+    """A piece of a file in one line, without comments."""
+    return " ".join(re.sub(r"#[^\n]*", " ", content.decode("latin-1")).split())
+
+
+def words_in(term):
+    """The words of an index that is a number with letters, as `i`; none of another one."""
+    return [term[1]] if term is not None and term[0] == "name" else []
+
+
+def whole(index, letters):
+    """The number of an index that is one, cut to its whole part; None of another one."""
+    text = replaced(index[1], letters) if index[0] in ("name", "number") else ""
+    return int(text.split(".")[0]) if re.fullmatch(r"[0-9]+(\.[0-9]+)?", text) else None
+
+
+class Rules:
+    """The formulas of a list's application by their cells, and the variables with their descriptions."""
+
+    def __init__(self, list_name):
+        base = m_source.RuleBase(list_name)
+        self.variables = {variable.name: variable for variable in base.variables}
+        self.sizes = {name: variable.size for name, variable in self.variables.items() if variable.size is not None}
+        self.descriptions, self.formulas = {}, {}
+        for file in base.files:
+            self.describe(file)
+            reader, _ = m_items.read(file.bytes)
+            for formula in reader.formulas:
+                if base.application in formula.applications and not formula.is_chained:
+                    self.add(file.name, file.bytes, reader, formula)
+
+    def describe(self, file):
+        """Takes the last text of each declaration of a file."""
+        places = {int(variable.place.rsplit(" ", 1)[1]): variable.name for variable in file.variables}
+        name = None
+        for token in file.tokens:
+            name = places.get(token.byte, name)
+            if token.kind == "text" and name is not None:
+                self.descriptions[name] = token.text[1:-1]
+            if token.text == ";" and token.kind == "sign":
+                name = None
+
+    def add(self, name, content, reader, formula):
+        letters_of_target = [letter for header in formula.loops for letter, _ in header]
+        for letters in instances(formula.loops, ["".join(letters_of_target)]):
+            word = replaced(formula.target, letters)
+            numbers = range(self.sizes.get(word, 0)) if formula.slot == "X" else [None if formula.slot is None else int(formula.slot)]
+            for number in numbers:
+                cell = word if number is None else f"{word}[{number}]"
+                self.formulas.setdefault(cell, Formula(name, content, reader, formula, letters, number))
+
+    def description(self, cell):
+        return self.descriptions.get(cell.split("[")[0], "")
+
+    def role(self, cell):
+        """What sets a cell without a formula."""
+        variable = self.variables.get(cell.split("[")[0])
+        if variable is None or variable.kind == "calculee":
+            return "no rule sets it"
+        return f"declared, {variable.code}" if variable.kind == "saisie" else "a constant"
