@@ -1,0 +1,134 @@
+"""Tests of the package, on small rules whose answers are worked out by hand. They need the program."""
+import os
+import tempfile
+import unittest
+from decimal import Decimal
+
+from vodmejka import OVER, Broken, NotFound, Refused, Rules
+
+RULES = """REV : saisie revenu classe = 0 alias 1AJ : "s" ;
+B : saisie alias 1BB : "b" type BOOLEEN ;
+SEUIL : const = 1000 ;
+IRN : calculee restituee : "n" ;
+C : calculee restituee : "c" ;
+regle 10 : application : iliad ;
+IRN = max(0, REV - SEUIL) + B ;
+C = REV * REV * REV ;
+A20 : anomalie : "A" : "20" : "00" : "." : "N" ;
+A30 : informative : "A" : "30" : "00" : "household h1" : "N" ;
+verif 20 : application : iliad ; si REV < 0 alors erreur A20 ;
+verif 30 : application : iliad ; si REV > 9000 alors erreur A30 ;
+"""
+
+
+class Package(unittest.TestCase):
+    def setUp(self):
+        self.room = tempfile.TemporaryDirectory()
+        self.addCleanup(self.room.cleanup)
+        self.put("a.m", RULES)
+        self.list = self.put("l.txt", f"iliad\n{self.room.name}/a.m\n")
+        self.rules = Rules(self.list, cache=self.room.name + "/cache")
+
+    def put(self, name, text):
+        path = os.path.join(self.room.name, name)
+        with open(path, "w", encoding="latin-1") as file:
+            file.write(text)
+        return path
+
+    def test_run(self):
+        answer = self.rules.run({"1AJ": Decimal("2500.5"), "1BB": 1})
+        self.assertEqual(answer.values, {"IRN": Decimal("1501.5"), "C": Decimal("15634376875.125")})
+        self.assertEqual((answer.notes, answer.stop), ((), None))
+        self.assertEqual(self.rules.run({}).values, {"IRN": Decimal(0), "C": None})
+        self.assertIs(self.rules.run({"1AJ": "10000000"})["C"], OVER)
+        self.assertEqual(self.rules.run({"1AJ": None}), self.rules.run({}))
+
+    def test_stops_and_notes(self):
+        stop = self.rules.run({"1AJ": -1}).stop
+        self.assertEqual((stop.verification, stop.error, stop.kind, stop.text), ("20", "A20", "anomalie", "A:20:00:.:N"))
+        (note,) = self.rules.run({"1AJ": 9001}).notes
+        self.assertEqual((note.verification, note.error, note.kind, note.text), ("30", "A30", "informative", "A:30:00:household h1:N"))
+
+    def test_refusals(self):
+        with self.assertRaises(Refused) as caught:
+            self.rules.run({"9ZZ": 1})
+        self.assertEqual((caught.exception.line, caught.exception.file, caught.exception.row), ("refused household line 2: unknown code", "household", 2))
+        self.assertIn("alias", caught.exception.hint)
+        with self.assertRaisesRegex(Refused, "not of its type"):
+            self.rules.run({"1BB": 2})
+        bad = self.put("b.m", RULES.replace("REV - SEUIL", "REV - SEUI"))
+        with self.assertRaises(Refused) as caught:
+            Rules(self.put("m.txt", f"iliad\n{bad}\n"), cache=self.room.name)
+        self.assertEqual((caught.exception.file, caught.exception.row), (bad, 7))
+        self.assertEqual(RULES.replace("REV - SEUIL", "REV - SEUI")[caught.exception.byte :].split(")")[0], "SEUI")
+        with self.assertRaises(NotFound):
+            Rules(self.room.name + "/gone.txt")
+        for wrong in (2.5, True, object()):
+            with self.assertRaises(TypeError):
+                self.rules.run({"1AJ": wrong})
+
+    def test_batch(self):
+        rows = [{"1AJ": k * 10} for k in range(1000)]
+        found = list(self.rules.batch(iter(rows), rows_at_once=300))
+        self.assertEqual([answer["IRN"] for answer in found], [max(0, k * 10 - 1000) for k in range(1000)])
+        self.assertEqual([len(answer.notes) for answer in found], [int(k * 10 > 9000) for k in range(1000)])
+        self.assertEqual(list(self.rules.batch([])), [])
+        mixed = list(self.rules.batch([{"1AJ": -1}, {"1BB": 1}, {}]))
+        self.assertEqual([answer.stop is None for answer in mixed], [False, True, True])
+        with self.assertRaisesRegex(Refused, "household line 3: bad amount"):
+            list(self.rules.batch([{"1AJ": 1}, {"1AJ": "x"}]))
+        self.assertEqual(next(self.rules.batch(({"1AJ": k} for k in range(10**9)), rows_at_once=10))["IRN"], 0)
+
+    def test_session(self):
+        with self.rules.session({"1AJ": 2500}) as session:
+            self.assertEqual(session.show()["IRN"], 1500)
+            session.set("1AJ", Decimal("3000.5"))
+            self.assertEqual(session.show()["IRN"], Decimal("2000.5"))
+            session.set("1AJ", -1)
+            self.assertEqual(session.show().stop.text, "A:20:00:.:N")
+            session.clear("1AJ")
+            self.assertEqual(session.show().values, {"IRN": Decimal(0), "C": None})
+            with self.assertRaisesRegex(Refused, "unknown code"):
+                session.set("9ZZ", 1)
+            with self.assertRaises(ValueError):
+                session.set("1AJ", "1 2")
+            self.assertEqual(session.show()["IRN"], 0)
+        session.close()
+        with self.assertRaises(Refused):
+            self.rules.session({"1AJ": "x"}).show()
+
+    def test_code(self):
+        (kept,) = os.listdir(self.room.name + "/cache")
+        code = Rules.from_code(os.path.join(self.room.name, "cache", kept))
+        self.assertEqual(code.run({"1AJ": 2500}), self.rules.run({"1AJ": 2500}))
+        self.assertEqual([answer["IRN"] for answer in code.batch([{"1AJ": 2500}, {}])], [1500, 0])
+        self.assertEqual(code.inputs(), {"1AJ": "", "1BB": "truth"})
+        with self.assertRaises(Broken):
+            code.session()
+        with self.assertRaisesRegex(Refused, "code: bad header"):
+            Rules.from_code(self.list).run({})
+
+    def test_changed_rules_are_not_seen(self):
+        self.put("a.m", RULES.replace("1000", "2000"))
+        self.assertEqual(self.rules.run({"1AJ": 2500})["IRN"], 1500)
+        self.assertEqual(next(self.rules.batch([{"1AJ": 2500}]))["IRN"], 1500)
+        self.assertEqual(Rules(self.list, cache=self.room.name + "/cache").run({"1AJ": 2500})["IRN"], 500)
+
+
+class Frames(Package):
+    """The same with pandas, where it is there."""
+
+    def test_frames(self):
+        try:
+            import pandas
+        except ImportError:
+            self.skipTest("no pandas")
+        frame = pandas.DataFrame({"1AJ": [2500.0, None, -1], "1BB": [1, 0, 1]}, index=["a", "b", "c"])
+        found = self.rules.batch(frame)
+        self.assertEqual(list(found.index), ["a", "b", "c"])
+        self.assertEqual(list(found["IRN"]), [1501, 0, None])
+        self.assertEqual(list(found["stop"]), [None, None, "failed 20 A20 anomalie"])
+
+
+if __name__ == "__main__":
+    unittest.main()

@@ -1,0 +1,19 @@
+"""Rules in M, computed by the verified program `m_tax`.
+
+    from decimal import Decimal
+    from vodmejka import Rules
+
+    rules = Rules("examples/first/rules.list")
+    rules.run({"1AJ": Decimal("2500.5")}).values["IRN"]        # Decimal('1500.5')
+
+`Rules` is a rule base with a driver and requests; `Rules.from_code` one that was compiled to a code file. `run` computes a household, `batch` any number of
+them, `session` holds one that is edited. An answer has values, notes, or what stopped the run. What the program refuses is an exception with its place.
+"""
+from .answers import OVER, Answer, Note, Over, Stop, Value
+from .errors import Broken, Interrupted, NotFound, Refused, VodmejkaError
+from .rules import Rules
+from .session import Session
+
+__all__ = [
+    "OVER", "Answer", "Broken", "Interrupted", "Note", "NotFound", "Over", "Refused", "Rules", "Session", "Stop", "Value", "VodmejkaError",
+]

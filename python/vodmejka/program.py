@@ -1,0 +1,72 @@
+"""The program, and the files that are handed to it."""
+from __future__ import annotations
+
+import csv
+import hashlib
+import io
+import os
+import shutil
+import subprocess
+from decimal import Decimal
+from typing import Mapping, Union
+
+from .errors import Broken, Interrupted, NotFound, Refused
+
+Amount = Union[Decimal, int, str, None]
+ENCODING = "latin-1"
+TOP = os.path.dirname(os.path.dirname(os.path.dirname(os.path.realpath(__file__))))
+
+
+def program_path(program: str | None = None) -> str:
+    """The program: the one that is named, the one of the variable M_TAX, `m_tax` of the path, or that of a repository round this package."""
+    for candidate in (program, os.environ.get("M_TAX"), shutil.which("m_tax"), os.path.join(TOP, "out", "m_tax"), os.path.join(TOP, "m_tax")):
+        if candidate and os.access(candidate, os.X_OK) and os.path.isfile(candidate):
+            return os.path.abspath(candidate)
+    raise Broken("there is no program m_tax: name it by M_TAX, or run ./build in the repository")
+
+
+def digest_of(*pieces: bytes) -> str:
+    """A digest of pieces, each with its length."""
+    made = hashlib.sha256()
+    for piece in pieces:
+        made.update(len(piece).to_bytes(8, "big") + piece)
+    return made.hexdigest()
+
+
+def run(program: str, *words: str, typed: bytes = b"", folder: str | None = None) -> tuple[bytes, int]:
+    """What the program prints, and its status: 0 or 6. What else it says is an error."""
+    done = subprocess.run([program, *words], input=typed, stdout=subprocess.PIPE, stderr=subprocess.DEVNULL, cwd=folder, check=False)
+    raise_for(done.stdout, done.returncode)
+    return done.stdout, done.returncode
+
+
+def raise_for(text: bytes, status: int) -> None:
+    """The error of an output, if it is one."""
+    if status in (0, 6):
+        return
+    line = text.decode(ENCODING).strip()
+    if status in (1, 2):
+        raise Refused(line)
+    if status == 3:
+        raise NotFound(line)
+    raise Interrupted({4: "the output could not be written", 5: "out of memory"}.get(status, f"the program ended with status {status}"))
+
+
+def spelled(code: str, amount: Amount) -> str:
+    """An amount as the program reads it. Floats are rejected, since they mean another number than they show."""
+    if isinstance(amount, bool) or not isinstance(amount, (Decimal, int, str)):
+        raise TypeError(f"{code}: an amount is a Decimal, an int or a text, and not {amount!r}")
+    if isinstance(amount, Decimal):
+        if not amount.is_finite():
+            raise ValueError(f"{code}: {amount} is no amount")
+        return f"{amount:f}"
+    return str(amount)
+
+
+def household_bytes(household: Mapping[str, Amount]) -> bytes:
+    """A household as a file; a code whose amount is None is left out."""
+    out = io.StringIO(newline="")
+    writer = csv.writer(out, lineterminator="\n")
+    writer.writerow(["code", "amount"])
+    writer.writerows([code, spelled(code, amount)] for code, amount in household.items() if amount is not None)
+    return out.getvalue().encode(ENCODING)

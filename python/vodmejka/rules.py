@@ -1,0 +1,211 @@
+"""A rule base that is ready to compute."""
+from __future__ import annotations
+
+import csv
+import io
+import itertools
+import os
+import re
+import shutil
+import subprocess
+import tempfile
+from typing import Any, Iterable, Iterator, Mapping
+
+from .answers import Answer, answer_of
+from .errors import Broken, NotFound, Refused
+from .program import ENCODING, Amount, digest_of, household_bytes, program_path, raise_for, run, spelled
+from .session import Session
+
+ROWS = 20_000
+Household = Mapping[str, Amount]
+
+
+def fetched(name: str) -> bytes:
+    """The bytes of a file."""
+    try:
+        with open(name, "rb") as file:
+            return file.read()
+    except OSError as fault:
+        raise NotFound(f"unreadable {name}") from fault
+
+
+def named(content: bytes) -> list[str]:
+    """The names of the rule files of a list, whose first line is the application."""
+    lines = content.replace(b"\r\n", b"\n").split(b"\n")[1:]
+    return [os.fsdecode(line) for line in lines if line]
+
+
+class Rules:
+    """A rule base with a driver and requests.
+
+    `list`, `driver` and `requests` are names of files, as the program takes them; None is `-`: one call of the rules, and all variables with `restituee`. All
+    files are read once, when this is made, and copied: what is computed is of that moment. The code file of `run` is compiled once for a program and a source,
+    and kept in the user's cache under their digest.
+    """
+
+    def __init__(self, list: str, driver: str | None = None, requests: str | None = None, *, program: str | None = None, cache: str | None = None):
+        self.program = program_path(program)
+        self._room = tempfile.TemporaryDirectory(prefix="vodmejka-")
+        content = fetched(list)
+        rules = [(name, fetched(name)) for name in named(content)]
+        given = [None if name is None else fetched(name) for name in (driver, requests)]
+        self._names = {f"r{k}.m": name for k, (name, _) in enumerate(rules)}
+        self._put("list", b"\n".join([content.replace(b"\r\n", b"\n").split(b"\n")[0], *(name.encode() for name in self._names), b""]))
+        for copy, (_, text) in zip(self._names, rules):
+            self._put(copy, text)
+        self._words = ["list", *("-" if text is None else self._put(name, text) for name, text in zip(("driver", "requests"), given))]
+        pieces = [fetched(self.program), content, *(text for _, text in rules), *(b"none" if text is None else b"some" + text for text in given)]
+        self._code = self._compiled(digest_of(*pieces), cache)
+
+    @classmethod
+    def from_code(cls, file: str, *, program: str | None = None) -> Rules:
+        """Rules by a code file, without their sources: they run households, and have no sessions."""
+        made = cls.__new__(cls)
+        made.program = program_path(program)
+        made._room = tempfile.TemporaryDirectory(prefix="vodmejka-")
+        made._names, made._words = {}, []
+        made._code = made._path(made._put("code", fetched(file)))
+        return made
+
+    # ---- what is computed
+
+    def run(self, household: Household) -> Answer:
+        """What the household is told. `household` has amounts by codes: Decimal, int or text, and None for nothing."""
+        path = self._put("household.csv", household_bytes(household))
+        text, _ = self._run("exec", self._code, path)
+        return answer_of(iter(text.decode(ENCODING).split("\n")[:-1]))
+
+    def batch(self, rows: Any, rows_at_once: int = ROWS) -> Any:
+        """What households are told, in their order, as they are computed: any number of them, of which some thousand are in memory at once.
+
+        `rows` is an iterable of households; then this is an iterator of answers. Or it is a frame of pandas, whose columns are codes; then this is a frame with
+        its index, with a column for each value (Decimal, None or OVER), and `stop` and `notes`.
+        """
+        if hasattr(rows, "columns") and hasattr(rows, "itertuples"):
+            return self._frame(rows, rows_at_once)
+        return self._answers(rows, rows_at_once)
+
+    def session(self, household: Household | None = None) -> Session:
+        """A session that begins with a household; it is ended by `close`, or at the end of a `with`."""
+        if not self._words:
+            raise Broken("a session needs rules: a code file has no sources")
+        path = self._put("session.csv", household_bytes(household or {}))
+        return Session([self.program, "serve", *self._words, path], self._room.name)
+
+    def inputs(self) -> dict[str, str]:
+        """The codes of the inputs in order, each with its type: `truth`, `whole`, or nothing."""
+        front = fetched(self._code).split(b"\ncode\n")[0].decode(ENCODING)
+        words = [line.split(" ") for line in front.split("\n") if line.startswith("input ")]
+        return {line[1]: line[2] if len(line) > 2 else "" for line in words}
+
+    # ---- inside
+
+    def _path(self, name: str) -> str:
+        return os.path.join(self._room.name, name)
+
+    def _put(self, name: str, content: bytes) -> str:
+        with open(self._path(name), "wb") as out:
+            out.write(content)
+        return name
+
+    def _run(self, *words: str) -> tuple[bytes, int]:
+        try:
+            return run(self.program, *words, folder=self._room.name)
+        except Refused as refused:
+            raise Refused(self._told(refused.line)) from None
+        except NotFound as missing:
+            raise NotFound(self._told(str(missing))) from None
+
+    def _told(self, line: str) -> str:
+        """A line of the program, with the names of the files as they are."""
+        return re.sub(r"\br[0-9]+\.m\b", lambda match: self._names.get(match[0], match[0]), line)
+
+    def _compiled(self, digest: str, cache: str | None) -> str:
+        """The code file of the source, from the cache where it is there."""
+        folder = cache or os.path.join(os.environ.get("XDG_CACHE_HOME") or os.path.expanduser("~/.cache"), "vodmejka")
+        kept = os.path.join(folder, digest + ".code")
+        if not os.path.exists(kept):
+            text, _ = self._run("compile", *self._words)
+            try:
+                os.makedirs(folder, exist_ok=True)
+                with tempfile.NamedTemporaryFile(dir=folder, delete=False) as out:
+                    out.write(text)
+                os.replace(out.name, kept)
+            except OSError:
+                return self._path(self._put("code", text))
+        shutil.copyfile(kept, self._path("code"))
+        return self._path("code")
+
+    def _answers(self, rows: Iterable[Household], at_once: int) -> Iterator[Answer]:
+        left = iter(rows)
+        while chunk := list(itertools.islice(left, max(1, min(at_once, 100_000)))):
+            yield from self._batch(chunk) if self._words else map(self.run, chunk)
+
+    def _batch(self, households: list[Household]) -> Iterator[Answer]:
+        """The answers of some households, by one batch, as it prints them."""
+        codes = list(dict.fromkeys(code for household in households for code in household))
+        out = io.StringIO(newline="")
+        writer = csv.writer(out, lineterminator="\n")
+        writer.writerow(["name", *codes])
+        for k, household in enumerate(households):
+            amounts = (household.get(code) for code in codes)
+            writer.writerow([f"h{k}", *("" if amount is None else spelled(code, amount) for code, amount in zip(codes, amounts))])
+        self._put("table.csv", out.getvalue().encode(ENCODING))
+        words = [self.program, "batch", *self._words, "table.csv"]
+        with subprocess.Popen(words, cwd=self._room.name, stdin=subprocess.DEVNULL, stdout=subprocess.PIPE, stderr=subprocess.DEVNULL) as child:
+            try:
+                yield from self._parted(child, len(households))
+            finally:
+                child.kill()
+
+    def _parted(self, child: subprocess.Popen[bytes], count: int) -> Iterator[Answer]:
+        """The answers that a batch prints, each behind its label. A note's text may look like a label, so it is passed over with its line."""
+        assert child.stdout is not None
+        lines: list[str] = []
+        number, in_text = -1, False
+        for raw in child.stdout:
+            line = raw.decode(ENCODING).removesuffix("\n")
+            if not in_text and line == f"household h{number + 1}":
+                if number >= 0:
+                    yield answer_of(iter(lines))
+                number, lines = number + 1, []
+                continue
+            lines.append(line)
+            in_text = not in_text and line.startswith(("failed ", "noted "))
+        if number < 0:
+            raise_refusal(self._told("\n".join(lines)), child.wait())
+        if child.wait() != 0 or number != count - 1:
+            raise_for(b"", child.returncode)
+            raise Broken(f"{number + 1} answers for {count} households")
+        yield answer_of(iter(lines))
+
+    def _frame(self, frame: Any, at_once: int) -> Any:
+        """The answers to the rows of a frame, as a frame."""
+        import pandas
+
+        codes = [str(column) for column in frame.columns]
+        households = ({code: None if pandas.isna(value) else exact(code, value) for code, value in zip(codes, row)} for row in frame.itertuples(index=False, name=None))
+        answers = list(self._answers(households, at_once))
+        names = list(dict.fromkeys(name for answer in answers for name in answer.values))
+        made = {name: [answer.values.get(name) for answer in answers] for name in names}
+        made["stop"] = [answer.stop.line if answer.stop else None for answer in answers]
+        made["notes"] = [answer.notes for answer in answers]
+        return pandas.DataFrame(made, index=frame.index, columns=[*names, "stop", "notes"], dtype=object)
+
+
+def raise_refusal(text: str, status: int) -> None:
+    """The error of a batch that answered no household."""
+    raise_for(text.encode(ENCODING), status)
+    raise Broken(f"no answers: {text[:200]}")
+
+
+def exact(code: str, value: Any) -> Amount:
+    """A value of a frame as an amount: whole numbers of any kind, decimals and texts. A float is taken where it is whole, and else as it is shown."""
+    if hasattr(value, "item"):
+        value = value.item()
+    if isinstance(value, bool):
+        return int(value)
+    if isinstance(value, float):
+        return int(value) if value.is_integer() else repr(value)
+    spelled(code, value)
+    return value

@@ -1,0 +1,99 @@
+"""A session: one household that is edited, and what it is told."""
+from __future__ import annotations
+
+import subprocess
+from types import TracebackType
+
+from .answers import Answer, answer_of
+from .errors import Interrupted, Refused
+from .program import ENCODING, Amount, raise_for, spelled
+
+
+class Session:
+    """A household of rules, held by the program, which computes only what edits touch."""
+
+    def __init__(self, words: list[str], folder: str):
+        self._child = subprocess.Popen(words, cwd=folder, stdin=subprocess.PIPE, stdout=subprocess.PIPE, stderr=subprocess.DEVNULL)
+
+    def __enter__(self) -> Session:
+        return self
+
+    def __exit__(self, kind: type[BaseException] | None, error: BaseException | None, trace: TracebackType | None) -> None:
+        self.close()
+
+    def set(self, code: str, amount: Amount) -> None:
+        """Gives an input an amount; None makes it undefined."""
+        if amount is None:
+            self.clear(code)
+        else:
+            self._edit("set", code, spelled(code, amount))
+
+    def clear(self, code: str) -> None:
+        """Makes an input undefined."""
+        self._edit("clear", code)
+
+    def show(self) -> Answer:
+        """What the household is told as it is now."""
+        self._say("show")
+        return answer_of(iter(self._lines()))
+
+    def close(self) -> None:
+        """Ends the session. A session that is closed can be closed again."""
+        child = self._child
+        if child.poll() is None:
+            if child.stdin is not None:
+                child.stdin.close()
+            child.wait()
+        for pipe in (child.stdin, child.stdout):
+            if pipe is not None:
+                pipe.close()
+
+    # ---- lines
+
+    def _edit(self, *words: str) -> None:
+        self._say(*words)
+        reply = self._line()
+        if reply != "ok":
+            raise Refused(reply)
+
+    def _say(self, *words: str) -> None:
+        line = " ".join(words)
+        if line.split() != list(words):
+            raise ValueError(f"a code, a name and an amount are one word each: {line!r}")
+        assert self._child.stdin is not None
+        try:
+            self._child.stdin.write(line.encode(ENCODING) + b"\n")
+            self._child.stdin.flush()
+        except (BrokenPipeError, ValueError) as fault:
+            self._ended(b"", fault)
+
+    def _line(self) -> str:
+        """The next line of the program."""
+        assert self._child.stdout is not None
+        raw = self._child.stdout.readline()
+        if not raw.endswith(b"\n"):
+            self._ended(raw, None)
+        return raw.decode(ENCODING)[:-1]
+
+    def _lines(self) -> list[str]:
+        """The lines up to one with a point. The text of a verification that failed or is noted may be a point; it stands right behind its line."""
+        lines: list[str] = []
+        in_text = False
+        while True:
+            line = self._line()
+            if not in_text and line == ".":
+                return lines
+            if not lines and line.startswith("refused "):
+                raise Refused(line)
+            lines.append(line)
+            in_text = not in_text and line.startswith(("failed ", "noted "))
+            if self._child.poll() not in (None, 0):
+                self._ended("\n".join(lines).encode(ENCODING), None)
+
+    def _ended(self, said: bytes, fault: Exception | None) -> None:
+        """The error of a program that ended."""
+        status = self._child.wait()
+        if self._child.stdout is not None and not self._child.stdout.closed:
+            said += self._child.stdout.read()
+        raise_for(said, status)
+        raise Interrupted("the session has ended") from fault
