@@ -101,11 +101,17 @@ def contribution(household, income):
     return nearest(Fraction(3, 100) * max(0, min(income, high) - low) + Fraction(4, 100) * max(0, income - high))
 
 
-def income_tax(household):
+def scale_tax(household):
+    """197 I 1 and 2: by the scale, with the children's parts as far as their advantage goes."""
     income = taxable_income(household)
     with_children = by_parts(income, parts(household))
     without = by_parts(income, base_parts(household))
-    tax = max(with_children, without - greatest_advantage(household))
+    return max(with_children, without - greatest_advantage(household))
+
+
+def income_tax(household):
+    income = taxable_income(household)
+    tax = scale_tax(household)
     tax = max(Fraction(0), tax - rebate(household, tax))
     tax = nearest(max(Fraction(0), tax - gifts_reduction(household, income)))
     return 0 if tax < 61 else tax
@@ -138,8 +144,18 @@ def impossible(household):
     return next((number for number, fails in tests if fails), None)
 
 
+def told(household):
+    """The numbers of what is told with the answer: gifts above a fifth of the taxable income; that the rebate was applied."""
+    tax = scale_tax(household)
+    tests = [
+        (201, household.gifts_to_aid + household.other_gifts > Fraction(taxable_income(household), 5)),
+        (301, tax > 0 and rebate(household, tax) > 0),
+    ]
+    return [number for number, is_so in tests if is_so]
+
+
 def answer(household):
-    """What the rules and the driver return of the same names, or the verification that stops them. The driver first computes without the gifts."""
+    """What the rules and the driver return of the same names and note, or the verification that stops them. The driver first computes without the gifts."""
     without = replace(household, gifts_to_aid=0, other_gifts=0)
     stop = impossible(without) or impossible(household)
     if stop is not None:
@@ -155,4 +171,5 @@ def answer(household):
         "TOTAL": tax + more,
         "AVANT": before,
         "GAIN": before - tax - more,
+        "noted": told(without) + told(household),
     }

@@ -23,9 +23,8 @@ HERE = "examples/impot2023"
 PROGRAM = os.environ.get("M_TAX", "out/m_tax")
 CODES = ["0AM", "0BT", "0CF", "1AJ", "1BJ", "1AS", "1BS", "7UD", "7UF"]
 WRONG = {
-    "couple": lambda chance: 2,
-    "box_t": lambda chance: chance.choice([-1, Fraction(1, 2)]),
-    "children": lambda chance: chance.choice([-1, 31, Fraction(3, 2)]),
+    "box_t": lambda chance: True,
+    "children": lambda chance: chance.choice([-1, 31]),
     "wages": lambda chance: chance.choice([(-1, 0), (100, -50), (100, 5000)]),
     "pensions": lambda chance: chance.choice([(0, -7), (0, 300)]),
     "gifts_to_aid": lambda chance: -10,
@@ -77,11 +76,14 @@ def started(*words):
 
 
 def read_answer(lines):
-    """The values by their names, or the number of the verification that failed."""
+    """The values by their names, and what is noted by its number; or the number of the verification that stopped the run."""
     stop = re.fullmatch("failed ([0-9]+) .*", lines[0])
     if stop:
         return int(stop[1])
-    return {line.split(" = ")[0]: Fraction(line.split(" = ")[1]) if " = " in line else line for line in lines if line}
+    notes = [k for k, line in enumerate(lines) if re.fullmatch("noted [0-9]+ .*", line)]
+    values = [line for k, line in enumerate(lines) if line and k not in notes and k - 1 not in notes]
+    answer = {line.split(" = ")[0]: Fraction(line.split(" = ")[1]) if " = " in line else line for line in values}
+    return {**answer, "noted": [int(lines[k].split(" ")[1]) for k in notes]}
 
 
 def answers(households, room):
