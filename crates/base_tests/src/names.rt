@@ -86,7 +86,7 @@ fn a_name_is_among_names_by_its_bytes(rt: HostRuntime) -> Result<(), Fail> {
     Ok(())
 }
 
-/// Names of 15, 16, 17 and 40 bytes, each the front of the next: a name of up to 16 bytes takes no
+/// Names of 15, 16, 17 and 40 bytes, each the prefix of the next: a name of up to 16 bytes takes no
 /// memory of its own.
 static LENGTHS: [(&[u8], u32); 4] = [
     (b"ABCDEFGHIJKLMNO", 0),

@@ -51,7 +51,7 @@ fn words(rt: HostRuntime) {
     }
 }
 
-// What begins at the front of a text; none where it begins with another byte than a letter, a digit or `_`.
+// What begins at the start of a text; none where it begins with another byte than a letter, a digit or `_`.
 fn begun(text: &[u8]) -> Option<WordOrNumber> {
     if text.is_empty() || !is_word_byte(text[0]) {
         return None;
@@ -59,7 +59,7 @@ fn begun(text: &[u8]) -> Option<WordOrNumber> {
     Some(word_or_number(text, 0))
 }
 
-/// Texts, and what begins at their front.
+/// Texts, and what begins at their start.
 const BEGUN: [(&[u8], Option<WordOrNumber>); 9] = [
     (b"1AJ+2", Some(WordOrNumber::Word(3))),
     (b"sinon 1", Some(WordOrNumber::Word(5))),

@@ -154,12 +154,12 @@ came-outputs bytes rest behind slots n m inputs labels done (x ∷ xs) all c e r
     came-outputs bytes (lines output_line xs ++ behind) behind slots (suc n) m inputs labels (done ++ x ∷ []) xs all
     (came-next bytes rest (lines output_line xs ++ behind) (face_so_far slots inputs labels done) n (an_output x) c r.0 (notes-prefix labels (done ++ x ∷ []) xs (subst (λ l. notes_stand_first labels l ≡ true) parts f)) h) refl r.1 f parts (omega (arith, k))
 
--- behind the count of slots
+-- after the count of slots
 pub came-slots : (bytes rest : List ℕ) (slots : ℕ) → IsShort slots → bytes ≡ face_text slots [] [] [] rest → Came bytes (face_so_far slots [] [] []) 2 rest
 came-slots bytes rest slots short e =
     came-next bytes (slots_line slots ++ rest) rest (said blank version) 1 (slot_count slots) (came-next bytes bytes (slots_line slots ++ rest) blank 0 version (came-none bytes) tt refl e) short refl refl
 
--- behind a face
+-- after a face
 pub came-face : (bytes rest : List ℕ) (slots n : ℕ) (inputs : List Coded) (labels : List FaceLabel) (outputs : List FaceOutput) → IsRightFace slots inputs labels outputs → bytes ≡ face_text slots inputs labels outputs rest → n ≡ length inputs + (length labels + (length outputs + 2)) → Came bytes (face_so_far slots inputs labels outputs) n rest
 came-face bytes rest slots n inputs labels outputs r e k =
     let one = came-slots bytes (lines input_line inputs ++ (lines label_line labels ++ (lines output_line outputs ++ rest))) slots r.slots_fit e in

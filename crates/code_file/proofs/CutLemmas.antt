@@ -1,4 +1,4 @@
--- What stands before and behind a mark.
+-- What stands before and after a mark.
 use Rattle.std.proofs.Common.{◌≡◌, ◌≢◌, ◌<◌, ◌≤◌, ◌+◌, ◌==◌, ℕ, Bool, false, true, not, cond, List, [], ◌∷◌, ◌++◌, length, take, drop, get_or, Option, Some, None, refl, sym, ap, ◌∙◌, subst, append_assoc, ◌&&◌}
 use Rattle.std.specs.Option.{option_map}
 use Rattle.std.specs.List.{list_all}
@@ -7,7 +7,7 @@ use Rattle.std.proofs.lemmas.Bool.{eqb-true, eq-eqb, ne_eqb, and_parts}
 use Rattle.reg_machine.proofs.TableLemmas.{none≢some, some-is}
 use Rattle.code_file.specs.inner.Spelled.{cut, in_front}
 
--- bytes in front of the first of two parts
+-- bytes before the first of two parts
 abbrev pub onto : List ℕ → List ℕ × List ℕ → List ℕ × List ℕ
 onto w p = (w ++ p.0, p.1)
 

@@ -150,7 +150,7 @@ whole-ends d rest code_start more h i t = false≢true t
 whole-ends d rest (an_instr x) more h i t = false≢true t
 whole-ends d rest code_end more h i t = false≢true t
 
--- something stands behind `end`
+-- something stands after `end`
 pub behind-fault : (bytes rest behind : List ℕ) (slots n m : ℕ) (face : Face) (code : Listing) → Came bytes (code_so_far slots face code.instrs) n rest → IsCodeSoFar slots face code → rest ≡ codes "end\n" ++ behind → code_fault code ≡ None → behind ≢ [] → m ≡ n + 2 → IsCodeFault bytes (BadLine m)
 behind-fault bytes rest behind slots n m face code c k e f other q =
     let d = code_so_far slots face code.instrs in

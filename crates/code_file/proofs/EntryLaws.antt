@@ -110,7 +110,7 @@ one-front text behind other x y h k e f =
 pub never-empty : (d : Draft) → Ends d []
 never-empty d entry behind e h due = none≢some _ (cut-line entry_line entry_of entry (entry-spells entry h) [] behind e)
 
--- two lists of lines that may come, behind which no line may, are one
+-- two lists of lines that may come, after which no line may, are one
 pub same-stops : (d : Draft) (es fs : List Entry) (rest left : List ℕ) → lines entry_line es ++ rest ≡ lines entry_line fs ++ left → AreDue d es → AreDue d fs → Ends (fold said d es) rest → Ends (fold said d fs) left
     → (es ≡ fs) × (rest ≡ left)
 same-stops d [] [] rest left e a b s t = (refl, e)

@@ -86,7 +86,7 @@ input-sound body x h r =
     coded-sound p.0.1 x (cut 32 p.0.1) refl t.1
     ∙ ap (λ w. (w ++ 32 ∷ p.0.1) ++ 10 ∷ []) (sym (word-is p.0.0 (codes "input") t.0)) ∙ ap (λ l. l ++ 10 ∷ []) (sym (cut-parts 32 body p.0 p.1).whole)
 
--- an input with a word behind its code
+-- an input with a word after its code
 typed : (code word : List ℕ) (kind : InputType) → lacks 32 code ≡ true → lacks 10 code ≡ true → lacks 10 word ≡ true → kind_named word ≡ Some kind → input_line (coded code kind) ≡ codes "input" ++ 32 ∷ (code ++ 32 ∷ (word ++ 10 ∷ [])) → Spells input_line input_of (coded code kind)
 typed code word kind a b c k e = record {
   body = codes "input" ++ 32 ∷ (code ++ 32 ∷ word);

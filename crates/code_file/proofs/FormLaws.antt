@@ -37,7 +37,7 @@ entries_of loaded =
     version ∷ slot_count loaded.code.counts.slots ∷ (map an_input loaded.face.inputs ++ (map a_label loaded.face.labels ++ (map an_output loaded.face.outputs
     ++ (code_start ∷ (map an_instr loaded.code.instrs ++ code_end ∷ [])))))
 
--- the lines of things, and of others behind them
+-- the lines of things, and of others after them
 lines-made : {X : Type 0} (line : X → List ℕ) (made : X → Entry) → ((x : X) → entry_line (made x) ≡ line x) → (xs : List X) (behind : List Entry) (text : List ℕ) → lines entry_line behind ≡ text
     → lines entry_line (map made xs ++ behind) ≡ lines line xs ++ text
 lines-made line made is [] behind text h = h

@@ -1,4 +1,4 @@
--- Lines at the front of a text.
+-- Lines at the start of a text.
 use Rattle.std.proofs.Common.{◌≡◌, ◌<◌, ℕ, true, List, [], ◌∷◌, ◌++◌, length, Option, Some, None, refl, sym, ap, ◌∙◌, arith, append_assoc, append-nil, length-append}
 use Rattle.std.specs.List.{AllByRecursion}
 use Rattle.reg_machine.proofs.TableLemmas.{none≢some, some-is}
@@ -19,7 +19,7 @@ pub record IsSpelling {X : Type 0} (line : X → List ℕ) (of : List ℕ → Op
   pub sound : (body : List ℕ) (x : X) → of body ≡ Some x → Is x → line x ≡ body ++ 10 ∷ []
   pub complete : (x : X) → Is x → Spells line of x
 
--- a line with something behind it is cut at its end
+-- a line with something after it is cut at its end
 pub cut-line : {X : Type 0} (line : X → List ℕ) (of : List ℕ → Option X) (x : X) (s : Spells line of x) (text behind : List ℕ) → text ≡ line x ++ behind → cut 10 text ≡ Some (s.body, behind)
 cut-line line of x s text behind e =
     ap (cut 10) (e ∙ ap (λ l. l ++ behind) s.text ∙ append_assoc s.body (10 ∷ []) behind) ∙ cut-at 10 s.body behind s.free

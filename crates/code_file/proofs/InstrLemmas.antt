@@ -25,7 +25,7 @@ use Rattle.code_file.proofs.OpLemmas.{op-found}
 
 -- ---- lines of words
 
--- the end of a line stands behind its last word
+-- the end of a line stands after its last word
 pub onto-last : (x t : List ℕ) → (x ++ 32 ∷ t) ++ 10 ∷ [] ≡ x ++ 32 ∷ (t ++ 10 ∷ [])
 onto-last x t = append_assoc x (32 ∷ t) (10 ∷ [])
 
@@ -104,7 +104,7 @@ literal-line r Undef = refl
 literal-line r (Num z) = refl
 literal-line r Over = refl
 
--- an instruction with two things behind its word
+-- an instruction with two things after its word
 abbrev pub Spaced : List ℕ → List ℕ → List ℕ → List ℕ
 Spaced w x y = w ++ 32 ∷ (x ++ 32 ∷ y)
 
@@ -176,7 +176,7 @@ plain-sound w x y i h = plain-by w x y i (bytes_eq w (codes "in")) (bytes_eq w (
 
 -- ---- operators
 
--- the line of an operator behind `do`, by its arguments
+-- the line of an operator after `do`, by its arguments
 abbrev pub Done : ℕ → Op → List ℕ → List ℕ
 Done r op args = codes "do" ++ 32 ∷ (decimal r ++ 32 ∷ (op_word op ++ 32 ∷ args))
 

@@ -8,7 +8,7 @@ use Rattle.code_file.specs.Text.{lines, hex_of, hex_digit}
 pub lines-at : {X : Type 0} (line : X → List ℕ) (xs : List X) (k : ℕ) (x d : X) → k < length xs → x ≡ get_or xs k d → lines line (drop k xs) ≡ line x ++ lines line (drop (k + 1) xs)
 lines-at line xs k x d lt is = ap (lines line) (drop_more xs k d lt) ∙ ap (λ y. line y ++ lines line (drop (k + 1) xs)) (sym is)
 
--- behind the last there is nothing
+-- after the last there is nothing
 pub lines-end : {X : Type 0} (line : X → List ℕ) (xs : List X) (k : ℕ) → length xs ≤ k → lines line (drop k xs) ≡ []
 lines-end line xs k le = ap (lines line) (drop_all k xs le)
 

@@ -100,7 +100,7 @@ closing a b = omega arith
 
 -- ---- cells of tables
 
--- what stands behind `[` in the name of a table's cell
+-- what stands after `[` in the name of a table's cell
 abbrev pub Index : List ℕ → ℕ → Type 0
 Index text k = (k < 1024) × (text ≡ decimal k ++ 93 ∷ [])
 

@@ -31,7 +31,7 @@ named-push labels [] (Noted n) h = refl
 named-push labels (Named name ∷ xs) x h = named-push labels xs x h
 named-push labels (Noted n ∷ xs) x h = absurd (false≢true h)
 
--- whether one more may stand behind outputs of which the notes stand first
+-- whether one more may stand after outputs of which the notes stand first
 pub follows : (labels : List FaceLabel) (xs : List FaceOutput) (x : FaceOutput) → notes_stand_first labels xs ≡ true → notes_stand_first labels (xs ++ x ∷ []) ≡ may_follow labels (ends_named xs) x
 follows labels [] (Named name) h = refl
 follows labels [] (Noted n) h = and-true (is_some (verif_at labels n))

@@ -105,7 +105,7 @@ code-at [] k d lt = absurd (omega arith)
 code-at (y ∷ xs) zero d lt = refl
 code-at (y ∷ xs) (suc k) d lt = code-at xs k d (omega arith)
 
--- behind inputs another input's line stands, whose code came before
+-- after inputs another input's line stands, whose code came before
 again-ends : (slots : ℕ) (front : List Coded) (x : Coded) (text tail : List ℕ) → IsRightInput x → has x.code (codes_of front) ≡ true → text ≡ input_line x ++ tail → Ends (face_so_far slots front [] []) text
 again-ends slots front x text tail r h e version behind q i t = false≢true t
 again-ends slots front x text tail r h e (slot_count n) behind q i t = false≢true t
@@ -153,7 +153,7 @@ pub nothing : {X : Type 0} (xs : List X) → (length xs == 0) ≡ true → xs �
 nothing [] h = refl
 nothing (x ∷ xs) h = absurd (omega (arith, eqb-true (length (x ∷ xs)) 0 h))
 
--- behind a face nothing but `code` may come
+-- after a face nothing but `code` may come
 pub face-ends : (slots : ℕ) (inputs : List Coded) (labels : List FaceLabel) (outputs : List FaceOutput) (rest middle behind : List ℕ) → IsNoFront input_line IsRightInput rest → IsRun label_line IsRightLabel rest labels middle → AreOutputs labels middle outputs behind → EndsFace (face_so_far slots inputs labels outputs) behind
 face-ends slots inputs labels outputs rest middle behind other l o version more h i t = absurd (false≢true t)
 face-ends slots inputs labels outputs rest middle behind other l o (slot_count n) more h i t = absurd (false≢true t)
@@ -177,7 +177,7 @@ face-whole bytes rest middle behind slots inputs labels outputs e l o =
 pub face-begun : (bytes rest behind : List ℕ) (slots : ℕ) (inputs : List Coded) → bytes ≡ face_text slots [] [] [] rest → rest ≡ lines input_line inputs ++ behind → bytes ≡ face_text slots inputs [] [] behind
 face-begun bytes rest behind slots inputs e h = e ∙ ap (λ t. codes "mcode 1\n" ++ (slots_line slots ++ t)) h
 
--- something else than `code` stands behind a face
+-- something else than `code` stands after a face
 pub start-fault : (bytes rest : List ℕ) (slots m : ℕ) (inputs : List Coded) (labels : List FaceLabel) (outputs : List FaceOutput) → IsRightFace slots inputs labels outputs → bytes ≡ face_text slots inputs labels outputs rest → EndsFace (face_so_far slots inputs labels outputs) rest
     → ((more : List ℕ) → rest ≡ codes "code\n" ++ more → ⊥) → m ≡ length inputs + (length labels + (length outputs + 3)) → IsCodeFault bytes (BadLine m)
 start-fault bytes rest slots m inputs labels outputs r e ends other k =

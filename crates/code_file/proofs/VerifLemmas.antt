@@ -169,7 +169,7 @@ verif-made text bs w x e f is number error some =
     subst (λ l. (verif_of text ≡ Some l) × IsRightVerif l) (sym is)
     (ap (option_and_then verif_with) e ∙ ap (option_map (label_with w)) f, ((number.0, number.1, error, some), (bytes-sound w.hex bs f).1))
 
--- what is no verification is no label behind `verif`
+-- what is no verification is no label after `verif`
 pub verif-none : (line kind text : List ℕ) → label_words line ≡ Some (kind, text) → bytes_eq kind (codes "driver") ≡ false → not (bytes_eq kind (codes "verif")) ≡ false → IsRead verif_of IsRightVerif text None → IsRead label_of IsRightLabel line None
 verif-none line kind text e d v other x h r =
     let is : bytes_eq kind (codes "verif") ≡ true = not-false (bytes_eq kind (codes "verif")) v in

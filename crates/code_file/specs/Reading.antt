@@ -144,11 +144,11 @@ draft_of entries = fold said blank entries
 
 -- ---- the first fault
 
--- no line that may come next stands at the front
+-- no line that may come next stands at the start
 abbrev pub Ends : Draft → List ℕ → Type 0
 Ends d rest = (entry : Entry) (behind : List ℕ) → rest ≡ entry_line entry ++ behind → IsEntry entry → IsTrue (due entry d) → ⊥
 
--- The lines from the first on that may come, each after those before it: behind them something else stands, or nothing though
+-- The lines from the first on that may come, each after those before it: after them something else stands, or nothing though
 -- the code isn't ended.
 pub record Stops (bytes : List ℕ) (entries : List Entry) (rest : List ℕ) : Type 0 where
   pub text : bytes ≡ lines entry_line entries ++ rest
@@ -156,7 +156,7 @@ pub record Stops (bytes : List ℕ) (entries : List Entry) (rest : List ℕ) : T
   pub ends : Ends (draft_of entries) rest
   pub open_end : (draft_of entries).part ≡ 4 → rest ≢ []
 
--- an instruction stands at the front whose numbers may stand there, and which reads a register or a slot that no earlier one wrote
+-- an instruction stands at the start whose numbers may stand there, and which reads a register or a slot that no earlier one wrote
 abbrev pub ReadsUnwritten : Draft → List ℕ → Type 0
 ReadsUnwritten d rest = (i : Instr) × (behind : List ℕ) × (rest ≡ instr_line i ++ behind) × IsInstr i × (d.part ≡ 3) × (wrong_behind (code_in d) i ≡ Some Order)
 

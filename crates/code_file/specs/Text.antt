@@ -32,7 +32,7 @@ lines line (x ∷ xs) = line x ++ lines line xs
 abbrev pub slots_line : ℕ → List ℕ
 slots_line n = joined (codes "slots " ∷ decimal n ∷ new_line ∷ [])
 
--- the word of a type, behind the code
+-- the word of a type, after the code
 abbrev pub kind_words : InputType → List ℕ
 kind_words Any = []
 kind_words Whole = codes " whole"

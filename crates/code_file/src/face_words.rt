@@ -22,7 +22,7 @@ pub fn slots_of(line: &[u8]) -> Option<u32>
     }
 }
 
-// The type that a word behind a code says.
+// The type that a word after a code says.
 fn kind_named(word: &[u8]) -> Option<InputType>
     ensures { result ≡ kind_named word.now }
 {
@@ -184,7 +184,7 @@ fn read_verif(alloc: Global, text: &[u8]) -> Result<Option<Label>, AllocError>
     }
 }
 
-// What stands behind `label`: a word, and what stands behind that.
+// What stands after `label`: a word, and what stands after that.
 fn label_words(line: &[u8]) -> Option<(&[u8], &[u8])>
     ensures { MatchOption result (label_words line.now ≡ None) (λ p. label_words line.now ≡ Some (p.0.now, p.1.now)) }
 {

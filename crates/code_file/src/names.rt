@@ -41,7 +41,7 @@ pub fn is_plain_name(text: &[u8]) -> bool
     is_free_word(text) && has_no_small(text)
 }
 
-// Whether this stands behind `[` in the name of a table's cell, as `12]`.
+// Whether this stands after `[` in the name of a table's cell, as `12]`.
 fn is_index(text: &[u8]) -> bool
     ensures { result ≡ is_index text.now }
 {

@@ -42,7 +42,7 @@ pub fn read_code(alloc: Global, bytes: &[u8]) -> Result<Loaded, CodeFault>
     }
 }
 
-// The count of slots whose line stands first, and what stands behind it.
+// The count of slots whose line stands first, and what stands after it.
 fn next_slots(text: &[u8]) -> Option<(u32, &[u8])>
     ensures { MatchOption result (IsNoFront slots_line IsShort text.now) (λ p. IsFront slots_line IsShort text.now p.0 p.1.now) }
 {
@@ -55,7 +55,7 @@ fn next_slots(text: &[u8]) -> Option<(u32, &[u8])>
     }
 }
 
-// Reads on behind the first line.
+// Reads on after the first line.
 fn read_slots(alloc: Global, bytes: &[u8], rest: &[u8]) -> Result<Loaded, CodeFault>
     requires few { length bytes.now ≤ CODE_FILE_BYTES }
     requires text { bytes.now ≡ codes "mcode 1\n" ++ rest.now }
@@ -67,7 +67,7 @@ fn read_slots(alloc: Global, bytes: &[u8], rest: &[u8]) -> Result<Loaded, CodeFa
     }
 }
 
-// Reads on behind the count of slots.
+// Reads on after the count of slots.
 fn read_codes(alloc: Global, bytes: &[u8], slots: u32, rest: &[u8]) -> Result<Loaded, CodeFault>
     requires few { length bytes.now ≤ CODE_FILE_BYTES }
     requires text { bytes.now ≡ face_text slots [] [] [] rest.now }
@@ -80,7 +80,7 @@ fn read_codes(alloc: Global, bytes: &[u8], slots: u32, rest: &[u8]) -> Result<Lo
     }
 }
 
-// Reads on behind the inputs.
+// Reads on after the inputs.
 fn read_face(
     alloc: Global,
     bytes: &[u8],
@@ -105,7 +105,7 @@ fn read_face(
     read_start(alloc, bytes, slots, face, behind)
 }
 
-// Reads on behind the outputs.
+// Reads on after the outputs.
 fn read_start(
     alloc: Global,
     bytes: &[u8],
@@ -145,7 +145,7 @@ fn fault_of(wrong: Wrong, line: u32) -> CodeFault
     }
 }
 
-// Reads on behind `code`, of which so many lines came.
+// Reads on after `code`, of which so many lines came.
 fn read_instrs(
     bytes: &[u8],
     slots: u32,

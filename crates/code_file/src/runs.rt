@@ -12,7 +12,7 @@ use m_names::{Key, Names, NamesDigest};
 use observables::{Coded, FaceLabel, FaceOutput};
 use std::alloc::{AllocError, Global};
 
-// The input whose line stands first, and what stands behind it.
+// The input whose line stands first, and what stands after it.
 fn next_input(alloc: Global, text: &[u8]) -> Result<Option<(Coded, &[u8])>, AllocError>
     ensures { IfOk result (λ o. MatchOption o (IsNoFront input_line IsRightInput text.now) (λ p. IsFront input_line IsRightInput text.now p.0 p.1.now)) }
 {
@@ -25,7 +25,7 @@ fn next_input(alloc: Global, text: &[u8]) -> Result<Option<(Coded, &[u8])>, Allo
     }
 }
 
-/// The inputs whose lines stand first, and what stands behind them.
+/// The inputs whose lines stand first, and what stands after them.
 pub fn read_inputs(alloc: Global, text: &[u8]) -> Result<(Vec<Coded>, &[u8]), AllocError>
     ensures { IfOk result (λ r. IsRun input_line IsRightInput text.now r.0.items r.1.now) }
 {
@@ -42,7 +42,7 @@ pub fn read_inputs(alloc: Global, text: &[u8]) -> Result<(Vec<Coded>, &[u8]), Al
     }
 }
 
-// The label whose line stands first, and what stands behind it.
+// The label whose line stands first, and what stands after it.
 fn next_label(alloc: Global, text: &[u8]) -> Result<Option<(FaceLabel, &[u8])>, AllocError>
     ensures { IfOk result (λ o. MatchOption o (IsNoFront label_line IsRightLabel text.now) (λ p. IsFront label_line IsRightLabel text.now p.0 p.1.now)) }
 {
@@ -55,7 +55,7 @@ fn next_label(alloc: Global, text: &[u8]) -> Result<Option<(FaceLabel, &[u8])>, 
     }
 }
 
-/// The labels whose lines stand first, and what stands behind them.
+/// The labels whose lines stand first, and what stands after them.
 pub fn read_labels(alloc: Global, text: &[u8]) -> Result<(Vec<FaceLabel>, &[u8]), AllocError>
     ensures { IfOk result (λ r. IsRun label_line IsRightLabel text.now r.0.items r.1.now) }
 {
@@ -72,7 +72,7 @@ pub fn read_labels(alloc: Global, text: &[u8]) -> Result<(Vec<FaceLabel>, &[u8])
     }
 }
 
-// The output whose line stands first, and what stands behind it.
+// The output whose line stands first, and what stands after it.
 fn next_output(alloc: Global, text: &[u8]) -> Result<Option<(FaceOutput, &[u8])>, AllocError>
     ensures { IfOk result (λ o. MatchOption o (IsNoFront output_line IsRightOutput text.now) (λ p. IsFront output_line IsRightOutput text.now p.0 p.1.now)) }
 {
@@ -96,7 +96,7 @@ fn is_verif(labels: &[FaceLabel], number: u32) -> bool
     }
 }
 
-// Whether an output may stand behind others, where one of them is a name or none is.
+// Whether an output may stand after others, where one of them is a name or none is.
 fn may_follow(labels: &[FaceLabel], named: bool, output: &FaceOutput) -> bool
     ensures { result ≡ may_follow labels.now named output.now }
 {
@@ -116,7 +116,7 @@ fn is_name(output: &FaceOutput) -> bool
     }
 }
 
-/// The outputs whose lines stand first and may stand there, and what stands behind them.
+/// The outputs whose lines stand first and may stand there, and what stands after them.
 pub fn read_outputs<'a>(
     alloc: Global,
     labels: &[FaceLabel],

@@ -75,7 +75,7 @@ fn arguments(op: Op, r: u8, text: &[u8]) -> Option<Instr>
     Some(Instr::Do(op, r, a, b, c))
 }
 
-// What stands behind `do`: a register, an operator and its arguments.
+// What stands after `do`: a register, an operator and its arguments.
 fn operation(first: &[u8], second: &[u8]) -> Option<Instr>
     ensures { result ≡ operation (first.now, second.now) }
 {
@@ -135,7 +135,7 @@ fn check(over_only: bool, first: &[u8], second: &[u8]) -> Option<Instr>
     Some(Instr::Check(g, c, over_only, label))
 }
 
-// An instruction with two things behind its word, or a check.
+// An instruction with two things after its word, or a check.
 fn plain(word: &[u8], first: &[u8], second: &[u8]) -> Option<Instr>
     ensures { result ≡ plain word.now first.now second.now }
 {

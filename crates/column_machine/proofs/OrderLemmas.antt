@@ -141,7 +141,7 @@ slot_set used f cells ss k x v w apart room lt is h d y below e =
     ∙ sym (put-other cells (get_or used k 0) w (get_or used d 0) other))
     (cases_eq d k)
 
--- what is held behind an instruction
+-- what is held after an instruction
 abbrev After : List Value → List Value → List ℕ → Packed → Machine → Ran → State → Type 0
 After inputs pool used p m ran t = Agree used t (act inputs (unpacked pool used p) m) (run_on inputs pool ran p)
 

@@ -37,7 +37,7 @@ impl<'a> Model for Columns<'a> {
 
 impl<'a> Columns<'a> {
     /// A machine for this code. It takes room for sixteen registers, the slots that are stored to and the outputs, each for a block of
-    /// rows, whatever the code's length and its count of slots. Its only error is want of memory.
+    /// rows, whatever the code's length and its count of slots. Its only error is running out of memory.
     pub fn new(alloc: Global, code: &'a Code) -> Result<Columns<'a>, AllocError>
         ensures { IfOk result (λ columns. columns.code ≡ code.now) }
     {
@@ -46,7 +46,7 @@ impl<'a> Columns<'a> {
         Ok(Columns { code, parts, room })
     }
 
-    /// Runs the code for the rows of a block. Input n of a row is its value at the place `numbers[n]`, and undefined behind its end.
+    /// Runs the code for the rows of a block. Input n of a row is its value at the place `numbers[n]`, and undefined after its end.
     /// Nothing of an earlier block is left. It takes no memory, and a step for each instruction and row.
     pub fn run_block(&mut self, numbers: &[usize], rows: &[Vec<Value>])
         requires inputs { length numbers.now ≡ self.old.code.counts.inputs }
@@ -64,7 +64,7 @@ impl<'a> Columns<'a> {
         );
     }
 
-    /// What the row at this place is answered. Its only error is want of memory.
+    /// What the row at this place is answered. Its only error is running out of memory.
     pub fn answer(&self, alloc: Global, r: usize) -> Result<Answer, AllocError>
         requires { r < BLOCK }
         ensures { IfOk result (λ answer. answer ≡ answer_in self.now r) }

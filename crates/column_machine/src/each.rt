@@ -1,4 +1,4 @@
-//! What gives the front of a column: an input, a literal, a copy or an operator.
+//! What fills the start of a column: an input, a literal, a copy or an operator.
 ghost use Rattle.std.specs.Prelude.{◌≡◌, ◌<◌, ◌≤◌, ℕ, length, take};
 ghost use Rattle.m_fixed.specs.Operators.{op_value};
 ghost use Rattle.reg_machine.specs.inner.Cells.{at};
@@ -27,7 +27,7 @@ fn each_input(place: usize, rows: &[Vec<Value>], out: &mut [Value])
     }
 }
 
-// The value at a place of a row, and none behind its end.
+// The value at a place of a row, and none after its end.
 fn value_in(row: &Vec<Value>, place: usize) -> Value
     ensures { result ≡ at row.now.items place }
 {

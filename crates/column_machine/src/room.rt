@@ -22,7 +22,7 @@ pub struct Room {
 }
 
 impl Room {
-    /// Room for so many slots and outputs. Its only error is want of memory.
+    /// Room for so many slots and outputs. Its only error is running out of memory.
     pub(crate) fn new(alloc: Global, slots: usize, outputs: usize) -> Result<Room, AllocError>
         ensures { IfOk result (IsRoom slots outputs) }
     {

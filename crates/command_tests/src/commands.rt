@@ -1,5 +1,5 @@
-//! What no plain row can have: fetches and writes that fail, want of memory, files past their limits, the names that
-//! are tried, and each front of a rule file.
+//! What no plain row can have: fetches and writes that fail, running out of memory, files past their limits, the names that
+//! are tried, and each prefix of a rule file.
 use m_commands::{Status, m_tax};
 use m_places::limits::FILE_BYTES;
 use m_places::{Name, Word};
@@ -82,7 +82,7 @@ fn files_with(alloc: Global, name: &str, bytes: Vec<u8>) -> Result<MemFiles, All
     Ok(files)
 }
 
-/// What a command is to print, its status, and the names that it tries: each with a space behind it, and
+/// What a command is to print, its status, and the names that it tries: each with a space after it, and
 /// with a `!` before that where the fetch fails.
 #[derive(Clone, Copy)]
 pub(crate) struct Wanted<'a> {
@@ -281,7 +281,7 @@ fn fails_to_write(rt: HostRuntime) -> Result<(), Fail> {
     Ok(())
 }
 
-/// What fronts of the rules of `prefixes` print without rows, by how many bytes they have.
+/// What prefixes of the rules of `prefixes` print without rows, by how many bytes they have.
 const FRONTS: [(usize, &str); 13] = [
     // whole items, without the last line feed and with it
     (0, ""),
@@ -300,7 +300,7 @@ const FRONTS: [(usize, &str); 13] = [
     (101, "refused a.m line 3 byte 99: open string\n"),
 ];
 
-/// What a front prints whose last item isn't whole, where it has fewer bytes than this: the fault stands where the item
+/// What a prefix prints whose last item isn't whole, where it has fewer bytes than this: the fault stands where the item
 /// begins.
 const ITEMS: [(usize, &str); 4] = [
     (48, "refused a.m line 1 byte 0: syntax\n"),

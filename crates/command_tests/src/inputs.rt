@@ -15,7 +15,7 @@ IRN = max(0, REV - 1000) ;
 "
 }
 
-/// What is typed: its lines end behind 15, 20 and 30 bytes, and the last one lacks its line feed.
+/// What is typed: its lines end after 15, 20 and 30 bytes, and the last one lacks its line feed.
 fn typed() -> &'static [u8] {
     b"set 1AJ 6000.5\nshow\nset 1AJ x\nclear 1AJ"
 }
@@ -149,7 +149,7 @@ fn writes(rt: HostRuntime) -> Result<(), Fail> {
 fn batches(rt: HostRuntime) -> Result<(), Fail> {
     let alloc = rt.alloc();
     let (_, lines) = table(alloc, 260)?;
-    // some writes of the first group, all around its end, and one behind the last
+    // some writes of the first group, all around its end, and one after the last
     for write in [
         1, 2, 100, 5_777, 5_778, 5_779, 5_780, 5_800, 5_870, 5_871, 6_000,
     ] {

@@ -56,7 +56,7 @@ impl NodeTable {
     }
 
     /// The number of the equal node that is there, or else the next number, under which this node is
-    /// added. Its only error is want of memory, and then the table is as it was.
+    /// added. Its only error is running out of memory, and then the table is as it was.
     pub fn find_or_add(&mut self, node: Node) -> Result<u32, AllocError>
         requires room { length self.old < 4_294_967_295 }
         ensures entered { IfOk result (IsEntered self.old self.new node) }

@@ -375,7 +375,7 @@ fn add_names(out: &mut Vec<u8>, names: &[Name]) {
     }
 }
 
-// A word and a name, behind their line.
+// A word and a name, after their line.
 fn add_at(alloc: Global, out: &mut Vec<u8>, line: u32, word: &[u8], name: &Name) {
     add(out, b"line ");
     add_number(alloc, out, line);

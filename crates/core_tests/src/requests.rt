@@ -223,7 +223,7 @@ fn the_first_bad_line(rt: HostRuntime) -> Result<(), Fail> {
     }
 }
 
-// The printed names of cells, each with a space behind it.
+// The printed names of cells, each with a space after it.
 fn printed(alloc: Global, cells: &[u32], symbols: &Symbols) -> Result<Vec<u8>, AllocError>
     requires { All (λ c. c < length (owners_from 0 symbols.now.variables)) cells.now }
 {
@@ -272,7 +272,7 @@ fn many_lines(alloc: Global, last: &[u8]) -> Result<Vec<u8>, AllocError> {
     Ok(bytes)
 }
 
-// Lines behind 100,000 requests, and the fault that they make. A bad line is told first, also behind too many others.
+// Lines after 100,000 requests, and the fault that they make. A bad line is told first, also after too many others.
 const LAST_LINES: [(&[u8], Option<RequestFault>); 4] = [
     (b"", None),
     (b"\r\n\n", None),
@@ -284,7 +284,7 @@ fn last_lines() -> &'static [(&'static [u8], Option<RequestFault>)] {
     &LAST_LINES
 }
 
-// Whether 100,000 requests with these lines behind them are read, or have this fault.
+// Whether 100,000 requests with these lines after them are read, or have this fault.
 fn are_many(alloc: Global, last: &[u8], symbols: &Symbols, wanted: Option<RequestFault>) -> bool
     requires { IsPlaced symbols.now }
 {

@@ -32,7 +32,7 @@ fn removed(alloc: Global, flat: &Flat) -> Result<Flat, AllocError>
 }
 
 /// The program in the tidy form. It answers the same for each list of values that programs are asked for,
-/// has as many inputs and outputs, no more nodes and checks, and no other labels. Its only error is want of
+/// has as many inputs and outputs, no more nodes and checks, and no other labels. Its only error is running out of
 /// memory. It takes one step for each node, check and output of the program, which has fewer nodes than a
 /// `u32` counts.
 ///

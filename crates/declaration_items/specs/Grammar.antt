@@ -2,7 +2,7 @@
 --
 -- In each relation the last two arguments are tokens: `SpellsVariable v ts rest` says that ts begin with a spelling of the
 -- variable v and go on with rest. Each premise of a constructor is one symbol of its production, with the tokens before
--- and behind it.
+-- and after it.
 use Rattle.std.specs.Prelude.{◌≡◌, ◌⊎◌, ℕ, ℤ, neg_ℤ, List, [], length, Option, Some, None}
 use Rattle.std.specs.List.{filter_map}
 use Rattle.std.specs.Str.Parse.{digits_value}

@@ -1,4 +1,4 @@
--- What the public calls say: which declaration, and which list of applications, stands in front of the tokens.
+-- What the public calls say: which declaration, and which list of applications, stands at the start of the tokens.
 use Rattle.std.specs.Prelude.{ℕ, ◌<◌, ◌≤◌, List, drop, length}
 use Rattle.m_places.specs.declared.place.Place.{Place}
 use Rattle.m_lexer.specs.declared.token.Token.{Token}
@@ -16,7 +16,7 @@ pub record DeclarationStands (tokens : List Token) (item : Item) (to : ℕ) : Ty
   pub within : to ≤ length tokens
   pub spelled : SpellsDeclaration item tokens (drop to tokens)
 
--- no front of the tokens spells a declaration
+-- no prefix of the tokens spells a declaration
 abbrev pub NoDeclaration : List Token → Type 0
 NoDeclaration tokens = (item : Item) (rest : List Token) → SpellsDeclaration item tokens rest → ⊥
 
@@ -32,11 +32,11 @@ pub record ApplicationsStand (tokens : List Token) (names : List (List ℕ)) (to
   pub spelled : SpellsApplications names tokens (drop to tokens)
   pub ended : EndsApplications (drop to tokens)
 
--- no front of the tokens spells applications, with no comma behind it
+-- no prefix of the tokens spells applications, with no comma after it
 abbrev pub NoApplications : List Token → Type 0
 NoApplications tokens = (names : List (List ℕ)) (rest : List Token) → SpellsApplications names tokens rest → EndsApplications rest → ⊥
 
--- How a declaration begins: by a name with a colon behind it, or by one of two reserved words. A formula has `=` or `[` behind
+-- How a declaration begins: by a name with a colon after it, or by one of two reserved words. A formula has `=` or `[` after
 -- its first word, so none begins so.
 pub data BeginsDeclaration : List Token → Type 0 where
   by_name : {n : List ℕ × Place} {ts a b : List Token} → First name n ts a → SpellsSign signs.Colon a b → BeginsDeclaration ts

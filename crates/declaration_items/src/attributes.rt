@@ -18,7 +18,7 @@ pub struct AttributeLists {
 }
 
 impl AttributeLists {
-    // One attribute more, behind the others of its list.
+    // One attribute more, after the others of its list.
     fn push(&mut self, word: Name, amount: Option<Amount>) -> Result<(), AllocError>
         ensures { OnOk result (lists self.new ≡ with_one_more (lists self.old) word amount) }
     {

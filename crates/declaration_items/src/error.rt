@@ -1,4 +1,4 @@
-//! Errors, behind their name and its colon.
+//! Errors, after their name and its colon.
 ghost use Rattle.std.specs.Prelude.{◌≡◌, ◌<◌, length, OnOk};
 ghost use Rattle.declaration_items.specs.inner.Reading.{Gives, is_four_or_five, error_at};
 

@@ -8,7 +8,7 @@ use std::alloc::{AllocError, AllocFailed};
 pub enum ItemFault {
     /// None stands there.
     NoItem,
-    /// Want of memory.
+    /// Out of memory.
     Memory,
 }
 

@@ -43,7 +43,7 @@ fn read_chaining(alloc: Global, cursor: &mut Cursor<'_>, place: Place) -> Result
     Ok(Item::Silent(place))
 }
 
-// What stands behind a name and its colon.
+// What stands after a name and its colon.
 #[tactic(auto, unfolding(crate::specs::inner::Reading::named_at))]
 fn read_named(
     alloc: Global,

@@ -13,11 +13,11 @@ use m_lexer::{Sign, Token};
 use m_places::{Name, Seq};
 use std::alloc::Global;
 
-/// The declaration in front of the tokens, and the position behind it: a variable, an error, or an
+/// The declaration at the start of the tokens, and the position after it: a variable, an error, or an
 /// `application` or `enchaineur` item.
 ///
 /// Of `SEUIL : const = 1000 ; IRN` it reads the first six tokens and answers 6. `NoItem` comes exactly where no
-/// front of the tokens spells a declaration.
+/// prefix of the tokens spells a declaration.
 pub fn read_declaration(alloc: Global, tokens: &[Token]) -> Result<(Item, usize), ItemFault>
     ensures outcome { Outcome Memory result (λ read. DeclarationStands tokens.now read.0 read.1) (λ fault. NoDeclaration tokens.now) }
 {
@@ -26,10 +26,10 @@ pub fn read_declaration(alloc: Global, tokens: &[Token]) -> Result<(Item, usize)
     Ok((item, tokens.len() - cursor.len()))
 }
 
-/// The applications in front of the tokens, and the position behind them, at which no comma stands.
+/// The applications at the start of the tokens, and the position after them, at which no comma stands.
 ///
 /// Of `application : iliad , batch ;` it reads the first five tokens and answers 5. `NoItem` comes exactly
-/// where no front of the tokens spells applications with no comma behind it.
+/// where no prefix of the tokens spells applications with no comma after it.
 pub fn read_applications(alloc: Global, tokens: &[Token]) -> Result<(Seq<Name>, usize), ItemFault>
     ensures outcome { Outcome Memory result (λ read. ApplicationsStand tokens.now read.0 read.1) (λ fault. NoApplications tokens.now) }
 {

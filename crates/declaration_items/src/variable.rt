@@ -1,4 +1,4 @@
-//! Variables, behind their name and its colon.
+//! Variables, after their name and its colon.
 ghost use Rattle.std.specs.Prelude.{◌≡◌, ◌<◌, ◌≤◌, length, Some, None, IfOk, OnOk, OnSome, MatchOption};
 ghost use Rattle.m_ast.specs.declared.item.Item.TheVariants.{Variable};
 ghost use Rattle.declaration_items.specs.Grammar.{variable};

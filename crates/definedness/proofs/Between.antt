@@ -84,7 +84,7 @@ products_between (negsuc n) a b x l u =
     let t = grows (suc n) x b u in
     inr (omega (arith, ints), omega (arith, ints))
 
--- the same with the numbers in front
+-- the same with the numbers before it
 pub multiples_between : (k a b x : ℤ) → a ≤ℤ x → x ≤ℤ b → Between (a *ℤ k) (b *ℤ k) (x *ℤ k)
 multiples_between k a b x l u = subst (λ p. Between p (b *ℤ k) (x *ℤ k)) (*ℤ_comm k a) (subst (λ p. Between (k *ℤ a) p (x *ℤ k)) (*ℤ_comm k b) (subst (Between (k *ℤ a) (k *ℤ b)) (*ℤ_comm k x) (products_between k a b x l u)))
 

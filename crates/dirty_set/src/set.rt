@@ -29,7 +29,7 @@ impl Model for Bits {
 }
 
 impl Bits {
-    /// The empty set of numbers below a count. Its only error is want of memory; no later call takes memory.
+    /// The empty set of numbers below a count. Its only error is running out of memory; no later call takes memory.
     pub fn new(alloc: Global, count: u32) -> Result<Bits, AllocError>
         ensures { IfOk result (λ bits. bits ≡ replicate count false) }
     {

@@ -20,7 +20,7 @@ first_value inputs n (Input code) = slice_index_or inputs n Undef
 first_value inputs n (Computed size) = Undef
 first_value inputs n (Constant amount) = Num amount
 
--- the number of the input behind a variable
+-- the number of the input after a variable
 abbrev pub next_input : ℕ → Role → ℕ
 next_input n role = if is_input role then n + 1 else n
 
@@ -40,6 +40,6 @@ told_by requests (goes notes env) = values notes (map (environment env) requests
 told_by requests (stops cause) = stopped cause
 
 -- What a driver answers over the rules of a base, for the inputs' values in order of declaration: what ended the run, or what it
--- noted and the values of the requested cells behind it.
+-- noted and the values of the requested cells after it.
 abbrev pub answer_of : Core → Base → Declared → List ℕ → List Value → Told
 answer_of core base declared requests inputs = told_by requests (run_of core base (start_of declared inputs))

@@ -72,7 +72,7 @@ abbrev pub behind : List Label → RunState → RunState
 behind [] outcome = outcome
 behind (note ∷ notes) outcome = noted note (behind notes outcome)
 
--- what comes next, where nothing has stopped: its notes stand behind those before
+-- what comes next, where nothing has stopped: its notes stand after those before
 abbrev pub then_do : RunState → (Env → RunState) → RunState
 then_do (goes notes env) next = behind notes (next env)
 then_do (stops cause) next = stops cause

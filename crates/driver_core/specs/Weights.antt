@@ -1,5 +1,5 @@
--- How much a driver weighs: what it comes to where all is written out, each call with the body of its function and each call of
--- the rules with the base. `A = B + 1` weighs 3.
+-- How much a driver costs: what it comes to where all is written out, each call with the body of its function and each call of
+-- the rules with the base. `A = B + 1` costs 3.
 use Rattle.std.specs.Prelude.{ℕ, zero, suc, ◌+◌, ◌*◌, List, length}
 use Rattle.std.specs.List.{sum_by}
 use Rattle.micro_m.specs.declared.base.Base.{Base}
@@ -19,7 +19,7 @@ read_weight size (lit_tree value) index = index + 1
 read_weight size _ index = index + 2 * size + 2
 
 abbrev mutual
-  -- a term of the base weighs 1 for each literal and cell and for each operator; a list of n operands has n - 1 operators
+  -- a term of the base costs 1 for each literal and cell and for each operator; a list of n operands has n - 1 operators
   pub tree_weight : Tree → ℕ
   tree_weight (lit_tree value) = 1
   tree_weight (cell_tree c) = 1
@@ -41,14 +41,14 @@ definition_weight definition = tree_weight definition.1 + 1
 abbrev pub check_weight : Check → ℕ
 check_weight check = tree_weight check.0 + 1
 
--- a base weighs all its terms, and one for each definition and check
+-- a base costs all its terms, and one for each definition and check
 abbrev pub base_weight : Base → ℕ
 base_weight base = sum_by definition_weight base.definitions + sum_by check_weight base.checks
 
 -- ---- commands
 
 abbrev mutual
-  -- a term of a driver weighs as one of the base, and `exists` 1 and 2 for each cell
+  -- a term of a driver costs as one of the base, and `exists` 1 and 2 for each cell
   pub formula_weight : Formula → ℕ
   formula_weight (lit value) = 1
   formula_weight (cell c) = 1
@@ -78,7 +78,7 @@ abbrev mutual
   names_changed_in no_actions = 0
   names_changed_in (an_action action rest) = names_changed action + names_changed_in rest
 
--- where a base weighs this and has so many cells, and bodies of functions weigh this
+-- where a base costs this and has so many cells, and bodies of functions weigh this
 module _ (rules cells : ℕ) (body : ℕ → ℕ) where
   abbrev mutual
     pub action_weight : Action → ℕ

@@ -29,7 +29,7 @@ body-at w [] (suc f) e = sym e
 body-at w (b ∷ bs) zero e = refl
 body-at w (b ∷ bs) (suc f) e = body-at w bs f e
 
--- before the first level nothing weighs anything
+-- before the first level nothing costs anything
 pub level-first : (core : Core) (base : Base) (n : ℕ) (weights : List ℕ) → weights ≡ replicate n 0 → (f : ℕ) → get_or weights f 0 ≡ capped (weight_in core base 0 f)
 level-first core base n weights e f = ap (λ l. get_or l f 0) e ∙ none n f
   where

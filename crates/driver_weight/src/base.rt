@@ -82,7 +82,7 @@ fn weigh_steps(steps: &[Step]) -> u64
     total
 }
 
-/// The weight of a table of this size read at an index that weighs this.
+/// The weight of a table of this size read at an index of this cost.
 fn read_at(size: u32, index: &MTerm, weight: u64) -> u64
     ensures { result ≡ capped (read_weight size index.now weight) }
 {

@@ -41,7 +41,7 @@ fn weigh_command(command: &CCommand, rules: u64, cells: u64, table: &[u64]) -> u
     }
 }
 
-/// The weight of a function. One that isn't there weighs nothing.
+/// The weight of a function. One that isn't there costs nothing.
 pub fn entry(table: &[u64], function: u32) -> u64
     ensures { result ≡ slice_index_or table.now function 0 }
 {

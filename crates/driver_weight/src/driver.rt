@@ -16,9 +16,9 @@ use micro_m::Base;
 use std::alloc::{AllocError, Global};
 
 /// The weight of a driver over the rules of a base, where sums stop at 18,446,744,073,709,551,615. Each function that `main`
-/// reaches is weighed once, behind those that it calls, from a list of what is left: no call is as deep as a chain of
+/// reaches is weighed once, after those that it calls, from a list of what is left: no call is as deep as a chain of
 /// functions. Where functions call each other in a ring, as they do in no valid driver, each is weighed once for each level of
-/// calls. The only error is want of memory.
+/// calls. The only error is running out of memory.
 pub fn weight(alloc: Global, core: &Core, base: &Base) -> Result<u64, AllocError>
     ensures { IfOk result (λ w. w ≡ min (weight_of core.now base.now) 18_446_744_073_709_551_615) }
 {
@@ -45,7 +45,7 @@ fn table_of(alloc: Global, core: &Core, rules: u64, cells: u32) -> Result<Table,
     Ok(table)
 }
 
-/// Weighs `main` and the functions that it reaches, each behind those that it calls.
+/// Computes the costs of `main` and of the functions that it reaches, each after those that it calls.
 fn weigh_reached(
     alloc: Global,
     core: &Core,

@@ -18,7 +18,7 @@ pub struct Table {
 }
 
 impl Table {
-    /// Weighs a function whose calls are all done. Any other is left as it is.
+    /// Computes the cost of a function whose calls are all done. Any other is left as it is.
     pub fn weigh(&mut self, core: &Core, function: u32, rules: u64, cells: u32)
         requires few { self.old.count ≤ length core.now.bodies }
         ensures table { (base : Base) → rules ≡ capped (base_weight base) → cells ≡ base.cells

@@ -1,4 +1,4 @@
-//! Edges in compressed form: for each source the row of what its edges lead to, one row behind the other in one list of 32-bit
+//! Edges in compressed form: for each source the row of what its edges lead to, one row after the other in one list of 32-bit
 //! numbers, with where each begins.
 //!
 //! This crate stands on `std` alone, and knows nothing of what the edges join.

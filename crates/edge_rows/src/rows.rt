@@ -28,7 +28,7 @@ impl Model for Rows {
 
 impl Rows {
     /// For each source below the count the row of what its edges lead to, where edge e leads from `sources[e]` to `e / per`; edges
-    /// from other sources are in no row. Its only error is want of memory.
+    /// from other sources are in no row. Its only error is running out of memory.
     pub fn of_sources(
         alloc: Global,
         sources: &[u32],

@@ -4,7 +4,7 @@ use household::records::{field_at, next_record, records_of};
 use std::alloc::Global;
 use std::test::Fail;
 
-/// The records of bytes: each field in brackets, and a semicolon behind each record.
+/// The records of bytes: each field in brackets, and a semicolon after each record.
 fn shown_records(alloc: Global, bytes: &[u8]) -> Result<Vec<u8>, Fail> {
     let mut records = records_of(alloc, bytes);
     let mut row = ByteRecord::new(alloc);

@@ -93,7 +93,7 @@ const REFUSED: [(&[u8], HouseholdFault); 17] = [
     (b"code,amount\n1AJ,2.5,3\n", HouseholdFault::BadRow(2)),
     (b"code,amount\n9ZZ,2.5\n", HouseholdFault::UnknownCode(2)),
     (b"code,amount\n1AJ,2.5x\n", HouseholdFault::BadAmount(2)),
-    // and behind it
+    // and after it
     (
         b"code,amount\n1AJ,1\n1AJ,2.5\n",
         HouseholdFault::NotOfType(3),

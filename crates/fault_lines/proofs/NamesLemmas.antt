@@ -12,6 +12,6 @@ names_at names i name d rest h is =
     ∙ ap (λ bytes. 32 ∷ bytes) (append_assoc (get_or names i d) behind rest
     ∙ ap (λ bytes. bytes ++ (behind ++ rest)) (sym is ∙ sym (append-nil name)))
 
--- behind the last there is nothing
+-- after the last there is nothing
 pub names_end : (names : List (List ℕ)) (i : ℕ) (rest : List ℕ) → length names ≤ i → names_text (drop i names) ++ rest ≡ rest
 names_end names i rest h = ap (λ left. names_text left ++ rest) (drop_all i names h)

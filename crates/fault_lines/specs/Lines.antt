@@ -18,7 +18,7 @@ abbrev pub names_text : List (List ℕ) → List ℕ
 names_text [] = []
 names_text (name ∷ names) = 32 ∷ name ++ names_text names
 
--- where a fault stands, and behind it what it is: `refused a.m line 1 byte 43: ` and then `open string`
+-- where a fault stands, and after it what it is: `refused a.m line 1 byte 43: ` and then `open string`
 abbrev pub place_pieces : List ℕ → Place → List (List ℕ) → List (List ℕ)
 place_pieces file place behind =
     codes "refused " ∷ file ∷ codes " line " ∷ decimal place.line ∷ codes " byte " ∷ decimal place.byte ∷ codes ": " ∷ behind

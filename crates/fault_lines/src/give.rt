@@ -91,7 +91,7 @@ fn give_words<K: Sink>(out: &mut K, words: &[u8], name: &[u8]) -> Result<(), Fai
     give_pieces(out, &[words, name, b"\n"])
 }
 
-// A line with a number, and behind it what the fault is.
+// A line with a number, and after it what the fault is.
 fn give_number<K: Sink>(
     out: &mut K,
     words: &[u8],

@@ -1,4 +1,4 @@
-//! The line of each refusal: what the program prints in place of an answer, byte for byte.
+//! The line of each error: what the program prints in place of an answer, byte for byte.
 //!
 //! Each crate has its own faults, and what prints one of them says which `Fault` it is. This crate
 //! knows the lines, and neither the files nor what a fault means.

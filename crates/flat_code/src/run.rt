@@ -11,7 +11,7 @@ use observables::{Answer, Stop};
 use std::alloc::{AllocError, Global};
 
 /// What a program answers for these inputs, one for each of its inputs. It takes one step for each node,
-/// check and output. Its only error is want of memory.
+/// check and output. Its only error is running out of memory.
 ///
 /// Of the nodes `Input(0)`, `Lit(2 units)` and `Do(Op::Mul, 0, 1, 0)`, with the last as output, the
 /// answer for an undefined input is an undefined value.
@@ -30,7 +30,7 @@ pub fn run_flat(alloc: Global, flat: &Flat, inputs: &[Value]) -> Result<Answer, 
     }
 }
 
-/// The values of all nodes, in a list that has room for these alone. Its only error is want of memory.
+/// The values of all nodes, in a list that has room for these alone. Its only error is running out of memory.
 pub fn values_of(alloc: Global, nodes: &[Node], inputs: &[Value]) -> Result<Vec<Value>, AllocError>
     requires { AreNodes (length inputs.now) 0 nodes.now }
     ensures { IfOk result (λ values. values.items ≡ node_values inputs.now nodes.now) }

@@ -75,7 +75,7 @@ impl Parts {
         }
     }
 
-    // The number of the equal node that is there, or else of this node, which is added. Behind the nodes
+    // The number of the equal node that is there, or else of this node, which is added. After the nodes
     // of the table one may be left over.
     fn note(&mut self, node: Node, fact: Fact) -> Result<u32, AllocError>
         requires room { length self.old.table < 4_294_967_295 }

@@ -30,7 +30,7 @@ impl Model for FixedText {
 }
 
 impl FixedText {
-    /// An empty text with room for so many bytes. Its only error is want of memory, and no later call takes memory.
+    /// An empty text with room for so many bytes. Its only error is running out of memory, and no later call takes memory.
     pub fn new(alloc: Global, room: usize) -> Result<FixedText, AllocError>
         ensures { IfOk result (λ text. text ≡ no_text_in room) }
     {

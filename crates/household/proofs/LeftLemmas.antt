@@ -14,7 +14,7 @@ use Rattle.household.specs.Reader.{records_from_state}
 abbrev behind : State → List ℕ → List (List (List ℕ))
 behind s bytes = records_from_state s [] [] bytes
 
--- they are the next record and those behind it
+-- they are the next record and those after it
 next_and_behind : (s : State) (fields : List (List ℕ)) (field bytes : List ℕ) → records_from_state s fields field bytes ≡ records_next behind (next_record default_config s fields field bytes)
 unfolding next_record
 next_and_behind s fields field [] =
@@ -45,7 +45,7 @@ next_takes s fields field c (d ∷ rest) p e =
     takes_by (is_end act) (fields_after act fields field, s2, d ∷ rest) p (next_record default_config s2 (fields_after act fields field) (field_after act c field) (d ∷ rest)) (length (d ∷ rest)) (omega arith)
     (λ f. let shorter = next_takes s2 (fields_after act fields field) (field_after act c field) d rest p f in omega arith) e
 
--- nothing is left behind the end of a text
+-- nothing is left after the end of a text
 behind_end : (n : ℕ) → records_from default_config n st.StartRecord [] ≡ []
 unfolding next_record records_from
 behind_end zero = refl
@@ -72,7 +72,7 @@ enough (suc n) s (c ∷ rest) l =
     same_next n (next_record default_config s [] [] (c ∷ rest)) (λ p e. let shorter = next_takes s [] [] c rest p e in enough n p.1 p.2 (omega arith))
     ∙ sym (next_and_behind s [] [] (c ∷ rest))
 
--- all records are those behind the byte order mark
+-- all records are those after the byte order mark
 pub records_are_left : (bytes : List ℕ) → behind st.StartRecord (strip_bom bytes) ≡ records_of bytes
 records_are_left bytes = sym (enough (length (strip_bom bytes) + 1) st.StartRecord (strip_bom bytes) (omega arith))
 

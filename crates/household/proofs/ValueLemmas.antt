@@ -32,7 +32,7 @@ value_set pairs pair n k d within l (inr other) =
     ∙ get_or-values_of pairs n k d l
     ∙ sym (cond-false (eqb pair.0 k) (Num pair.1) (value_at pairs k) (ne_eqb pair.0 k (λ e. other (sym e))))
 
--- a pair in front of pairs gives its input its amount
+-- a pair before pairs gives its input its amount
 pub values_of-more : (pairs : List (ℕ × ℤ)) (pair : ℕ × ℤ) (n : ℕ) → pair.0 < n → set (values_of pairs n) pair.0 (Num pair.1) ≡ values_of (pair ∷ pairs) n
 values_of-more pairs pair n within =
     let same_length : length (set (values_of pairs n) pair.0 (Num pair.1)) ≡ n = length-set (values_of pairs n) pair.0 (Num pair.1) ∙ length-values_of pairs n in

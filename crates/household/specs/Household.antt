@@ -26,7 +26,7 @@ inputs_of pairs = map (λ pair. pair.0) pairs
 abbrev pub is_input_among : ℕ → List ℕ → Bool
 is_input_among number numbers = list_any (λ other. other == number) numbers
 
--- the number of the record behind the header and so many rows, where the header's is 1
+-- the number of the record after the header and so many rows, where the header's is 1
 abbrev pub line_behind : ℕ → ℕ
 line_behind rows = rows + 2
 
@@ -62,7 +62,7 @@ pair_of inputs line _ = Err (BadRow line)
 abbrev pub new_pair : ℕ → List (ℕ × ℤ) → ℕ × ℤ → Result (ℕ × ℤ) HouseholdFault
 new_pair line before pair = if is_input_among pair.0 (inputs_of before) then Err (CodeTwice line) else Ok pair
 
--- What a row says behind rows that gave these pairs. The first of these faults that it has decides: it
+-- What a row says after rows that gave these pairs. The first of these faults that it has decides: it
 -- is one row too many, it hasn't two fields, its code is unknown, its amount is none, its amount isn't
 -- of the input's type, its code stands in a row before it.
 abbrev pub row_of : List Coded → List (ℕ × ℤ) → List (List ℕ) → Result (ℕ × ℤ) HouseholdFault

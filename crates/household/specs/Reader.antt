@@ -30,7 +30,7 @@ state_of Return = st.AfterCr
 abbrev pub left_of : Records → List (List (List ℕ))
 left_of records = records_from_state (state_of records.place) [] [] (drop records.at records.bytes.now)
 
--- What a read did: a record with these fields was the next, and the reader is behind it; or there was none.
+-- What a read did: a record with these fields was the next, and the reader is after it; or there was none.
 abbrev pub IsNext : Records → Bool → List (List ℕ) → Records → Type 0
 IsNext old true fields new = left_of old ≡ fields ∷ left_of new
 IsNext old false fields new = left_of old ≡ []

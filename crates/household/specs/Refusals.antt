@@ -13,15 +13,15 @@ abbrev pub LacksHeader : (List (List ℕ) → Bool) → List (List (List ℕ)) �
 LacksHeader is_first [] = Unit {0}
 LacksHeader is_first (first ∷ rows) = is_first first ≡ false
 
--- Why the bytes of a household are refused: they lack the header; or behind it a row has this fault, and
--- the rows in front of it have none.
+-- Why the bytes of a household are refused: they lack the header; or after it a row has this fault, and
+-- the rows before it have none.
 pub data IsRefusedHousehold (inputs : List Coded) (bytes : List ℕ) : HouseholdFault → Type 0 where
   no_header : LacksHeader is_header (records_of bytes) → IsRefusedHousehold inputs bytes BadHeader
   at_row : {first : List (List ℕ)} {rows : List (List (List ℕ))} {fault : HouseholdFault} → records_of bytes ≡ first ∷ rows → is_header first ≡ true
       → IsFirstFault (row_of inputs) [] rows fault → IsRefusedHousehold inputs bytes fault
 
 -- Why the bytes of a table are refused: they lack the header; or a code in it has this fault, and those
--- in front of it have none; or all codes have none, a row has this fault, and the rows in front of it
+-- before it have none; or all codes have none, a row has this fault, and the rows before it
 -- have none.
 pub data IsRefusedTable (inputs : List Coded) (bytes : List ℕ) : HouseholdFault → Type 0 where
   no_table_header : LacksHeader is_table_header (records_of bytes) → IsRefusedTable inputs bytes BadHeader

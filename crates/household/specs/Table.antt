@@ -20,7 +20,7 @@ abbrev pub new_column : List ℕ → Option ℕ → Result ℕ HouseholdFault
 new_column before None = Err (UnknownCode 1)
 new_column before (Some input) = if is_input_among input before then Err (CodeTwice 1) else Ok input
 
--- What a field of a table's first record says behind those of these inputs: the input of its column.
+-- What a field of a table's first record says after those of these inputs: the input of its column.
 abbrev pub column_of : List Coded → List ℕ → List ℕ → Result ℕ HouseholdFault
 column_of inputs before code = new_column before (index_of code (codes_of inputs))
 
@@ -33,7 +33,7 @@ abbrev pub amount_said : ℕ → ℕ → Result ℤ AmountFault → Result (ℕ 
 amount_said line input (Err why) = Err (BadAmount line)
 amount_said line input (Ok millionths) = Ok (input, millionths)
 
--- What cells say below columns of these inputs, behind cells that gave these pairs: a pair for each that
+-- What cells say below columns of these inputs, after cells that gave these pairs: a pair for each that
 -- isn't empty, or the bad amount of the record with this number. Below the inputs 2 and 0 the cells
 -- `7` and nothing say the pair of 2 and 7000000.
 abbrev pub cells_read : ℕ → List (ℕ × ℤ) → List ℕ → List (List ℕ) → Result (List (ℕ × ℤ)) HouseholdFault
@@ -65,14 +65,14 @@ labelled inputs line columns (label ∷ cells) =
     then if_read (λ pairs. Ok (record { label = label; household = record { pairs = pairs } })) (pairs_read inputs line columns cells)
     else Err (BadRow line)
 
--- What a row says behind these rows. The first of these faults that it has decides: it is one row too
+-- What a row says after these rows. The first of these faults that it has decides: it is one row too
 -- many, it hasn't as many fields as the first record or its label is none, one of its amounts is none, one of
 -- them isn't of its input's type.
 abbrev pub table_row : List Coded → List ℕ → List Row → List (List ℕ) → Result Row HouseholdFault
 table_row inputs columns before fields =
     if nat_le ROWS (length before) then Err TooManyRows else labelled inputs (line_behind (length before)) columns fields
 
--- what the rows behind the first record of a table say, by the codes in it
+-- what the rows after the first record of a table say, by the codes in it
 abbrev pub rows_read : List Coded → List (List ℕ) → List (List (List ℕ)) → Result (List Row) HouseholdFault
 rows_read inputs fields rows = if_read (λ columns. in_turn (table_row inputs columns) [] rows) (in_turn (column_of inputs) [] fields)
 

@@ -7,7 +7,7 @@ use m_fixed::Value;
 use std::alloc::{AllocError, Global};
 
 /// What a household gives each of so many inputs, by number: its amount, or nothing where the
-/// household has no pair for it. Its only error is want of memory.
+/// household has no pair for it. Its only error is running out of memory.
 pub fn values(alloc: Global, household: &Household, inputs: u32) -> Result<Vec<Value>, AllocError>
     requires { AllByRecursion (λ input. input < inputs) (inputs_of household.now.pairs) }
     ensures { IfOk result (λ v. v.items ≡ values_of household.now.pairs inputs) }

@@ -31,7 +31,7 @@ impl Model for Codes {
 }
 
 impl Codes {
-    /// The inputs, in the order of their numbers. Its only error is want of memory.
+    /// The inputs, in the order of their numbers. Its only error is running out of memory.
     pub fn new(alloc: Global, inputs: &[Coded]) -> Result<Codes, AllocError>
         requires { AreDistinct (codes_of inputs.now) }
         ensures { IfOk result (λ codes. codes ≡ inputs.now) }

@@ -1,5 +1,5 @@
 //! The records of a file whose fields are set apart by commas, one after another, as the crate
-//! `csv` reads them. The bytes are in memory, so that want of memory is the only error there is.
+//! `csv` reads them. The bytes are in memory, so that running out of memory is the only error there is.
 ghost use Rattle.std.specs.Prelude.{◌≡◌, ◌<◌, ◌≤◌, IfOk, OnOk, MatchResult, [], drop, get_or, length};
 ghost use Rattle.csv.specs.Machine.{step, is_end, in_field, start_field, start_record, ends_with, ends_at_end, after_end, fields_after, field_after};
 ghost use Rattle.csv.specs.Reading.{default_config, is_bom, strip_bom};
@@ -17,8 +17,8 @@ use csv::ByteRecord;
 use m_places::limits::ROWS;
 use std::alloc::{AllocError, Global};
 
-/// Where a reader stands: in front of a record or of a field, in a field without quotation marks or within them, behind
-/// a quotation mark, which ends the field or stands for one, or behind a carriage return.
+/// Where a reader stands: before a record or a field, in a field without quotation marks or within them, after
+/// a quotation mark, which ends the field or stands for one, or after a carriage return.
 #[derive(Clone, Copy)]
 pub enum Place {
     Record,
@@ -53,7 +53,7 @@ fn leads(place: Place, action: Action) -> Step
     Step { place, action }
 }
 
-// Behind the byte that ends a record.
+// After the byte that ends a record.
 fn behind_end(byte: u8) -> Place
     ensures { state_of result ≡ after_end term.CRLF byte }
 {
@@ -88,7 +88,7 @@ fn at_field(byte: u8) -> Step
     }
 }
 
-// What the first byte of a record leads to: a line end in front of it is skipped.
+// What the first byte of a record leads to: a line end before it is skipped.
 fn at_record(byte: u8) -> Step
     ensures { Steps result (start_record default_config byte) }
 {
@@ -110,7 +110,7 @@ fn in_quotes(byte: u8) -> Step
     }
 }
 
-// What a byte behind a quotation mark leads to: a second one stands for one.
+// What a byte after a quotation mark leads to: a second one stands for one.
 fn behind_quote(byte: u8) -> Step
     ensures { Steps result (step default_config (state_of Place.Quote) byte) }
 {
@@ -121,7 +121,7 @@ fn behind_quote(byte: u8) -> Step
     }
 }
 
-// What a byte behind a carriage return leads to: a line feed belongs to it.
+// What a byte after a carriage return leads to: a line feed belongs to it.
 fn behind_return(byte: u8) -> Step
     ensures { Steps result (step default_config (state_of Place.Return) byte) }
 {
@@ -173,7 +173,7 @@ fn is_mark(bytes: &[u8]) -> bool
     bytes[0] == 239 && bytes[1] == 187 && bytes[2] == 191
 }
 
-// Where the first record begins: behind a byte order mark, if there is one.
+// Where the first record begins: after a byte order mark, if there is one.
 fn start_of(bytes: &[u8]) -> usize
     ensures { drop result bytes.now ≡ strip_bom bytes.now }
 {
@@ -245,7 +245,7 @@ fn is_end(action: Action) -> bool
     }
 }
 
-/// Reads the next record into `row`, and says whether there was one. Its only error is want of memory.
+/// Reads the next record into `row`, and says whether there was one. Its only error is running out of memory.
 pub fn next_record(records: &mut Records<'_>, row: &mut ByteRecord) -> Result<bool, AllocError>
     ensures { IfOk result (λ found. IsNext records.old found (fields_of row.new) records.new) }
 {
@@ -278,7 +278,7 @@ fn last_record(records: &mut Records<'_>, row: &mut ByteRecord) -> Result<bool, 
     Ok(true)
 }
 
-/// The number of the record behind the header and so many rows, if there may be one more. Takes no memory.
+/// The number of the record after the header and so many rows, if there may be one more. Takes no memory.
 pub fn next_line(rows: usize) -> Result<u32, HouseholdFault>
     ensures { MatchResult result (λ line. (rows < ROWS) × (line ≡ line_behind rows)) (λ fault. (ROWS ≤ rows) × (fault ≡ TooManyRows)) }
 {
@@ -288,7 +288,7 @@ pub fn next_line(rows: usize) -> Result<u32, HouseholdFault>
     Ok(rows as u32 + 2)
 }
 
-/// The field of a record at this place, from 0, and nothing behind the last. Takes no memory.
+/// The field of a record at this place, from 0, and nothing after the last. Takes no memory.
 pub fn field_at(row: &ByteRecord, place: usize) -> &[u8]
     ensures { result.now ≡ get_or (fields_of row.now) place [] }
 {

@@ -36,7 +36,7 @@ no_lines : (labels : List FaceLabel) (outputs : List FaceOutput) → outputs_lin
 no_lines labels [] = refl
 no_lines labels (output ∷ outputs) = refl
 
--- behind the last output there is nothing
+-- after the last output there is nothing
 pub outputs_end : (face : Face) (vs : List Value) (outputs : List ℕ) (k : ℕ) → length outputs ≤ k
     → outputs_lines face.labels (drop k face.outputs) (map (value_at vs) (drop k outputs)) ≡ []
 outputs_end face vs outputs k h = ap (λ left. outputs_lines face.labels (drop k face.outputs) (map (value_at vs) left)) (drop_all k outputs h) ∙ no_lines face.labels (drop k face.outputs)

@@ -1,4 +1,4 @@
--- The lines of an input and the replies to them, from one line to the next, and by the bytes in front of the next line feed.
+-- The lines of an input and the replies to them, from one line to the next, and by the bytes before the next line feed.
 use Rattle.std.proofs.Common.{◌≡◌, ◌≢◌, ℕ, ◌<◌, List, [], ◌∷◌, ◌++◌, length, length-append, append-nil, refl, sym, ap, ◌∙◌, arith}
 use Rattle.std.proofs.lemmas.Bool.{ne_eqb, lt-leb}
 use Rattle.m_places.specs.declared.limits.TheConstants.{SESSION_LINE_BYTES}
@@ -25,9 +25,9 @@ pub ended_lines-line : (first rest : List ℕ) → IsUnended first → ended_lin
 ended_lines-line [] rest free = refl
 ended_lines-line (byte ∷ bytes) rest free = ended_next byte (bytes ++ line_feed ∷ rest) bytes (ended_lines rest) free.0 (ended_lines-line bytes rest free.1)
 
--- ---- bytes in front of the next line feed
+-- ---- bytes before the next line feed
 
--- lines with bytes in front of the first of them
+-- lines with bytes before the first of them
 abbrev pub in_front : List ℕ → List (List ℕ) → List (List ℕ)
 in_front bytes [] = bytes ∷ []
 in_front bytes (first ∷ lines) = (bytes ++ first) ∷ lines

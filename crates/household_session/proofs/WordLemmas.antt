@@ -1,4 +1,4 @@
--- The words of a line, from its front.
+-- The words of a line, from its start.
 use Rattle.std.proofs.Common.{◌≡◌, ◌≢◌, ℕ, ◌+◌, ◌-◌, ◌<◌, ◌≤◌, zero, suc, true, false, not, eqb, List, [], ◌∷◌, length, take, drop, get_or, refl, sym, ap, ◌∙◌, inl, inr, arith}
 use Rattle.std.proofs.lemmas.Bool.{ne_eqb, cases_eq}
 use Rattle.std.proofs.lemmas.List.{drop_more, take_rest}
@@ -6,7 +6,7 @@ use Rattle.m_text.specs.Bytes.{RunsTo, space}
 use Rattle.m_text.specs.Lines.{onto_first}
 use Rattle.household_session.specs.Commands.{starts_word, line_words}
 
--- a space in front is no part of a word
+-- a space at the start is no part of a word
 at_space : (byte : ℕ) (bytes : List ℕ) → byte ≡ 32 → line_words (byte ∷ bytes) ≡ line_words bytes
 at_space byte bytes e = rw e refl
 

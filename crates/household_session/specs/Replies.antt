@@ -52,7 +52,7 @@ abbrev pub input_lines : List ℕ → List (List ℕ)
 input_lines [] = []
 input_lines (byte ∷ bytes) = if byte == line_feed then [] ∷ input_lines bytes else onto_first byte (input_lines bytes)
 
--- the lines with a byte put in front of the first of them, where there is one
+-- the lines with a byte put before the first of them, where there is one
 abbrev pub onto_ended : ℕ → List (List ℕ) → List (List ℕ)
 onto_ended byte [] = []
 onto_ended byte (first ∷ lines) = (byte ∷ first) ∷ lines

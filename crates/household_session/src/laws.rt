@@ -6,7 +6,7 @@ ghost use Rattle.observables.specs.Inputs.{AreValuesOf};
 ghost use Rattle.household_session.specs.Sessions.{Sitting};
 ghost use Rattle.household_session.specs.Replies.{IsUnended, after_line, replies_of, reply_of};
 
-/// The replies to an input are that to its first line, and then those of the session after that line to what stands behind the
+/// The replies to an input are that to its first line, and then those of the session after that line to what stands after the
 /// line's feed. A last line that lacks its feed is replied to as another, and an empty input gets no reply.
 pub fn line_by_line()
     ensures none { (sitting : Sitting) → replies_of sitting [] ≡ [] }

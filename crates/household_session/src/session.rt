@@ -48,7 +48,7 @@ impl Model for Session {
 
 impl Session {
     /// A session of a tidy program that begins with a household's amounts, which are of their inputs' types. The codes are those of
-    /// the face's inputs, and the program's arguments are numbered in 32 bits. Its only error is want of memory, and no later
+    /// the face's inputs, and the program's arguments are numbered in 32 bits. Its only error is running out of memory, and no later
     /// call takes memory.
     pub fn start(
         alloc: Global,

@@ -66,6 +66,6 @@ refused declared formula item n tables e h =
     let least = least_each (definitions_at declared formula formula.slot) bounds (λ letters. a_definition declared formula formula.slot letters tables) in
     too_many declared formula item (omega (arith, counted formula n e h, least))
 
--- too many are too many behind others
+-- too many are too many after others
 pub later : (parts before : ℕ) (item : Place) (fault : ExpandFault) → IsTooMuch parts 0 item fault → IsTooMuch parts before item fault
 later parts before item fault h = record { told = h.told; many = let m = h.many in omega arith }

@@ -68,7 +68,7 @@ instances_next f g values i v done next all l at inv e =
     ∙ ap (λ vs. done ++ map f (flat_map g vs)) (sym (drop_next values i v l at))
     ∙ inv
 
--- the first index, and those behind it
+-- the first index, and those after it
 pub instances_front : (indexes : List Index) (x : Index) (letters : Letters) → 1 ≤ length indexes → x ≡ get_or indexes 0 x → instances (x ∷ drop 1 indexes) letters ≡ instances indexes letters
 instances_front [] x letters h e = absurd (omega arith)
 instances_front (y ∷ ys) x letters h e = ap (λ (z : Index). instances (z ∷ ys) letters) e

@@ -17,7 +17,7 @@ use m_symbols::Symbols;
 use plain_rules::Definition;
 use std::alloc::Global;
 
-/// Puts the definitions of one instance of a formula behind definitions, where so many parts were counted before, and answers
+/// Puts the definitions of one instance of a formula after definitions, where so many parts were counted before, and answers
 /// how many there are with these.
 pub(crate) fn take_instance(
     alloc: Global,

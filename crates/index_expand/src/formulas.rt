@@ -22,7 +22,7 @@ use plain_rules::Definition;
 use std::alloc::Global;
 use std::mem::replace;
 
-/// Puts the definitions of a formula behind definitions, where so many parts were counted before, and answers how many there
+/// Puts the definitions of a formula after definitions, where so many parts were counted before, and answers how many there
 /// are with these. The place is that of the formula's item.
 pub(crate) fn take_formula(
     alloc: Global,

@@ -17,7 +17,7 @@ use plain_rules::{PLink, PMember, PNode, PTerm, plain};
 use std::alloc::{AllocError, Global};
 use std::mem::replace;
 
-/// A term where letters stand for words, and `X` for the number of a cell, if it does. Its only error is want of memory.
+/// A term where letters stand for words, and `X` for the number of a cell, if it does. Its only error is running out of memory.
 pub(crate) fn expanded(
     alloc: Global,
     words: &mut Words<'_>,
@@ -67,7 +67,7 @@ fn word_node(
     }
 }
 
-/// A word where letters stand for words. Its only error is want of memory.
+/// A word where letters stand for words. Its only error is running out of memory.
 pub(crate) fn word_with(
     alloc: Global,
     words: &mut Words<'_>,
@@ -221,7 +221,7 @@ fn expanded_members(
     Ok(copies)
 }
 
-// Puts the instances of a loop's body behind the operands of a sum.
+// Puts the instances of a loop's body after the operands of a sum.
 #[cycle(expanded)]
 fn expand_instances(
     alloc: Global,

@@ -15,7 +15,7 @@ pub(crate) struct Words<'a> {
 }
 
 impl<'a> Words<'a> {
-    /// No name is needed yet. Its only error is want of memory.
+    /// No name is needed yet. Its only error is running out of memory.
     pub(crate) fn new(alloc: Global, symbols: &'a Symbols) -> Result<Words<'a>, AllocError> {
         let count = symbols.count() as usize;
         let mut names = Vec::with_capacity(alloc, count)?;
@@ -25,7 +25,7 @@ impl<'a> Words<'a> {
         Ok(Words { symbols, names })
     }
 
-    /// A word, in one copy with the other words of these bytes where a variable has the name. Its only error is want of
+    /// A word, in one copy with the other words of these bytes where a variable has the name. Its only error is running out of
     /// memory.
     pub(crate) fn shared(&mut self, alloc: Global, word: &[u8]) -> Result<SharedName, AllocError>
         ensures { IfOk result (λ name. name ≡ word.now) }

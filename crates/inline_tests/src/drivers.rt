@@ -305,7 +305,7 @@ fn conditions_stop(rt: HostRuntime) -> Result<(), Fail> {
     Ok(())
 }
 
-// Functions that call each other in a ring: each level of calls weighs 3, and there are as many as functions, and one more.
+// Functions that call each other in a ring: each level of calls costs 3, and there are as many as functions, and one more.
 #[test]
 fn a_ring_of_functions_is_weighed(rt: HostRuntime) -> Result<(), Fail> {
     let alloc = rt.alloc();

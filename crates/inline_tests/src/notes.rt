@@ -85,7 +85,7 @@ fn base(alloc: Global, count: u32, first: ErrorKind, second: ErrorKind) -> Resul
     })
 }
 
-// What a run tells: the values of the outputs behind the notes come to this value, after notes of labels whose numbers from 1 are
+// What a run tells: the values of the outputs after the notes come to this value, after notes of labels whose numbers from 1 are
 // these digits; or 100 and the label of a verification that fails, 200 and that of one that is over; or 999.
 fn told(answer: &Answer, notes: &[u32]) -> (u64, Value) {
     match answer {

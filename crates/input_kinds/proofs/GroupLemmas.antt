@@ -64,7 +64,7 @@ again : (y v : ℤ) (vs : List ℤ) (b : Bool) → int_eq y v ≡ b → has_amou
 again y v vs true e h = let s = same-int y v e in sym (ap (λ x. has_amount x vs) s ∙ h)
 again y v vs false e h = refl
 
--- a value that doesn't stand again is another than those behind it
+-- a value that doesn't stand again is another than those after it
 apart : (y v : ℤ) (vs : List ℤ) (b : Bool) → int_eq y v ≡ b → has_amount v vs ≡ false → has_amount y vs ≡ true → b ≡ false
 apart y v vs true e h k = let s = same-int y v e in absurd (false≢true (sym h ∙ ap (λ x. has_amount x vs) (sym s) ∙ k))
 apart y v vs false e h k = refl

@@ -60,7 +60,7 @@ impl KindIndex {
         Ok(())
     }
 
-    // Adds the cell of an input with these pairs, from the last one on: a pair whose attribute stands again behind it says
+    // Adds the cell of an input with these pairs, from the last one on: a pair whose attribute stands again after it says
     // nothing.
     fn add_pairs(
         &mut self,
@@ -106,7 +106,7 @@ impl KindIndex {
         Ok(())
     }
 
-    // Adds the cell of an input that has this value of an attribute, behind those that have it already.
+    // Adds the cell of an input that has this value of an attribute, after those that have it already.
     fn add(
         &mut self,
         alloc: Global,
@@ -148,7 +148,7 @@ fn number_of(alloc: Global, attribute: &[u8], attributes: &mut Names) -> Result<
     Ok(number)
 }
 
-// Adds a cell behind those that have this value of the attribute of this number.
+// Adds a cell after those that have this value of the attribute of this number.
 fn add_cell(
     alloc: Global,
     attribute: u32,

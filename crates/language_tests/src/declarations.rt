@@ -156,14 +156,14 @@ const NONE: [&[u8]; 41] = [
     b"enchaineur ench application : iliad , ;",
 ];
 
-// Texts and the applications in front of them, with the number of their tokens.
+// Texts and the applications at their start, with the number of their tokens.
 const APPLICATIONS: [(&[u8], &[u8], usize); 3] = [
     (b"application : iliad ;", b" iliad", 3),
     (b"application : iliad , batch ;", b" iliad batch", 5),
     (b"application : A", b" A", 3),
 ];
 
-// Texts with none, or with a comma behind them.
+// Texts with none, or with a comma after them.
 const NO_APPLICATIONS: [&[u8]; 5] = [
     b"",
     b"application iliad ;",

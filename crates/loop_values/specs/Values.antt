@@ -17,7 +17,7 @@ is_capital [] = false
 is_capital (byte ∷ []) = nat_le 65 byte && nat_le byte 90
 is_capital (byte ∷ next ∷ rest) = false
 
--- a number with at least so many digits, zeros in front: 8 with two is `08`, 123 with two is `123`
+-- a number with at least so many digits, zeros before it: 8 with two is `08`, 123 with two is `123`
 abbrev pub number_word : ℕ → ℕ → List ℕ
 number_word width n = replicate (width - length (decimal n)) 48 ++ decimal n
 

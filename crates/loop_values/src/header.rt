@@ -54,7 +54,7 @@ fn either(a: bool, b: bool) -> bool
 
 /// Indexes that have the instances of all indexes of headers, from the outermost to the innermost. An index of one value is
 /// left out where an inner one binds its letter again, so there are few of them where there are few instances. Its only
-/// error is want of memory.
+/// error is running out of memory.
 pub fn kept_indexes(alloc: Global, headers: &[Header]) -> Result<Vec<Index>, AllocError>
     ensures { IfOk result (λ kept. (letters : Letters)
         → spec.instances kept.items letters ≡ spec.instances (spec.all_indexes headers.now) letters) }

@@ -28,7 +28,7 @@ pub fn replaced(alloc: Global, letters: &[Option<Name>], word: &[u8]) -> Result<
     Name::new(alloc, bytes.as_slice())
 }
 
-// Puts what stands in the place of a byte behind the bytes.
+// Puts what stands in the place of a byte after the bytes.
 fn push_replaced(bytes: &mut Vec<u8>, letters: &[Option<Name>], byte: u8) -> Result<(), AllocError>
     requires { length letters.now ≡ 256 }
     ensures { OnOk result (bytes.new.items ≡ bytes.old.items ++ spec.byte_replaced letters.now byte) }

@@ -9,7 +9,7 @@ use m_ast::Index;
 use m_places::Name;
 use std::alloc::{AllocError, Global};
 
-/// How many indexes at the front have one value each. Takes no memory.
+/// How many indexes at the start have one value each. Takes no memory.
 pub fn single_count(indexes: &[Index]) -> usize
     ensures within { result ≤ length indexes.now }
     ensures single { All spec.IsSingle (take result indexes.now) }
@@ -24,8 +24,8 @@ pub fn single_count(indexes: &[Index]) -> usize
     count
 }
 
-/// What letters stand for within indexes of one value each: the instances of these indexes and of others behind them are those
-/// of the others there. Its only error is want of memory.
+/// What letters stand for within indexes of one value each: the instances of these indexes and of others after them are those
+/// of the others there. Its only error is running out of memory.
 pub fn bound_by(
     alloc: Global,
     letters: &[Option<Name>],

@@ -50,7 +50,7 @@ pub fn has_bad_span(index: &Index) -> bool
     false
 }
 
-// Puts the values between two points behind values.
+// Puts the values between two points after values.
 fn push_values(alloc: Global, values: &mut Vec<Name>, span: &Span) -> Result<(), AllocError>
     ensures { OnOk result (values.new.items ≡ values.old.items ++ spec.span_values span.now) }
 {
@@ -189,7 +189,7 @@ pub fn number(word: &[u8]) -> u64
     number
 }
 
-// A number with at least so many digits, zeros in front.
+// A number with at least so many digits, zeros before it.
 fn number_word(alloc: Global, width: usize, n: u64) -> Result<Name, AllocError>
     ensures { IfOk result (λ word. word ≡ spec.number_word width n) }
 {

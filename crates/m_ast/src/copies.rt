@@ -6,7 +6,7 @@ use std::alloc::{AllocError, Global};
 
 /// What an equal second one can be made of.
 pub trait Duplicate: Sized {
-    /// An equal one. Its only error is want of memory.
+    /// An equal one. Its only error is running out of memory.
     fn duplicate(&self, alloc: Global) -> Result<Self, AllocError>
         ensures { IfOk result (λ t. t ≡ self.now) };
 }

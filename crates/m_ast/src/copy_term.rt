@@ -6,7 +6,7 @@ use crate::{Link, Member, Node, Term, made};
 use std::alloc::{AllocError, Global};
 
 impl Term {
-    /// An equal term. Its only error is want of memory.
+    /// An equal term. Its only error is running out of memory.
     pub fn copy(&self, alloc: Global) -> Result<Term, AllocError>
         ensures { IfOk result (λ t. t ≡ self.now) }
     {

@@ -32,7 +32,7 @@ pub struct Header {
 }
 
 impl Span {
-    /// An equal span. Its only error is want of memory.
+    /// An equal span. Its only error is running out of memory.
     pub fn copy(&self, alloc: Global) -> Result<Span, AllocError>
         ensures { IfOk result (λ s. s ≡ self.now) }
     {
@@ -43,7 +43,7 @@ impl Span {
 }
 
 impl Index {
-    /// An equal index. Its only error is want of memory.
+    /// An equal index. Its only error is running out of memory.
     pub fn copy(&self, alloc: Global) -> Result<Index, AllocError>
         ensures { IfOk result (λ i. i ≡ self.now) }
     {
@@ -57,7 +57,7 @@ impl Index {
 }
 
 impl Header {
-    /// An equal header. Its only error is want of memory.
+    /// An equal header. Its only error is running out of memory.
     pub fn copy(&self, alloc: Global) -> Result<Header, AllocError>
         ensures { IfOk result (λ h. h ≡ self.now) }
     {

@@ -87,7 +87,7 @@ pub enum Item {
 }
 
 impl Formula {
-    /// An equal formula. Its only error is want of memory.
+    /// An equal formula. Its only error is running out of memory.
     pub fn copy(&self, alloc: Global) -> Result<Formula, AllocError>
         ensures { IfOk result (λ f. f ≡ self.now) }
     {
@@ -105,7 +105,7 @@ impl Formula {
 }
 
 impl RuleItem {
-    /// An equal rule. Its only error is want of memory.
+    /// An equal rule. Its only error is running out of memory.
     pub fn copy(&self, alloc: Global) -> Result<RuleItem, AllocError>
         ensures { IfOk result (λ r. r ≡ self.now) }
     {
@@ -123,7 +123,7 @@ impl RuleItem {
 }
 
 impl CheckItem {
-    /// An equal check. Its only error is want of memory.
+    /// An equal check. Its only error is running out of memory.
     pub fn copy(&self, alloc: Global) -> Result<CheckItem, AllocError>
         ensures { IfOk result (λ c. c ≡ self.now) }
     {
@@ -138,7 +138,7 @@ impl CheckItem {
 }
 
 impl VerifItem {
-    /// An equal verification. Its only error is want of memory.
+    /// An equal verification. Its only error is running out of memory.
     pub fn copy(&self, alloc: Global) -> Result<VerifItem, AllocError>
         ensures { IfOk result (λ v. v ≡ self.now) }
     {
@@ -155,7 +155,7 @@ impl VerifItem {
 }
 
 impl ErrorItem {
-    /// An equal declaration. Its only error is want of memory.
+    /// An equal declaration. Its only error is running out of memory.
     pub fn copy(&self, alloc: Global) -> Result<ErrorItem, AllocError>
         ensures { IfOk result (λ e. e ≡ self.now) }
     {
@@ -171,7 +171,7 @@ impl ErrorItem {
 }
 
 impl Item {
-    /// An equal item. Its only error is want of memory.
+    /// An equal item. Its only error is running out of memory.
     pub fn copy(&self, alloc: Global) -> Result<Item, AllocError>
         ensures { IfOk result (λ i. i ≡ self.now) }
     {

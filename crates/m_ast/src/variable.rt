@@ -28,12 +28,12 @@ pub struct VariableItem {
     pub words: Seq<Name>,
     /// The attributes with a number, as `classe = 0`, in order.
     pub pairs: Seq<(Name, Amount)>,
-    /// The word behind `type`.
+    /// The word after `type`.
     pub value_word: Option<Name>,
 }
 
 impl Role {
-    /// An equal role. Its only error is want of memory.
+    /// An equal role. Its only error is running out of memory.
     pub fn copy(&self, alloc: Global) -> Result<Role, AllocError>
         ensures { IfOk result (λ r. r ≡ self.now) }
     {
@@ -46,7 +46,7 @@ impl Role {
 }
 
 impl VariableItem {
-    /// An equal declaration. Its only error is want of memory.
+    /// An equal declaration. Its only error is running out of memory.
     pub fn copy(&self, alloc: Global) -> Result<VariableItem, AllocError>
         ensures { IfOk result (λ v. v ≡ self.now) }
     {

@@ -11,7 +11,7 @@ pub ok_then : {X E : Type 0} (r : Result X E) (P Q : X → Type 0) → IfOk r P 
 ok_then (Ok x) P Q h more = more x h
 ok_then (Err e) P Q h more = tt
 
--- what is behind a part
+-- what is after a part
 behind : {X : Type 0} (v : Vec X Global) (found : Option (List X)) (all : List X) → option_map (λ rest. v.items ++ rest) found ≡ Some all
     → (rest : List X) × (found ≡ Some rest) × (all ≡ v.items ++ rest)
 behind v None all is = absurd (cc is)

@@ -111,7 +111,7 @@ one_input : (places : Places) (n m : ℕ) → IsPlacing places → n < length pl
 one_input places n m is n_in m_in some same =
     sym (is.back m m_in (subst (λ (k : ℕ). 0 < k) (sym same) some)) ∙ ap (λ (k : ℕ). get_or places.inputs.items k 0) same ∙ is.back n n_in some
 
--- a pair in front of pairs
+-- a pair before pairs
 filled_more : (places : Places) (row : List Value) (pairs : List (ℕ × ℤ)) (pair : ℕ × ℤ) → IsPlacing places → length row ≡ length places.inputs.items → pair.0 < length places.of.items
     → 0 < place_of places pair.0 → IsFilled places row pairs → IsFilled places (set row (place_of places pair.0) (Num pair.1)) (pair ∷ pairs)
 filled_more places row pairs pair is width below some filled n n_in =
@@ -181,7 +181,7 @@ row_kept block r k new other =
     ap (λ (rows : List (List Value)). get_or rows k []) (map-set (λ (v : Vec Value Global). v.items) block r new)
     ∙ get_or-set_other (map (λ (v : Vec Value Global). v.items) block) r k new.items [] other
 
--- a row of the front
+-- a row of the prefix
 pub row_taken : (block : List (Vec Value Global)) (n r : ℕ) → r < n → row_at (take n block) r ≡ row_at block r
 row_taken block n r lt =
     ap (λ (rows : List (List Value)). get_or rows r []) (sym (take-map (λ (v : Vec Value Global). v.items) n block))

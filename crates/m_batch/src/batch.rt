@@ -17,7 +17,7 @@ use std::thread::Threads;
 
 /// What code answers for each row of a table, in the order of the rows. Each answer is that of a run by itself, so a
 /// row that stops changes no other, and answers are the same for every gate and every number of threads. The worker of row k, from 0, first
-/// calls `gate.pass(k)`. There are as many workers as processors, and two at least where there are two rows. Its only error is want of memory.
+/// calls `gate.pass(k)`. There are as many workers as processors, and two at least where there are two rows. Its only error is running out of memory.
 ///
 /// Of code that gives its input 0 back, the rows with the amounts 5 and nothing are answered 5 and undefined.
 pub fn run_batch<R: Threads + Sync, G: Gate + Sync>(

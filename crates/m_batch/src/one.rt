@@ -12,7 +12,7 @@ use reg_machine::{Code, Machine};
 use std::alloc::{AllocError, Global};
 
 /// What code answers for a household: its run on the household's amounts, undefined where it has none. Its only error is
-/// want of memory.
+/// running out of memory.
 ///
 /// Of code that gives its input 0 back, a household with the amount 5 is answered 5.
 pub fn run_household(

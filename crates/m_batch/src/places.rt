@@ -15,7 +15,7 @@ pub struct Places {
     pub inputs: Vec<u32>,
 }
 
-/// Places for the inputs of rows. Its only error is want of memory.
+/// Places for the inputs of rows. Its only error is running out of memory.
 pub(crate) fn place_inputs(alloc: Global, inputs: usize, rows: &[Row]) -> Result<Places, AllocError>
     requires { AllByRecursion (HasInputsBelow inputs) rows.now }
     ensures { IfOk result (λ places. ArePlaced inputs places rows.now) }

@@ -17,7 +17,7 @@ use Rattle.m_cases.specs.inner.Cells.{amounts_behind, expected_behind}
 abbrev amounts_from : ℕ → List (ℕ × ℤ) → List Column → List (List ℕ) → Result (List (ℕ × ℤ)) HouseholdFault
 amounts_from line before columns cells = cells_read line before (column_inputs columns) (input_cells columns cells)
 
--- a choice between nothing more and one thing more, and what is read behind it
+-- a choice between nothing more and one thing more, and what is read after it
 one_more : {A B F : Type 0} (b : Bool) (next : List A → Result B F) (before : List A) (r : Result A F)
     → cond b (next before) (if_read (λ x. next (before ++ x ∷ [])) r) ≡ if_read next (cond b (Ok before) (if_read (λ x. Ok (before ++ x ∷ [])) r))
 one_more true next before r = refl

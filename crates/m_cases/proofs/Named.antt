@@ -1,4 +1,4 @@
--- The names of outputs stand behind the notes.
+-- The names of outputs stand after the notes.
 use Rattle.std.proofs.Common.{◌≡◌, ℕ, zero, suc, ◌+◌, ◌-◌, ◌<◌, ◌≤◌, arith, get_or, take, drop, List, [], ◌∷◌, length, true, refl, sym, ap, ◌∙◌, subst}
 use Rattle.std.proofs.lemmas.Bool.{and_parts, false≢true}
 use Rattle.std.proofs.lemmas.List.{drop_more, drop_all, get_or-drop, length-drop, take_all}
@@ -29,7 +29,7 @@ named_at labels (Noted number ∷ outputs) k d h l =
     let e : suc (length (notes_of outputs) + k) ≡ suc (length (notes_of outputs)) + k = omega arith in
     subst (λ n. get_or (Noted number ∷ outputs) n d ≡ Named (get_or (names_of outputs) k [])) e (named_at labels outputs k d (and_parts _ _ h).1 l)
 
--- what stands at a place behind the notes
+-- what stands at a place after the notes
 pub name_there : (labels : List FaceLabel) (outputs lent : List FaceOutput) (notes place : ℕ) (found : FaceOutput) → lent ≡ outputs → notes_stand_first labels outputs ≡ true → notes ≡ length (notes_of outputs)
     → place < length (names_of outputs) → found ≡ get_or (take (length lent - notes) (drop notes lent)) place found → found ≡ Named (get_or (names_of outputs) place [])
 name_there labels outputs lent notes place found l first n h is =

@@ -41,7 +41,7 @@ count_unmet vs expected k e met h is m f =
 pub count_end : (vs : Option (List Value)) (expected : List (ℕ × Expected)) (k : ℕ) → length expected ≤ k → mismatch_count vs (drop k expected) ≡ 0
 count_end vs expected k h = ap (mismatch_count vs) (drop_all k expected h)
 
--- an answer with a value for each output of the face has one behind the notes
+-- an answer with a value for each output of the face has one after the notes
 pub has_named : (face : Face) (answer : Answer) (notes place : ℕ) → HasValueEach face answer → notes ≡ length (notes_of face.outputs) → place < length (names_of face.outputs) → HasOutput (notes + place) answer
 has_named face (Values vs) notes place h n l = let all = counted face.outputs in omega (arith, h, n, l, all)
 has_named face (Stopped stop) notes place h n l = tt
@@ -52,6 +52,6 @@ known_at names [] k e all h is = absurd (omega (arith, h))
 known_at names (x ∷ expected) zero e all h is = subst (λ (y : ℕ × Expected). y.0 < names) (sym is) all.0
 known_at names (x ∷ expected) (suc k) e all h is = known_at names expected k e all.1 (omega (arith, h)) is
 
--- the output behind the notes is within
+-- the output after the notes is within
 pub name_within : (face : Face) (notes place : ℕ) → notes ≡ length (notes_of face.outputs) → place < length (names_of face.outputs) → notes + place < length face.outputs
 name_within face notes place n l = let all = counted face.outputs in omega (arith, n, l, all)

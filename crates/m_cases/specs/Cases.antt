@@ -52,7 +52,7 @@ expected_said line cell =
     else if bytes_eq cell (codes "stop") then Ok Stop
     else amount_expected line (amount_read (text_value cell))
 
--- What cells expect below these columns, behind cells that expected this: of each output whose cell isn't empty what stands in it, or
+-- What cells expect below these columns, after cells that expected this: of each output whose cell isn't empty what stands in it, or
 -- the first bad cell. Below the outputs 2 and 0 the cells `stop` and nothing expect a stop in the place of the output 2.
 abbrev pub expected_read : ℕ → List (ℕ × Expected) → List Column → List (List ℕ) → Result (List (ℕ × Expected)) CasesFault
 expected_read line before [] cells = Ok before
@@ -77,7 +77,7 @@ case_said inputs line columns (label ∷ cells) =
     (of_household (pairs_read inputs line (column_inputs columns) (input_cells columns cells)))
     else Err (BadRow line)
 
--- what a record says behind those of these cases: it may be one too many
+-- what a record says after those of these cases: it may be one too many
 abbrev pub case_of : List Coded → List Column → List Case → List (List ℕ) → Result Case CasesFault
 case_of inputs columns before fields = if nat_le ROWS (length before) then Err TooManyRows else case_said inputs (line_behind (length before)) columns fields
 

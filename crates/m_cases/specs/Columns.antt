@@ -20,7 +20,7 @@ abbrev pub output_said : Option ℕ → Result Column CasesFault
 output_said None = Err (UnknownOutput 1)
 output_said (Some output) = Ok (Output output)
 
--- What a field of the first record says by itself: behind an equals sign, which is the byte 61, the name of an output, of which the first
+-- What a field of the first record says by itself: after an equals sign, which is the byte 61, the name of an output, of which the first
 -- that has the name is meant; and else the code of an input. `names` are the names of the outputs that have one, and the number of an
 -- output is its place among them: where the requests are `REV` and `IRN`, the field `=IRN` says the output 1.
 abbrev pub field_said : List Coded → List (List ℕ) → List ℕ → Result Column CasesFault
@@ -39,7 +39,7 @@ is_same_column (Output a) (Input b) = false
 abbrev pub new_column : List Column → Column → Result Column CasesFault
 new_column before column = if list_any (is_same_column column) before then Err (CodeTwice 1) else Ok column
 
--- What a field of the first record says behind those of these columns.
+-- What a field of the first record says after those of these columns.
 abbrev pub column_of : List Coded → List (List ℕ) → List Column → List ℕ → Result Column CasesFault
 column_of inputs names before field = if_read (new_column before) (field_said inputs names field)
 

@@ -17,7 +17,7 @@ abbrev pub answer_values : Answer → Option (List Value)
 answer_values (Values vs) = Some vs
 answer_values (Stopped stop) = None
 
--- the values behind so many notes
+-- the values after so many notes
 abbrev pub named_values : ℕ → Option (List Value) → Option (List Value)
 named_values notes None = None
 named_values notes (Some vs) = Some (drop notes vs)

@@ -43,7 +43,7 @@ pub struct Case {
 }
 
 /// Reads a table of cases: records set apart by commas, of which the first is `name` and then codes of inputs and names of outputs
-/// behind `=`, and each other a label and for each column an amount, what is expected, or nothing, as `dupont,2500.5,1500.5`.
+/// after `=`, and each other a label and for each column an amount, what is expected, or nothing, as `dupont,2500.5,1500.5`.
 pub fn read_cases(
     alloc: Global,
     bytes: &[u8],
@@ -309,7 +309,7 @@ fn amount_expected(cell: &[u8], line: u32) -> Result<Expected, CasesFault>
     }
 }
 
-// The rows of cases, and what each expects. Its only error is want of memory.
+// The rows of cases, and what each expects. Its only error is running out of memory.
 fn apart(alloc: Global, cases: Vec<Case>) -> Result<Cases, AllocError>
     ensures { IfOk result (λ made. made ≡ cases_made cases.items) }
 {

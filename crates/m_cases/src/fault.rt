@@ -28,7 +28,7 @@ pub enum CasesFault {
     NotOfType(u32),
     /// A cell below an output that is neither an amount nor `undefined`, `over` or `stop`.
     BadExpected(u32),
-    /// Want of memory.
+    /// Out of memory.
     Memory,
 }
 

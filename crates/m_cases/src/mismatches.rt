@@ -36,7 +36,7 @@ fn got_of(answer: &Answer, output: usize) -> Expected
     }
 }
 
-// What one gets of the output at this place behind so many notes.
+// What one gets of the output at this place after so many notes.
 fn got_behind(answer: &Answer, notes: usize, place: usize) -> Expected
     requires { HasOutput (notes + place) answer.now }
     ensures { result ≡ got_of (named_values notes (answer_values answer.now)) place }
@@ -110,7 +110,7 @@ pub fn print_mismatches<K: Sink>(
     Ok(count)
 }
 
-// Writes the line of an expectation, if an answer doesn't meet it, and says whether it does. The names stand behind so many notes.
+// Writes the line of an expectation, if an answer doesn't meet it, and says whether it does. The names stand after so many notes.
 fn print_one<K: Sink>(
     face: &Face,
     notes: usize,
@@ -137,7 +137,7 @@ fn print_one<K: Sink>(
     Ok(false)
 }
 
-// How many notes stand in front of the names.
+// How many notes stand before the names.
 fn count_notes(outputs: &[FaceOutput]) -> usize
     ensures { result ≡ length (notes_of outputs.now) }
 {
@@ -150,7 +150,7 @@ fn count_notes(outputs: &[FaceOutput]) -> usize
     count
 }
 
-// The name at this place among the names, which stand behind so many notes.
+// The name at this place among the names, which stand after so many notes.
 fn name_at(face: &Face, notes: usize, place: usize) -> &[u8]
     requires notes { notes ≡ length (notes_of face.now.outputs) }
     requires place { place < length (names_of face.now.outputs) }

@@ -18,7 +18,7 @@ pub(crate) struct Outputs<'a> {
 }
 
 impl<'a> Outputs<'a> {
-    /// The names of these outputs. Its only error is want of memory.
+    /// The names of these outputs. Its only error is running out of memory.
     pub(crate) fn new(alloc: Global, outputs: &'a [FaceOutput]) -> Result<Outputs<'a>, AllocError>
         requires { length outputs.now < 2 ^ 32 }
         ensures { IfOk result (λ known. known.outputs.now ≡ outputs.now) }
@@ -69,7 +69,7 @@ fn put_names(
     Ok(())
 }
 
-// Adds the name at this place, which is the next behind all names so far.
+// Adds the name at this place, which is the next after all names so far.
 fn put_name(
     alloc: Global,
     name: &[u8],

@@ -77,7 +77,7 @@ text_of words before after heard told old new status (answered command work c g 
 
 -- ---- where a write failed
 
--- a front of a whole text was written
+-- a prefix of a whole text was written
 front : (words : List (List ℕ)) (disk : Disk) (typed text : List ℕ) (own : Status) (before after : FilesView) (heard told : InputView) (old new : OutputView) (status : Status)
     → Prints text own old new status → (own ≡ WriteFault → ⊥) → status ≡ WriteFault → IsWholeText words disk typed before after heard told text
     → (all : List ℕ) × IsWholeText words disk typed before after heard told all × AppendsPrefix old.written new.written all

@@ -46,7 +46,7 @@ pub record IsSameCode (one other : Loaded) : Type 0 where
 pub one_loaded : (code : List ℕ) (one other : Loaded) → IsFormOf code one → IsFormOf code other → IsSameCode one other
 one_loaded code one other a b = let same = one-form code one other a b in record { code = same.0; inputs = same.1; labels = same.2; outputs = same.3 }
 
--- a fault that has a line isn't want of memory
+-- a fault that has a line isn't running out of memory
 is_no_memory : (fault : CodeFault) (line : List ℕ) → code_fault_line fault ≡ Some line → fault ≢ Memory
 is_no_memory fault line k m = let none : code_fault_line fault ≡ None = ap code_fault_line m in cc (none, k)
 

@@ -82,7 +82,7 @@ one_batch source table t u s r (batch.is_told one rows v g) (batch.is_told other
 not_both_lengths : (typed taken rest : List ℕ) → length typed < INPUT_BYTES → typed ≡ taken ++ rest → length taken ≡ INPUT_BYTES → ⊥
 not_both_lengths typed taken rest few e full = omega (arith, few, ap length e, length-append taken rest, full)
 
--- two fronts of one length
+-- two prefixes of one length
 one_front : (one other rest left : List ℕ) → one ++ rest ≡ other ++ left → length one ≡ length other → one ≡ other
 one_front one other rest left e same = sym (take-append-le (length one) one rest (omega arith) ∙ take_all (length one) one (omega arith)) ∙ ap (take (length one)) e ∙ ap (λ n. take n (other ++ left)) same ∙ take-append-le (length other) other left (omega arith) ∙ take_all (length other) other (omega arith)
 

@@ -35,7 +35,7 @@ not_refused source said line scheme given valid e (households_are_refused other 
     let c = said_other source said (Err fault) other scheme is valid faulty in
     cc (c, e)
 
--- ---- two refusals of a source
+-- ---- two errors of a source
 
 pub one_line : (texts : List Text) (fault other : SourceFault) (t u : List ℕ) → AreOneSourceFault fault other → source_line texts fault ≡ Some t → source_line texts other ≡ Some u → AreOneOutput t Refused u Refused
 one_line texts fault other t u (laws.the_same e) a b =

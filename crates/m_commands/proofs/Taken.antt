@@ -38,7 +38,7 @@ keeps_limit (Check list household report) =
     within_then CODE_FILE_BYTES (source_plan (rules_only list)) _ (within_more FILE_BYTES CODE_FILE_BYTES (source_plan (rules_only list)) file_fits (source_within (rules_only list)))
     (λ source. (file_fits, λ rows. (omega arith, λ bytes. tt)))
 
--- what is taken without a slack for want of memory
+-- what is taken without a slack for lack of memory
 no_slack : (most : ℕ) (before after : FilesView) (status : Status) → after.taken + allowance most before.attempts ≤ before.taken + allowance most after.attempts → TakesWithin most before after status
 no_slack most before after Done h = h
 no_slack most before after Refused h = h

@@ -120,12 +120,12 @@ pub typed_all : (left : Option (List ℕ)) (typed taken : List ℕ) → Some typ
 typed_all None typed taken e none = absurd (cc e)
 typed_all (Some bytes) typed taken e none = let s : typed ≡ taken ++ bytes = cc e in s ∙ ap (λ rest. taken ++ rest) none ∙ append-nil taken
 
--- a front of it, before some rest
+-- a prefix of it, before some rest
 pub typed_rest : (left : Option (List ℕ)) (typed taken : List ℕ) → Some typed ≡ prepend_known taken left → (rest : List ℕ) × (typed ≡ taken ++ rest)
 typed_rest None typed taken e = absurd (cc e)
 typed_rest (Some bytes) typed taken e = (bytes, cc e)
 
--- a front of it, before this rest
+-- a prefix of it, before this rest
 pub typed_left : (left : Option (List ℕ)) (typed taken rest : List ℕ) → Some typed ≡ prepend_known taken left → IsLeft left rest → typed ≡ taken ++ rest
 typed_left None typed taken rest e is = absurd (cc e)
 typed_left (Some bytes) typed taken rest e is = let s : typed ≡ taken ++ bytes = cc e in s ∙ ap (λ r. taken ++ r) is

@@ -27,7 +27,7 @@ Replies (Check source rows report) typed = CheckReplies source rows report
 Replies (Lint source) typed = LintReplies source
 Replies (Cases source table) typed = CasesReplies source table
 
--- The text where a read of the input fails behind these bytes of it: only a session reads.
+-- The text where a read of the input fails after these bytes of it: only a session reads.
 abbrev pub CutOff : Work → (taken : List ℕ) → List ℕ → Type 0
 CutOff (Run source rows) taken text = ⊥
 CutOff (Serve source rows) taken text = ServeCutOff source rows taken text
@@ -39,7 +39,7 @@ CutOff (Check source rows report) taken text = ⊥
 CutOff (Lint source) taken text = ⊥
 CutOff (Cases source table) taken text = ⊥
 
--- The replies to all that is typed, also where that is more than is taken: what a session writes is a front of them where a write fails.
+-- The replies to all that is typed, also where that is more than is taken: what a session writes is a prefix of them where a write fails.
 abbrev pub InFull : Work → (typed : List ℕ) → List ℕ → Type 0
 InFull (Run source rows) typed text = ⊥
 InFull (Serve source rows) typed text = ServeInFull source rows typed text
@@ -51,7 +51,7 @@ InFull (Check source rows report) typed text = ⊥
 InFull (Lint source) typed text = ⊥
 InFull (Cases source table) typed text = ⊥
 
--- what was gathered has an answer that isn't a refusal
+-- what was gathered has an answer that isn't an error
 abbrev pub HasAnswer : Work → Type 0
 HasAnswer (Run source rows) = RunHasAnswer source rows
 HasAnswer (Serve source rows) = RunHasAnswer source rows

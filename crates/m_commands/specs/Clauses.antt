@@ -37,11 +37,11 @@ PrintsOutput words files input old new status =
     (disk : Disk) (typed : List ℕ) → files.told ≡ Some disk → IsTyped words input typed → IsFaultless status
     → (text : List ℕ) × (new.written ≡ append_known old.written text) × Output words disk typed text status
 
--- the text of a command whose read of the input fails behind these bytes
+-- the text of a command whose read of the input fails after these bytes
 pub data IsCutOff (words : List (List ℕ)) (disk : Disk) (taken text : List ℕ) : Type 0 where
   cuts_off : (command : Command) (work : Work) → command_of words ≡ Some command → end_of disk (plan_of command) ≡ gathered work → CutOff work taken text → IsCutOff words disk taken text
 
--- Where the files and the input are told, what is appended is the text of a read that failed behind what was taken.
+-- Where the files and the input are told, what is appended is the text of a read that failed after what was taken.
 abbrev pub TellsOfInput : List (List ℕ) → FilesView → InputView → InputView → OutputView → OutputView → Type 0
 TellsOfInput words before heard told old new =
     (disk : Disk) (typed : List ℕ) → before.told ≡ Some disk → heard.left ≡ Some typed
@@ -70,13 +70,13 @@ pub data IsWholeText (words : List (List ℕ)) (disk : Disk) (typed : List ℕ) 
   in_full : (command : Command) (work : Work) → command_of words ≡ Some command → end_of disk (plan_of command) ≡ gathered work → InFull work typed text
       → IsWholeText words disk typed before after heard told text
 
--- Where the files and the input are told and a write failed, what is appended is the front of a whole text.
+-- Where the files and the input are told and a write failed, what is appended is the prefix of a whole text.
 abbrev pub WritesFront : List (List ℕ) → FilesView → FilesView → InputView → InputView → OutputView → OutputView → Status → Type 0
 WritesFront words before after heard told old new status =
     (disk : Disk) (typed : List ℕ) → before.told ≡ Some disk → IsTyped words heard typed → status ≡ WriteFault
     → (text : List ℕ) × IsWholeText words disk typed before after heard told text × AppendsPrefix old.written new.written text
 
--- Where the files are told and there was no memory, nothing is appended or the front of an output.
+-- Where the files are told and there was no memory, nothing is appended or the prefix of an output.
 abbrev pub StopsInFront : List (List ℕ) → FilesView → OutputView → OutputView → Status → Type 0
 StopsInFront words before old new status =
     (disk : Disk) (typed : List ℕ) → before.told ≡ Some disk → status ≡ Memory

@@ -44,7 +44,7 @@ of_form form.Serve names behind = Serve names behind
 of_form form.Batch names behind = Batch names behind
 of_form form.Cases names behind = Cases names behind
 
--- the command over a source that the words are, if they are one: its word, and what stands at each place behind it, all in UTF-8
+-- the command over a source that the words are, if they are one: its word, and what stands at each place after it, all in UTF-8
 abbrev pub source_command : List (List ℕ) → Option Command
 source_command (word ∷ list ∷ driver ∷ requests ∷ behind ∷ []) =
     if list_all is_utf8 (list ∷ driver ∷ requests ∷ behind ∷ [])
@@ -103,7 +103,7 @@ work_of form.Serve = work.Serve
 work_of form.Batch = work.Batch
 work_of form.Cases = work.Cases
 
--- a source is gathered, and behind it one more file
+-- a source is gathered, and after it one more file
 abbrev pub work_plan : SourceNames → List ℕ → (Source → List ℕ → Work) → Plan Work
 work_plan names behind gathered = and_then (source_plan names) (λ source. and_then (file_plan behind FILE_BYTES) (λ bytes. done (gathered source bytes)))
 
@@ -111,7 +111,7 @@ work_plan names behind gathered = and_then (source_plan names) (λ source. and_t
 abbrev pub compile_plan : SourceNames → Plan Work
 compile_plan names = and_then (source_plan names) (λ source. done (work.Compile source))
 
--- a code file is gathered, and behind it a household
+-- a code file is gathered, and after it a household
 abbrev pub exec_plan : List ℕ → List ℕ → Plan Work
 exec_plan code household = and_then (file_plan code CODE_FILE_BYTES) (λ bytes. and_then (file_plan household FILE_BYTES) (λ rows. done (work.Exec bytes rows)))
 
@@ -119,7 +119,7 @@ exec_plan code household = and_then (file_plan code CODE_FILE_BYTES) (λ bytes. 
 abbrev pub rules_only : List ℕ → SourceNames
 rules_only list = record { list = list; driver = codes "-"; requests = codes "-" }
 
--- the rules of a list are gathered, and behind them a household and a report
+-- the rules of a list are gathered, and after them a household and a report
 abbrev pub check_plan : List ℕ → List ℕ → List ℕ → Plan Work
 check_plan list household report =
     and_then (source_plan (rules_only list)) (λ source. and_then (file_plan household FILE_BYTES)
@@ -173,7 +173,7 @@ takes_input (Cases names table) = false
 abbrev pub reads_input : List (List ℕ) → Bool
 reads_input words = option_map_or takes_input (command_of words) false
 
--- whether a command writes before all its work is done, so that memory may end it behind a part of its text
+-- whether a command writes before all its work is done, so that memory may end it after a part of its text
 abbrev pub writes_in_parts : Command → Bool
 writes_in_parts (Run names household) = false
 writes_in_parts (Serve names household) = false

@@ -41,7 +41,7 @@ pub enum Form {
     Cases,
 }
 
-/// The command that the words are, if they are one. Its only error is want of memory.
+/// The command that the words are, if they are one. Its only error is running out of memory.
 pub fn command_of(alloc: Global, words: &[Word]) -> Result<Option<Command>, AllocError>
     ensures command { IfOk result (λ command. command ≡ command_of words.now) }
     ensures in_reach { IfOk result (λ command. IfSome command IsInReach) }
@@ -91,7 +91,7 @@ fn large_number(word: &[u8]) -> Option<u32>
     if 1 <= n && n <= LARGE { Some(n) } else { None }
 }
 
-// The command `exec` that the words are, if they are one. Its only error is want of memory.
+// The command `exec` that the words are, if they are one. Its only error is running out of memory.
 fn exec_command(alloc: Global, words: &[Word]) -> Result<Option<Command>, AllocError>
     ensures command { IfOk result (λ command. command ≡ exec_command words.now) }
     ensures in_reach { IfOk result (λ command. IfSome command IsInReach) }
@@ -109,7 +109,7 @@ fn exec_command(alloc: Global, words: &[Word]) -> Result<Option<Command>, AllocE
     Ok(Some(Command::Exec(code, household.copy(alloc)?)))
 }
 
-// The command `compile` that the words are, if they are one. Its only error is want of memory.
+// The command `compile` that the words are, if they are one. Its only error is running out of memory.
 fn compile_command(alloc: Global, words: &[Word]) -> Result<Option<Command>, AllocError>
     ensures command { IfOk result (λ command. command ≡ compile_command words.now) }
     ensures in_reach { IfOk result (λ command. IfSome command IsInReach) }
@@ -132,7 +132,7 @@ fn compile_command(alloc: Global, words: &[Word]) -> Result<Option<Command>, All
     Ok(Some(Command::Compile(names)))
 }
 
-// The command `check` that the words are, if they are one. Its only error is want of memory.
+// The command `check` that the words are, if they are one. Its only error is running out of memory.
 fn check_command(alloc: Global, words: &[Word]) -> Result<Option<Command>, AllocError>
     ensures command { IfOk result (λ command. command ≡ check_command words.now) }
     ensures in_reach { IfOk result (λ command. IfSome command IsInReach) }
@@ -152,7 +152,7 @@ fn check_command(alloc: Global, words: &[Word]) -> Result<Option<Command>, Alloc
     Ok(Some(Command::Check(list, household, report.copy(alloc)?)))
 }
 
-// The command `lint` that the words are, if they are one. Its only error is want of memory.
+// The command `lint` that the words are, if they are one. Its only error is running out of memory.
 fn lint_command(alloc: Global, words: &[Word]) -> Result<Option<Command>, AllocError>
     ensures command { IfOk result (λ command. command ≡ lint_command words.now) }
     ensures in_reach { IfOk result (λ command. IfSome command IsInReach) }
@@ -175,7 +175,7 @@ fn lint_command(alloc: Global, words: &[Word]) -> Result<Option<Command>, AllocE
     Ok(Some(Command::Lint(names)))
 }
 
-// The command over a source and one more file that the words are, if they are one. Its only error is want of memory.
+// The command over a source and one more file that the words are, if they are one. Its only error is running out of memory.
 fn source_command(alloc: Global, words: &[Word]) -> Result<Option<Command>, AllocError>
     ensures command { IfOk result (λ command. command ≡ source_command words.now) }
     ensures in_reach { IfOk result (λ command. IfSome command IsInReach) }

@@ -57,7 +57,7 @@ fn gather_compile<F: Files>(
     Ok(Work::Compile(source))
 }
 
-// Gathers a code file, and a household behind it.
+// Gathers a code file, and a household after it.
 fn gather_exec<F: Files>(
     alloc: Global,
     files: &mut F,
@@ -85,7 +85,7 @@ fn gather_lint<F: Files>(alloc: Global, files: &mut F, names: &SourceNames) -> R
     Ok(Work::Lint(source))
 }
 
-// Gathers the rules of a list, and a household and a report behind them.
+// Gathers the rules of a list, and a household and a report after them.
 fn gather_check<F: Files>(
     alloc: Global,
     files: &mut F,
@@ -105,7 +105,7 @@ fn gather_check<F: Files>(
     Ok(Work::Check(source, rows, report))
 }
 
-// The names of a source of rules alone. Its only error is want of memory.
+// The names of a source of rules alone. Its only error is running out of memory.
 fn rules_only(alloc: Global, list: &Name) -> Result<SourceNames, AllocError>
     ensures { IfOk result (λ names. names ≡ rules_only list.now) }
 {
@@ -116,7 +116,7 @@ fn rules_only(alloc: Global, list: &Name) -> Result<SourceNames, AllocError>
     })
 }
 
-// Gathers a source, and the one file behind it.
+// Gathers a source, and the one file after it.
 fn gather_work<F: Files>(
     alloc: Global,
     files: &mut F,

@@ -46,7 +46,7 @@ fn perform<R: Threads + Sync, F: Files, S: Source, K: Sink>(
 
 /// Does the command that the words are: fetches its files, and prints its answer.
 ///
-/// The words are those behind the program's name. All that is printed, faults too, goes to `out`.
+/// The words are those after the program's name. All that is printed, faults too, goes to `out`.
 pub fn m_tax<R: Threads + Sync, F: Files, S: Source, K: Sink>(
     rt: &R,
     alloc: Global,
@@ -78,13 +78,13 @@ pub fn m_tax<R: Threads + Sync, F: Files, S: Source, K: Sink>(
     ensures read_told { S.faults input.old < S.faults input.new → (result ≡ Status.ReadFault) ⊎ (result ≡ Status.WriteFault) }
 
     // A write fault is told only where one happened and always where one did, and what was written is
-    // the front of a text, or of the replies to all of an input.
+    // the prefix of a text, or of the replies to all of an input.
     ensures write_fault { result ≡ Status.WriteFault → Rose (K.faults out.old) (K.faults out.new) }
     ensures write_told { K.faults out.old < K.faults out.new → result ≡ Status.WriteFault }
     ensures writing { WritesFront words.now (files_view F.told F.attempts F.taken files.old) (files_view F.told F.attempts F.taken files.new)
         (input_view S.left S.faults input.old) (input_view S.left S.faults input.new) (output_view K.written K.faults out.old) (output_view K.written K.faults out.new) result }
 
-    // Without memory nothing was written, but by a command that writes in parts, which has written the front of an output. Nothing was
+    // Without memory nothing was written, but by a command that writes in parts, which has written the prefix of an output. Nothing was
     // taken from the input then.
     ensures memory { result ≡ Status.Memory → writes_early words.now ≡ false → K.written out.new ≡ K.written out.old }
     ensures memory_front { StopsInFront words.now (files_view F.told F.attempts F.taken files.old)
@@ -103,7 +103,7 @@ pub fn m_tax<R: Threads + Sync, F: Files, S: Source, K: Sink>(
 }
 
 /// The same words, files and input have one output: one text and one status, but for which of several cycles or recursions a
-/// refusal shows, for the code that `compile` writes, and for what `lint` finds, which are each by one of those that the source is compiled to. It
+/// error shows, for the code that `compile` writes, and for what `lint` finds, which are each by one of those that the source is compiled to. It
 /// holds of each command.
 pub fn one_output()
     ensures { (words : List (List ℕ)) (disk : Disk) (typed one other : List ℕ) (status outcome : Status) →

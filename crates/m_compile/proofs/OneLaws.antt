@@ -83,7 +83,7 @@ one_validity source declared others base other written another requests asked a 
     let r = rules_one source a.rules b.rules in
     (r.0, r.1, written_one others source.driver written another (written_at source r.0 a.driven) b.driven, ok_one a.requested (requests_one source r.0 ∙ b.requested))
 
--- what weighs too much is no valid source
+-- what costs too much is no valid source
 weight_same : {declared others : Declared} {base other : Base} {written another : Option Core} {requests asked : List ℕ} → declared ≡ others → base ≡ other → written ≡ another → requests ≡ asked
     → weight_of (running written requests declared) base ≡ weight_of (running another asked others) other
 weight_same d b w r = λ i. weight_of (running (w i) (r i) (d i)) (b i)

@@ -26,7 +26,7 @@ use Rattle.m_compile.specs.Sources.{HasRules, IsWritten, running}
 abbrev pub most_weight : ℕ
 most_weight = 18_446_744_073_709_551_615
 
--- what is told of a driver that weighs too much over a base
+-- what is told of a driver that costs too much over a base
 abbrev pub told_weight : Core → Base → ℕ
 told_weight core base = min (weight_of core base) most_weight
 

@@ -95,7 +95,7 @@ request_fault_line (requests.BadRequest line) = Some (request_line line)
 request_fault_line requests.TooManyRequests = Some too_many_requests_line
 request_fault_line requests.Memory = None
 
--- The line of a fault of a source whose rule files are these; want of memory has none. An unclosed text at byte 43 of the first of them,
+-- The line of a fault of a source whose rule files are these; running out of memory has none. An unclosed text at byte 43 of the first of them,
 -- `a.m`, has `refused a.m line 1 byte 43: open string`.
 abbrev pub source_line : List Text → SourceFault → Option (List ℕ)
 source_line texts (source.Rules fault) = rule_line texts fault

@@ -1,4 +1,4 @@
-//! The steps of the compiler, one behind the other.
+//! The steps of the compiler, one after the other.
 
 ghost use Rattle.std.specs.Prelude.{◌≡◌, ◌<◌, ◌≤◌, ◌^◌, All, IfOk, IfSome, IsTrue, Ok, length};
 ghost use Rattle.m_places.specs.Refusals.{Outcome};
@@ -86,7 +86,7 @@ fn ready<R: Threads + Sync>(
     program(alloc, source, &made)
 }
 
-// The code of a small program, which the face shows. Its only error is want of memory.
+// The code of a small program, which the face shows. Its only error is running out of memory.
 fn coded(alloc: Global, tidy: &Tidy, face: &Face) -> Result<Code, AllocError>
     requires shown { IsFaceOf face.now tidy.now }
     requires few { length face.now.labels < 2 ^ 32 }
@@ -151,7 +151,7 @@ fn core_of(alloc: Global, bytes: &[u8], symbols: &Symbols) -> Result<Core, Sourc
     Ok(core)
 }
 
-// The driver that runs: the one that was written, or one call of the rules. Its only error is want of memory.
+// The driver that runs: the one that was written, or one call of the rules. Its only error is running out of memory.
 fn running(
     alloc: Global,
     written: Option<Core>,

@@ -16,7 +16,7 @@ use observables::{Coded, Face, FaceLabel, FaceOutput, InputType, type_of};
 use std::alloc::{AllocError, Global};
 
 /// The face of a program with these labels over what is declared: all inputs, the labels, and first the notes, by the numbers
-/// of their labels, and then the names of the cells that are asked for. Its only error is want of memory.
+/// of their labels, and then the names of the cells that are asked for. Its only error is running out of memory.
 pub(crate) fn face_of(
     alloc: Global,
     symbols: &Symbols,
@@ -66,7 +66,7 @@ fn add_input(alloc: Global, variable: &Variable, inputs: &mut Vec<Coded>) -> Res
     Ok(())
 }
 
-// The type of an input by the word behind `type`: without one it may have each amount.
+// The type of an input by the word after `type`: without one it may have each amount.
 fn type_said(word: &Option<Name>) -> InputType
     ensures { result ≡ type_said word.now }
 {

@@ -11,7 +11,7 @@ use mpp_lexer::DriverFault;
 use rule_base::RuleFault;
 use std::alloc::{AllocError, AllocFailed};
 
-/// Why a source is refused: the fault of the earliest step that has one. A fault of a step is never that step's want of
+/// Why a source is refused: the fault of the earliest step that has one. A fault of a step is never that step's running out of
 /// memory, which is the one `Memory` of this type.
 #[derive(Drop)]
 pub enum SourceFault {
@@ -23,7 +23,7 @@ pub enum SourceFault {
     Core(CoreFault),
     /// A line of the requests is bad, or there are too many.
     Requests(RequestFault),
-    /// The whole weighs too much: its weight, or 18446744073709551615 where that is greater.
+    /// The whole costs too much: its weight, or 18446744073709551615 where that is greater.
     DriverTooLarge(u64),
     /// There was no memory.
     Memory,

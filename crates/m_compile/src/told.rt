@@ -20,7 +20,7 @@ use rule_base::RuleFault;
 use rule_text::Text;
 
 /// What a fault of a source is told as, where these are its rule files: its line names the file, the line and the byte.
-/// Nothing is told of want of memory.
+/// Nothing is told of running out of memory.
 pub fn told_fault<'a>(texts: &'a [Text], fault: &'a SourceFault) -> Option<Fault<'a>>
     ensures { option_map fault_line result ≡ source_line texts.now fault.now }
 {

@@ -1,4 +1,4 @@
--- Texts written into a room, one behind another.
+-- Texts written into a room, one after another.
 use Rattle.std.proofs.Common.{◌≡◌, ℕ, zero, suc, ◌+◌, ◌-◌, ◌/◌, ◌%◌, ◌^◌, ◌<◌, ◌≤◌, List, [], ◌∷◌, ◌++◌, length, take, drop, set, arith, refl, sym, ap, ◌∙◌, append_assoc, length-append, add-zero, ⊎_elim, true, false, if◌then◌else◌, ℤ, unsigned_abs}
 use Rattle.std.proofs.Math.Nat.{pow-suc, mul-div_left}
 use Rattle.std.specs.Prelude.{decimal, ◌==◌}
@@ -13,7 +13,7 @@ use Rattle.m_fixed.specs.Text.{Writes, decimals_of, fraction_text, size_text, pr
 pub writes_none : (room : List ℕ) (at : ℕ) → Writes room room at [] at
 writes_none room at = record { length = sym (add-zero at); front = sym (append-nil (take at room)); rest = refl }
 
--- the rest from a place is the rest from each place behind it
+-- the rest from a place is the rest from each place after it
 later : (xs ys : List ℕ) (i j : ℕ) → i ≤ j → drop i xs ≡ drop i ys → drop j xs ≡ drop j ys
 later xs ys i j h e =
     let split : i + (j - i) ≡ j = omega arith in
@@ -27,7 +27,7 @@ writes_before room next at end b text below w = record {
   rest = w.rest ∙ drop-set-lt end room at b (omega (arith, w.length));
 }
 
--- one byte behind it
+-- one byte after it
 pub writes_behind : (room next : List ℕ) (at end : ℕ) (b : ℕ) (text : List ℕ) → end < length next → Writes room next at text end → Writes room (set next end b) at (text ++ b ∷ []) (end + 1)
 writes_behind room next at end b text below w = record {
   length = omega (arith, w.length, length-append text (b ∷ []));
@@ -35,7 +35,7 @@ writes_behind room next at end b text below w = record {
   rest = drop-set-lt (end + 1) next end b (omega arith) ∙ later next room end (end + 1) (omega arith) w.rest;
 }
 
--- one text behind another
+-- one text after another
 pub writes_both : (room next last : List ℕ) (at end to : ℕ) (s t : List ℕ) → Writes room next at s end → Writes next last end t to → Writes room last at (s ++ t) to
 writes_both room next last at end to s t v w = record {
   length = omega (arith, v.length, w.length, length-append s t);
@@ -114,7 +114,7 @@ size_short size h =
 
 -- ---- the sign
 
--- the printed form behind a minus, and without one
+-- the printed form after a minus, and without one
 pub writes_negative : (room next : List ℕ) (z : ℤ) (n end : ℕ) → 0 < length room → true ≡ is_negative z → n ≡ unsigned_abs z → Writes (set room 0 45) next 1 (size_text n) end → Writes room next 0 (printed z) end
 unfolding printed
 writes_negative room next z n end some below e w = rw (← below, ← e) (writes_before room next 0 end 45 (size_text n) some w)

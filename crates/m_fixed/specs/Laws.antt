@@ -47,7 +47,7 @@ pub data SpellsNumber (text : List ℕ) (n : ℕ) : Type 0 where
   whole : (ds : List ℕ) → IsTrue (is_digits ds) → text ≡ ds → n ≡ millionths_of ds [] → SpellsNumber text n
   decimal : (ds fs : List ℕ) → IsTrue (is_digits ds) → IsTrue (is_digits fs) → text ≡ ds ++ point ∷ fs → n ≡ millionths_of ds fs → SpellsNumber text n
 
--- the text is an amount: a number, or a number behind a minus; it spells z millionths
+-- the text is an amount: a number, or a number after a minus; it spells z millionths
 pub data SpellsAmount (text : List ℕ) (z : ℤ) : Type 0 where
   plain : (n : ℕ) → SpellsNumber text n → z ≡ pos n → SpellsAmount text z
   below_zero : (number : List ℕ) (n : ℕ) → text ≡ minus ∷ number → SpellsNumber number n → z ≡ neg_ℤ (pos n) → SpellsAmount text z

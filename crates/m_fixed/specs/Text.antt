@@ -29,12 +29,12 @@ abbrev pub before_point : List ℕ → List ℕ
 before_point [] = []
 before_point (c ∷ text) = if c == point then [] else c ∷ before_point text
 
--- what stands behind the first point, if there is one
+-- what stands after the first point, if there is one
 abbrev pub behind_point : List ℕ → Option (List ℕ)
 behind_point [] = None
 behind_point (c ∷ text) = if c == point then Some text else behind_point text
 
--- the millionths that the digits before and behind a point spell, rounded at the sixth decimal,
+-- the millionths that the digits before and after a point spell, rounded at the sixth decimal,
 -- halves up
 abbrev pub millionths_of : List ℕ → List ℕ → ℕ
 millionths_of whole decimals = nearest (digits_value 10 (whole ++ decimals) * unit) (10 ^ length decimals)
@@ -48,7 +48,7 @@ parts_value whole (Some decimals) = if is_digits whole && is_digits decimals the
 unfoldable pub number_value : List ℕ → Option ℕ
 number_value text = parts_value (before_point text) (behind_point text)
 
--- a text without the minus at its front, if it has one
+-- a text without the minus at its start, if it has one
 abbrev pub without_minus : List ℕ → List ℕ
 without_minus text = if starts_with_minus text then drop 1 text else text
 

@@ -20,7 +20,7 @@ pub enum AmountFault {
 /// More whole units than any amount has.
 const UNITS_ABOVE: u64 = 10_000_000_000_001;
 
-/// The amount that a text spells: a minus or nothing, digits, and behind a point decimals. It is
+/// The amount that a text spells: a minus or nothing, digits, and after a point decimals. It is
 /// rounded at the sixth decimal, halves away from zero: `-0.1234565` is -0.123457.
 pub fn read_amount(text: &[u8]) -> Result<Amount, AmountFault>
     ensures { result ≡ amount_read (text_value text.now) }
@@ -62,7 +62,7 @@ fn read_number(text: &[u8]) -> Result<u64, AmountFault>
     }
 }
 
-/// The millionths that the digits before and behind a point spell.
+/// The millionths that the digits before and after a point spell.
 fn size(whole: &[u8], decimals: &[u8]) -> Result<u64, AmountFault>
     requires whole_in { IsTrue (only_digits whole.now) }
     requires decimals_in { IsTrue (only_digits decimals.now) }
@@ -77,7 +77,7 @@ fn size(whole: &[u8], decimals: &[u8]) -> Result<u64, AmountFault>
     }
 }
 
-/// What stands before the first point, and what stands behind it, if there is one.
+/// What stands before the first point, and what stands after it, if there is one.
 fn split_at_point(text: &[u8]) -> (&[u8], Option<&[u8]>)
     ensures before { result.0.now ≡ before_point text.now }
     ensures behind { option_copied result.1 ≡ behind_point text.now }
@@ -133,7 +133,7 @@ fn rounded_decimals(decimals: &[u8]) -> u64
     }
 }
 
-/// The decimal at a place, which is 0 behind the last one.
+/// The decimal at a place, which is 0 after the last one.
 fn decimal_at(decimals: &[u8], place: usize) -> u64
     requires { IsTrue (only_digits decimals.now) }
     ensures value { result ≡ slice_index_or decimals.now place 48 - 48 }

@@ -6,8 +6,8 @@ ghost use Rattle.m_fixed.specs.Text.{printed, size_text, fraction_text, decimals
 use crate::Amount;
 use crate::amount::UNIT;
 
-/// Writes the one printed form of an amount into the front of the room, as `-1.5005`, and answers its
-/// length. What stands behind it in the room stays.
+/// Writes the one printed form of an amount into the start of the room, as `-1.5005`, and answers its
+/// length. What stands after it in the room stays.
 pub fn write_amount(a: Amount, room: &mut [u8; 32]) -> usize
     ensures text { take result room.new ≡ printed a }
     ensures rest { drop result room.new ≡ drop result room.old }

@@ -105,7 +105,7 @@ no_item : (ts : List Token) → key_at keys.Regle ts ≡ None → key_at keys.Ve
 unfolding item_at
 no_item ts h g e = rw (not_begun keys.Regle ts h, not_begun keys.Verif ts g) e
 
--- behind another reserved word
+-- after another reserved word
 no_name : {k : AKey} {ts : List Token} → BeginsWith (Key k) ts → open_at name ts ≡ None
 no_name (begins_with e) = rw e refl
 
@@ -121,7 +121,7 @@ no_colon no_index e = nothing_opened (kind_is_sign signs.Colon) (sign_first sign
 no_colon (every_cell o k c) e = nothing_opened (kind_is_sign signs.Colon) (sign_first signs.OpenBracket o) refl
 no_colon (one_cell o d c) e = nothing_opened (kind_is_sign signs.Colon) (sign_first signs.OpenBracket o) refl
 
--- a word with no colon behind it
+-- a word with no colon after it
 not_declared_at_word : (t : Token) (ts : List Token) → BeginsWithWord (t ∷ ts) → sign_at signs.Colon ts ≡ None → declaration_at (t ∷ ts) ≡ None
 unfolding declaration_at declared_at
 not_declared_at_word t ts (a_word b) h = rw (no_place_opened keys.Application b refl, no_place_opened keys.Enchaineur b refl) (go (name t))

@@ -1,4 +1,4 @@
--- The law of lists of items: reading item after item reads the longest front that spells items.
+-- The law of lists of items: reading item after item reads the longest prefix that spells items.
 use Rattle.std.proofs.Common.{◌≡◌, ◌<◌, ◌≤◌, List, [], ◌∷◌, ◌++◌, length, Option, Some, None, refl, sym, subst, append_assoc, arith}
 use Rattle.std.proofs.lemmas.List.{append-nil}
 use Rattle.m_lexer.specs.declared.token.Token.{Token}
@@ -20,7 +20,7 @@ shorter ts e = behind_shorter (item_passes _ _ _ (found_at (item_sound ts) e))
 shrinks : {whole : List Item × List Token} {done : List Item} {ts : List Token} → Going item_at whole done ts → length whole.1 ≤ length ts
 shrinks g = going_shrinks SpellsItem item_at item_sound item_passes g
 
--- all is read so up to r, or reading ends behind r
+-- all is read so up to r, or reading ends after r
 data ListRuns (whole : List Item × List Token) (done : List Item) (r : List Token) : Type 0 where
   along : Going item_at whole done r → ListRuns whole done r
   past : length whole.1 < length r → ListRuns whole done r

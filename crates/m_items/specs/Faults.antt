@@ -13,11 +13,11 @@ use Rattle.m_items.specs.declared.fault.ParseFault.TheVariants.{TooDeep, Syntax,
 abbrev pub IsShallow : List Token → Type 0
 IsShallow tokens = first_too_deep BRACKET_DEPTH 0 tokens ≡ None
 
--- no front of the tokens that spells items reaches further than to this rest
+-- no prefix of the tokens that spells items reaches further than to this rest
 abbrev pub IsLongest : List Token → List Token → Type 0
 IsLongest tokens rest = (items : List Item) (r : List Token) → SpellsItems items tokens r → length rest ≤ length r
 
--- Behind the longest front that spells items stands a token, at this place. A rule with its first formulas is an item already. So
+-- After the longest prefix that spells items stands a token, at this place. A rule with its first formulas is an item already. So
 -- a fault in a further formula is at the first token of that formula, and a fault in the first formula is at `regle`.
 pub record StopsAt (tokens : List Token) (place : Place) : Type 0 where
   pub items : List Item
@@ -31,7 +31,7 @@ pub record IsSyntaxFault (tokens : List Token) (place : Place) : Type 0 where
   pub shallow : IsShallow tokens
   pub stops : StopsAt tokens place
 
--- A place that is too deep, else the place where items end before the tokens do. Want of memory may come anywhere.
+-- A place that is too deep, else the place where items end before the tokens do. Running out of memory may come anywhere.
 abbrev pub IsParseFault : List Token → ParseFault → Type 0
 IsParseFault tokens (TooDeep place) = first_too_deep BRACKET_DEPTH 0 tokens ≡ Some place
 IsParseFault tokens (Syntax place) = IsSyntaxFault tokens place

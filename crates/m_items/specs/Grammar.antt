@@ -16,6 +16,6 @@ pub data SpellsItem : Item → List Token → List Token → Type 0 where
   a_rule : {r : RuleItem} {ts rest : List Token} → SpellsRule r ts rest → SpellsItem (Rule r) ts rest
   a_verification : {v : VerifItem} {ts rest : List Token} → SpellsVerification v ts rest → SpellsItem (Verif v) ts rest
 
--- file := { item } where nothing is left behind the file
+-- file := { item } where nothing is left after the file
 abbrev pub SpellsItems : List Item → List Token → List Token → Type 0
 SpellsItems = Many SpellsItem

@@ -9,9 +9,9 @@ use std::alloc::{AllocError, AllocFailed};
 pub enum ParseFault {
     /// At this token brackets and conditionals stand more than 256 deep.
     TooDeep(Place),
-    /// Behind the longest front of the tokens that spells items stands this token.
+    /// After the longest prefix of the tokens that spells items stands this token.
     Syntax(Place),
-    /// Want of memory.
+    /// Out of memory.
     Memory,
 }
 

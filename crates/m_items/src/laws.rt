@@ -7,7 +7,7 @@ ghost use Rattle.m_items.specs.declared.fault.ParseFault.TheVariants.{Memory};
 ghost use Rattle.m_items.specs.Grammar.{SpellsItems};
 ghost use Rattle.m_items.specs.Faults.{IsShallow, IsParseFault};
 
-/// The tokens up to one rest spell at most one list of items: so do all the tokens, and each front of them.
+/// The tokens up to one rest spell at most one list of items: so do all the tokens, and each prefix of them.
 pub fn one_item_list()
     ensures { (is js : List Item) (tokens rest : List Token) → SpellsItems is tokens rest → SpellsItems js tokens rest → is ≡ js }
 {}

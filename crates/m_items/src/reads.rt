@@ -18,8 +18,8 @@ use std::alloc::Global;
 /// The items that all the tokens spell, in order.
 ///
 /// `TooDeep` comes exactly where brackets and conditionals stand more than 256 deep, with the first such place. Else
-/// `Syntax` comes exactly where the tokens spell no list of items. Its place is that of the first token behind the longest
-/// front that spells one: of the tokens of `regle 1 : application : iliad ; A = 1 ; B + 2 ;` it is that of `B`, and where
+/// `Syntax` comes exactly where the tokens spell no list of items. Its place is that of the first token after the longest
+/// prefix that spells one: of the tokens of `regle 1 : application : iliad ; A = 1 ; B + 2 ;` it is that of `B`, and where
 /// `regle 11` ends the tokens it is that of `regle`.
 pub fn parse(alloc: Global, tokens: &[Token]) -> Result<Seq<Item>, ParseFault>
     ensures outcome { Outcome Memory result (λ items. SpellsItems items tokens.now []) (λ fault. IsParseFault tokens.now fault) }

@@ -10,7 +10,7 @@ use rule_text::Text;
 use std::alloc::{AllocError, Global};
 use text_pieces::append_pieces;
 
-/// The rule file `large.m` of `large N`, for the application `iliad`. Its only error is want of memory.
+/// The rule file `large.m` of `large N`, for the application `iliad`. Its only error is running out of memory.
 ///
 /// Of 1 it has `R0 : saisie revenu classe = 0 alias C0 : "r" ;`, `T0 : calculee : "t" ;`, a rule for T0
 /// and a verification of it.

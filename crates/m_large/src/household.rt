@@ -8,7 +8,7 @@ use itoa::Buffer;
 use std::alloc::{AllocError, Global};
 use text_pieces::append_pieces;
 
-/// The household of `large N`: a row for each input of `large_base`. Its only error is want of memory.
+/// The household of `large N`: a row for each input of `large_base`. Its only error is running out of memory.
 ///
 /// Of 3 it is `code,amount`, `C0,0`, `C1,997` and `C2,1994`.
 pub fn large_household(alloc: Global, n: u32) -> Result<Vec<u8>, AllocError>

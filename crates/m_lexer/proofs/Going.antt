@@ -41,7 +41,7 @@ then bytes p q r ts us a b = record {
   faults = λ fault d. a.faults fault (b.faults fault d);
 }
 
--- a later place is the one behind the text between the two
+-- a later place is the one after the text between the two
 place_behind : (p : Place) (t : List ℕ) (b n : ℕ) → b ≡ p.byte + length t → n ≡ count_by (λ x. x == line_feed) t → further p b n ≡ behind t p
 place_behind p t b n e f = λ i. record { file = p.file; byte = e i; line = p.line + f i }
 

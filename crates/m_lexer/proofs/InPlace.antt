@@ -10,7 +10,7 @@ use Rattle.m_lexer.specs.declared.fault.LexFault.{LexFault}
 use Rattle.m_text.specs.Bytes.{line_feed}
 use Rattle.m_lexer.specs.Tokens.{Lexes, end, gap, token, FirstFault, bad_byte, open_string, too_great, StandsIn, IsFaultAt, behind}
 
--- behind one text and then another is behind both
+-- after one text and then another is after both
 behind_both : (t u : List ℕ) (p : Place) → behind u (behind t p) ≡ behind (t ++ u) p
 behind_both t u p =
     let n = length-append t u in

@@ -19,13 +19,13 @@ use Rattle.m_lexer.specs.Spellings.{IsPiece, IsBlank, sign_spelling, key_spellin
 abbrev pub start_of : ℕ → Place
 start_of file = record { file = file; byte = 0; line = 1 }
 
--- The place behind a text: as many bytes on as it has, and a line for each line feed in it. Behind
+-- The place after a text: as many bytes on as it has, and a line for each line feed in it. After
 -- two bytes of which one is a line feed, the start of a file becomes byte 2, line 2.
 abbrev pub behind : List ℕ → Place → Place
 behind t p = record { file = p.file; byte = p.byte + length t; line = p.line + count_by (λ b. b == line_feed) t }
 
--- t is the longest piece at the front of bytes, and rest stands behind it: of `sinon 1` it is
--- `sinon`, with ` 1` behind it
+-- t is the longest piece at the start of bytes, and rest stands after it: of `sinon 1` it is
+-- `sinon`, with ` 1` after it
 abbrev pub Longest : List ℕ → List ℕ → List ℕ → Type 0
 Longest bytes t rest = LongestOf IsPiece bytes t rest
 
@@ -59,8 +59,8 @@ pub data Lexes : Place → List ℕ → List Token → Type 0 where
 abbrev pub NoPiece : List ℕ → Type 0
 NoPiece bytes = (t others : List ℕ) → bytes ≡ t ++ others → IsPiece t → ⊥
 
--- The first fault from a place on: behind gaps and tokens by turns comes a byte at which no piece
--- begins, a quote with no other behind it, or a number that is too great.
+-- The first fault from a place on: after gaps and tokens by turns comes a byte at which no piece
+-- begins, a quote with no other after it, or a number that is too great.
 pub data FirstFault : Place → List ℕ → LexFault → Type 0 where
   bad_byte : {p : Place} {b : ℕ} {bytes : List ℕ} → b ≢ quote → NoPiece (b ∷ bytes) → FirstFault p (b ∷ bytes) (BadByte p)
   open_string : {p : Place} {bytes : List ℕ} (inside : List ℕ) → bytes ≡ quote ∷ inside → AllByRecursion (λ b. b ≢ quote) inside → FirstFault p bytes (OpenString p)
@@ -70,7 +70,7 @@ pub data FirstFault : Place → List ℕ → LexFault → Type 0 where
   token : {p : Place} {bytes t rest : List ℕ} {kind : Kind} {fault : LexFault} → Longest bytes t rest → Spells t kind →
       FirstFault (behind t p) rest fault → FirstFault p bytes fault
 
--- A token stands where its place says: a spelling of it is there, and its place is the one behind
+-- A token stands where its place says: a spelling of it is there, and its place is the one after
 -- all that comes before.
 pub record StandsIn (p : Place) (bytes : List ℕ) (token : Token) : Type 0 where
   pub before : List ℕ

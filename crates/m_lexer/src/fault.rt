@@ -15,7 +15,7 @@ pub enum LexFault {
     OpenString(Place),
     /// A number above 10000000000000 after it is rounded at the sixth decimal.
     NumberTooGreat(Place),
-    /// Want of memory.
+    /// Out of memory.
     Memory,
 }
 

@@ -63,7 +63,7 @@ fn after_gaps(bytes: &[u8], from: Place) -> Place
     place
 }
 
-// The place behind the gap that stands here: one blank byte, or a comment.
+// The place after the gap that stands here: one blank byte, or a comment.
 fn after_gap(bytes: &[u8], place: Place) -> Option<Place>
     requires small { length bytes.now ≤ FILE_BYTES }
     requires here { IsPlaceIn bytes.now place }
@@ -98,7 +98,7 @@ fn further(place: Place, byte: usize, lines: usize) -> Place
     }
 }
 
-// The token that begins here, and the place behind it.
+// The token that begins here, and the place after it.
 fn kind_at(alloc: Global, bytes: &[u8], place: Place) -> Result<(Kind, Place), LexFault>
     requires small { length bytes.now ≤ FILE_BYTES }
     requires here { IsPlaceIn bytes.now place }

@@ -111,7 +111,7 @@ loud-length known flat face =
     notes-length known face.outputs flat.outputs (with_checks known flat.checks (replicate (length face.labels) false))
     ∙ checks-length known flat.checks (replicate (length face.labels) false) ∙ length-replicate (length face.labels) false
 
--- a mark behind which one is set or not
+-- a mark after which one is set or not
 any-cond : (labels : List FaceLabel) (marks : List Bool) (n : ℕ) (this : Label) (quiet : Bool) → length labels ≡ length marks
     → any_marked labels (cond quiet marks (set marks n true)) this ≡ (any_marked labels marks this || not (not (has_label labels this n) || quiet))
 any-cond labels marks n this true e = by (any_marked labels marks this) (has_label labels this n)

@@ -127,7 +127,7 @@ then-read : (now before after first second : Bool) → now ≡ (before || second
 then-read now before after first second e f = e ∙ ap (λ b. b || second) f ∙ or-assoc after first second
 
 mutual
-  -- behind a term those cells are in runs that were so, and those that it reads
+  -- after a term those cells are in runs that were so, and those that it reads
   covers-term : (t : Tree) (reach : List ℕ) (c : ℕ) → IsWithin (length reach) t → covers 0 (reach_of t reach) c ≡ (covers 0 reach c || term_reads t c)
   covers-term (lit v) reach c h = or-none (covers 0 reach c)
   covers-term (cell d) reach c h = at reach d 1 c h ∙ ap (λ b. covers 0 reach c || b) (from-one d c)

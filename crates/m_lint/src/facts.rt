@@ -9,7 +9,7 @@ use definedness::{Fact, fact_of, fact_of_input, fact_of_value};
 use flat_code::{Check, Node};
 use std::alloc::{AllocError, Global};
 
-/// The facts of all nodes, in order, of a program with so many inputs. Its only error is want of memory.
+/// The facts of all nodes, in order, of a program with so many inputs. Its only error is running out of memory.
 pub(crate) fn facts_of(alloc: Global, nodes: &[Node], inputs: u32) -> Result<Vec<Fact>, AllocError>
     requires { AreNodes inputs 0 nodes.now }
     ensures facts { IfOk result (λ known. known.items ≡ entries_of facts nodes.now) }

@@ -19,7 +19,7 @@ use observables::Face;
 use std::alloc::{AllocError, Global};
 
 /// What is found of a base, where a program with this face is what it is compiled to: first each cell that is read and never defined,
-/// by number, then each check that never stops and is never noted, and then each input that isn't used. Its only error is want of
+/// by number, then each check that never stops and is never noted, and then each input that isn't used. Its only error is running out of
 /// memory.
 ///
 /// It takes a step for each node, check, output and cell, and for each byte of the labels.

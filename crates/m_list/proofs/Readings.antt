@@ -97,7 +97,7 @@ first_bad_says number (line ∷ lines) = elim (cases_Bool (is_file_line line)) [
   | inr e ↦ rw e (record { good = []; bad = line; others = lines; parts = refl; names = tt; bad_name = λ h. both_ways (is_file_line line) e (file_line_test line h); number_is = omega arith })
 ]
 
--- what the lines behind the application say
+-- what the lines after the application say
 files_say : (bytes application : List ℕ) (lines : List (List ℕ)) (found : Option ℕ) → lines_of bytes ≡ application ∷ lines → IsWord application
     → MatchOption found (AllByRecursion IsFileLine lines) (FirstBadIn 2 lines) → MatchResult (files_read application lines found) (IsListing bytes) (IsListFault bytes)
 files_say bytes application lines (Some number) e w h = no_name application h.bad h.good h.others (record { parts = refl; word = w; names = h.names }) h.bad_name (e ∙ ap (λ x. application ∷ x) h.parts) h.number_is

@@ -13,7 +13,7 @@ use Rattle.m_list.specs.Files.{files_of}
 -- means, and the laws `list_says` and `one_reading` that they and it are one.
 pub use Rattle.m_list.specs.inner.Reading.{list_of}
 
--- a line behind the first: the name of a file, or nothing
+-- a line after the first: the name of a file, or nothing
 abbrev pub IsFileLine : List ℕ → Type 0
 IsFileLine line = (length line ≤ FILE_NAME_BYTES) × IsUtf8 line
 
@@ -24,7 +24,7 @@ pub record AreGood (application : List ℕ) (others lines : List (List ℕ)) : T
   pub names : AllByRecursion IsFileLine others
 
 -- The first bad line of a list has this number, from 1: the first, where it is missing or no word, or a later one that is
--- no line of files, behind lines that are good. `iliad\r` is bad at line 1.
+-- no line of files, after lines that are good. `iliad\r` is bad at line 1.
 pub data IsFirstBad : List (List ℕ) → ℕ → Type 0 where
   missing : IsFirstBad [] 1
   no_word : {line : List ℕ} {lines : List (List ℕ)} → (IsWord line → ⊥) → IsFirstBad (line ∷ lines) 1

@@ -31,12 +31,12 @@ twice x (y ∷ xs) ys h d =
       | inr e ↦ twice x xs ys e d.1
     ]
 
--- a name that is neither among names nor behind them
+-- a name that is neither among names nor after them
 has-push : (y x : List ℕ) (xs : List (List ℕ)) → has y xs ≡ false → bytes_eq y x ≡ false → has y (xs ++ x ∷ []) ≡ false
 has-push y x [] h e = or_from (bytes_eq y x) false e refl
 has-push y x (z ∷ xs) h e = or_from (bytes_eq y z) (has y (xs ++ x ∷ [])) (or_parts (bytes_eq y z) (has y xs) h).0 (has-push y x xs (or_parts (bytes_eq y z) (has y xs) h).1 e)
 
--- a new name behind distinct ones
+-- a new name after distinct ones
 pub AreDistinct-push : (x : List ℕ) (xs : List (List ℕ)) → AreDistinct xs → has x xs ≡ false → AreDistinct (xs ++ x ∷ [])
 AreDistinct-push x [] d h = (refl, tt)
 AreDistinct-push x (y ∷ xs) d h =

@@ -86,7 +86,7 @@ impl Names {
     }
 
     /// Adds a name at the end, and says whether it is new. A name that is there already stays
-    /// where it is. Its only error is want of memory, and then the names are as they were.
+    /// where it is. Its only error is running out of memory, and then the names are as they were.
     pub fn add(&mut self, alloc: Global, name: &[u8]) -> Result<bool, AllocError>
         ensures fresh { IfOk result (λ fresh. fresh ≡ not (has name.now self.old)) }
         ensures added { IfOk result (λ fresh. self.new ≡ (if fresh then self.old ++ name.now ∷ [] else self.old)) }

@@ -24,7 +24,7 @@ impl Model for Name {
 }
 
 impl Name {
-    /// A name of these bytes. Its only error is want of memory.
+    /// A name of these bytes. Its only error is running out of memory.
     pub fn new(alloc: Global, bytes: &[u8]) -> Result<Name, AllocError>
         ensures { IfOk result (λ n. n ≡ bytes.now) }
     {
@@ -40,7 +40,7 @@ impl Name {
         self.bytes.as_slice()
     }
 
-    /// Another name of the same bytes. Its only error is want of memory.
+    /// Another name of the same bytes. Its only error is running out of memory.
     pub fn copy(&self, alloc: Global) -> Result<Name, AllocError>
         ensures { IfOk result (λ n. n ≡ self.now) }
     {

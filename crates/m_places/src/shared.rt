@@ -22,7 +22,7 @@ impl Model for SharedName {
 }
 
 impl SharedName {
-    /// A name that can be shared. Its only error is want of memory.
+    /// A name that can be shared. Its only error is running out of memory.
     pub fn new(alloc: Global, name: Name) -> Result<SharedName, AllocError>
         ensures { IfOk result (λ s. s ≡ name) }
     {
@@ -38,7 +38,7 @@ impl SharedName {
         self.name.bytes()
     }
 
-    /// The same name for one more owner, which takes no memory. Its only error, as for want of
+    /// The same name for one more owner, which takes no memory. Its only error, as for lack of
     /// memory, is that owners are more than can be counted in 63 bits.
     pub fn share(&self) -> Result<SharedName, AllocError>
         ensures { IfOk result (λ s. s ≡ self.now) }

@@ -1,4 +1,4 @@
--- How calls go along plans one behind the other.
+-- How calls go along plans one after the other.
 use Rattle.std.proofs.Common.{◌≡◌, ◌≤◌, ◌+◌, ℕ, false, List, [], ◌∷◌, ◌++◌, length, Option, Result, Ok, Err, refl, sym, ap, ◌∙◌, subst, append_assoc, arith}
 use Rattle.std.proofs.lemmas.List.{append-nil}
 use Rattle.std.specs.Prelude.{IsErrAnd}
@@ -13,7 +13,7 @@ use Rattle.m_plan.specs.declared.ending.Ending.TheVariants.{Refused, Memory}
 use Rattle.m_plan.specs.declared.refusal.Refusal.{Refusal}
 use Rattle.m_plan.proofs.Walks.{walks_then, walks_ended}
 
--- a plan that was gathered, and then the one behind it
+-- a plan that was gathered, and then the one after it
 pub along_then : {A B : Type 0} (plan : Plan A) (next : A → Plan B) (before mid after : FilesView) (all : A) (result : Result B Ending)
     → GoesAlong plan before mid (Ok all) → GoesAlong (next all) mid after result → GoesAlong (and_then plan next) before after result
 along_then plan next before mid after all result a b = record {

@@ -8,7 +8,7 @@ KeepsWithin most (done all) = Unit {0}
 KeepsWithin most (refuses line) = Unit {0}
 KeepsWithin most (asks name limit behind) = (limit ≤ most) × ((bytes : List ℕ) → KeepsWithin most (behind bytes))
 
--- one plan, and another behind it
+-- one plan, and another after it
 pub within_then : {A B : Type 0} (most : ℕ) (plan : Plan A) (next : A → Plan B) → KeepsWithin most plan → ((all : A) → KeepsWithin most (next all)) → KeepsWithin most (and_then plan next)
 within_then most (done all) next k n = n all
 within_then most (refuses line) next k n = tt

@@ -14,7 +14,7 @@ pub data Plan (Gathered : Type 0) : Type 0 where
 abbrev pub file_plan : List ℕ → ℕ → Plan (List ℕ)
 file_plan name limit = asks name limit done
 
--- one plan, and behind it another, which may look at what the first gathered
+-- one plan, and after it another, which may look at what the first gathered
 abbrev pub and_then : {A B : Type 0} → Plan A → (A → Plan B) → Plan B
 and_then (done gathered) next = next gathered
 and_then (refuses line) next = refuses line
@@ -38,7 +38,7 @@ end_of disk (done all) = gathered all
 end_of disk (refuses line) = refused line
 end_of disk (asks name limit behind) = asked name limit (λ bytes. end_of disk (behind bytes)) (disk name)
 
--- the names behind a file that has these bytes or isn't there: none where it can't be had
+-- the names after a file that has these bytes or isn't there: none where it can't be had
 abbrev pub names_behind : ℕ → (List ℕ → List (List ℕ)) → Option (List ℕ) → List (List ℕ)
 names_behind limit behind None = []
 names_behind limit behind (Some bytes) = if nat_le (length bytes) limit then behind bytes else []

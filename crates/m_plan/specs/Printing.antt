@@ -16,7 +16,7 @@ use Rattle.m_plan.specs.declared.status.Status.TheVariants.{Refused, ReadFault, 
 abbrev pub Appends : List ℕ → OutputView → OutputView → Type 0
 Appends text old new = (new.written ≡ append_known old.written text) × (new.faults ≡ old.faults)
 
--- a write failed, and the front of the text was appended
+-- a write failed, and the prefix of the text was appended
 abbrev pub Breaks : List ℕ → OutputView → OutputView → Type 0
 Breaks text old new = AppendsPrefix old.written new.written text × Rose old.faults new.faults
 

@@ -1,10 +1,10 @@
--- The line of each refusal that ends a command before it has its files.
+-- The line of each error that ends a command before it has its files.
 use Rattle.std.specs.Prelude.{ℕ, List}
 use Rattle.fault_lines.specs.Lines.{list_line, too_many_files_line, too_long_line}
 use Rattle.m_plan.specs.declared.refusal.Refusal.{Refusal}
 use Rattle.m_plan.specs.declared.refusal.Refusal.TheVariants.{ListLine, TooManyFiles, FileTooLong}
 
--- the line of a refusal: of the file `a.m` past its limit `refused file too long a.m`
+-- the line of an error: of the file `a.m` past its limit `refused file too long a.m`
 abbrev pub refusal_line : Refusal → List ℕ
 refusal_line (ListLine line) = list_line line
 refusal_line TooManyFiles = too_many_files_line

@@ -1,6 +1,6 @@
 //! Commands as plans: which files a command asks for, one after the other, and where it refuses.
 //!
-//! The vocabulary of all commands: statuses, refusals, what ends a command before it has its files, the call
+//! The vocabulary of all commands: statuses, errors, what ends a command before it has its files, the call
 //! that fetches a file, and the calls that print a line. It knows no command, and nothing of what files say.
 #![tactic(auto)]
 

@@ -1,4 +1,4 @@
-//! The calls that print a line. They take no memory, so that a refusal or a failed read is told even
+//! The calls that print a line. They take no memory, so that an error or a failed read is told even
 //! where there is none.
 ghost use Rattle.std.specs.Prelude.{◌≡◌, MatchResult};
 ghost use Rattle.fault_lines.specs.Lines.{fault_line};
@@ -9,7 +9,7 @@ use crate::{Ending, Status};
 use fault_lines::{Fault, give_fault};
 use m_ports::{Failed, Sink};
 
-/// The status behind a text that was given with this result, where this one belongs to the text.
+/// The status after a text that was given with this result, where this one belongs to the text.
 pub fn printed(given: Result<(), Failed>, own: Status) -> Status
     ensures { MatchResult given (λ _. result ≡ own) (λ _. result ≡ Status.WriteFault) }
 {

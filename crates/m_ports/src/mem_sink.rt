@@ -36,7 +36,7 @@ impl Model for MemSink {
 
 impl MemSink {
     /// An empty output, of which each call appends at most `piece` bytes. The calls with bytes to
-    /// give whose numbers, from 1, are in `failing` fail. Its only error is want of memory, and no
+    /// give whose numbers, from 1, are in `failing` fail. Its only error is running out of memory, and no
     /// later call takes memory.
     pub fn new(alloc: Global, piece: usize, failing: Vec<u64>) -> Result<MemSink, AllocError>
         requires { 1 ≤ piece }

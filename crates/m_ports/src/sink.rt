@@ -15,7 +15,7 @@ pub trait Sink {
     ghost faults: { Self → ℕ };
 
     /// Appends the first bytes of the piece, at least one where it has any, and answers how many.
-    /// It can't fail for want of memory.
+    /// It can't fail for lack of memory.
     fn give(&mut self, piece: &[u8]) -> Result<usize, Failed>
         ensures within { IfOk result (λ n. n ≤ length piece.now) }
         ensures some { IfOk result (λ n. 0 < length piece.now → 0 < n) }
@@ -30,7 +30,7 @@ pub trait Sink {
 }
 
 /// Gives all the bytes, by as many pieces as the output needs. On a failure a prefix of them was
-/// appended. It can't fail for want of memory.
+/// appended. It can't fail for lack of memory.
 pub fn give_all<K: Sink>(out: &mut K, bytes: &[u8]) -> Result<(), Failed>
     ensures all { OnOk result (K.written out.new ≡ append_known (K.written out.old) bytes.now) }
 

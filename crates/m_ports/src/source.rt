@@ -7,7 +7,7 @@ ghost use Rattle.m_ports.specs.Counts.{Rose};
 #[derive(Clone, Copy, Debug, PartialEq, Eq)]
 pub struct Failed;
 
-/// An input, which is taken from its front.
+/// An input, which is taken from its start.
 pub trait Source {
     /// The bytes that are left, where the object tells them.
     ghost left: { Self → Option (List ℕ) };
@@ -15,8 +15,8 @@ pub trait Source {
     /// How often the object has failed, up to the last number that it can count to.
     ghost faults: { Self → ℕ };
 
-    /// Moves the first bytes that are left into the front of the piece, and answers how many; 0 is
-    /// the end of the input. What stands behind them in the piece is left open. It can't fail for want of memory.
+    /// Moves the first bytes that are left into the start of the piece, and answers how many; 0 is
+    /// the end of the input. What stands after them in the piece is left open. It can't fail for lack of memory.
     fn take(&mut self, piece: &mut [u8]) -> Result<usize, Failed>
         requires { 0 < length piece.old }
 

@@ -66,7 +66,7 @@ each_or_fail number _ _ fault none_each f = elim f [ ]
 each_or_fail number _ _ fault (one_each {text = t} {items = a} s h) (here f) = says_or_fails number t a fault s f
 each_or_fail number _ _ fault (one_each {texts = ts} {others = fs} s h) (later u k) = each_or_fail (number + 1) ts fs fault h k
 
--- all items are those of each file, one file's behind another's
+-- all items are those of each file, one file's after another's
 pub said_all : (number : ℕ) (texts : List Text) (files : List (List Item)) → SayEach number texts files → SayAll number texts (all_items files)
 said_all number _ _ none_each = no_files
 said_all number _ _ (one_each {texts = ts} {others = fs} s h) = a_file s (said_all (number + 1) ts fs h)

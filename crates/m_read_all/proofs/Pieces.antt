@@ -21,7 +21,7 @@ Given = Result (Vec (List Item) Global) ReadFault
 abbrev pub IsGiven : ℕ → List Text → Given → Type 0
 IsGiven number texts part = Outcome Memory part (λ said. SayEach number texts said.items) (IsFirstFileFault number texts)
 
--- each worker gives what its files say, which are so many behind those of the workers before it
+-- each worker gives what its files say, which are so many after those of the workers before it
 abbrev pub AreGiven : ℕ → ℕ → List Text → List Given → Type 0
 AreGiven size number texts parts = (n at place : ℕ) (d : Given) → n < length parts → at ≡ n * size → place ≡ number + at → IsGiven place (take size (drop at texts)) (get_or parts n d)
 
@@ -33,7 +33,7 @@ tail size number texts part parts each n at place d h a p =
     subst (λ (ts : List Text). IsGiven place (take size ts) (get_or parts n d)) (sym (drop-drop at size texts))
     (each (suc n) (size + at) place d (omega (arith, h)) (let more = suc-mul n size in omega (arith, more, a)) (omega (arith, p)))
 
--- what is behind a part
+-- what is after a part
 behind_ok : (files : List (List Item)) (r : Result (List (List Item)) ReadFault) (all : List (List Item)) → behind files r ≡ Ok all → (more : List (List Item)) × (r ≡ Ok more) × (all ≡ files ++ more)
 behind_ok files (Ok more) all e = (more, refl, (let same : files ++ more ≡ all = cc in sym same))
 behind_ok files (Err fault) all e = absurd (cc)

@@ -1,4 +1,4 @@
--- Files in a row: the first so many of them, and those behind.
+-- Files in a row: the first so many of them, and those after.
 use Rattle.std.proofs.Common.{◌≡◌, ◌≢◌, ℕ, zero, suc, ◌+◌, ◌<◌, ◌≤◌, arith, get_or, take, drop, List, [], ◌∷◌, ◌++◌, length, sym, ◌∙◌, subst, append_assoc}
 use Rattle.std.proofs.Math.Seq.{drop-cons}
 use Rattle.std.proofs.lemmas.List.{append-nil, drop_all}
@@ -9,7 +9,7 @@ use Rattle.m_ast.specs.declared.item.Item.{Item}
 use Rattle.m_read_all.specs.declared.fault.ReadFault.{ReadFault}
 use Rattle.m_read_all.specs.Files.{SaysItems, IsFileFault, SayEach, none_each, one_each, IsFirstFileFault, here, later}
 
--- the first files and those behind them
+-- the first files and those after them
 pub both_each : (size number : ℕ) (texts : List Text) (files others : List (List Item)) → SayEach number (take size texts) files → SayEach (number + size) (drop size texts) others
     → SayEach number texts (files ++ others)
 both_each zero number texts _ others none_each h = subst (λ n. SayEach n texts others) (let e : number + 0 ≡ number = omega arith in e) h
@@ -24,7 +24,7 @@ front_fault (suc size) number [] fault f = elim f [ ]
 front_fault (suc size) number (text ∷ texts) fault (here f) = here f
 front_fault (suc size) number (text ∷ texts) fault (later s k) = later s (front_fault size (number + 1) texts fault k)
 
--- a fault behind files without one
+-- a fault after files without one
 pub behind_fault : (size number : ℕ) (texts : List Text) (files : List (List Item)) (fault : ReadFault) → SayEach number (take size texts) files → IsFirstFileFault (number + size) (drop size texts) fault
     → IsFirstFileFault number texts fault
 behind_fault zero number texts _ fault none_each h = subst (λ n. IsFirstFileFault n texts fault) (let e : number + 0 ≡ number = omega arith in e) h
@@ -43,7 +43,7 @@ within_take zero texts w = tt
 within_take (suc n) [] w = tt
 within_take (suc n) (text ∷ texts) w = (w.0, within_take n texts w.1)
 
--- What the files from now on say is said, behind the files so far, by all; and a fault of theirs is one of all.
+-- What the files from now on say is said, after the files so far, by all; and a fault of theirs is one of all.
 pub record Goes (start : ℕ) (texts left : List Text) (number : ℕ) (files : List (List Item)) : Type 0 where
   pub good : (more : List (List Item)) → SayEach number left more → SayEach start texts (files ++ more)
   pub bad : (fault : ReadFault) → IsFirstFileFault number left fault → IsFirstFileFault start texts fault
@@ -56,7 +56,7 @@ goes_first start number texts files n e w = record {
   within = w;
 }
 
--- the elements from i on are the one at i and those behind it
+-- the elements from i on are the one at i and those after it
 drop_next : {A : Type 0} (xs : List A) (i : ℕ) (x : A) → i < length xs → x ≡ get_or xs i x → drop i xs ≡ x ∷ drop (i + 1) xs
 drop_next xs i x h e = let one : suc i ≡ i + 1 = omega arith in drop-cons xs i x h ∙ (λ k. sym e k ∷ drop (one k) xs)
 

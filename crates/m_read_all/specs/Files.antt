@@ -19,7 +19,7 @@ pub record SaysItems (number : ℕ) (text : Text) (items : List Item) : Type 0 w
   pub shallow : IsShallow tokens
   pub spelled : SpellsItems items tokens []
 
--- Why the file with this number says no items: the first fault of its tokens, or else that of its items. Want of memory is never
+-- Why the file with this number says no items: the first fault of its tokens, or else that of its items. Running out of memory is never
 -- told as the fault of a file.
 pub data IsFileFault (number : ℕ) (text : Text) : ReadFault → Type 0 where
   of_tokens : {fault : LexFault} → FirstFault (start_of number) text.bytes fault → IsFileFault number text (Lex fault)
@@ -33,7 +33,7 @@ pub data SayEach : ℕ → List Text → List (List Item) → Type 0 where
   one_each : {number : ℕ} {text : Text} {texts : List Text} {items : List Item} {others : List (List Item)}
       → SaysItems number text items → SayEach (number + 1) texts others → SayEach number (text ∷ texts) (items ∷ others)
 
--- the items of files, one file's behind another's
+-- the items of files, one file's after another's
 abbrev pub all_items : List (List Item) → List Item
 all_items [] = []
 all_items (items ∷ files) = items ++ all_items files

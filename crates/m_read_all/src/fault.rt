@@ -9,14 +9,14 @@ use m_lexer::LexFault;
 use std::alloc::{AllocError, AllocFailed};
 
 /// Why rule files say no items: the fault of the first file that has one. It is never the lexer's or the parser's own
-/// want of memory, which is the one `Memory` of this type.
+/// running out of memory, which is the one `Memory` of this type.
 #[derive(Clone, Copy, Debug, PartialEq, Eq)]
 pub enum ReadFault {
     /// A file has no tokens.
     Lex(LexFault),
     /// The tokens of a file are no items.
     Parse(ParseFault),
-    /// Want of memory.
+    /// Out of memory.
     Memory,
 }
 

@@ -5,7 +5,7 @@ use Rattle.std.proofs.lemmas.List.{take_more, drop_all}
 use Rattle.std.proofs.lemmas.Bool.{eqb-true, eq-eqb}
 use Rattle.m_requests.specs.Cells.{split_at_bracket, with_first}
 
--- bytes in front of the parts of a text
+-- bytes before the parts of a text
 abbrev pub onto : List ℕ → List ℕ × Option (List ℕ) → List ℕ × Option (List ℕ)
 onto [] parts = parts
 onto (b ∷ bs) parts = with_first b (onto bs parts)

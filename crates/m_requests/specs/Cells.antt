@@ -34,7 +34,7 @@ cell_name declared cell = option_map_or (printed_cell cell) (owner_of declared c
 abbrev pub variable_named : Declared → List ℕ → Option Variable
 variable_named declared name = option_and_then (slice_get declared.variables) (index_of name (names_of declared.variables))
 
--- what stands before the first `[`, and what behind it, if there is one
+-- what stands before the first `[`, and what after it, if there is one
 abbrev pub with_first : ℕ → List ℕ × Option (List ℕ) → List ℕ × Option (List ℕ)
 with_first b parts = (b ∷ parts.0, parts.1)
 
@@ -57,7 +57,7 @@ may_be_plain (b ∷ bs) = nat_le (length bs) 3 && (nat_lt 48 b || length bs == 0
 abbrev pub plain_number : List ℕ → Option ℕ
 plain_number digits = if may_be_plain digits then whole_number digits else None
 
--- the number of a table's cell behind `[`: of `12]` it is 12, and `012]` and `]` have none
+-- the number of a table's cell after `[`: of `12]` it is 12, and `012]` and `]` have none
 abbrev pub index_said : List ℕ → Option ℕ
 index_said text = option_and_then plain_number (before_closing text)
 
@@ -65,7 +65,7 @@ index_said text = option_and_then plain_number (before_closing text)
 abbrev pub cell_within : ℕ → ℕ → ℕ → Option ℕ
 cell_within first size k = if nat_lt k size then Some (first + k) else None
 
--- the cell of a variable without or with an index: a table has one behind `[`, every other variable none
+-- the cell of a variable without or with an index: a table has one after `[`, every other variable none
 abbrev pub cell_by : Option (List ℕ) → Option ℕ → ℕ → Option ℕ
 cell_by None None first = Some first
 cell_by None (Some size) first = None

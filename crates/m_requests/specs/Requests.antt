@@ -8,7 +8,7 @@ use Rattle.m_requests.specs.Cells.{request_cell, returned_cells}
 use Rattle.m_requests.specs.declared.fault.RequestFault.{RequestFault}
 use Rattle.m_requests.specs.declared.fault.RequestFault.TheVariants.{BadRequest, TooManyRequests}
 
--- What lines ask for, of which the first has this number, behind the cells of the lines before them: the cell that each line names
+-- What lines ask for, of which the first has this number, after the cells of the lines before them: the cell that each line names
 -- that isn't empty, or the number of the first line that names none.
 abbrev pub lines_said : Declared → ℕ → List ℕ → List (List ℕ) → Result (List ℕ) RequestFault
 lines_said declared number before [] = Ok before

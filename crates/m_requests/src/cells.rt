@@ -56,7 +56,7 @@ fn cell_without_index(variable: &Variable) -> Option<u32>
     }
 }
 
-// The cell of a table at an index, which this text behind `[` says. There are so many cells.
+// The cell of a table at an index, which this text after `[` says. There are so many cells.
 fn cell_at_index(variable: &Variable, index: &[u8], all: u32) -> Option<u32>
     requires fits { variable.now.first_cell + variable.now.cells ≤ all }
     requires size { IfSome (variable_size variable.now.item) (λ size. variable.now.cells ≡ size) }
@@ -77,7 +77,7 @@ fn cell_within(first: u32, size: u32, k: u32) -> Option<u32>
     if k < size { Some(first + k) } else { None }
 }
 
-// The number of a cell, as it stands behind `[`.
+// The number of a cell, as it stands after `[`.
 fn index_said(text: &[u8]) -> Option<u32>
     ensures { result ≡ index_said text.now }
 {
@@ -123,7 +123,7 @@ fn may_be_plain(digits: &[u8]) -> bool
 }
 
 /// The cells that rules give back: those of all variables among whose words is `restituee`, in order of declaration, a table by all
-/// its cells. Its only error is want of memory.
+/// its cells. Its only error is running out of memory.
 pub fn returned(alloc: Global, symbols: &Symbols) -> Result<Seq<u32>, AllocError>
     requires { IsPlaced symbols.now }
     ensures cells { IfOk result (λ cells. cells ≡ returned_cells symbols.now) }

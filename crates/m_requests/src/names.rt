@@ -11,7 +11,7 @@ use m_symbols::{Symbols, Variable};
 use std::alloc::{AllocError, Global};
 use text_pieces::append_pieces;
 
-/// The printed name of a cell: of a variable its name, of a table's cell `T[1]`. Its only error is want of memory.
+/// The printed name of a cell: of a variable its name, of a table's cell `T[1]`. Its only error is running out of memory.
 pub fn cell_name(alloc: Global, symbols: &Symbols, cell: u32) -> Result<Name, AllocError>
     requires { cell < length (owners_from 0 symbols.now.variables) }
     ensures { IfOk result (λ name. name ≡ cell_name symbols.now cell) }
@@ -46,7 +46,7 @@ fn table_cell(alloc: Global, name: &Name, k: u32) -> Result<Name, AllocError>
     Name::new(alloc, &text)
 }
 
-/// The printed names of cells, in order. Its only error is want of memory.
+/// The printed names of cells, in order. Its only error is running out of memory.
 pub fn cell_names(alloc: Global, symbols: &Symbols, cells: &[u32]) -> Result<Seq<Name>, AllocError>
     requires { All (λ c. c < length (owners_from 0 symbols.now.variables)) cells.now }
     ensures { IfOk result (λ names. names ≡ map (cell_name symbols.now) cells.now) }

@@ -18,7 +18,7 @@ use Rattle.plain_rules.specs.declared.rules.Condition.{Condition}
 use Rattle.m_resolve.specs.Bases.{Checks, conditions_said, label_said, error_named, definitions_said, new_target, cells_of, target_said}
 use Rattle.m_resolve.specs.declared.fault.ResolveFault.{ResolveFault}
 
--- the elements from i on are the one at i and those behind it
+-- the elements from i on are the one at i and those after it
 pub drop_next : {A : Type 0} (xs : List A) (i : ℕ) (x : A) → i < length xs → x ≡ get_or xs i x → drop i xs ≡ x ∷ drop (i + 1) xs
 drop_next xs i x h e = let one : suc i ≡ i + 1 = omega arith in drop-cons xs i x h ∙ (λ k. sym e k ∷ drop (one k) xs)
 

@@ -68,13 +68,13 @@ new_target declared place earlier cell = if is_among cell earlier then Err (Defi
 abbrev pub cells_of : List CellDefinition → List ℕ
 cells_of = map (λ d. d.0)
 
--- what a definition is behind earlier ones: its target's faults come first, and then its term's
+-- what a definition is after earlier ones: its target's faults come first, and then its term's
 abbrev pub definition_said : Declared → List CellDefinition → Definition → Result CellDefinition ResolveFault
 definition_said declared before definition =
     if_said (λ cell. if_said (λ tree. Ok (cell, tree, definition.place)) (term_said declared definition.term))
     (if_said (new_target declared definition.place (cells_of before)) (target_said declared definition))
 
--- definitions one after the other, behind those that are said already
+-- definitions one after the other, after those that are said already
 abbrev pub definitions_said : Declared → List CellDefinition → List Definition → Result (List CellDefinition) ResolveFault
 definitions_said declared before [] = Ok before
 definitions_said declared before (d ∷ ds) = if_said (λ said. definitions_said declared (before ++ said ∷ []) ds) (definition_said declared before d)
@@ -85,7 +85,7 @@ definitions_said declared before (d ∷ ds) = if_said (λ said. definitions_said
 abbrev pub printable : ℕ → ℕ
 printable b = if nat_lt b 32 then 32 else b
 
--- a text as it is printed, behind a colon
+-- a text as it is printed, after a colon
 abbrev pub behind_colon : List ℕ → List ℕ
 behind_colon text = 58 ∷ map printable text
 

@@ -71,7 +71,7 @@ abbrev pub x_name : List ℕ
 x_name = codes "X"
 
 -- What a term is over the cells of what is declared, or the first of its faults from left to right. `A + T[1]` over `A` at cell 0 and the
--- table `T` of the cells 1 to 3 is the cell 0, and behind it `+` and the pick of 1 out of 3 cells from 1 on. `A dans (1, 3..5)` is
+-- table `T` of the cells 1 to 3 is the cell 0, and after it `+` and the pick of 1 out of 3 cells from 1 on. `A dans (1, 3..5)` is
 -- `A = 1 ou (A >= 3 et A <= 5)`. No loop stands in a plain term; one would be undefined.
 abbrev mutual
   pub term_said : Declared → Syntax → Result Tree ResolveFault
@@ -84,7 +84,7 @@ abbrev mutual
   term_said declared (among negated x all) = if_said (λ t. if_said (λ members. Ok (membership negated members)) (members_said declared t [] all)) (term_said declared x)
   term_said declared (loop header body) = Ok (lit_tree Undef)
 
-  -- terms one after the other, behind those that are said already
+  -- terms one after the other, after those that are said already
   pub terms_said : Declared → List Tree → Terms → Result (List Tree) ResolveFault
   terms_said declared before no_terms = Ok before
   terms_said declared before (a_term a rest) = if_said (λ t. terms_said declared (before ++ t ∷ []) rest) (term_said declared a)

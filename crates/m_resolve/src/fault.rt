@@ -12,7 +12,7 @@ use std::alloc::{AllocError, AllocFailed};
 pub enum ResolveFault {
     /// The name is no variable. `X` outside of a formula for every cell is such a name.
     UnknownName(Name, Place),
-    /// An index stands behind the name of a variable that is no table.
+    /// An index stands after the name of a variable that is no table.
     NotATable(Name, Place),
     /// The name of a table stands without an index.
     IsATable(Name, Place),
@@ -20,7 +20,7 @@ pub enum ResolveFault {
     BadTarget(Name, Place),
     /// An earlier definition has the same cell. The name is the cell's printed name.
     DefinedTwice(Name, Place),
-    /// The first word behind `erreur` is no error. The place is that of the check's `si`.
+    /// The first word after `erreur` is no error. The place is that of the check's `si`.
     UnknownError(Name, Place),
     /// There was no memory.
     Memory,

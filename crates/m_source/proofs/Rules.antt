@@ -40,11 +40,11 @@ resumes_next whole before now mid texts left name copy bytes names same r f afte
     r after (Err ending) (along_then (file_plan name (min FILE_BYTES left)) _ now mid after bytes (Err ending) f
     (along_ended (rules_plan (left - length bytes) names) _ mid after ending g))
 
--- the elements from i on are the one at i and those behind it
+-- the elements from i on are the one at i and those after it
 drop_next : {A : Type 0} (xs : List A) (i : ℕ) (x : A) → i < length xs → x ≡ get_or xs i x → drop i xs ≡ x ∷ drop (i + 1) xs
 drop_next xs i x h e = let one : suc i ≡ i + 1 = omega arith in drop-cons xs i x h ∙ (λ k. sym e k ∷ drop (one k) xs)
 
--- at the file with this number, what was said of the rest is said of this file and those behind it
+-- at the file with this number, what was said of the rest is said of this file and those after it
 at_file : (names : List (List ℕ)) (i : ℕ) (name : List ℕ) (whole : Plan (List Text)) (before now : FilesView) (texts : List Text) (left : ℕ)
     → i < length names → name ≡ get_or names i name → Resumes whole before (rules_plan left (drop i names)) now texts
     → Resumes whole before (rules_plan left (name ∷ drop (i + 1) names)) now texts
@@ -71,7 +71,7 @@ rules_end names i name whole before now mid texts left limit ending (Err other) 
     (at_file names i name whole before now texts left h e r mid (Err ending)
     (along_ended (file_plan name (min FILE_BYTES left)) _ now mid ending (subst (λ (m : ℕ). GoesAlong (file_plan name m) now mid (Err ending)) l f)))
 
--- behind a file that was had there was no memory
+-- after a file that was had there was no memory
 pub rules_stop : (names : List (List ℕ)) (i : ℕ) (name bytes : List ℕ) (whole : Plan (List Text)) (before now mid : FilesView) (texts : List Text) (left limit : ℕ) (result : Result (List Text) Ending)
     → i < length names → name ≡ get_or names i name → limit ≡ min FILE_BYTES left → Resumes whole before (rules_plan left (drop i names)) now texts
     → GoesAlong (file_plan name limit) now mid (Ok bytes) → IsErrAnd result (λ x. x ≡ Memory) → GoesAlong whole before mid result

@@ -16,13 +16,13 @@ use Rattle.rule_text.specs.declared.Text.{Text}
 abbrev pub is_none : List ℕ → Bool
 is_none name = bytes_eq name (codes "-")
 
--- the line of a list's fault; want of memory, which no list has, has none
+-- the line of a list's fault; running out of memory, which no list has, has none
 abbrev pub list_fault_line : ListFault → List ℕ
 list_fault_line (BadLine number) = list_line number
 list_fault_line TooManyFiles = too_many_files_line
 list_fault_line Memory = []
 
--- what the list says, or its refusal
+-- what the list says, or its error
 abbrev pub listed : Result Listing ListFault → Plan Listing
 listed (Ok listing) = done listing
 listed (Err fault) = refuses (list_fault_line fault)
@@ -42,7 +42,7 @@ rules_plan left (name ∷ names) =
 abbrev pub optional_plan : List ℕ → Plan (Option (List ℕ))
 optional_plan name = if is_none name then done None else and_then (file_plan name FILE_BYTES) (λ bytes. done (Some bytes))
 
--- behind the rule files come the driver and the requests
+-- after the rule files come the driver and the requests
 abbrev pub parts_plan : SourceNames → List ℕ → List Text → Plan Source
 parts_plan names application texts =
     and_then (optional_plan names.driver) (λ driver. and_then (optional_plan names.requests)

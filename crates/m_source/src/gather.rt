@@ -94,7 +94,7 @@ fn gather_optional<F: Files>(
     Ok(Some(bytes))
 }
 
-// Fetches what comes behind the rule files.
+// Fetches what comes after the rule files.
 fn gather_parts<F: Files>(
     alloc: Global,
     files: &mut F,

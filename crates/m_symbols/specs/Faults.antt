@@ -59,15 +59,15 @@ size_fault v = wrong_size v.place (variable_size v)
 abbrev pub cells_fault : Declared → VariableItem → Option DeclareFault
 cells_fault earlier v = if nat_lt CELLS (length (owners_from 0 earlier.variables) + variable_cells v) then Some (TooManyCells v.place) else None
 
--- the fault of a variable behind earlier declarations
+-- the fault of a variable after earlier declarations
 abbrev pub variable_fault : Declared → VariableItem → Option DeclareFault
 variable_fault earlier v = first_of (name_fault earlier v) (first_of (code_fault earlier v) (first_of (size_fault v) (cells_fault earlier v)))
 
--- the fault of an error behind earlier declarations: variables and errors have separate names
+-- the fault of an error after earlier declarations: variables and errors have separate names
 abbrev pub error_fault : Declared → ErrorItem → Option DeclareFault
 error_fault earlier e = option_map (λ place. DeclaredTwice e.name place e.place) (place_beside e.name (map placed_error earlier.errors))
 
--- the fault of an item behind earlier declarations
+-- the fault of an item after earlier declarations
 abbrev pub fault_at : Declared → Item → Option DeclareFault
 fault_at earlier (Variable v) = variable_fault earlier v
 fault_at earlier (Error e) = error_fault earlier e

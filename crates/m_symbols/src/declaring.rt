@@ -91,7 +91,7 @@ fn declare_item(alloc: Global, item: &Item, tables: &mut Tables) -> Result<(), D
     }
 }
 
-// The fault of a variable behind what is declared.
+// The fault of a variable after what is declared.
 fn find_variable_fault(
     alloc: Global,
     variable: &VariableItem,
@@ -208,7 +208,7 @@ fn add_code(
     Ok(())
 }
 
-// The fault of an error behind what is declared.
+// The fault of an error after what is declared.
 fn find_error_fault(alloc: Global, error: &ErrorItem, tables: &Tables) -> Result<(), DeclareFault>
     requires { AreIndexed tables.now }
     ensures outcome { Outcome DeclareFault.Memory result

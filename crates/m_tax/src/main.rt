@@ -9,8 +9,8 @@ use std::alloc::AllocError;
 use std::process::ExitCode;
 use std::{env, io};
 
-/// The words behind the program's name. A command line that can't be read as text has none, and so is
-/// no command. The only error is want of memory.
+/// The words after the program's name. A command line that can't be read as text has none, and so is
+/// no command. The only error is running out of memory.
 fn command_words<R: env::Env + AllocGlobal>(rt: &R) -> Result<Vec<Word>, AllocError> {
     let mut words = Vec::new(rt.alloc());
     match env::args(rt) {

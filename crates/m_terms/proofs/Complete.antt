@@ -14,7 +14,7 @@ pub open_complete : {B : Type 0} {table : Token → Option B} {b : B} {ts rest :
 open_complete (first e) = rw e refl
 
 module _ {A B X : Type 0} (opens : Token → Option B) (made : B → A → X) (R : A → List Token → List Token → Type 0) (passes : Passes R) where
-  -- a further one may stand behind an R, and so may what stands behind all of them, which opens none
+  -- a further one may stand after an R, and so may what stands after all of them, which opens none
   module _ (p : List Token → Option (A × List Token)) (S T : List Token → Type 0) (complete : Complete S R p) (binds : (t : Token) (b : B) (ts : List Token) → opens t ≡ Some b → S (t ∷ ts)) (weaker : (ts : List Token) → T ts → S ts) (closed : (ts : List Token) → T ts → open_at opens ts ≡ None) where
     pub chain_binds : {xs : List X} {ts rest : List Token} → Chain opens made R xs ts rest → T rest → S ts
     chain_binds ended h = weaker _ h

@@ -1,9 +1,9 @@
--- What is spelled takes tokens from the front: what is left stands behind.
+-- What is spelled takes tokens from the start: what is left stands after.
 use Rattle.std.proofs.Common.{◌≡◌, ◌<◌, ◌+◌, ℕ, zero, suc, List, ◌∷◌, length, drop, Option, ap, arith}
 use Rattle.m_lexer.specs.declared.token.Token.{Token}
 use Rattle.m_terms.specs.Tokens.{First, first, Chain, ended, further, Joined, joined}
 
--- rest stands behind one or more tokens of ts
+-- rest stands after one or more tokens of ts
 pub data Behind : List Token → List Token → Type 0 where
   next : {t : Token} {ts : List Token} → Behind ts (t ∷ ts)
   later : {t : Token} {ts rest : List Token} → Behind rest ts → Behind rest (t ∷ ts)

@@ -23,7 +23,7 @@ use Rattle.m_terms.specs.Grammar.{addition, addition_of, multiplication, multipl
 record Clear (k : ℕ) (ts : List Token) : Type 0 where
   none : first_too_deep BRACKET_DEPTH k ts ≡ None
 
--- the next token isn't too deep, and neither is one behind it
+-- the next token isn't too deep, and neither is one after it
 record Onward (k : ℕ) (ts : List Token) : Type 0 where
   shallow : k ≤ BRACKET_DEPTH
   clear : Clear k ts
@@ -271,7 +271,7 @@ grow zero k j e = expr_grows (SpellsInner zero) (SpellsInner j) k (λ l t ts res
 grow (suc d) k zero e = expr_grows (SpellsInner (suc d)) (SpellsInner zero) k (λ l t ts rest x h. absurd (omega arith))
 grow (suc d) k (suc j) e = expr_grows (SpellsInner (suc d)) (SpellsInner (suc j)) k (λ l t ts rest x h. grow d (k + 1) j (omega arith) t ts rest x h)
 
--- behind the first tokens too
+-- after the first tokens too
 onward : (from k : ℕ) (ts : List Token) → Clear k ts → (n : ℕ) × Clear n (drop from ts)
 onward zero k ts h = (k, h)
 onward (suc from) k [] h = (k, h)

@@ -296,7 +296,7 @@ module _ (E : Syntax → List Token → List Token → Type 0) (e : List Token �
   pub expr_sound : Sound (SpellsExpr E) (expr_at e)
   expr_sound = gathered_sound disjunction (SpellsConjunction E) (conjunction_at e) (gathered_sound conjunction (SpellsNegation E) (negation_at e) negation_sound)
 
--- What is left stands behind.
+-- What is left stands after.
 module _ (E : Syntax → List Token → List Token → Type 0) (passes : Passes E) where
   prim_passes : Passes (SpellsPrim E)
   prim_passes _ _ _ number = next

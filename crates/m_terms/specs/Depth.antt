@@ -7,7 +7,7 @@ use Rattle.m_lexer.specs.declared.token.Kind.TheVariants.{Key, Sign}
 use Rattle.m_lexer.specs.declared.token.Key.TheVariants.{Regle, Verif, Si, Finsi, Erreur}
 use Rattle.m_lexer.specs.declared.token.Sign.TheVariants.{OpenParen, OpenBracket, CloseParen, CloseBracket}
 
--- The depth behind a token, where it is k before it: `(`, `[` and `si` add one, `)`, `]`, `finsi` and `erreur` take one away
+-- The depth after a token, where it is k before it: `(`, `[` and `si` add one, `)`, `]`, `finsi` and `erreur` take one away
 -- where it isn't 0, and `regle` and `verif` set it to 0.
 abbrev pub depth_behind : ℕ → Kind → ℕ
 depth_behind k (Sign OpenParen) = k + 1
@@ -21,7 +21,7 @@ depth_behind k (Key Regle) = 0
 depth_behind k (Key Verif) = 0
 depth_behind k _ = k
 
--- the place of the first token behind which the depth is above most, where it is k before the first one
+-- the place of the first token after which the depth is above most, where it is k before the first one
 abbrev pub first_too_deep : ℕ → ℕ → List Token → Option Place
 first_too_deep most k [] = None
 first_too_deep most k (t ∷ ts) = cond (nat_lt most (depth_behind k t.kind)) (Some t.place) (first_too_deep most (depth_behind k t.kind) ts)

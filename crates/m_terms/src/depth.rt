@@ -7,7 +7,7 @@ use m_lexer::{Key, Kind, Sign, Token};
 use m_places::Place;
 use m_places::limits::BRACKET_DEPTH;
 
-/// The place of the first token behind which brackets and conditionals stand more than 256 deep, or
+/// The place of the first token after which brackets and conditionals stand more than 256 deep, or
 /// `None`. Takes no memory.
 ///
 /// `(`, `[` and `si` go one deeper, `)`, `]`, `finsi` and `erreur` one back, and `regle` and `verif`
@@ -25,7 +25,7 @@ pub fn depth_fault(tokens: &[Token]) -> Option<Place>
     None
 }
 
-// The depth behind a token, by the depth before it.
+// The depth after a token, by the depth before it.
 fn behind(depth: u32, kind: &Kind) -> u32
     requires { depth ≤ BRACKET_DEPTH }
     ensures { result ≡ depth_behind depth kind.now }

@@ -27,7 +27,7 @@ fn read_inner(alloc: Global, cursor: &mut Cursor<'_>, depth: u32) -> Result<Box<
     read_level(alloc, cursor, depth - 1, Level::Disjunction)
 }
 
-// expr and a token behind it
+// expr and a token after it
 #[cycle(read)]
 #[tactic(auto, unfolding(crate::specs::inner::Reading::until_at))]
 fn read_until(
@@ -62,7 +62,7 @@ fn read_other(alloc: Global, cursor: &mut Cursor<'_>, depth: u32) -> Result<Box<
     Ok(boxed(alloc, Node::Lit(Value::Undef))?)
 }
 
-// expr "alors" expr [ "sinon" expr ] "finsi", behind `si`
+// expr "alors" expr [ "sinon" expr ] "finsi", after `si`
 #[cycle(read)]
 #[tactic(auto, unfolding(crate::specs::inner::Reading::choice_at))]
 fn read_choice(alloc: Global, cursor: &mut Cursor<'_>, depth: u32) -> Result<Box<Term>, TermFault>
@@ -75,7 +75,7 @@ fn read_choice(alloc: Global, cursor: &mut Cursor<'_>, depth: u32) -> Result<Box
     Ok(applied_to_three(alloc, Op::Choose, condition, chosen, other)?)
 }
 
-// WORD | WORD "[" expr "]", behind the WORD
+// WORD | WORD "[" expr "]", after the WORD
 #[cycle(read)]
 #[tactic(auto, unfolding(crate::specs::inner::Reading::named_at))]
 fn read_named(
@@ -96,7 +96,7 @@ fn read_named(
     Ok(boxed(alloc, Node::Cell(name, index, place))?)
 }
 
-// "(" expr ")" | "(" expr "," expr ")", behind a function
+// "(" expr ")" | "(" expr "," expr ")", after a function
 #[cycle(read)]
 #[tactic(auto, unfolding(crate::specs::inner::Reading::call_at, crate::specs::inner::Reading::called_at, crate::specs::inner::Reading::called_two_at))]
 fn read_call(
@@ -121,7 +121,7 @@ fn read_call(
     Ok(applied_to_two(alloc, op, first, second)?)
 }
 
-// "(" header ":" expr ")", behind `somme`
+// "(" header ":" expr ")", after `somme`
 #[cycle(read)]
 #[tactic(auto, unfolding(crate::specs::inner::Reading::loop_at))]
 fn read_loop(alloc: Global, cursor: &mut Cursor<'_>, depth: u32) -> Result<Box<Term>, TermFault>
@@ -157,7 +157,7 @@ fn function(key: Key) -> Option<(Op, bool)>
     }
 }
 
-// What a reserved word begins, behind it.
+// What a reserved word begins, after it.
 #[cycle(read)]
 #[tactic(auto, unfolding(crate::specs::inner::Reading::word_at, crate::specs::inner::Reading::other_word_at))]
 fn read_word(
@@ -283,7 +283,7 @@ fn read_links(
     Ok(links)
 }
 
-// [ comparison sum | [ "non" ] "dans" "(" members ")" ], behind a sum
+// [ comparison sum | [ "non" ] "dans" "(" members ")" ], after a sum
 #[cycle(read)]
 #[tactic(auto, unfolding(crate::specs::inner::Reading::relation_at))]
 fn read_relation(alloc: Global, cursor: &mut Cursor<'_>, depth: u32) -> Result<Box<Term>, TermFault>
@@ -298,7 +298,7 @@ fn read_relation(alloc: Global, cursor: &mut Cursor<'_>, depth: u32) -> Result<B
     Ok(applied_to_two(alloc, op, first, second)?)
 }
 
-// [ [ "non" ] "dans" "(" members ")" ], behind a term
+// [ [ "non" ] "dans" "(" members ")" ], after a term
 #[tactic(auto, unfolding(crate::specs::inner::Reading::membership_at, crate::specs::inner::Reading::outside_at))]
 fn read_membership(
     alloc: Global,
@@ -320,7 +320,7 @@ fn read_membership(
     read_inside(alloc, cursor, term, true)
 }
 
-// "(" members ")", behind `dans`
+// "(" members ")", after `dans`
 #[tactic(auto, unfolding(crate::specs::inner::Reading::inside_at))]
 fn read_inside(
     alloc: Global,

@@ -8,7 +8,7 @@ use std::alloc::{AllocError, AllocFailed};
 pub enum TermFault {
     /// None stands there.
     NoTerm,
-    /// Want of memory.
+    /// Out of memory.
     Memory,
 }
 

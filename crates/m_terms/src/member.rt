@@ -1,4 +1,4 @@
-//! What stands behind `dans`.
+//! What stands after `dans`.
 ghost use Rattle.std.specs.Prelude.{◌≡◌, ◌<◌, length, IfOk, OnOk};
 ghost use Rattle.m_terms.specs.Grammar.{member};
 ghost use Rattle.m_terms.specs.Tokens.{is_sign};

@@ -22,7 +22,7 @@ use m_lexer::{Sign, Token};
 use m_places::limits::BRACKET_DEPTH;
 use std::alloc::Global;
 
-/// The term that the tokens spell from this position on, and the position behind it, at which one of
+/// The term that the tokens spell from this position on, and the position after it, at which one of
 /// `;`, `)`, `]`, `,`, `alors`, `sinon` and `finsi` stands.
 ///
 /// Of `A + 1 ;` it reads `A + 1` and answers 3. `NoTerm` comes exactly where no term with brackets
@@ -39,7 +39,7 @@ pub fn read_term(alloc: Global, tokens: &[Token], from: usize) -> Result<(Term, 
     Ok((Box::into_inner(term), tokens.len() - cursor.len()))
 }
 
-/// The header that the tokens spell from this position on, and the position behind it, at which `:`
+/// The header that the tokens spell from this position on, and the position after it, at which `:`
 /// stands.
 ///
 /// Of `i = V,C :` it reads `i = V,C` and answers 5. `NoTerm` comes exactly where no header stands

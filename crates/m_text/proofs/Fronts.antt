@@ -1,4 +1,4 @@
--- Fronts of lists of bytes: where bytes of one kind end, and which of two fronts is longer.
+-- Prefixes of lists of bytes: where bytes of one kind end, and which of two prefixes is longer.
 use Rattle.std.proofs.Common.{◌≡◌, ℕ, ◌+◌, ◌-◌, ◌<◌, ◌≤◌, List, [], ◌∷◌, ◌++◌, length, get_or, take, drop, refl, sym, ap, ◌∙◌, subst, arith, inl, inr}
 use Rattle.std.specs.List.{AllByRecursion}
 use Rattle.std.proofs.lemmas.Bool.{cases_lt}
@@ -26,7 +26,7 @@ one_front P (c ∷ a) (d ∷ b) x y pa pb sx sy e =
     let q = one_front P a b x y pa.1 pb.1 sx sy tails in
     ((λ i. heads i ∷ q.0 i), q.1)
 
--- the longer of two fronts goes on from the shorter
+-- the longer of two prefixes goes on from the shorter
 pub longer : (t r u v : List ℕ) → t ++ r ≡ u ++ v → length t < length u → (c : ℕ) × (more : List ℕ) × (u ≡ t ++ c ∷ more) × (r ≡ c ∷ (more ++ v))
 longer [] r [] v e h = absurd (omega arith)
 longer [] r (c ∷ u) v e h = (c, u, refl, e)
@@ -37,7 +37,7 @@ longer (b ∷ t) r (c ∷ u) v e h =
     let q = longer t r u v tails (omega arith) in
     (q.0, q.1, (λ i. heads i ∷ q.2 i), q.3)
 
--- two fronts of one length are one
+-- two prefixes of one length are one
 pub same_length : (t r u v : List ℕ) → t ++ r ≡ u ++ v → length t ≡ length u → (t ≡ u) × (r ≡ v)
 same_length [] r [] v e h = (refl, e)
 same_length [] r (c ∷ u) v e h = absurd (omega arith)

@@ -25,7 +25,7 @@ feed_place-from_run bytes end r = sym (position_or_len_is (λ byte. eqb byte 10)
     at : end < length bytes → eqb (get_or bytes end 0) 10 ≡ true
     at h = elim (cases_Bool (eqb (get_or bytes end 0) 10)) [ inl is ↦ is | inr other ↦ absurd (r.stops h (eqb-false (get_or bytes end 0) 10 other)) ]
 
--- what each kind of byte makes of the lines behind it
+-- what each kind of byte makes of the lines after it
 at_feed : (byte : ℕ) (bytes : List ℕ) → eqb byte 10 ≡ true → lines_of (byte ∷ bytes) ≡ [] ∷ lines_of bytes
 at_feed byte bytes e = rw e refl
 

@@ -1,4 +1,4 @@
--- Which text of a kind is the longest at the front of bytes.
+-- Which text of a kind is the longest at the start of bytes.
 use Rattle.std.proofs.Common.{◌≡◌, ℕ, ◌≤◌, List, ◌∷◌, ◌++◌, length, sym, ◌∙◌, subst, arith, inl, inr}
 use Rattle.std.proofs.lemmas.Bool.{cases_lt}
 use Rattle.m_text.specs.Words.{LongestOf}
@@ -21,6 +21,6 @@ one_longest P bytes t r u v a b =
     let ge : length u ≤ length t = a.longest u v b.parts b.piece in
     same_length t r u v (sym a.parts ∙ b.parts) (omega arith)
 
--- the longest of one kind is the longest of another, where both have the same texts at the front of these bytes
+-- the longest of one kind is the longest of another, where both have the same texts at the start of these bytes
 pub longest_among : (P Q : List ℕ → Type 0) (bytes t rest : List ℕ) → LongestOf P bytes t rest → Q t → ((u others : List ℕ) → bytes ≡ u ++ others → Q u → P u) → LongestOf Q bytes t rest
 longest_among P Q bytes t rest l q same = record { parts = l.parts; piece = q; longest = λ u others e p. l.longest u others e (same u others e p) }

@@ -144,7 +144,7 @@ digits_between bytes from to h r = (some, all_part IsDigit bytes from to r)
 pub whole_longest : (bytes : List ℕ) (from to : ℕ) → from < to → RunsTo IsDigit bytes from to → RunsTo IsWordByte bytes from to → NoDecimals (drop to bytes) → LongestOf IsWordOrNumber (drop from bytes) (part bytes from to) (drop to bytes)
 whole_longest bytes from to h d w short = longest_whole (drop from bytes) (part bytes from to) (drop to bytes) (parts bytes from to d.onward) (digits_between bytes from to h d) (stops_part IsWordByte bytes from to w) short
 
--- no decimals follow at the end, where no point stands, and where no digit stands behind the point
+-- no decimals follow at the end, where no point stands, and where no digit stands after the point
 pub no_point : (bytes : List ℕ) (to : ℕ) → (to < length bytes → get_or bytes to 0 ≢ point) → NoDecimals (drop to bytes)
 no_point bytes to ne c more e k = elim (cases_lt to (length bytes)) [
   | inl h ↦ let d = drop_more bytes to 0 h in ne h (cc)

@@ -7,12 +7,12 @@ abbrev pub begins_with_feed : List ℕ → Bool
 begins_with_feed [] = false
 begins_with_feed (byte ∷ bytes) = byte == line_feed
 
--- the lines with a byte put in front of the first of them, or the line of that byte alone
+-- the lines with a byte put before the first of them, or the line of that byte alone
 abbrev pub onto_first : ℕ → List (List ℕ) → List (List ℕ)
 onto_first byte [] = (byte ∷ []) ∷ []
 onto_first byte (line ∷ lines) = (byte ∷ line) ∷ lines
 
--- What a byte makes of the lines behind it: a line feed ends an empty line, a carriage return right
+-- What a byte makes of the lines after it: a line feed ends an empty line, a carriage return right
 -- before a line feed is dropped, and every other byte goes onto the first line.
 abbrev pub lines_from : ℕ → Bool → List (List ℕ) → List (List ℕ)
 lines_from byte before_feed lines =

@@ -34,8 +34,8 @@ IsQuoted t inside = AllByRecursion (λ b. b ≢ quote) inside × (t ≡ quote �
 abbrev pub IsComment : List ℕ → Type 0
 IsComment t = (bytes : List ℕ) × AllByRecursion (λ b. b ≢ line_feed) bytes × (t ≡ hash ∷ bytes)
 
--- t is the longest text of a kind at the front of bytes, and rest stands behind it: of `sinon 1` the longest word is
--- `sinon`, with ` 1` behind it
+-- t is the longest text of a kind at the start of bytes, and rest stands after it: of `sinon 1` the longest word is
+-- `sinon`, with ` 1` after it
 pub record LongestOf (P : List ℕ → Type 0) (bytes t rest : List ℕ) : Type 0 where
   pub parts : bytes ≡ t ++ rest
   pub piece : P t

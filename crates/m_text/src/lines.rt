@@ -6,7 +6,7 @@ ghost use Rattle.m_text.specs.Lines.{lines_of, without_return};
 
 use crate::runs::line_end;
 
-/// The first line of a text and what stands behind its line feed; `None` where the text is empty.
+/// The first line of a text and what stands after its line feed; `None` where the text is empty.
 /// A carriage return right before the line feed is dropped. Takes no memory.
 ///
 /// `first_line(b"iliad\r\na.m")` is the line `iliad` and the rest `a.m`.

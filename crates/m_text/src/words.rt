@@ -6,7 +6,7 @@ ghost use Rattle.m_text.specs.Words.{BeginsAt, IsNumber, IsWord, IsWordOrNumber,
 
 use crate::runs::{digits_end, word_end};
 
-/// What begins with a letter, a digit or `_`, with the position behind it.
+/// What begins with a letter, a digit or `_`, with the position after it.
 #[derive(Clone, Copy, Debug, PartialEq, Eq)]
 pub enum WordOrNumber {
     /// Letters, digits and `_`, not digits alone, as `1AJ`; it may be a reserved word.
@@ -41,7 +41,7 @@ pub fn word_or_number(bytes: &[u8], from: usize) -> WordOrNumber
     WordOrNumber::Number(number_end(bytes, from, end))
 }
 
-// Where a number ends whose whole part stands between two positions: behind its decimals, where a
+// Where a number ends whose whole part stands between two positions: after its decimals, where a
 // point and a digit follow.
 fn number_end(bytes: &[u8], from: usize, whole: usize) -> usize
     requires some { from < whole }

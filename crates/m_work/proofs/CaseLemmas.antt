@@ -94,7 +94,7 @@ count_at loaded rows expected from end h many =
     ∙ (λ i. case_count loaded (take (end - from) (drop from rows)) (take (end - from) (drop from expected))
     + case_count loaded ((drop-drop (end - from) from rows ∙ ap (λ n. drop n rows) there) i) ((drop-drop (end - from) from expected ∙ ap (λ n. drop n expected) there) i))
 
--- behind the last row there is nothing
+-- after the last row there is nothing
 pub lines_end : (loaded : Loaded) (rows : List Row) (expected : List (List (ℕ × Expected))) (from : ℕ) → length rows ≤ from → case_lines loaded (drop from rows) (drop from expected) ≡ []
 lines_end loaded rows expected from h = ap (λ left. case_lines loaded left (drop from expected)) (drop_all from rows h)
 
@@ -264,7 +264,7 @@ pub counted_given : {S : Type 0} (written : S → Option (List ℕ)) (faults : S
 counted_given written faults old new (Ok none) count text gave = record { all = gave.all; failed = tt; prefix = tt; faultless = gave.faultless; counted = gave.counted }
 counted_given written faults old new (Err failed) count text gave = record { all = tt; failed = gave.failed; prefix = gave.prefix; faultless = tt; counted = gave.counted }
 
--- the count behind it
+-- the count after it
 pub count_given : (given : Result (Unit {0}) NotGiven) (count whole : ℕ) → count ≡ whole → IfOk (with_count given count) (λ n. n ≡ whole)
 count_given (Ok none) count whole is = is
 count_given (Err failed) count whole is = tt

@@ -73,7 +73,7 @@ group_at loaded rows from end h =
     ∙ program_append loaded (take (end - from) (drop from rows)) (drop (end - from) (drop from rows))
     ∙ ap (λ left. program_lines loaded (take (end - from) (drop from rows)) ++ program_lines loaded left) (drop-drop (end - from) from rows ∙ ap (λ n. drop n rows) there)
 
--- behind the last row there is nothing
+-- after the last row there is nothing
 pub groups_end : (loaded : Loaded) (rows : List Row) (from : ℕ) → length rows ≤ from → program_lines loaded (drop from rows) ≡ []
 groups_end loaded rows from h = ap (program_lines loaded) (drop_all from rows h)
 

@@ -1,4 +1,4 @@
--- Refusals that were told.
+-- Errors that were told.
 use Rattle.std.proofs.Common.{◌≡◌, ◌⊎◌, ℕ, List, Option, None, Some, Result, refl, ap, inl, inr}
 use Rattle.std.specs.Prelude.{◌≢◌}
 use Rattle.rule_text.specs.declared.Source.{Source}

@@ -13,7 +13,7 @@ use Rattle.m_work.specs.Schemes.{Scheme}
 use Rattle.m_work.specs.Sources.{IsScheme, Refuses}
 use Rattle.m_work.specs.Tables.{rows_lines}
 
--- The answer of a batch of a source over the table of these bytes: a refusal, or the lines of all its rows. A row that stops is one like the others.
+-- The answer of a batch of a source over the table of these bytes: an error, or the lines of all its rows. A row that stops is one like the others.
 pub data BatchReplies (source : Source) (table : List ℕ) : List ℕ → Status → Type 0 where
   is_refused : {line : List ℕ} → Refuses source (λ inputs. table_of inputs table) line → BatchReplies source table line Refused
   is_told : (scheme : Scheme) (rows : List Row) → IsScheme source scheme → table_of scheme.inputs table ≡ Ok rows → BatchReplies source table (rows_lines scheme rows) Done
@@ -25,7 +25,7 @@ pub record BatchHasAnswer (source : Source) (table : List ℕ) : Type 0 where
   pub valid : IsScheme source scheme
   pub given : table_of scheme.inputs table ≡ Ok rows
 
--- An answer was printed in parts. Where memory ended it on the way, a front of the answer was written.
+-- An answer was printed in parts. Where memory ended it on the way, a prefix of the answer was written.
 pub data IsWrittenInParts (Replies : List ℕ → Status → Type 0) (old new : OutputView) (status : Status) : Type 0 where
   printed : (text : List ℕ) (own : Status) → Replies text own → IsOfEnd own → Prints text own old new status → IsWrittenInParts Replies old new status
   no_memory : new ≡ old → status ≡ Memory → IsWrittenInParts Replies old new status

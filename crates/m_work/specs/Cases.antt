@@ -18,7 +18,7 @@ use Rattle.m_plan.specs.declared.status.Status.TheVariants.{Done, Refused, Stopp
 use Rattle.m_work.specs.Schemes.{Scheme, told_to}
 use Rattle.m_work.specs.Sources.{IsScheme}
 
--- The line of a fault of a table of cases; want of memory has none. A field `=IR` in the first record, where `IR` isn't asked for, has
+-- The line of a fault of a table of cases; running out of memory has none. A field `=IR` in the first record, where `IR` isn't asked for, has
 -- `refused household line 1: unknown output`.
 abbrev pub cases_fault_line : CasesFault → Option (List ℕ)
 cases_fault_line BadHeader = Some household_header_line

@@ -24,7 +24,7 @@ use Rattle.m_plan.specs.declared.status.Status.{Status}
 use Rattle.m_plan.specs.declared.status.Status.TheVariants.{Done, Refused}
 use Rattle.m_work.specs.Households.{household_fault_line}
 
--- The line of a fault of a report; want of memory has none. A second line that is none of a report's has `refused report line 2: bad line`.
+-- The line of a fault of a report; running out of memory has none. A second line that is none of a report's has `refused report line 2: bad line`.
 abbrev pub report_fault_line : ReportFault → Option (List ℕ)
 report_fault_line (BadLine number) = Some (report_line number words.BadLine)
 report_fault_line Memory = None

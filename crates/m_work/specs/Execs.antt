@@ -13,7 +13,8 @@ use Rattle.m_plan.specs.declared.status.Status.TheVariants.{Refused}
 use Rattle.m_work.specs.Prepared.{HouseholdReplies, Shows}
 use Rattle.m_work.specs.Schemes.{Scheme}
 
--- The line of a fault of a code file; want of memory has none. A register that is read in line 7 before anything is written to it has `refused code line 7: read before write`.
+-- The line of a fault of a code file; running out of memory has none. A register that is read in line 7 before anything is written
+-- to it has `refused code line 7: read before write`.
 abbrev pub code_fault_line : CodeFault → Option (List ℕ)
 code_fault_line BadHeader = Some code_header_line
 code_fault_line (BadLine line) = Some (code_line line word.BadLine)

@@ -10,7 +10,7 @@ use Rattle.household.specs.declared.fault.HouseholdFault.TheVariants.{BadHeader,
 use Rattle.m_plan.specs.declared.status.Status.{Status}
 use Rattle.m_plan.specs.declared.status.Status.TheVariants.{Done, Stopped}
 
--- The line of a fault; want of memory has none. A code that is no input's in record 2 has `refused household line 2: unknown code`.
+-- The line of a fault; running out of memory has none. A code that is no input's in record 2 has `refused household line 2: unknown code`.
 abbrev pub household_fault_line : HouseholdFault → Option (List ℕ)
 household_fault_line BadHeader = Some household_header_line
 household_fault_line TooManyRows = Some too_many_rows_line

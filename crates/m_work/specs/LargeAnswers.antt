@@ -11,7 +11,7 @@ use Rattle.m_work.specs.Runs.{RunHasAnswer}
 use Rattle.m_work.specs.Schemes.{Scheme, told_to}
 use Rattle.m_work.specs.Sources.{IsScheme, Refuses}
 
--- The answer of `large N`: its line, and then what the generated source tells to the generated household; or a refusal of one of them, if they had a fault.
+-- The answer of `large N`: its line, and then what the generated source tells to the generated household; or an error of one of them, if they had a fault.
 pub data LargeReplies (n : ℕ) : List ℕ → Status → Type 0 where
   is_refused : {line : List ℕ} → Refuses (large_source n) (λ inputs. household_of inputs (household_text n)) line → LargeReplies n line Refused
   is_told : (scheme : Scheme) (pairs : List (ℕ × ℤ)) → IsScheme (large_source n) scheme → household_of scheme.inputs (household_text n) ≡ Ok pairs

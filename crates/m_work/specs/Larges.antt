@@ -13,6 +13,6 @@ large_requests n = joined (codes "T" ∷ decimal (n - 1) ∷ new_line ∷ [])
 abbrev pub large_source : ℕ → Source
 large_source n = record { application = codes "iliad"; texts = record { name = base_name; bytes = base_text n } ∷ []; driver = None; requests = Some (large_requests n) }
 
--- the line in front of the answer: `large 3`
+-- the line before the answer: `large 3`
 abbrev pub large_line : ℕ → List ℕ
 large_line n = joined (codes "large " ∷ decimal n ∷ new_line ∷ [])

@@ -62,7 +62,7 @@ pub record IsRunnableCode (loaded : Loaded) : Type 0 where
 
 -- ---- what is answered
 
--- What is answered to the household of these bytes: the line by which it is refused; or some bytes in front, and the lines of what is told to it.
+-- What is answered to the household of these bytes: the line by which it is refused; or some bytes, and after them the lines of what is told to it.
 pub data HouseholdReplies (front : List ℕ) (scheme : Scheme) (rows : List ℕ) : List ℕ → Status → Type 0 where
   is_refused : {line : List ℕ} (fault : HouseholdFault) → household_of scheme.inputs rows ≡ Err fault → household_fault_line fault ≡ Some line
       → HouseholdReplies front scheme rows line Refused
@@ -75,7 +75,7 @@ pub data TableReplies (scheme : Scheme) (table : List ℕ) : List ℕ → Status
       → TableReplies scheme table line Refused
   rows_are_told : (rows : List Row) → table_of scheme.inputs table ≡ Ok rows → TableReplies scheme table (rows_lines scheme rows) Done
 
--- A session over an input ended: with a refusal of the household or for want of memory before anything was taken from the input, or it began and had
+-- A session over an input ended: with an error of the household or for lack of memory before anything was taken from the input, or it began and had
 -- its lines.
 pub data IsServedBy (scheme : Scheme) (rows : List ℕ) (heard told : InputView) (old new : OutputView) (status : Status) : Type 0 where
   refused : (line : List ℕ) (fault : HouseholdFault) → household_of scheme.inputs rows ≡ Err fault → household_fault_line fault ≡ Some line → told ≡ heard

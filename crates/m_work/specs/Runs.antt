@@ -9,7 +9,7 @@ use Rattle.m_work.specs.Households.{told_status}
 use Rattle.m_work.specs.Schemes.{Scheme, told_to}
 use Rattle.m_work.specs.Sources.{IsScheme, Refuses}
 
--- The answer of a run of a source on the household of these bytes: a refusal, or the lines of what is told to the household.
+-- The answer of a run of a source on the household of these bytes: an error, or the lines of what is told to the household.
 pub data RunReplies (source : Source) (rows : List ℕ) : List ℕ → Status → Type 0 where
   is_refused : {line : List ℕ} → Refuses source (λ inputs. household_of inputs rows) line → RunReplies source rows line Refused
   is_told : (scheme : Scheme) (pairs : List (ℕ × ℤ)) → IsScheme source scheme → household_of scheme.inputs rows ≡ Ok pairs

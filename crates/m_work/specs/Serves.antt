@@ -18,7 +18,7 @@ pub record IsSession (source : Source) (rows : List ℕ) (scheme : Scheme) (pair
   pub valid : IsScheme source scheme
   pub given : household_of scheme.inputs rows ≡ Ok pairs
 
--- What is answered to an input: a refusal; or the replies to all its lines; or, where it has as many bytes as are taken of an input, the replies to the
+-- What is answered to an input: an error; or the replies to all its lines; or, where it has as many bytes as are taken of an input, the replies to the
 -- lines that have their line feed among these, and then the line that it is too long.
 pub data ServeReplies (source : Source) (rows typed : List ℕ) : List ℕ → Status → Type 0 where
   is_refused : {line : List ℕ} → Refuses source (λ inputs. household_of inputs rows) line → ServeReplies source rows typed line Refused
@@ -27,7 +27,7 @@ pub data ServeReplies (source : Source) (rows typed : List ℕ) : List ℕ → S
   is_too_long : (scheme : Scheme) (pairs : List (ℕ × ℤ)) (taken rest : List ℕ) → IsSession source rows scheme pairs → typed ≡ taken ++ rest → length taken ≡ INPUT_BYTES
       → ServeReplies source rows typed (ended_replies scheme pairs taken ++ input_too_long_line) Refused
 
--- What is written where a read failed behind these bytes of the input: the replies to the lines that have their line feed among them, and then a line
+-- What is written where a read failed after these bytes of the input: the replies to the lines that have their line feed among them, and then a line
 -- that says so.
 pub data ServeCutOff (source : Source) (rows taken : List ℕ) : List ℕ → Type 0 where
   is_cut_off : (scheme : Scheme) (pairs : List (ℕ × ℤ)) → IsSession source rows scheme pairs → ServeCutOff source rows taken (ended_replies scheme pairs taken ++ unreadable_input_line)
@@ -36,7 +36,7 @@ pub data ServeCutOff (source : Source) (rows taken : List ℕ) : List ℕ → Ty
 pub data ServeInFull (source : Source) (rows typed : List ℕ) : List ℕ → Type 0 where
   is_in_full : (scheme : Scheme) (pairs : List (ℕ × ℤ)) → IsSession source rows scheme pairs → ServeInFull source rows typed (session_replies scheme pairs typed)
 
--- `serve` ended: with a refusal or for want of memory before anything was taken from the input, or the session began and had its lines.
+-- `serve` ended: with an error or for lack of memory before anything was taken from the input, or the session began and had its lines.
 pub data IsServed (source : Source) (rows : List ℕ) (heard told : InputView) (old new : OutputView) (status : Status) : Type 0 where
   refused : (line : List ℕ) → Refuses source (λ inputs. household_of inputs rows) line → told ≡ heard → Prints line Refused old new status
       → IsServed source rows heard told old new status

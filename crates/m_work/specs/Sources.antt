@@ -34,7 +34,7 @@ pub record IsScheme (source : Source) (scheme : Scheme) : Type 0 where
   pub valid : IsValid source declared base written requests
   pub said : scheme ≡ scheme_said declared base written requests
 
--- The line by which a source is refused, or the file of households behind it, of which `said` is what it says by the inputs: the fault of the
+-- The line by which a source is refused, or the file of households after it, of which `said` is what it says by the inputs: the fault of the
 -- source, and in a valid source the fault of that file.
 pub data Refuses (source : Source) {Given : Type 0} (said : List Coded → Result Given HouseholdFault) (line : List ℕ) : Type 0 where
   source_is_refused : (fault : SourceFault) → IsSourceFault source fault → source_line source.texts fault ≡ Some line → Refuses source said line

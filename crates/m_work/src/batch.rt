@@ -27,7 +27,7 @@ use std::alloc::Global;
 use std::thread::Threads;
 
 /// Prepares the code of a source, and prints the label of each row of the table of these bytes with its answer, or the line by
-/// which one of them is refused. The rows are computed and written in groups, so that a front of the answer is written where memory
+/// which one of them is refused. The rows are computed and written in groups, so that a prefix of the answer is written where memory
 /// ends it.
 pub fn batch_source<R: Threads + Sync, K: Sink>(
     rt: &R,
@@ -73,7 +73,7 @@ fn rows_of(alloc: Global, loaded: &Loaded, table: &[u8]) -> Result<Seq<Row>, Hou
     read_table(alloc, table, &codes)
 }
 
-// The status behind rows that were written or not.
+// The status after rows that were written or not.
 fn status_of_rows(written: Result<(), GroupFault>) -> Status
     ensures { result ≡ group_status written }
 {

@@ -31,7 +31,7 @@ use std::alloc::Global;
 use std::thread::Threads;
 
 /// Prepares the code of a source, and prints what the rows of the table of these bytes expect and aren't told, and how much that is, or the
-/// line by which one of the two is refused. The rows are computed and written in groups, so that a front of the answer is written where
+/// line by which one of the two is refused. The rows are computed and written in groups, so that a prefix of the answer is written where
 /// memory ends it.
 pub fn cases_source<R: Threads + Sync, K: Sink>(
     rt: &R,
@@ -91,7 +91,7 @@ fn cases_in(alloc: Global, loaded: &Loaded, table: &[u8]) -> Result<Cases, Cases
     read_cases(alloc, table, &codes, &loaded.face)
 }
 
-// The status behind cases that were written or not.
+// The status after cases that were written or not.
 fn status_of_cases(written: Result<u64, GroupFault>) -> Status
     ensures { result ≡ compared_status written }
 {

@@ -25,7 +25,7 @@ use std::alloc::Global;
 use std::thread::Threads;
 
 /// Prepares the program of a source and reads the household of these bytes, and then does the lines of the input to its end. Where the
-/// source or the household is refused, or there is no memory, nothing is taken from the input, and behind that no memory is taken.
+/// source or the household is refused, or there is no memory, nothing is taken from the input, and after that no memory is taken.
 pub fn serve_source<R: Threads + Sync, S: Input, K: Sink>(
     rt: &R,
     alloc: Global,

@@ -8,7 +8,7 @@ use m_symbols::Symbols;
 use std::alloc::{AllocError, Global};
 
 /// The value that each cell begins with, for these values of the inputs: an input has its value, a constant its amount, and each
-/// other cell is undefined. Its only error is want of memory.
+/// other cell is undefined. Its only error is running out of memory.
 pub(crate) fn first_cells(
     alloc: Global,
     symbols: &Symbols,
@@ -41,7 +41,7 @@ fn first_value(role: &Role, inputs: &[Value], next: usize) -> Value
     }
 }
 
-// The number of the input behind a variable.
+// The number of the input after a variable.
 fn next_input(role: &Role, next: usize) -> usize
     requires { next < 4_294_967_296 }
     ensures { result ≡ next_input next role.now }

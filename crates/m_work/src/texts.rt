@@ -116,7 +116,7 @@ pub(crate) fn give_compared<K: Sink>(
     }
 }
 
-// A count behind a text that was given, or that a write failed.
+// A count after a text that was given, or that a write failed.
 fn with_count(given: Result<(), Failed>, count: u64) -> Result<u64, Failed>
     ensures { result ≡ with_count given count }
 {

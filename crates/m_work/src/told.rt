@@ -18,7 +18,7 @@ use m_ports::Sink;
 use observables::Answer;
 use why_report::ReportFault;
 
-/// Tells what refuses the input, or of want of memory nothing, and answers the status.
+/// Tells what refuses the input, or of running out of memory nothing, and answers the status.
 pub(crate) fn tell_refusal<K: Sink>(out: &mut K, told: Option<Fault<'_>>) -> Status
     ensures { TellsLine (option_map fault_line told.entry) (output_view K.written K.faults out.old) (output_view K.written K.faults out.new) result }
 {
@@ -28,7 +28,7 @@ pub(crate) fn tell_refusal<K: Sink>(out: &mut K, told: Option<Fault<'_>>) -> Sta
     }
 }
 
-/// What the fault of a household or a table is told as. Nothing is told of want of memory.
+/// What the fault of a household or a table is told as. Nothing is told of running out of memory.
 pub(crate) fn told_household<'a>(fault: HouseholdFault) -> Option<Fault<'a>>
     ensures { option_map fault_line result ≡ household_fault_line fault }
 {
@@ -46,7 +46,7 @@ pub(crate) fn told_household<'a>(fault: HouseholdFault) -> Option<Fault<'a>>
     }
 }
 
-/// What the fault of a table of cases is told as. Nothing is told of want of memory.
+/// What the fault of a table of cases is told as. Nothing is told of running out of memory.
 pub(crate) fn told_cases<'a>(fault: CasesFault) -> Option<Fault<'a>>
     ensures { option_map fault_line result ≡ cases_fault_line fault }
 {
@@ -66,7 +66,7 @@ pub(crate) fn told_cases<'a>(fault: CasesFault) -> Option<Fault<'a>>
     }
 }
 
-/// What the fault of a code file is told as. Nothing is told of want of memory.
+/// What the fault of a code file is told as. Nothing is told of running out of memory.
 pub(crate) fn told_code<'a>(fault: CodeFault) -> Option<Fault<'a>>
     ensures { option_map fault_line result ≡ code_fault_line fault }
 {
@@ -78,7 +78,7 @@ pub(crate) fn told_code<'a>(fault: CodeFault) -> Option<Fault<'a>>
     }
 }
 
-/// What the fault of a report is told as. Nothing is told of want of memory.
+/// What the fault of a report is told as. Nothing is told of running out of memory.
 pub(crate) fn told_report<'a>(fault: ReportFault) -> Option<Fault<'a>>
     ensures { option_map fault_line result ≡ report_fault_line fault }
 {

@@ -17,7 +17,7 @@ use Rattle.mpp_core.specs.declared.fault.CoreFault.{CoreFault}
 -- ---- terms
 
 -- What a term on this line is over the cells of what is declared. `A + T[1]`, where `A` is the cell 0 and `T` a table from the cell 1
--- on, is the cell 0, and behind it `+` and the cell 2.
+-- on, is the cell 0, and after it `+` and the cell 2.
 abbrev mutual
   pub term_said : Declared → ℕ → Term → Result Formula CoreFault
   term_said declared line (lit value) = Ok (lit_formula value)
@@ -27,7 +27,7 @@ abbrev mutual
       if_said (λ f. if_said (λ steps. Ok (chain_formula f (steps_of steps))) (links_said declared line [] links)) (term_said declared line first)
   term_said declared line (exists kind) = Ok (exists_formula (kind_cells declared kind))
 
-  -- terms one after the other, behind those that are said already
+  -- terms one after the other, after those that are said already
   pub terms_said : Declared → ℕ → List Formula → Terms → Result (List Formula) CoreFault
   terms_said declared line before no_terms = Ok before
   terms_said declared line before (a_term a rest) = if_said (λ t. terms_said declared line (before ++ t ∷ []) rest) (term_said declared line a)
@@ -56,14 +56,14 @@ abbrev mutual
   act_said declared names (partition line kind block) = if_said (λ a. Ok (partition_action line (kind_cells declared kind) (block_of a))) (acts_said declared names [] block)
   act_said declared names (call line cs name) = if_said (call_said names line name) (targets_said declared line [] cs)
 
-  -- commands one after the other, behind those that are said already
+  -- commands one after the other, after those that are said already
   pub acts_said : Declared → List (List ℕ) → List Action → Acts → Result (List Action) CoreFault
   acts_said declared names before no_acts = Ok before
   acts_said declared names before (an_act a rest) = if_said (λ action. acts_said declared names (before ++ action ∷ []) rest) (act_said declared names a)
 
 -- ---- functions
 
--- the bodies of functions one after the other, behind those that are said already
+-- the bodies of functions one after the other, after those that are said already
 abbrev pub bodies_said : Declared → List (List ℕ) → List (List Action) → List Function → Result (List (List Action)) CoreFault
 bodies_said declared names before [] = Ok before
 bodies_said declared names before (f ∷ fs) = if_said (λ body. bodies_said declared names (before ++ body ∷ []) fs) (acts_said declared names [] (acts_of f.body))

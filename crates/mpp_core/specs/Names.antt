@@ -57,7 +57,7 @@ target_of_variable line c (Some v) =
 abbrev pub target_said : Declared → ℕ → CellName → Result ℕ CoreFault
 target_said declared line c = target_of_variable line c (variable_named declared c.name)
 
--- targets from left to right, behind those that are said already
+-- targets from left to right, after those that are said already
 abbrev pub targets_said : Declared → ℕ → List ℕ → List CellName → Result (List ℕ) CoreFault
 targets_said declared line before [] = Ok before
 targets_said declared line before (c ∷ cs) = if_said (λ cell. targets_said declared line (before ++ cell ∷ []) cs) (target_said declared line c)
@@ -74,11 +74,11 @@ each_once (c ∷ cs) = with_cell c (each_once cs)
 
 -- ---- kinds
 
--- cells, and behind them that of a variable, if it is of a kind
+-- cells, and after them that of a variable, if it is of a kind
 abbrev pub with_kind : Kind → List ℕ → Variable → List ℕ
 with_kind (Attribute attribute values) before v = if is_of_kind v attribute values then before ++ v.first_cell ∷ [] else before
 
--- the cells of variables that are of a kind, behind these
+-- the cells of variables that are of a kind, after these
 abbrev pub cells_of_kind : Kind → List ℕ → List Variable → List ℕ
 cells_of_kind kind before [] = before
 cells_of_kind kind before (v ∷ vs) = cells_of_kind kind (with_kind kind before v) vs
@@ -96,11 +96,11 @@ rules_name = codes "call_m"
 abbrev pub name_in : Function → List ℕ
 name_in f = f.name
 
--- these names, and behind them that of a further function, which none of them is and which doesn't call the rules
+-- these names, and after them that of a further function, which none of them is and which doesn't call the rules
 abbrev pub name_said : List (List ℕ) → Function → Result (List (List ℕ)) CoreFault
 name_said before f = if bytes_eq f.name rules_name || has f.name before then Err (FunctionTwice f.name f.line) else Ok (before ++ f.name ∷ [])
 
--- the names of functions in order, behind these
+-- the names of functions in order, after these
 abbrev pub names_said : List (List ℕ) → List Function → Result (List (List ℕ)) CoreFault
 names_said before [] = Ok before
 names_said before (f ∷ fs) = if_said (λ names. names_said names fs) (name_said before f)

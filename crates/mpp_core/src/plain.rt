@@ -12,7 +12,7 @@ use m_symbols::Symbols;
 use std::alloc::{AllocError, Global};
 
 /// The driver of rules that have none: the function `main` with one call of the rules, which gives back the requests without the
-/// cells of constants. Its only error is want of memory.
+/// cells of constants. Its only error is running out of memory.
 pub fn plain_driver(alloc: Global, requests: &[u32], symbols: &Symbols) -> Result<Core, AllocError>
     requires { All (λ c. c < length (owners_from 0 symbols.now.variables)) requests.now }
     ensures core { IfOk result (λ core. core ≡ plain_core requests.now symbols.now) }

@@ -271,7 +271,7 @@ first-faces [] ls h e = refl
 first-faces (c ∷ cs) [] h e = absurd (omega arith)
 first-faces (c ∷ cs) (l ∷ ls) h e = λ i. e 0 c (omega arith) i ∷ first-faces cs ls (omega arith) (λ k d lt. e (suc k) d (omega arith)) i
 
--- behind them stand lines
+-- after them stand lines
 pub further-faces : (n : ℕ) (ls : List FaceLabel) → ((l : ℕ) → n ≤ l → IsDriverLine (get_or ls l (DriverLine 0))) → AllByRecursion IsDriverLine (drop n ls)
 further-faces zero [] h = tt
 further-faces zero (l ∷ ls) h = (h 0 (omega arith), further-faces zero ls (λ k lt. h (suc k) (omega arith)))

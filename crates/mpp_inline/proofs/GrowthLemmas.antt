@@ -29,14 +29,14 @@ use Rattle.mpp_inline.proofs.OutcomeLemmas.{append-none, or-none}
 pub past-line : (labels : List FaceLabel) (l : ℕ) → length labels ≤ l → IsDriverLine (get_or labels l (DriverLine 0))
 past-line labels l h = subst IsDriverLine (sym (get_or_past labels l (DriverLine 0) h)) tt
 
--- behind labels of which the last is a line
+-- after labels of which the last is a line
 line-last : (labels more : List FaceLabel) (line l : ℕ) → more ≡ labels ++ DriverLine line ∷ [] → length labels ≤ l → IsDriverLine (get_or more l (DriverLine 0))
 line-last [] more line zero e h = subst (λ ls. IsDriverLine (get_or ls 0 (DriverLine 0))) (sym e) tt
 line-last [] more line (suc l) e h = subst (λ ls. IsDriverLine (get_or ls (suc l) (DriverLine 0))) (sym e) tt
 line-last (f ∷ labels) more line zero e h = absurd (omega (arith, h))
 line-last (f ∷ labels) more line (suc l) e h = subst (λ ls. IsDriverLine (get_or ls (suc l) (DriverLine 0))) (sym e) (line-last labels (labels ++ DriverLine line ∷ []) line l refl (omega (arith, h)))
 
--- a label behind older ones: it was new then, or it is new now
+-- a label after older ones: it was new then, or it is new now
 new-then : (m l : ℕ) (first second : FaceLabel) → (b : Bool) → nat_lt l m ≡ b → (l < m → second ≡ first) → IsDriverLine first → (m ≤ l → IsDriverLine second) → IsDriverLine second
 new-then m l first second true e kept old new = subst IsDriverLine (sym (kept (ltb-true l m e))) old
 new-then m l first second false e kept old new = new (ltb-false l m e)
@@ -283,7 +283,7 @@ gives-old k s h = record { grows = grows-none s; within = h; value = λ inputs. 
 pub gives-same : {b c : Builder} {k : ℕ} {v w : List Value → Value} → ((inputs : List Value) → v inputs ≡ w inputs) → Gives b c v k → Gives b c w k
 gives-same e g = record { grows = g.grows; within = g.within; value = λ inputs. g.value inputs ∙ e inputs }
 
--- a node that is made behind others
+-- a node that is made after others
 pub gives-behind : {a b c : Builder} {k : ℕ} {v : List Value → Value} → Grows a b → Gives b c v k → Gives a c v k
 gives-behind g h = record { grows = grows-then g h.grows; within = h.within; value = h.value }
 

@@ -35,7 +35,7 @@ computed-filled : (base : Base) (ps : List ℕ) (e : Env) → computed base ps e
 computed-filled base [] e = refl
 computed-filled base (p ∷ ps) e = computed-filled base ps (set e (target_at base p) (term_value (environment e) (term_at base p)))
 
--- a failure whose cause is there, and the failure of those behind it
+-- a failure whose cause is there, and the failure of those after it
 some-none : {X : Type 0} {x : X} → Some x ≡ None → ⊥
 some-none p = cc
 

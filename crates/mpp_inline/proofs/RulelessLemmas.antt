@@ -144,7 +144,7 @@ body-lighter rules cells bodies (suc turns) f =
       lighter rules cells (body_weight rules cells bodies turns) (body_weight rules cells (left_in bodies) turns) (body-lighter rules cells bodies turns) [] (body_among bodies f),
     )
 
--- what is left of a driver weighs no more
+-- what is left of a driver costs no more
 pub left-lighter : (core : Core) (base : Base) → weight_of (core_left core) base ≤ weight_of core base
 left-lighter core base =
     let r = base_weight base in

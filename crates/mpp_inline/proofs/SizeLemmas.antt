@@ -29,7 +29,7 @@ use Rattle.mpp_inline.specs.inner.Sizes.{positions_weight, body_size, block_size
 
 -- ---- terms
 
--- a term of a driver weighs 1 at least
+-- a term of a driver costs 1 at least
 pub formula-pos : (t : Formula) → 1 ≤ formula_weight t
 formula-pos (lit v) = omega arith
 formula-pos (cell x) = omega arith

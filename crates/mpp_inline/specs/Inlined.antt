@@ -18,7 +18,7 @@ use Rattle.driver_core.specs.Weights.{weight_of}
 use Rattle.mpp_inline.specs.declared.fault.InlineFault.{InlineFault}
 use Rattle.mpp_inline.specs.declared.fault.InlineFault.TheVariants.{DriverTooLarge, Memory}
 
--- the most nodes, the most checks, the most notes, and the most labels behind those of the base
+-- the most nodes, the most checks, the most notes, and the most labels after those of the base
 abbrev pub most_nodes : ℕ
 most_nodes = 100_000_000
 

@@ -143,7 +143,7 @@ fn kind_of(item: &VariableItem) -> InputType
     }
 }
 
-/// The number of the input behind a variable, where there are so many inputs.
+/// The number of the input after a variable, where there are so many inputs.
 fn input_behind(role: &Role, next: u32, inputs: u32) -> u32
     ensures { InputIsThere inputs next role.now → result ≡ next_input next role.now }
 {
@@ -203,7 +203,7 @@ pub fn numbers_of(alloc: Global, notes: &[(u32, u32)]) -> Result<Vec<u32>, Alloc
     Ok(numbers)
 }
 
-/// The nodes of the requested cells, behind others.
+/// The nodes of the requested cells, after others.
 fn add_outputs(outputs: &mut Vec<u32>, env: &[u32], requests: &[u32]) -> Result<(), AllocError>
     ensures { OnOk result (outputs.new.items
         ≡ outputs.old.items ++ map (λ x. slice_index_or env.now x 0) requests.now) }

@@ -34,7 +34,7 @@ use std::alloc::{AllocError, Global};
 /// for every list of values that the inputs may have it answers what the driver does. The inputs are those of the symbols in order.
 /// There is an output for each note, in order, and then one for each requested cell.
 ///
-/// The base has the cells of the symbols and is ordered, as `order` answers it. Where the driver weighs more than 4,000,000, it is
+/// The base has the cells of the symbols and is ordered, as `order` answers it. Where the driver costs more than 4,000,000, it is
 /// refused before any node is made; else the program has at most 6 nodes, checks, labels and notes for each unit of the weight, two
 /// nodes for each cell, and 3 nodes and the labels of the base besides. No call is as deep as a chain of functions.
 pub fn inline(
@@ -65,7 +65,7 @@ pub fn inline(
 
 /// The same, for a driver that isn't too heavy.
 ///
-/// A call of the rules over a base that has none weighs nothing, so there may be any number of such calls. They are left out of
+/// A call of the rules over a base that has none costs nothing, so there may be any number of such calls. They are left out of
 /// the driver at first.
 fn flat_program(
     alloc: Global,

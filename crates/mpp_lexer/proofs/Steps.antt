@@ -50,7 +50,7 @@ spaces_go line from to r = go (to - from) from (omega (arith, r.onward)) (λ k h
 pub then_spaces : (line : List ℕ) (from mid to : ℕ) (ts : List DriverPiece) → GoesOn line from ts mid → RunsTo (λ b. b ≡ space) line mid to → GoesOn line from ts to
 then_spaces line from mid to ts a r = subst (λ us. GoesOn line from us to) (append-nil ts) (then line from mid to ts [] a (spaces_go line mid to r))
 
--- where the spaces at the front of a line end
+-- where the spaces at the start of a line end
 pub spaces_counted : (line : List ℕ) (to : ℕ) → RunsTo (λ b. b ≡ space) line 0 to → to ≡ spaces line
 spaces_counted line to r = sym (go to 0 (omega arith) (λ k h l. r.each k h l))
   where

@@ -60,7 +60,7 @@ pub data TokensOf : List ℕ → List DriverPiece → Type 0 where
   token : {bytes t rest : List ℕ} {p : DriverPiece} {tokens : List DriverPiece} → LongestOf IsToken bytes t rest → Spells t p →
       TokensOf rest tokens → TokensOf bytes (p ∷ tokens)
 
--- Behind spaces and tokens, and before a comment, comes a byte at which no token begins, or a number
+-- After spaces and tokens, and before a comment, comes a byte at which no token begins, or a number
 -- that is too great: a tab, a single `!`, or `10000000000001`.
 pub data HasBadToken : List ℕ → Type 0 where
   no_token : {b : ℕ} {bytes rest : List ℕ} → bytes ≡ b ∷ rest → b ≢ space → b ≢ hash → NoToken bytes → HasBadToken bytes

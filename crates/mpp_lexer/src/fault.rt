@@ -10,7 +10,7 @@ pub enum DriverFault {
     DriverToken(u32),
     /// No line is so, and this is the first whose level or whose depth of brackets is too great.
     DriverTooDeep(u32),
-    /// No line is so either, and this is the first line behind the longest front of the lines that
+    /// No line is so either, and this is the first line after the longest prefix of the lines that
     /// spells a driver.
     DriverSyntax(u32),
     /// There was no memory.

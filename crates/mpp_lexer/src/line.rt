@@ -43,7 +43,7 @@ pub fn line_tokens(alloc: Global, line: &[u8]) -> Result<Option<Vec<DriverPiece>
     Ok(Some(tokens))
 }
 
-// The token that begins at a position, and the position behind it.
+// The token that begins at a position, and the position after it.
 fn token_at(
     alloc: Global,
     line: &[u8],
@@ -81,7 +81,7 @@ fn number_piece(alloc: Global, text: &[u8]) -> Result<Option<DriverPiece>, Alloc
     }
 }
 
-// The sign that begins at a position, of two bytes where they spell one, and the position behind it.
+// The sign that begins at a position, of two bytes where they spell one, and the position after it.
 fn sign_at(line: &[u8], at: usize) -> Option<(DriverPiece, usize)>
     requires within { at < length line.now }
     requires no_word { IsWordByte (slice_index line.now at) → ⊥ }

@@ -1,4 +1,4 @@
--- The law of lines: reading on as long as commands stand at the front reads the longest front that spells commands,
+-- The law of lines: reading on as long as commands stand at the start reads the longest prefix that spells commands,
 -- and what the lines spell with that rest is one thing.
 use Rattle.std.proofs.Common.{◌≡◌, ◌⊎◌, ℕ, zero, suc, ◌<◌, ◌≤◌, List, [], ◌∷◌, ◌++◌, length, Option, Some, None, refl, sym, ap, ◌∙◌, subst, append_assoc, arith, inl, inr}
 use Rattle.std.proofs.lemmas.Bool.{cases_lt}
@@ -62,7 +62,7 @@ Greedy {A} R p = (y : A) (ls r : List Line) → R y ls r → Reaches (p ls) y r
 abbrev pub Shrinks : {A : Type 0} → (A → List Line → List Line → Type 0) → Type 0
 Shrinks {A} R = (y : A) (ls r : List Line) → R y ls r → length r < length ls
 
--- behind a shorter spelling of what is read nothing of the kind begins
+-- after a shorter spelling of what is read nothing of the kind begins
 abbrev pub Apart : {A : Type 0} → (A → List Line → List Line → Type 0) → (List Line → Option (A × List Line)) → Type 0
 Apart {A} R p = (y x z : A) (ls r m s : List Line) → R y ls r → p ls ≡ Some (x, m) → length m < length r → R z r s → ⊥
 

@@ -75,7 +75,7 @@ else_given : (i : ℕ) (l : Line) (ls : List Line) → Says i sentences.Else l �
 unfolding else_at
 else_given i l ls h = rw (eqb_same l.indent i h.at, else_complete l.tokens h.says) refl
 
--- a line that stands in a command, behind its first
+-- a line that stands in a command, after its first
 abbrev pub Deep : ℕ → Line → Type 0
 Deep i l = (i < l.indent) ⊎ ((l.indent ≡ i) × SpellsSentence sentences.Else l.tokens [])
 
@@ -118,7 +118,7 @@ module _ (B : ℕ → List Act → List Line → List Line → Type 0) (b : ℕ 
   deeper : {i : ℕ} {acts : List Act} {ls rest : List Line} → B i acts ls rest → Front (Deep i) ls rest
   deeper d = front_weaker (λ l h. inl h) (front _ _ _ _ d)
 
-  -- the lines behind the first
+  -- the lines after the first
   pub command_tail : {i : ℕ} {c : Act} {l : Line} {ls rest : List Line} → SpellsCommand B i c (l ∷ ls) rest → Front (Deep i) ls rest
   command_tail (sets h) = stop
   command_tail (deletes h) = stop

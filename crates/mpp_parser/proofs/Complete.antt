@@ -51,7 +51,7 @@ module _ {A B X : Type 0} (opens : DriverPiece → Option B) (made : B → A →
   chain_shrinks ended = omega arith
   chain_shrinks (further o d c) = omega (arith, shrinks _ _ _ d, chain_shrinks c)
 
-  -- a further one may stand behind an R, and so may what stands behind all of them, which opens none
+  -- a further one may stand after an R, and so may what stands after all of them, which opens none
   module _ (p : List DriverPiece → Option (A × List DriverPiece)) (S T : List DriverPiece → Type 0) (complete : Complete S R p) (binds : (t : DriverPiece) (b : B) (ts : List DriverPiece) → opens t ≡ Some b → S (t ∷ ts)) (weaker : (ts : List DriverPiece) → T ts → S ts) (closed : (ts : List DriverPiece) → T ts → open_at opens ts ≡ None) where
     pub chain_binds : {xs : List X} {ts rest : List DriverPiece} → Chain opens made R xs ts rest → T rest → S ts
     chain_binds ended h = weaker _ h

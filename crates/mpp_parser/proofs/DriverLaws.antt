@@ -158,7 +158,7 @@ one_driver ls r d e a b longest =
     let other = (w.same (omega (arith, short, w.far))).0 in
     λ i. record { functions = (sym same ∙ other) i }
 
--- the longest front ends where reading does
+-- the longest prefix ends where reading does
 pub one_rest : (ls r : List Line) (d : Driver) → SpellsDriver d ls r → IsLongest ls r → (functions_at ls).1 ≡ r
 unfolding functions_at
 one_rest ls r d a longest =

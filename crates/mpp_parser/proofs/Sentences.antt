@@ -76,7 +76,7 @@ sentence_sound _ = absent
 
 -- What is spelled is read so.
 
--- what ends the name of a cell at the front of a command
+-- what ends the name of a cell at the start of a command
 abbrev EndsName : List DriverPiece → Type 0
 EndsName ts = (sign_at OpenParen ts ≡ None) × (sign_at OpenBracket ts ≡ None) × (sign_at Assign ts ≡ None)
 

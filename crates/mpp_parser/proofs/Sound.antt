@@ -1,4 +1,4 @@
--- What is read is spelled so: tools, for readers of any trees at the front of tokens.
+-- What is read is spelled so: tools, for readers of any trees at the start of tokens.
 use Rattle.std.proofs.Common.{◌≡◌, ℕ, zero, suc, Bool, true, false, cond, List, [], ◌∷◌, ◌++◌, Option, Some, None, refl, sym, ap, ◌∙◌, subst, append_assoc}
 use Rattle.std.proofs.lemmas.List.{append-nil}
 use denote.Enum.Bare.{sameb, same_true}

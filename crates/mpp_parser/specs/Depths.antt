@@ -16,7 +16,7 @@ outer_indents (l ∷ earlier) i = if nat_lt l.indent i then l.indent ∷ outer_i
 abbrev pub level_of : List Line → ℕ → ℕ
 level_of earlier i = length (outer_indents earlier i)
 
--- how many brackets are open behind a token; a closing one without an open one closes none
+-- how many brackets are open after a token; a closing one without an open one closes none
 abbrev pub open_behind : ℕ → DriverPiece → ℕ
 open_behind n (Sign OpenParen) = n + 1
 open_behind n (Sign OpenBracket) = n + 1
@@ -29,7 +29,7 @@ abbrev pub opens_too_many : ℕ → List DriverPiece → Bool
 opens_too_many n [] = false
 opens_too_many n (t ∷ ts) = nat_lt BRACKET_DEPTH (open_behind n t) || opens_too_many (open_behind n t) ts
 
--- a line behind these, the nearest first, is too deep
+-- a line after these, the nearest first, is too deep
 abbrev pub is_too_deep : List Line → Line → Bool
 is_too_deep earlier l = nat_lt DRIVER_LEVEL (level_of earlier l.indent) || opens_too_many 0 l.tokens
 

@@ -1,7 +1,7 @@
 -- How lines are spelled: blocks, commands, functions and whole drivers.
 --
 -- In each relation the last two arguments are lines. `SpellsCommand B i c ls rest` says that the lines ls begin with a
--- spelling of the command c at the indentation i, and that rest are the lines behind it. B says how blocks are spelled.
+-- spelling of the command c at the indentation i, and that rest are the lines after it. B says how blocks are spelled.
 use Rattle.std.specs.Prelude.{◌≡◌, ℕ, zero, suc, ◌<◌, ◌≤◌, List, [], ◌∷◌, length}
 use Rattle.m_places.specs.declared.limits.TheConstants.{DRIVER_LEVEL}
 use Rattle.mpp_lexer.specs.declared.piece.Line.{Line}
@@ -29,7 +29,7 @@ pub data Many {A : Type 0} (R : A → List Line → List Line → Type 0) : List
       Many R (x ∷ xs) ls rest
 
 -- A command at the indentation i: a line, and under a condition, an `else` or a partition a block. An `else` stands right
--- behind the block of its `if`, and has the same indentation.
+-- after the block of its `if`, and has the same indentation.
 pub data SpellsCommand (B : ℕ → List Act → List Line → List Line → Type 0) (i : ℕ) : Act → List Line → List Line → Type 0 where
   sets : {l : Line} {c : CellName} {t : Term} {rest : List Line} → Says i (sentences.Set c t) l →
       SpellsCommand B i (set l.number c t) (l ∷ rest) rest
@@ -64,6 +64,6 @@ pub data SpellsFunction : Function → List Line → List Line → Type 0 where
 abbrev pub SpellsDriver : Driver → List Line → List Line → Type 0
 SpellsDriver d = Many SpellsFunction d.functions
 
--- no front of the lines that spells a driver leaves less than rest
+-- no prefix of the lines that spells a driver leaves less than rest
 abbrev pub IsLongest : List Line → List Line → Type 0
 IsLongest ls rest = (d : Driver) (r : List Line) → SpellsDriver d ls r → length rest ≤ length r

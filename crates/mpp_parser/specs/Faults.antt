@@ -20,8 +20,8 @@ pub record IsDriver (bytes : List ℕ) (driver : Driver) : Type 0 where
   pub shallow : Shallow [] lines
   pub spelled : SpellsDriver driver lines []
 
--- The line with this number is the first behind the longest front of the lines that spells a driver. Of `main():` alone that
--- front is empty, so it is line 1.
+-- The line with this number is the first after the longest prefix of the lines that spells a driver. Of `main():` alone that
+-- prefix is empty, so it is line 1.
 pub record StopsAt (lines : List Line) (number : ℕ) : Type 0 where
   pub driver : Driver
   pub line : Line

@@ -1,7 +1,7 @@
 -- How terms and lines are spelled: relations between trees and tokens.
 --
 -- In each relation the last two arguments are tokens. `SpellsSum E t ts rest` says that the tokens ts begin with a
--- spelling of the sum t, and that rest are the tokens behind it. E says how terms inside of brackets are spelled.
+-- spelling of the sum t, and that rest are the tokens after it. E says how terms inside of brackets are spelled.
 use Rattle.std.specs.Prelude.{◌≡◌, ℕ, zero, suc, ℤ, pos, cond, List, [], ◌∷◌, Option, Some, None, option_map, codes}
 use denote.Enum.Bare.{sameb}
 use Rattle.m_places.specs.declared.limits.TheConstants.{BRACKET_DEPTH}
@@ -203,7 +203,7 @@ pub data SpellsCells : List CellName → List DriverPiece → List DriverPiece �
       → SpellsCell c ts mid → Chain (is Comma) (λ _ x. x) SpellsCell cs mid rest →
       SpellsCells (c ∷ cs) ts rest
 
--- What one line says, by the tokens at its front:
+-- What one line says, by the tokens at its start:
 --   WORD "(" ")" ":" | cell "=" term | "del" cell | cell { "," cell } "<-" WORD "(" ")"
 --   | "if" term ":" | "else" ":" | "partition" "with" kind ":"
 pub data SpellsSentence : Sentence → List DriverPiece → List DriverPiece → Type 0 where

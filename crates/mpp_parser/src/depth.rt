@@ -58,7 +58,7 @@ fn opens_too_many(tokens: &[DriverPiece]) -> bool
     false
 }
 
-// How many brackets are open behind a token.
+// How many brackets are open after a token.
 fn open_behind(brackets: u32, token: &DriverPiece) -> u32
     requires { brackets ≤ BRACKET_DEPTH }
     ensures { result ≡ open_behind brackets token.now }

@@ -72,7 +72,7 @@ fn cast(alloc: Global, cell: CellName) -> Result<Box<DTerm>, AllocError>
     boxed(alloc, DNode::Chain(named, links))
 }
 
-/// [ "[" WHOLE "]" ], behind the name
+/// [ "[" WHOLE "]" ], after the name
 #[tactic(auto, unfolding(crate::specs::inner::Reading::cell_rest_at, crate::specs::inner::Reading::bracket_at))]
 pub fn read_cell_rest(
     alloc: Global,

@@ -7,7 +7,7 @@ ghost use Rattle.mpp_parser.specs.declared.command.Driver.{Driver};
 ghost use Rattle.mpp_parser.specs.Drivers.{SpellsDriver, IsLongest};
 ghost use Rattle.mpp_parser.specs.Faults.{IsDriver, IsFault};
 
-/// The longest front of the lines that spells a driver spells one alone.
+/// The longest prefix of the lines that spells a driver spells one alone.
 pub fn one_longest_driver()
     ensures { (ls rest : List Line) (d e : Driver) →
         SpellsDriver d ls rest → SpellsDriver e ls rest → IsLongest ls rest → d ≡ e }

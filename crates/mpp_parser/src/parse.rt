@@ -17,7 +17,7 @@ use std::alloc::Global;
 /// The driver that the bytes spell.
 ///
 /// `main():\n  IRN <- call_m()\n` is a driver of one function with one command. `main():` alone is refused as
-/// `DriverSyntax(1)`, since a function has at least one command, and so is `main():\n  IRN <-1\n`. Behind
+/// `DriverSyntax(1)`, since a function has at least one command, and so is `main():\n  IRN <-1\n`. After
 /// `main():\n  IRN = 1\n` the line `  IRN <-1` is refused as `DriverSyntax(3)`.
 pub fn parse_driver(alloc: Global, bytes: &[u8]) -> Result<Driver, DriverFault>
     requires { length bytes.now ≤ FILE_BYTES }

@@ -37,7 +37,7 @@ pub enum Sentence {
     Partition(Kind),
 }
 
-// { "," cell }, behind a first one
+// { "," cell }, after a first one
 #[tactic(auto, unfolding(crate::specs::inner::Reading::cells_at))]
 fn read_cells(
     alloc: Global,
@@ -55,7 +55,7 @@ fn read_cells(
     Ok(cells)
 }
 
-// "<-" WORD "(" ")", behind what is received
+// "<-" WORD "(" ")", after what is received
 #[tactic(auto, unfolding(crate::specs::inner::Reading::called_at))]
 fn read_called(
     alloc: Global,
@@ -77,7 +77,7 @@ fn read_called(
     Ok(Sentence::Call(Seq::from_vec(cells), function))
 }
 
-// "=" term | { "," cell } "<-" WORD "(" ")", behind a cell whose name begins with the word
+// "=" term | { "," cell } "<-" WORD "(" ")", after a cell whose name begins with the word
 #[tactic(auto, unfolding(crate::specs::inner::Reading::command_rest_at, crate::specs::inner::Reading::call_at))]
 fn read_command_rest(
     alloc: Global,

@@ -6,7 +6,7 @@ use crate::{Coded, Face, FaceLabel, FaceOutput};
 use m_places::{Name, Seq};
 use std::alloc::{AllocError, Global};
 
-/// The face of a program whose outputs are values with these names, and no notes. Its only error is want of memory.
+/// The face of a program whose outputs are values with these names, and no notes. Its only error is running out of memory.
 pub fn named_face(
     alloc: Global,
     inputs: Seq<Coded>,

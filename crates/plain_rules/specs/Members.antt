@@ -34,7 +34,7 @@ abbrev pub is_negation : Op → Bool
 is_negation Neg = true
 is_negation _ = false
 
--- the amount of a literal behind a minus
+-- the amount of a literal after a minus
 abbrev pub opposite_of : Syntax → Option ℤ
 opposite_of (lit v) = None
 opposite_of (named w p) = None
@@ -66,7 +66,7 @@ is_same_word (Some a) (Some b) = bytes_eq a b
 is_same_word (Some a) None = false
 is_same_word None b = false
 
--- Whether a member with these ends is a single one: both are one number, one number behind a minus, or one word. `3..3.0` is
+-- Whether a member with these ends is a single one: both are one number, one number after a minus, or one word. `3..3.0` is
 -- single, and `-0..0` is a range.
 abbrev pub is_single : Syntax → Syntax → Bool
 is_single low high =

@@ -6,7 +6,7 @@ ghost use Rattle.plain_rules.specs.Members as spec;
 use m_ast::{Node, Term};
 use m_fixed::{Amount, Op, Value};
 
-/// Whether a member with these ends is a single one: both are one number, one number behind a minus, or one word. `3..3.0` is
+/// Whether a member with these ends is a single one: both are one number, one number after a minus, or one word. `3..3.0` is
 /// single, and `-0..0` is a range. Takes no memory.
 pub fn is_single(low: &Term, high: &Term) -> bool
     ensures { result ≡ spec.is_single low.now high.now }
@@ -54,7 +54,7 @@ fn amount_of(term: &Term) -> Option<Amount>
     }
 }
 
-// The amount of a literal behind a minus.
+// The amount of a literal after a minus.
 fn opposite_of(term: &Term) -> Option<Amount>
     ensures { result ≡ spec.opposite_of term.now }
 {

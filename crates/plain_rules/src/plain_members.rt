@@ -32,7 +32,7 @@ fn amount_of(term: &PTerm) -> Option<Amount>
     }
 }
 
-// The amount of a literal behind a minus.
+// The amount of a literal after a minus.
 fn opposite_of(term: &PTerm) -> Option<Amount>
     ensures { result ≡ spec.opposite_of term.now }
 {

@@ -46,7 +46,7 @@ use Rattle.reg_machine.proofs.LawLemmas.{reading-none}
 
 -- ---- what is wrong
 
--- nothing is wrong with an instruction: its numbers can stand there, and something is known behind it
+-- nothing is wrong with an instruction: its numbers can stand there, and something is known after it
 pub right-parts : (code : Listing) (i : Instr) (s : State) → reading code ≡ Some s → wrong_behind code i ≡ None → (has_numbers code.counts s i ≡ true) × (t : State) × (moved i s ≡ Some t)
 right-parts code i s e f = from (has_numbers code.counts s i) refl (moved i s) refl (sym (ap (option_and_then (λ s. wrong_at code.counts s i)) e) ∙ f)
   where
@@ -63,7 +63,7 @@ reads-on code i s t e has is =
     ∙ ap (λ b. if b then moved i s else None) has
     ∙ is
 
--- what is wrong behind code of which this is known
+-- what is wrong after code of which this is known
 pub wrong-is : (code : Listing) (i : Instr) (s : State) → reading code ≡ Some s → wrong_behind code i ≡ wrong_at code.counts s i
 wrong-is code i s e = ap (option_and_then (λ s. wrong_at code.counts s i)) e
 
@@ -228,7 +228,7 @@ Fits d p = IsPacked d.inputs d.outs (length d.pool) (length d.used) p
 pushed : (d : Parts) (p : Packed) → listing (record d { packed = d.packed ++ p ∷ [] }) ≡ with_instr (listing d) (unpacked d.pool d.used p)
 pushed d p = ap (λ (is : List Instr). record { counts = (listing d).counts; instrs = is }) (map-append (unpacked d.pool d.used) d.packed (p ∷ []))
 
--- and what is known behind it
+-- and what is known after it
 read-push : (d : Parts) (p : Packed) (s t : State) → reading (listing d) ≡ Some s → has_numbers (listing d).counts s (unpacked d.pool d.used p) ≡ true → moved (unpacked d.pool d.used p) s ≡ Some t → reading (listing (record d { packed = d.packed ++ p ∷ [] })) ≡ Some t
 read-push d p s t e has is = ap reading (pushed d p) ∙ reads-on (listing d) (unpacked d.pool d.used p) s t e has is
 
@@ -330,7 +330,7 @@ draft-output d k r given' h right updates =
 literal-same : (d : Parts) (v : Value) → Draft d → listing d ≡ listing (record d { pool = d.pool ++ v ∷ [] })
 literal-same d v h = ap (λ (is : List Instr). record { counts = (listing d).counts; instrs = is }) (map-same (Fits d) (unpacked d.pool d.used) (unpacked (d.pool ++ v ∷ []) d.used) d.packed (λ p f. unpacked-literal d.inputs d.outs d.pool d.used v p f) h.packed)
 
--- the code behind a literal
+-- the code after a literal
 pub literal-pushed : (d : Parts) (r : ℕ) (v : Value) → Draft d → listing (record d { packed = d.packed ++ Lits r (length d.pool) ∷ []; pool = d.pool ++ v ∷ [] }) ≡ with_instr (listing d) (Lit r v)
 literal-pushed d r v h =
     pushed (record d { pool = d.pool ++ v ∷ [] }) (Lits r (length d.pool))
@@ -363,7 +363,7 @@ draft-literal d r v h right =
 slot-same : (d : Parts) (used' : List ℕ) (k : ℕ) → Grown d.used used' k → Draft d → listing d ≡ listing (record d { used = used' })
 slot-same d used' k g h = ap (λ (is : List Instr). record { counts = (listing d).counts; instrs = is }) (map-same (Fits d) (unpacked d.pool d.used) (unpacked d.pool used') d.packed (λ p f. unpacked-slot d.inputs d.outs d.pool d.used used' k g p f) h.packed)
 
--- the code behind a store
+-- the code after a store
 pub slot-pushed : (d : Parts) (used' : List ℕ) (k r j : ℕ) → Grown d.used used' k → get_or used' j 0 ≡ k → Draft d → listing (record d { packed = d.packed ++ Stores j r ∷ []; used = used' }) ≡ with_instr (listing d) (Store k r)
 slot-pushed d used' k r j g at h =
     pushed (record d { used = used' }) (Stores j r)

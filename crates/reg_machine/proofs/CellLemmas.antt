@@ -123,7 +123,7 @@ acts-ended : (inputs : List Value) (m : Machine) (stop : Stop) (is : List Instr)
 acts-ended inputs m stop [] e = refl
 acts-ended inputs m stop (i ∷ is) e = ap (λ o. acts inputs (act_at inputs o i m) is) e ∙ acts-ended inputs m stop is e
 
--- the instruction at a place, and those behind it
+-- the instruction at a place, and those after it
 abbrev pub Instrs : List Value → List ℕ → List Packed → List Instr
 Instrs pool used packed = map (unpacked pool used) packed
 

@@ -93,7 +93,7 @@ has_numbers n s (Load r k) = is_register r && nat_lt k n.slots
 has_numbers n s (Test g r over_only label) = is_register g && (is_register r && nat_lt label n.labels)
 has_numbers n s (Output k r) = nat_lt k n.outputs && (is_register r && is_none (slice_index_or s.outputs k None))
 
--- What is known behind an instruction. There is nothing where it reads a register or a slot that holds no node.
+-- What is known after an instruction. There is nothing where it reads a register or a slot that holds no node.
 abbrev pub moved : Instr → State → Option State
 moved (Take r n) s = Some (with_node r (Input n) s)
 moved (Lit r v) s = Some (with_node r (LitNode v) s)
@@ -107,11 +107,11 @@ moved (Test g r over_only label) s =
     option_and_then (λ x. option_map (λ y. record s { checks = s.checks ++ record { guard = x; condition = y; over_only = over_only; label = label } ∷ [] }) (s.registers r)) (s.registers g)
 moved (Output k r) s = option_map (λ x. record s { outputs = slice_set s.outputs k (Some x) }) (s.registers r)
 
--- what is known behind an instruction of which nothing is wrong
+-- what is known after an instruction of which nothing is wrong
 abbrev pub step : Counts → Instr → State → Option State
 step n instr s = if has_numbers n s instr then moved instr s else None
 
--- what is known behind all instructions, where nothing is wrong with one
+-- what is known after all instructions, where nothing is wrong with one
 abbrev pub reading : Listing → Option State
 reading code = fold (λ s instr. option_and_then (step code.counts instr) s) (Some (start code.counts.outputs)) code.instrs
 
@@ -121,7 +121,7 @@ reading code = fold (λ s instr. option_and_then (step code.counts instr) s) (So
 abbrev pub wrong_at : Counts → State → Instr → Option Wrong
 wrong_at n s instr = if has_numbers n s instr then (if is_none (moved instr s) then Some Order else None) else Some Number
 
--- what is wrong with one more instruction behind code with which nothing is
+-- what is wrong with one more instruction after code with which nothing is
 abbrev pub wrong_behind : Listing → Instr → Option Wrong
 wrong_behind code instr = option_and_then (λ s. wrong_at code.counts s instr) (reading code)
 

@@ -65,7 +65,7 @@ impl CodeBuilder {
         }
     }
 
-    // Whether all numbers of an instruction can stand behind those so far.
+    // Whether all numbers of an instruction can stand after those so far.
     fn has_numbers(&self, instr: &Instr) -> bool
         ensures { (s : State) → reading self.now ≡ Some s → result ≡ has_numbers self.now.counts s instr.now }
     {
@@ -130,8 +130,8 @@ impl CodeBuilder {
         None
     }
 
-    /// Puts one more instruction behind the others, and says what is wrong with it instead, where something is. Its only error
-    /// is want of memory. Where it isn't put, the code is as it was.
+    /// Puts one more instruction after the others, and says what is wrong with it instead, where something is. Its only error
+    /// is running out of memory. Where it isn't put, the code is as it was.
     pub fn push(&mut self, instr: Instr) -> Result<Option<Wrong>, AllocError>
         requires few { length self.old.instrs < 4294967295 }
         ensures wrong { IfOk result (λ wrong. wrong ≡ wrong_behind self.old instr) }
@@ -157,7 +157,7 @@ impl CodeBuilder {
         self.put(instr)
     }
 
-    // Puts one more instruction behind the others.
+    // Puts one more instruction after the others.
     fn put(&mut self, instr: Instr) -> Result<(), AllocError>
         requires few { length self.old.instrs < 4294967295 }
         requires right { IsRight self.old instr }

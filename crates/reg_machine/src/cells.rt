@@ -65,7 +65,7 @@ impl Cells {
         None
     }
 
-    /// Cells for so many slots and outputs. Its only error is want of memory.
+    /// Cells for so many slots and outputs. Its only error is running out of memory.
     pub fn new(alloc: Global, slots: usize, outputs: usize) -> Result<Cells, AllocError>
         ensures slots { IfOk result (λ cells. length cells.slots.items ≡ slots) }
         ensures outputs { IfOk result (λ cells. length cells.outputs.items ≡ outputs) }

@@ -43,7 +43,7 @@ impl<'a> Model for Machine<'a> {
 
 impl<'a> Machine<'a> {
     /// A machine for this code. It takes room for the slots that are stored to, not for the count of slots. Its only error is
-    /// want of memory.
+    /// running out of memory.
     pub fn new(alloc: Global, code: &'a Code) -> Result<Machine<'a>, AllocError>
         ensures { IfOk result (λ machine. machine.code ≡ code.now) }
     {

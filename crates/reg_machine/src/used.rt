@@ -43,7 +43,7 @@ impl UsedSlots {
         self.numbers.get(&slot).copied()
     }
 
-    /// The number of a slot, which is used from then on. Its only error is want of memory, and then all is as it was.
+    /// The number of a slot, which is used from then on. Its only error is running out of memory, and then all is as it was.
     pub fn number(&mut self, slot: u32) -> Result<u32, AllocError>
         requires few { length self.old < 4294967295 }
         ensures place { IfOk result (λ d. (d < length self.new) × (slice_index self.new d ≡ slot)) }
@@ -56,7 +56,7 @@ impl UsedSlots {
         }
     }
 
-    // Puts a slot behind the others.
+    // Puts a slot after the others.
     fn add(&mut self, slot: u32) -> Result<u32, AllocError>
         requires few { length self.old < 4294967295 }
         requires away { IsAmong slot self.old → ⊥ }

@@ -4,7 +4,7 @@ ghost use Rattle.reg_machine.specs.declared.wrong.CodeWrong.TheVariants.{Memory}
 
 use std::alloc::{AllocError, AllocFailed};
 
-/// What is wrong with an instruction behind others.
+/// What is wrong with an instruction after others.
 #[derive(Clone, Copy, Debug, PartialEq, Eq)]
 pub enum Wrong {
     /// It has a number that can't stand there.

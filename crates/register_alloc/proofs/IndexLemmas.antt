@@ -106,7 +106,7 @@ indexed-clear {owners} {places} {n} {free} k x h at lt = record {
     zero-or zero = inl refl
     zero-or (suc m) = inr (omega arith)
 
--- an entry behind the others
+-- an entry after the others
 pub look-push : (table : List (Option ℕ)) (entry : Option ℕ) → put (look table) (length table) entry ≡ look (table ++ entry ∷ [])
 look-push table entry =
     let each : (j : ℕ) → put (look table) (length table) entry j ≡ look (table ++ entry ∷ []) j = λ j.

@@ -10,7 +10,7 @@ use Rattle.register_alloc.specs.Width.{reads, check_reads, later, moment_from, r
 use Rattle.register_alloc.specs.inner.Tables.{is_live}
 use Rattle.register_alloc.specs.inner.Sound.{Order}
 
--- whether something is read from place p on: there, or behind it
+-- whether something is read from place p on: there, or after it
 any-drop : {X : Type 0} (f : X → Bool) (xs : List X) (p : ℕ) (d : X) → p < length xs → list_any f (drop p xs) ≡ (f (get_or xs p d) || list_any f (drop (suc p) xs))
 any-drop f xs p d lt = ap (list_any f) (drop-cons xs p d lt)
 

@@ -100,12 +100,12 @@ once-store stored x k made live s once lives lt free away y =
 held-by : {flat : Flat} {made read checked : ℕ} {given : List (Option ℕ)} {code : Listing} {r s : ℕ → Option ℕ} {n : ℕ} → (h : Sound flat made read checked given code r s n) → (i x : ℕ) → r i ≡ Some x → h.spelled.state.registers i ≡ Some x
 held-by h i x at = ap (λ (f : ℕ → Option ℕ). f i) h.spelled.registers ∙ at
 
--- nothing is wrong with an instruction that may stand behind the code so far
+-- nothing is wrong with an instruction that may stand after the code so far
 right-next : {flat : Flat} {made read checked : ℕ} {given : List (Option ℕ)} {code : Listing} {r s : ℕ → Option ℕ} {n : ℕ} → (h : Sound flat made read checked given code r s n) → (m : ℕ) (i : Instr) (after : State) → n ≤ m → m ≤ width_of flat → Next code m h.spelled.state i after → wrong_behind code i ≡ None
 right-next {flat} {made} {read} {checked} {given} {code} {r} {s} {n} h m i after le fits next =
     right-push code i n m h.spelled.state after h.spelled.read le (slots-fit h m fits) next
 
--- how often a node is loaded behind such an instruction
+-- how often a node is loaded after such an instruction
 loads-next : {flat : Flat} {made read checked : ℕ} {given : List (Option ℕ)} {code : Listing} {r s : ℕ → Option ℕ} {n : ℕ} → (h : Sound flat made read checked given code r s n) → (m : ℕ) (i : Instr) (after : State) → n ≤ m → m ≤ width_of flat → Next code m h.spelled.state i after → (y : ℕ) → loads_of y (with_instr code i) ≡ after.loaded y
 loads-next {flat} {made} {read} {checked} {given} {code} {r} {s} {n} h m i after le fits next y =
     loads-read (with_instr code i) m after (reading-push code i n m h.spelled.state after h.spelled.read le next) (slots-fit h m fits) y

@@ -117,7 +117,7 @@ fn ready(flat: &Flat, at: Moment) -> Option<Check>
     }
 }
 
-/// Whether a node is read at a place or behind it.
+/// Whether a node is read at a place or after it.
 fn is_read_from(last: &[usize], x: usize, place: usize) -> bool
     requires { x < length last.now }
     ensures { result ≡ nat_lt place (slice_index last.now x) }
@@ -183,7 +183,7 @@ impl<'a> Task<'a> {
         ready(self.flat, at)
     }
 
-    /// The place behind the last one at which a node is read by a node, or 0. A hint: nothing is promised of it.
+    /// The place after the last one at which a node is read by a node, or 0. A hint: nothing is promised of it.
     pub fn last_read(&self, x: usize) -> usize {
         match self.by_node.get(x) {
             Some(place) => *place,

@@ -13,7 +13,7 @@ use reg_machine::{Code, CodeBuilder, REGISTERS};
 use std::alloc::{AllocError, Global};
 
 /// Register code that spells the program, with so many labels, and with as few slots as the program's width allows. Its only
-/// error is want of memory. Of two inputs and an output that is their sum it is `Take(0, 0)`, `Take(1, 1)`,
+/// error is running out of memory. Of two inputs and an output that is their sum it is `Take(0, 0)`, `Take(1, 1)`,
 /// `Do(Add, 0, 0, 1, 0)` and `Output(0, 0)`, with no slot.
 pub fn allocate(alloc: Global, tidy: &Tidy, labels: u32) -> Result<Code, AllocError>
     requires { IsSmall tidy.now labels }

@@ -31,7 +31,7 @@ fn words_of(alloc: Global, text: &[u8]) -> Result<Vec<Word>, AllocError> {
     Ok(words)
 }
 
-/// What is wanted of a row, whose folder has these files: the text, and behind it a line with the status.
+/// What is wanted of a row, whose folder has these files: the text, and after it a line with the status.
 pub fn wanted(alloc: Global, folder: &mut Vec<(Name, Vec<u8>)>) -> Result<Vec<u8>, AllocError> {
     let mut wanted = take(folder, b"text").unwrap_or(Vec::new(alloc));
     match take(folder, b"status") {
@@ -65,7 +65,7 @@ impl Row {
     }
 }
 
-/// What the program prints for a row, and behind it a line with its status.
+/// What the program prints for a row, and after it a line with its status.
 pub fn seen<R: Threads + Sync>(rt: &R, alloc: Global, row: Row) -> Result<Vec<u8>, AllocError> {
     let Row {
         words,

@@ -49,7 +49,7 @@ one_base texts application declared others base other a b =
     let s : declared ≡ others = a.symbols ∙ (ap declared_by i ∙ sym b.symbols) in
     (s, ok_one a.resolves ((λ k. resolved (s k) (expansion (i k) application (s k))) ∙ b.resolves))
 
--- Behind each step the texts have no fault of it.
+-- After each step the texts have no fault of it.
 declared_well : (texts : List Text) (xs ys : List Item) (fault : DeclareFault) → Declares texts xs → SayAll 0 texts ys → first_fault ys ≡ Some fault → ⊥
 declared_well texts xs ys fault d s e = some_or_none e (subst (λ is. first_fault is ≡ None) (say_one 0 texts xs ys d.said s) d.faultless)
 

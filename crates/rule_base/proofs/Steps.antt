@@ -50,7 +50,7 @@ pub file_told : (texts : List Text) (application : List ℕ) (fault : RuleFault)
 file_told texts application _ (bad_tokens f) = of_tokens f
 file_told texts application _ (bad_items f) = of_items f
 
--- the faults of the steps behind the declarations
+-- the faults of the steps after the declarations
 pub expand_told : (items : List Item) (application : List ℕ) (declared : Declared) (fault : ExpandFault) → (fault ≢ expand.Memory → expand_fault items application declared ≡ Some fault)
     → expand_step fault ≢ Memory → IsOverFault items application declared (expand_step fault)
 expand_told items application declared expand.Memory h k = absurd (k refl)
@@ -116,7 +116,7 @@ shown_cycle base declared fault cells told_as e h t =
 declares : (texts : List Text) (items : List Item) (declared : Declared) → SayAll 0 texts items → (first_fault items ≡ None) × (declared ≡ declared_by items) → Declares texts items
 declares texts items declared s d = record { said = s; faultless = d.0 }
 
--- a fault behind the declarations
+-- a fault after the declarations
 pub over_told : (texts : List Text) (application : List ℕ) (items : List Item) (declared : Declared) (fault : RuleFault) → SayAll 0 texts items → (first_fault items ≡ None) × (declared ≡ declared_by items)
     → IsOverFault items application declared fault → IsRuleFault texts application fault
 over_told texts application items declared fault s d (loops {fault = f} e) =

@@ -97,7 +97,7 @@ fn ordered_base(alloc: Global, symbols: Symbols, base: Base) -> Result<RuleBase,
     }
 }
 
-// The fault of a cycle: the names of its cells, or want of memory for them.
+// The fault of a cycle: the names of its cells, or running out of memory for them.
 fn cycle_of(alloc: Global, symbols: &Symbols, cells: &[u32]) -> RuleFault
     requires { All (λ c. c < length (owners_from 0 symbols.now.variables)) cells.now }
     ensures { result ≢ Memory → result ≡ Cycle (map (cell_name symbols.now) cells.now) }

@@ -14,7 +14,7 @@ use m_symbols::DeclareFault;
 use std::alloc::{AllocError, AllocFailed};
 
 /// Why rule files have no base: the fault of the earliest step that has one. A fault of a step is never that step's
-/// want of memory, which is the one `Memory` of this type.
+/// running out of memory, which is the one `Memory` of this type.
 #[derive(Drop)]
 pub enum RuleFault {
     /// A file has no tokens.

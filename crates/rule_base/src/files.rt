@@ -31,7 +31,7 @@ pub(crate) fn items_of<R: Threads + Sync>(
     Ok(items)
 }
 
-// The items of files, one file's behind another's. Its only error is want of memory.
+// The items of files, one file's after another's. Its only error is running out of memory.
 fn joined(alloc: Global, files: Seq<Seq<Item>>) -> Result<Vec<Item>, AllocError>
     ensures { IfOk result (λ items. items.items ≡ all_items files) }
 {

@@ -1,7 +1,7 @@
 //! From the texts of rule files to the base of an application: its declarations, and its rules over cells in an
-//! order in which each stands behind those that it reads.
+//! order in which each stands after those that it reads.
 //!
-//! This crate puts the steps of the language one behind the other. It knows nothing of files on a disk, of drivers
+//! This crate puts the steps of the language one after the other. It knows nothing of files on a disk, of drivers
 //! or households.
 #![tactic(auto)]
 

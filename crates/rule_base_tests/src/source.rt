@@ -13,7 +13,7 @@ use std::thread::Threads;
 pub const CELLS: &[u8] =
     b" A : calculee : \"a\" ; B : calculee : \"b\" ; C : calculee : \"c\" ; D : calculee : \"d\" ; T : tableau[3] calculee : \"t\" ; E : saisie alias 1AA : \"e\" ; P : anomalie : \"p\" : \"p\" : \"p\" : \"p\" ; Q : anomalie : \"q\" : \"q\" : \"q\" : \"q\" ; R : discordance : \"r\" : \"r\" : \"r\" : \"r\" ; S : informative : \"s\" : \"s\" : \"s\" : \"s\" ;";
 
-/// The base of a rule of iliad with these formulas, whatever stands behind them, and declarations.
+/// The base of a rule of iliad with these formulas, whatever stands after them, and declarations.
 pub fn base_of<R: Threads + Sync>(
     rt: &R,
     alloc: Global,

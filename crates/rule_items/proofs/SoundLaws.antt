@@ -38,7 +38,7 @@ headed_sound ts = bind_each (header_sound ts) (λ h d. kept (begins_by (is_sign 
 
 -- What stands any number of times.
 
--- the words in front
+-- the words at the start
 pub record Words (ts : List Token) (rest : List Token) : Type 0 where
   pub words : List (List ℕ)
   pub many : Many (First word) words ts rest

@@ -1,4 +1,4 @@
--- Words that say nothing: a loop over them, and what stands behind them.
+-- Words that say nothing: a loop over them, and what stands after them.
 use Rattle.std.proofs.Common.{◌≡◌, ℕ, List, [], ◌∷◌, Option, Some, None, refl, ap}
 use Rattle.m_lexer.specs.declared.token.Token.{Token}
 use Rattle.m_terms.specs.inner.Reading.{open_at, choose}

@@ -2,7 +2,7 @@
 --
 -- In each relation the last two arguments are tokens: `SpellsFormula f ts rest` says that ts begin with a spelling of the
 -- formula f and go on with rest. Each premise of a constructor is one symbol of its production, with the tokens before
--- and behind it.
+-- and after it.
 use Rattle.std.specs.Prelude.{ℕ, Bool, true, false, List}
 use Rattle.std.specs.Str.Parse.{digits_value}
 use Rattle.m_places.specs.declared.place.Place.{Place}

@@ -8,7 +8,7 @@ use m_lexer::{Key, Sign};
 use m_places::{Name, Place, Seq};
 use std::alloc::Global;
 
-/// What stands in front of the formulas or checks.
+/// What stands before the formulas or checks.
 #[derive(Drop)]
 pub struct Head {
     /// The number as it is spelled.
@@ -18,7 +18,7 @@ pub struct Head {
     pub applications: Seq<Name>,
 }
 
-/// Takes the words in front.
+/// Takes the words before them.
 pub fn skip_words(cursor: &mut Cursor<'_>)
     ensures words { cursor.new ≡ behind_words cursor.old }
     ensures shorter { length cursor.new ≤ length cursor.old }

@@ -1,4 +1,4 @@
--- What an order of a base's definitions is, and what a refusal shows.
+-- What an order of a base's definitions is, and what an error shows.
 use Rattle.std.specs.Prelude.{◌≡◌, ℕ, ◌<◌, true, false, List, [], ◌∷◌, map, length, All}
 use Rattle.micro_m.specs.declared.base.Base.{Base}
 use Rattle.micro_m.specs.Bases.{is_among, AreDistinctCells, target_at, term_at}
@@ -16,14 +16,14 @@ abbrev pub ReadsEarlier : Base → List ℕ → Type 0
 ReadsEarlier base [] = Unit {0}
 ReadsEarlier base (p ∷ later) = ((c : ℕ) → TermReads (term_at base p) c → is_among c (cells_at base (p ∷ later)) ≡ false) × ReadsEarlier base later
 
--- An order of a base: the position of each definition stands in it, and once, behind all definitions of cells that it reads.
+-- An order of a base: the position of each definition stands in it, and once, after all definitions of cells that it reads.
 pub record IsOrder (base : Base) (sequence : List ℕ) : Type 0 where
   pub within : All (λ p. p < length base.definitions) sequence
   pub every : (p : ℕ) → p < length base.definitions → is_among p sequence ≡ true
   pub once : AreDistinctCells sequence
   pub earlier : ReadsEarlier base sequence
 
--- what a refusal shows: a cycle of the base, which begins with its least cell
+-- what an error shows: a cycle of the base, which begins with its least cell
 abbrev pub ShowsCycle : Base → OrderFault → Type 0
 ShowsCycle base (Cycle cells) = IsCycle base cells × BeginsWithLeast cells
 ShowsCycle base Memory = ⊥

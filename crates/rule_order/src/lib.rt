@@ -1,4 +1,4 @@
-//! Definitions in an order in which each stands behind those that it reads, or a cycle that shows that there is none; and
+//! Definitions in an order in which each stands after those that it reads, or a cycle that shows that there is none; and
 //! the values of a base's cells, computed in that order.
 //!
 //! This crate stands on the meaning of a base and knows nothing of source text, names of variables or printed lines.

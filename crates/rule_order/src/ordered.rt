@@ -13,14 +13,14 @@ use m_places::Seq;
 use micro_m::Base;
 use std::alloc::Global;
 
-/// A base, and the positions of its definitions in an order in which each stands behind all definitions of cells that it reads.
+/// A base, and the positions of its definitions in an order in which each stands after all definitions of cells that it reads.
 #[derive(Drop)]
 pub struct Ordered {
     pub base: Base,
     pub sequence: Seq<u32>,
 }
 
-/// Puts the definitions of a valid base in an order: each behind all definitions of cells that it reads. Where `A = B` stands
+/// Puts the definitions of a valid base in an order: each after all definitions of cells that it reads. Where `A = B` stands
 /// before `B = 1`, the sequence is 1, 0. The base that is handed back is the one that was handed in.
 ///
 /// Where there is no order, it shows distinct cells, each reading the next and the last the first, beginning with the least

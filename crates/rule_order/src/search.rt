@@ -44,7 +44,7 @@ pub struct Search {
     pub sequence: Vec<u32>,
 }
 
-/// The positions of a base's definitions, each behind all definitions of cells that it reads, or a cycle of the base.
+/// The positions of a base's definitions, each after all definitions of cells that it reads, or a cycle of the base.
 pub fn sequence_of(alloc: Global, base: &Base) -> Result<Vec<u32>, OrderFault>
     requires { IsValidBase base.now }
     ensures outcome { Outcome Memory result
@@ -74,7 +74,7 @@ fn first_marks(alloc: Global, base: &Base) -> Result<Vec<Mark>, AllocError>
 }
 
 impl Search {
-    /// Places the definition at a position behind all that it reads, if it wasn't placed before.
+    /// Places the definition at a position after all that it reads, if it wasn't placed before.
     fn place(&mut self, alloc: Global, base: &Base, position: usize) -> Result<(), OrderFault>
         requires valid { IsValidBase base.now }
         requires fits { base.now.cells < 2 ^ 32 }
@@ -120,7 +120,7 @@ impl Search {
     }
 
     /// A turn of the search for the last frame of a path, which was taken off it: the definition is placed, if all that it reads
-    /// is settled, and else the first that isn't is begun behind it.
+    /// is settled, and else the first that isn't is begun after it.
     fn turn(
         &mut self,
         alloc: Global,

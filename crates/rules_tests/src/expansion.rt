@@ -232,7 +232,7 @@ fn told(alloc: Global, fault: ExpandFault) -> Result<Vec<u8>, AllocError> {
     Ok(text)
 }
 
-// A rule of iliad with these formulas, whatever stands behind them, and the tables T of three cells and TA of two.
+// A rule of iliad with these formulas, whatever stands after them, and the tables T of three cells and TA of two.
 fn source(alloc: Global, formulas: &[u8]) -> Result<Vec<u8>, AllocError> {
     let mut text = Vec::from_slice(alloc, b"regle 1 : application : iliad ; ")?;
     text.extend_from_slice(formulas)?;

@@ -45,7 +45,7 @@ unended_at [] k free h = absurd (omega arith)
 unended_at (byte ∷ bytes) zero free h = free.0
 unended_at (byte ∷ bytes) (suc k) free h = unended_at bytes k free.1 (omega arith)
 
--- a run behind bytes without a line feed is one from the front
+-- a run after bytes without a line feed is one from the start
 pub run_from_front : (bytes : List ℕ) (held end : ℕ) → held ≤ length bytes → IsUnended (take held bytes) → RunsTo (λ b. b ≢ line_feed) bytes held end
     → RunsTo (λ b. b ≢ line_feed) bytes 0 end
 run_from_front bytes held end within free runs = record {
@@ -64,7 +64,7 @@ take_less (suc n) zero l h = absurd (omega arith)
 take_less (suc n) (suc m) [] h = refl
 take_less (suc n) (suc m) (x ∷ l) h = ap (λ r. x ∷ r) (take_less n m l (omega arith))
 
--- what stands in front already is kept where it is
+-- what stands at the start already is kept where it is
 pub kept_there : (room : List ℕ) (from filled count : ℕ) → from ≡ 0 → count ≤ filled → take count room ≡ take count (drop from (take filled room))
 kept_there room from filled count is h =
     sym (ap (λ (k : ℕ). take count (drop k (take filled room))) is ∙ take_less count filled room h)

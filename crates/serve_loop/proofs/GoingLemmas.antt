@@ -20,7 +20,7 @@ pub goes_none : {K : Type 0} (written : K → Option (List ℕ)) (faults : K →
     → Goes written faults old old start start before before
 goes_none written faults old start before = record { text = []; whole = λ rest. refl; ended = λ rest. refl; appended = nothing_more (written old); faultless = refl }
 
--- a line that ends, with what stands behind its line feed
+-- a line that ends, with what stands after its line feed
 line_then : (line more rest : List ℕ) → (line ++ line_feed ∷ more) ++ rest ≡ line ++ line_feed ∷ (more ++ rest)
 line_then line more rest = append_assoc line (line_feed ∷ more) rest
 
@@ -42,7 +42,7 @@ goes_line written faults old now new start sitting before left line more goes is
   faultless = none ∙ goes.faultless;
 }
 
--- a front of a text's front is a front of the text
+-- a prefix of a text's prefix is a prefix of the text
 front_of_more : (old new : Option (List ℕ)) (text more whole : List ℕ) → whole ≡ text ++ more → AppendsPrefix old new text → AppendsPrefix old new whole
 front_of_more old new text more whole is prefix = record {
   part = prefix.part;

@@ -38,7 +38,7 @@ none_is_left (Some bytes) end = end
 
 -- ---- one turn
 
--- the last line, behind the end of the input
+-- the last line, after the end of the input
 pub stopped_at_end : {S K : Type 0} (left : S → Option (List ℕ)) (source_faults : S → ℕ) (written : K → Option (List ℕ)) (faults : K → ℕ)
     (source_old source_now : S) (old now : K) (start : Sitting) (held : List ℕ) (end : ServeEnd) → left source_old ≡ prepend_known [] (left source_now)
     → IsAtEnd (left source_old) → source_faults source_now ≡ source_faults source_old → Finished written faults old now start held end

@@ -20,8 +20,8 @@ IsLeft None rest = Unit {0}
 IsLeft (Some bytes) rest = bytes ≡ rest
 
 -- What was taken of an input and what was written, by the session as the loop began and by how it ended: all lines of a whole
--- input, which has fewer bytes than are taken of one, or the lines that had their line feed when a read failed or too much was taken, or a front of the replies to the whole
--- input.
+-- input, which has fewer bytes than are taken of one, or the lines that had their line feed when a read failed or too much was
+-- taken, or a prefix of the replies to the whole input.
 abbrev pub Ends : (left_old left_new written_old written_new : Option (List ℕ)) → Sitting → ServeEnd → Type 0
 Ends left_old left_new written_old written_new sitting Done =
     ((taken : List ℕ) × (length taken < INPUT_BYTES) × Takes left_old left_new written_old written_new taken (replies_of sitting taken)) × IsAtEnd left_new

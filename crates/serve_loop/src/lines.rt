@@ -12,7 +12,7 @@ use std::sync::ledger::Ledger;
 use steps::Steps;
 
 /// Does each line that has its line feed among the bytes, of which the first `held` have none, and answers where the bytes
-/// behind the last one begin.
+/// after the last one begin.
 pub(crate) fn do_ended<K: Sink, L: Ledger>(
     session: &mut Session,
     bytes: &[u8],

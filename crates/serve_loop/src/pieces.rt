@@ -1,4 +1,4 @@
-//! Bytes of a line that has begun, and pieces of the input behind them.
+//! Bytes of a line that has begun, and pieces of the input after them.
 ghost use Rattle.std.specs.Prelude.{◌≡◌, ◌+◌, ◌-◌, ◌<◌, ◌≤◌, length, min, take, drop, IfOk, OnErr, OnOk};
 ghost use Rattle.std.specs.Io.KnownBytes.{prepend_known, IsAtEnd};
 ghost use Rattle.m_ports.specs.Counts.{Rose};
@@ -8,7 +8,7 @@ use m_ports::{Failed, Source};
 /// The most bytes that are held of a line that has begun: one more than a line may have, so that they show that it is too long.
 pub(crate) const MOST_HELD: usize = 4_097;
 
-/// Takes a piece of at most so many bytes behind the first `held` ones, and answers how many it has; 0 is the end of the input.
+/// Takes a piece of at most so many bytes after the first `held` ones, and answers how many it has; 0 is the end of the input.
 pub(crate) fn take_piece<S: Source>(
     input: &mut S,
     room: &mut [u8],
@@ -44,7 +44,7 @@ fn piece_end(held: usize, room: usize, most: u64) -> usize
     }
 }
 
-/// Moves the bytes between two places to the front, but no more of them than show that a line is too long, and answers how
+/// Moves the bytes between two places to the start, but no more of them than show that a line is too long, and answers how
 /// many it moved.
 pub(crate) fn keep(room: &mut [u8], from: usize, filled: usize) -> usize
     requires order { from ≤ filled }

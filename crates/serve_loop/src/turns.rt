@@ -19,14 +19,14 @@ pub enum ServeEnd {
     Done,
     /// A read failed. The lines whose line feed was taken have their replies.
     ReadFault,
-    /// A write failed. What was written is a front of the replies.
+    /// A write failed. What was written is a prefix of the replies.
     WriteFault,
     /// So many bytes were taken as a session takes, without the input's end. The lines whose line feed was taken have their
     /// replies.
     TooLong,
 }
 
-// How many bytes the loop has room for: those of a line that has begun, as far as they matter, and a piece of the input behind
+// How many bytes the loop has room for: those of a line that has begun, as far as they matter, and a piece of the input after
 // them.
 const ROOM: usize = 8_193;
 
@@ -72,7 +72,7 @@ fn serve_in<S: Source, K: Sink, L: Ledger>(
     ServeEnd::TooLong
 }
 
-// Takes a piece of at most so many bytes behind those that are held, and does the lines that it ends. Answers how many bytes
+// Takes a piece of at most so many bytes after those that are held, and does the lines that it ends. Answers how many bytes
 // are held then, and how many were taken.
 fn turn<S: Source, K: Sink, L: Ledger>(
     session: &mut Session,

@@ -1,4 +1,4 @@
--- The labels of a program's checks, behind a pass.
+-- The labels of a program's checks, after a pass.
 use Rattle.std.proofs.Common.{◌≡◌, ℕ, suc, ◌<◌, List, [], ◌∷◌, length, sym, subst, arith}
 use Rattle.std.specs.List.{AllByRecursion}
 use Rattle.std.proofs.lemmas.Option.{slice_get-get_or}

@@ -281,7 +281,7 @@ fn long_lines(rt: HostRuntime) -> Result<(), Fail> {
     check_long_lines::<Brand>(rt.alloc(), Blank::new(1))
 }
 
-// Whether an edit whose reply fails is done, and the show behind it is written.
+// Whether an edit whose reply fails is done, and the show after it is written.
 fn goes_on<L: Ledger>(session: &mut Session, out: &mut MemSink, blank: Blank) -> bool
     requires name { blank.name ≡ L.name }
     requires parts { blank.parts ≡ L.parts }

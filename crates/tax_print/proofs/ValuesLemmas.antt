@@ -31,7 +31,7 @@ no_outputs : (labels : List FaceLabel) (outputs : List FaceOutput) → outputs_l
 no_outputs labels [] = refl
 no_outputs labels (output ∷ outputs) = refl
 
--- behind the last value there is nothing
+-- after the last value there is nothing
 pub outputs_end : (labels : List FaceLabel) (outputs : List FaceOutput) (vs : List Value) (k : ℕ) → length vs ≤ k → outputs_lines labels (drop k outputs) (drop k vs) ≡ []
 outputs_end labels outputs vs k h = ap (λ left. outputs_lines labels (drop k outputs) left) (drop_all k vs h) ∙ no_outputs labels (drop k outputs)
 

@@ -1,4 +1,4 @@
-//! Verifications behind a word: those that failed, and those that are noted.
+//! Verifications after a word: those that failed, and those that are noted.
 ghost use Rattle.std.specs.Prelude.{◌∷◌, [], ◌≡◌, codes, option_copied};
 ghost use Rattle.std.specs.Option.{option_map_or};
 ghost use Rattle.text_pieces.specs.Giving.{Gives};
@@ -61,7 +61,7 @@ fn verif_at(labels: &[FaceLabel], number: u32) -> Option<&Label>
     }
 }
 
-/// Writes the two lines of a verification behind a word: `failed 2000 A20 anomalie`, and the error's text.
+/// Writes the two lines of a verification after a word: `failed 2000 A20 anomalie`, and the error's text.
 pub(crate) fn print_label<K: Sink>(word: &[u8], label: &Label, out: &mut K) -> Result<(), Failed>
     ensures { Gives K.written K.faults out.old out.new result (label_lines word.now label.now) }
 {

@@ -8,7 +8,7 @@ use m_terms::{TermFault, read_header, read_term};
 use std::alloc::Global;
 use std::test::Fail;
 
-// Texts with the term at their front and the position behind it. A term is shown as a text: a name with the byte at which it
+// Texts with the term at their start and the position after it. A term is shown as a text: a name with the byte at which it
 // stands, an operator before its arguments in round brackets, a chain in square ones, and a header in curly ones.
 const TERMS: [(&[u8], &[u8], usize); 39] = [
     (b"1.5 ;", b"1.5", 1),
@@ -60,7 +60,7 @@ const TERMS: [(&[u8], &[u8], usize); 39] = [
     (b"A;B;", b"A@0", 1),
 ];
 
-// Texts at whose front no term stands.
+// Texts at whose start no term stands.
 const NO_TERMS: [&[u8]; 21] = [
     b"",
     b"A",
@@ -85,7 +85,7 @@ const NO_TERMS: [&[u8]; 21] = [
     b"\"A\" ;",
 ];
 
-// Texts with the header at their front and the position behind it.
+// Texts with the header at their start and the position after it.
 const HEADERS: [(&[u8], &[u8], usize); 5] = [
     (b"i = V,C :", b"{i@0 V..V C..C}", 5),
     (b"i=V..X,010;j=1..3:", b"{i@0 V..X 010..010}{j@11 1..3}", 13),
@@ -98,7 +98,7 @@ const HEADERS: [(&[u8], &[u8], usize); 5] = [
     (b"a = 123456789 :", b"{a@0 123456789..123456789}", 3),
 ];
 
-// Texts at whose front no header stands.
+// Texts at whose start no header stands.
 const NO_HEADERS: [&[u8]; 11] = [
     b"",
     b"i = V",
@@ -293,7 +293,7 @@ fn is_header_shown(alloc: Global, header: &Header, tree: &[u8]) -> bool {
     out.as_slice() == tree
 }
 
-// Whether this term stands at the front of the tokens, up to this position.
+// Whether this term stands at the start of the tokens, up to this position.
 fn is_term(alloc: Global, tokens: &[Token], tree: &[u8], end: usize) -> bool {
     match read_term(alloc, tokens, 0) {
         Ok((term, to)) => to == end && is_shown(alloc, &term, tree),
@@ -301,7 +301,7 @@ fn is_term(alloc: Global, tokens: &[Token], tree: &[u8], end: usize) -> bool {
     }
 }
 
-// Whether this header stands at the front of the tokens, up to this position.
+// Whether this header stands at the start of the tokens, up to this position.
 fn is_header(alloc: Global, tokens: &[Token], tree: &[u8], end: usize) -> bool {
     match read_header(alloc, tokens, 0) {
         Ok((header, to)) => to == end && is_header_shown(alloc, &header, tree),

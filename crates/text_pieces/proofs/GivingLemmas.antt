@@ -59,7 +59,7 @@ piece_failed written faults old now new text piece rest left result fault failed
   counted = subst (λ count. count ≤ faults new) given.faultless counted;
 })
 
--- behind the last piece all is given
+-- after the last piece all is given
 pub all_given : {S T E : Type 0} (written : S → Option (List ℕ)) (faults : S → ℕ) (old now : S) (text : List ℕ)
     (result : Result T E) (value : T) → result ≡ Ok value → Given written faults old now text [] → Gives written faults old now result text
 all_given written faults old now text result value ok given = rw ok (record {

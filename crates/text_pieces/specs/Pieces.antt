@@ -6,7 +6,7 @@ use Rattle.std.specs.Borrow.{Bor}
 abbrev pub new_line : List ℕ
 new_line = 10 ∷ []
 
--- The pieces one behind the other: of `REV`, ` = ` and `1.5` the text `REV = 1.5`.
+-- The pieces one after the other: of `REV`, ` = ` and `1.5` the text `REV = 1.5`.
 abbrev pub joined : List (List ℕ) → List ℕ
 joined [] = []
 joined (piece ∷ pieces) = piece ++ joined pieces

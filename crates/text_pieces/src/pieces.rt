@@ -17,7 +17,7 @@ pub fn give_pieces<K: Sink>(out: &mut K, pieces: &[&[u8]]) -> Result<(), Failed>
     Ok(())
 }
 
-/// Appends pieces to a text, one behind another. Its only error is want of memory.
+/// Appends pieces to a text, one after another. Its only error is running out of memory.
 pub fn append_pieces(text: &mut Vec<u8>, pieces: &[&[u8]]) -> Result<(), AllocError>
     ensures { OnOk result (text.new.items ≡ text.old.items ++ text_of pieces.now) }
 {

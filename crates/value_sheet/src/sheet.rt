@@ -52,7 +52,7 @@ impl Model for Sheet {
 
 impl Sheet {
     /// The sheet of a tidy program, of which all inputs are undefined. It is settled. The program's arguments are numbered in 32 bits.
-    /// Its only error is want of memory; no later call takes memory.
+    /// Its only error is running out of memory; no later call takes memory.
     pub fn new(alloc: Global, tidy: Tidy) -> Result<Sheet, AllocError>
         requires { 3 * length tidy.nodes < 4_294_967_295 }
         ensures { IfOk result (λ sheet. sheet ≡ fresh tidy) }

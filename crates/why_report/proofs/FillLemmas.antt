@@ -38,7 +38,7 @@ value-same base given e f x h = option_cases (definition_of base x)
     ∙ term_value-same t e f (λ c r. h c (subst (λ o. IsSomeAnd o (λ u. TermReads u c)) (sym s) r))
     ∙ sym (ap (λ o. option_map_or (term_value f) o (given x)) s))
 
--- one line behind others tells its cell alone
+-- one line after others tells its cell alone
 told-old : (lines : List ReportLine) (l : ReportLine) (c : ℕ) → is_among c (cells_told lines) ≡ true → values_told (lines ++ l ∷ []) c ≡ values_told lines c
 told-old [] l c h = absurd (cc)
 told-old (k ∷ lines) l c h = cases (nat_eq c k.cell)

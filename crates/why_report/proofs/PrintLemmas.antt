@@ -11,7 +11,7 @@ use Rattle.tax_print.specs.Lines.{value_line}
 use Rattle.why_report.specs.declared.line.ReportLine.{ReportLine}
 use Rattle.why_report.specs.Reports.{report_text}
 
--- a line is a name and what stands behind it
+-- a line is a name and what stands after it
 line-parts : (name : List ℕ) (value : Value) → value_line name value ≡ name ++ value_line [] value
 line-parts name Undef = refl
 line-parts name (Num amount) = refl

@@ -1,4 +1,4 @@
--- The cells that are needed stand behind all that they read, and their lines are a reason.
+-- The cells that are needed stand after all that they read, and their lines are a reason.
 use Rattle.std.proofs.Common.{◌≡◌, ℕ, zero, suc, ◌<◌, ◌≤◌, Bool, true, false, cond, nat_eq, List, [], ◌∷◌, ◌++◌, length, get_or, take, refl, ap, sym, ◌∙◌, subst, inl, inr, ◌⊎◌, arith}
 use mathlib.Core.Bool.{◌||◌}
 use Rattle.std.specs.List.{All, list_any}
@@ -21,7 +21,7 @@ use Rattle.why_report.proofs.DownLemmas.{IsDown, not-true, all-left}
 abbrev pub any_reads : Base → List ℕ → ℕ → Bool
 any_reads base xs d = list_any (λ x. cell_reads base x d) xs
 
--- ---- cells behind those that they read
+-- ---- cells after those that they read
 
 -- fewer cells before them suffice, if those that they read are left
 pub following-less : (base : Base) (f g cells : List ℕ) → ((c : ℕ) → is_among c g ≡ true → is_among c f ≡ true) → ((c : ℕ) → any_reads base cells c ≡ true → is_among c f ≡ true → is_among c g ≡ true) → AreFollowing base f cells → AreFollowing base g cells
@@ -182,7 +182,7 @@ told-append (l ∷ lines) more = ap (λ (cs : List ℕ). l.cell ∷ cs) (told-ap
 pub told-more : (lines : List ReportLine) (line : ReportLine) (c : ℕ) → is_among c (cells_told (lines ++ line ∷ [])) ≡ (is_among c (cells_told lines) || (nat_eq c line.cell || false))
 told-more lines line c = ap (is_among c) (told-append lines (line ∷ [])) ∙ among-append c (cells_told lines) (line.cell ∷ [])
 
--- cells that follow one stand behind its line
+-- cells that follow one stand after its line
 pub following-line : (base : Base) (lines : List ReportLine) (line : ReportLine) (cells : List ℕ) → AreFollowing base (line.cell ∷ cells_told lines) cells → AreFollowing base (cells_told (lines ++ line ∷ [])) cells
 following-line base lines line cells h =
     following-less base (line.cell ∷ cells_told lines) (cells_told (lines ++ line ∷ [])) cells

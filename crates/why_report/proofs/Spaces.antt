@@ -6,7 +6,7 @@ use Rattle.std.proofs.lemmas.Bool.{ne_eqb, eq-eqb}
 use Rattle.m_requests.specs.Cells.{with_first}
 use Rattle.why_report.specs.Reports.{split_at_space}
 
--- bytes in front of the parts of a text
+-- bytes before the parts of a text
 abbrev pub onto : List ℕ → List ℕ × Option (List ℕ) → List ℕ × Option (List ℕ)
 onto [] parts = parts
 onto (b ∷ bs) parts = with_first b (onto bs parts)

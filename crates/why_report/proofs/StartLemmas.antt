@@ -108,7 +108,7 @@ cells-end vs n cells whole low so_far = sym (append-none cells) ∙ sym (ap (λ 
 
 -- ---- the cells of the inputs
 
--- the cells of the inputs of a variable with this role and of those behind it, and what their cells begin with
+-- the cells of the inputs of a variable with this role and of those after it, and what their cells begin with
 abbrev role-cells : Role → ℕ → List VariableItem → List ℕ
 role-cells role first items = cond (is_input role) (first ∷ input_cells_among (placed_from (first + cells_in (size_in role)) items)) (input_cells_among (placed_from (first + cells_in (size_in role)) items))
 

@@ -89,22 +89,22 @@ abbrev pub is_needed : Base → ℕ → List ℕ → ℕ → Bool
 is_needed base c later d = d == c || list_any (λ x. cell_reads base x d) later
 
 -- Going down along cells, those that are needed by a cell or by one of those that were found, which stand later: the needed cells, each
--- behind those that it reads.
+-- after those that it reads.
 abbrev pub needed_along : Base → ℕ → List ℕ → List ℕ → List ℕ
 needed_along base c later [] = later
 needed_along base c later (d ∷ ds) = needed_along base c (if is_needed base c later d then d ∷ later else later) ds
 
--- The cells that a cell needs, with itself, each behind those that it reads: the cell is the last.
+-- The cells that a cell needs, with itself, each after those that it reads: the cell is the last.
 abbrev pub needed_cells : Ordered → ℕ → List ℕ
 needed_cells ordered c = needed_along ordered.base c [] (cells_down ordered)
 
 -- ---- the lines
 
--- the line of a cell behind earlier lines
+-- the line of a cell after earlier lines
 abbrev pub line_over : Base → Environment → List ReportLine → ℕ → ReportLine
 line_over base given earlier c = record { cell = c; value = option_map_or (term_value (values_told earlier)) (definition_of base c) (given c) }
 
--- the lines of cells in order, behind earlier lines
+-- the lines of cells in order, after earlier lines
 abbrev pub lines_over : Base → Environment → List ReportLine → List ℕ → List ReportLine
 lines_over base given earlier [] = earlier
 lines_over base given earlier (c ∷ cells) = lines_over base given (earlier ++ line_over base given earlier c ∷ []) cells

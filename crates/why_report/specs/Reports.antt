@@ -23,12 +23,12 @@ report_text declared (line ∷ lines) = value_line (cell_name declared line.cell
 
 -- ---- as it is read
 
--- what stands before the first space, and what behind it, if there is one
+-- what stands before the first space, and what after it, if there is one
 abbrev pub split_at_space : List ℕ → List ℕ × Option (List ℕ)
 split_at_space [] = ([], None)
 split_at_space (b ∷ bs) = if b == 32 then ([], Some bs) else with_first b (split_at_space bs)
 
--- what stands behind `= ` at the front of a text
+-- what stands after `= ` at the start of a text
 abbrev pub behind_equals : List ℕ → Option (List ℕ)
 behind_equals [] = None
 behind_equals (a ∷ []) = None
@@ -38,7 +38,7 @@ abbrev pub amount_value : Result ℤ AmountFault → Option Value
 amount_value (Ok amount) = Some (Num amount)
 amount_value (Err fault) = None
 
--- The value that is said behind a cell's name and a space: `= 2500.50`, with any spelling of an amount, `undefined` or `over`.
+-- The value that is said after a cell's name and a space: `= 2500.50`, with any spelling of an amount, `undefined` or `over`.
 abbrev pub value_said : List ℕ → Option Value
 value_said text =
     if bytes_eq text (codes "undefined") then Some Undef
@@ -62,7 +62,7 @@ abbrev pub ends_report : List ℕ → List (List ℕ) → Bool
 ends_report line [] = bytes_eq line (codes ".")
 ends_report line (next ∷ lines) = false
 
--- What lines say, of which the first has this number, behind what those before it said: a line of a derivation each, or the number
+-- What lines say, of which the first has this number, after what those before it said: a line of a derivation each, or the number
 -- of the first that says none. A last line `.` says nothing.
 abbrev pub lines_said : Declared → ℕ → List ReportLine → List (List ℕ) → Result (List ReportLine) ReportFault
 lines_said declared number before [] = Ok before

@@ -18,7 +18,7 @@ start_value inputs n (Input code) = slice_index_or inputs n Undef
 start_value inputs n (Computed size) = Undef
 start_value inputs n (Constant amount) = Num amount
 
--- the number of the input behind a variable
+-- the number of the input after a variable
 abbrev pub input_behind : ℕ → Role → ℕ
 input_behind n role = if is_input role then n + 1 else n
 

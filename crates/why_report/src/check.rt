@@ -30,7 +30,7 @@ struct Checked {
 ///
 /// The base is valid, with a value in the environment for each of its cells, and each line's cell is one of them. The order of the
 /// base's definitions plays no part. The work is linear in the cells, the definitions and the parts of the terms of the lines' cells,
-/// with each table looked through once. Its only error is want of memory.
+/// with each table looked through once. Its only error is running out of memory.
 pub fn first_unsound(
     alloc: Global,
     base: &Base,

@@ -1,4 +1,4 @@
-//! The lines of cells, each behind those that it reads.
+//! The lines of cells, each after those that it reads.
 
 ghost use Rattle.std.specs.Prelude.{◌≡◌, ◌<◌, ◌≤◌, [], All, length, take, slice_set};
 ghost use Rattle.std.specs.Option.{option_map_or};
@@ -14,7 +14,7 @@ use crate::places::definition_at;
 use m_fixed::Value;
 use micro_m::{Base, term_value};
 
-/// Puts the lines of these cells to the front of a list. The values that stood in the table before play no part.
+/// Puts the lines of these cells to the start of a list. The values that stood in the table before play no part.
 pub(crate) fn fill_lines(
     base: &Base,
     places: &[usize],

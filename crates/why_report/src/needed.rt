@@ -11,7 +11,7 @@ use crate::plan::Plan;
 use dirty_set::Bits;
 use rule_order::Ordered;
 
-/// Puts the cells that a cell needs, with itself, to the end of a list, each behind those that it reads, and tells where the first of
+/// Puts the cells that a cell needs, with itself, to the end of a list, each after those that it reads, and tells where the first of
 /// them stands. Of the spots only the marked ones are visited.
 pub(crate) fn find_needed(
     ordered: &Ordered,

@@ -68,7 +68,7 @@ fn print_index<K: Sink>(name: &[u8], k: u32, out: &mut K) -> Result<(), Failed>
     give_pieces(out, &[name, b"[", digits, b"]"])
 }
 
-// What stands behind a cell's name in its line.
+// What stands after a cell's name in its line.
 fn print_value<K: Sink>(value: Value, out: &mut K) -> Result<(), Failed>
     ensures { Gives K.written K.faults out.old out.new result (value_line [] value) }
 {

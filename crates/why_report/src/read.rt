@@ -127,7 +127,7 @@ fn space_in(text: &[u8]) -> usize
     at
 }
 
-// The value that is said behind a cell's name and a space.
+// The value that is said after a cell's name and a space.
 fn read_value(text: &[u8]) -> Option<Value>
     ensures { result ≡ value_said text.now }
 {
@@ -153,7 +153,7 @@ fn amount_value(text: &[u8]) -> Option<Value>
     }
 }
 
-// What stands behind `= ` at the front of a text.
+// What stands after `= ` at the start of a text.
 fn behind_equals(text: &[u8]) -> Option<&[u8]>
     ensures { option_copied result ≡ behind_equals text.now }
 {

@@ -59,7 +59,7 @@ impl Model for Reporter {
 
 impl Reporter {
     /// A reporter over an ordered valid base and what is declared. All inputs are undefined at first, and constants have their amounts.
-    /// Its only error is want of memory, and no later call takes memory.
+    /// Its only error is running out of memory, and no later call takes memory.
     pub fn new(alloc: Global, ordered: Ordered, symbols: &Symbols) -> Result<Reporter, AllocError>
         requires valid { IsValidBase ordered.base }
         requires order { IsOrder ordered.base ordered.sequence }

@@ -18,7 +18,7 @@ use Rattle.code_file.specs.Text.{lines, slots_line, input_line, label_line, outp
 use Rattle.code_file.specs.inner.Faces.{IsRightInput, IsRightLabel, IsRightOutput}
 use Rattle.code_file.specs.Reading.{Entry, code_start, Draft, blank, AreDue, draft_of, IsEntry, IsShort, entry_line, due}
 
--- so many lines came and say this, and the rest stands behind them
+-- so many lines came and say this, and the rest stands after them
 pub record Came (bytes : List ℕ) (d : Draft) (n : ℕ) (rest : List ℕ) : Type 0 where
   pub entries : List Entry
   pub text : bytes ≡ lines entry_line entries ++ rest
@@ -26,14 +26,14 @@ pub record Came (bytes : List ℕ) (d : Draft) (n : ℕ) (rest : List ℕ) : Typ
   pub is : draft_of entries ≡ d
   pub count : length entries ≡ n
 
--- in a face, and behind `code`
+-- in a face, and after `code`
 abbrev pub face_so_far : ℕ → List Coded → List FaceLabel → List FaceOutput → Draft
 face_so_far slots inputs labels outputs = record { part = 2; slots = slots; inputs = inputs; labels = labels; outputs = outputs; instrs = [] }
 
 abbrev pub code_so_far : ℕ → Face → List Instr → Draft
 code_so_far slots face instrs = record { part = 3; slots = slots; inputs = face.inputs; labels = face.labels; outputs = face.outputs; instrs = instrs }
 
--- a face's text, and what stands behind it
+-- a face's text, and what stands after it
 abbrev pub face_text : ℕ → List Coded → List FaceLabel → List FaceOutput → List ℕ → List ℕ
 face_text slots inputs labels outputs rest =
     codes "mcode 1\n" ++ (slots_line slots ++ (lines input_line inputs ++ (lines label_line labels ++ (lines output_line outputs ++ rest))))
@@ -47,7 +47,7 @@ pub record IsRightFace (slots : ℕ) (inputs : List Coded) (labels : List FaceLa
   pub right_outputs : AllByRecursion IsRightOutput outputs
   pub first : notes_stand_first labels outputs ≡ true
 
--- the text of a face and code so far, and what stands behind it
+-- the text of a face and code so far, and what stands after it
 abbrev pub text_so_far : ℕ → Face → List Instr → List ℕ → List ℕ
 text_so_far slots face instrs rest = face_text slots face.inputs face.labels face.outputs (codes "code\n" ++ (lines instr_line instrs ++ rest))
 

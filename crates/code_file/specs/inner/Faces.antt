@@ -27,11 +27,11 @@ abbrev pub IsRead : {X : Type 0} → (List ℕ → Option X) → (X → Type 0) 
 IsRead of Is line None = (x : _) → of line ≡ Some x → Is x → ⊥
 IsRead of Is line (Some x) = (of line ≡ Some x) × Is x
 
--- Nothing right whose line stands at the front of a text.
+-- Nothing right whose line stands at the start of a text.
 abbrev pub IsNoFront : {X : Type 0} → (X → List ℕ) → (X → Type 0) → List ℕ → Type 0
 IsNoFront line Is text = (x : _) (behind : List ℕ) → Is x → text ≡ line x ++ behind → ⊥
 
--- The right thing whose line stands at the front of a text, and what stands behind that line.
+-- The right thing whose line stands at the start of a text, and what stands after that line.
 abbrev pub IsFront : {X : Type 0} → (X → List ℕ) → (X → Type 0) → List ℕ → X → List ℕ → Type 0
 IsFront line Is text x behind = (text ≡ line x ++ behind) × Is x
 
@@ -57,7 +57,7 @@ slots_by p = if bytes_eq p.0 (codes "slots") then short p.1 else None
 abbrev pub slots_of : List ℕ → Option ℕ
 slots_of line = option_and_then slots_by (cut 32 line)
 
--- the type that a word behind a code says
+-- the type that a word after a code says
 abbrev pub kind_named : List ℕ → Option InputType
 kind_named word = if bytes_eq word (codes "whole") then Some Whole else if bytes_eq word (codes "truth") then Some Truth else None
 
@@ -121,7 +121,7 @@ verif_of text = option_and_then verif_with (verif_words text)
 abbrev pub label_kind : List ℕ × List ℕ → Option FaceLabel
 label_kind p = if bytes_eq p.0 (codes "driver") then option_map DriverLine (short p.1) else if bytes_eq p.0 (codes "verif") then option_map Verif (verif_of p.1) else None
 
--- what stands behind `label`: a word, and what stands behind that
+-- what stands after `label`: a word, and what stands after that
 abbrev pub behind_label : List ℕ × List ℕ → Option (List ℕ × List ℕ)
 behind_label p = if bytes_eq p.0 (codes "label") then cut 32 p.1 else None
 
@@ -143,7 +143,7 @@ output_of line = option_and_then output_by (cut 32 line)
 abbrev pub is_no_small : ℕ → Bool
 is_no_small b = nat_lt b 97 || nat_lt 122 b
 
--- whether this stands behind `[` in the name of a table's cell: `12]`
+-- whether this stands after `[` in the name of a table's cell: `12]`
 abbrev pub index_by : Option (List ℕ × List ℕ) → Bool
 index_by None = false
 index_by (Some p) = (length p.1 == 0) && is_some (number 1024 p.0)
@@ -153,13 +153,13 @@ is_index text = index_by (cut 93 text)
 
 -- ---- lines one after the other
 
--- As many lines of right things as stand at the front of a text, and what stands behind them.
+-- As many lines of right things as stand at the start of a text, and what stands after them.
 pub record IsRun {X : Type 0} (line : X → List ℕ) (Is : X → Type 0) (text : List ℕ) (xs : List X) (behind : List ℕ) : Type 0 where
   pub whole : text ≡ lines line xs ++ behind
   pub right : AllByRecursion Is xs
   pub ends : IsNoFront line Is behind
 
--- whether an output may stand behind others of which the notes stand first, where this says whether one of them is a name
+-- whether an output may stand after others of which the notes stand first, where this says whether one of them is a name
 abbrev pub may_follow : List FaceLabel → Bool → FaceOutput → Bool
 may_follow labels named (Named name) = true
 may_follow labels named (Noted number) = not named && is_some (verif_at labels number)
@@ -175,7 +175,7 @@ ends_named [] = false
 ends_named (output ∷ []) = is_name output
 ends_named (output ∷ next ∷ outputs) = ends_named (next ∷ outputs)
 
--- As many lines of outputs as may stand at the front of a text.
+-- As many lines of outputs as may stand at the start of a text.
 pub record AreOutputs (labels : List FaceLabel) (text : List ℕ) (outputs : List FaceOutput) (behind : List ℕ) : Type 0 where
   pub whole : text ≡ lines output_line outputs ++ behind
   pub right : AllByRecursion IsRightOutput outputs

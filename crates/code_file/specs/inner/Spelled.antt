@@ -13,11 +13,11 @@ use Rattle.reg_machine.specs.declared.instr.Instr.{Instr}
 use Rattle.reg_machine.specs.declared.instr.Instr.TheVariants.{Take, Lit, Do, Store, Load, Check, Output}
 use Rattle.code_file.specs.Text.{op_word}
 
--- a byte in front of the first of two parts
+-- a byte before the first of two parts
 abbrev pub in_front : ℕ → List ℕ × List ℕ → List ℕ × List ℕ
 in_front b parts = (b ∷ parts.0, parts.1)
 
--- what stands before the first such byte and what behind it, if there is one
+-- what stands before the first such byte and what after it, if there is one
 abbrev pub cut : ℕ → List ℕ → Option (List ℕ × List ℕ)
 cut mark [] = None
 cut mark (b ∷ bs) = if b == mark then Some ([], bs) else option_map (in_front b) (cut mark bs)
@@ -35,7 +35,7 @@ all_three f (Some a) b c = both (f a) b c
 
 -- ---- numbers
 
--- the number of these digits behind those of n, where it is below a bound
+-- the number of these digits after those of n, where it is below a bound
 abbrev pub number_after : ℕ → ℕ → List ℕ → Option ℕ
 number_after below n [] = Some n
 number_after below n (b ∷ bs) = if is_digit b && nat_lt (n * 10 + (b - 48)) below then number_after below (n * 10 + (b - 48)) bs else None
@@ -86,7 +86,7 @@ arguments op n r text =
     then both (λ a b. Do op r a b a) (register p.0) (register p.1)
     else option_and_then (λ q. all_three (Do op r) (register p.0) (register q.0) (register q.1)) (cut 32 p.1)) (cut 32 text)
 
--- behind `do`: a register, an operator and its arguments
+-- after `do`: a register, an operator and its arguments
 abbrev pub done_by : ℕ → List ℕ × List ℕ → Option Instr
 done_by r p = option_and_then (λ op. arguments op (arity_of op) r p.1) (op_among operators p.0)
 
@@ -97,7 +97,7 @@ operation p = option_and_then (λ r. option_and_then (done_by r) (cut 32 p.1)) (
 abbrev pub check : Bool → List ℕ → List ℕ → Option Instr
 check over_only first text = option_and_then (λ p. all_three (λ g c label. Check g c over_only label) (register first) (register p.0) (short p.1)) (cut 32 text)
 
--- an instruction with two things behind its word, or a check
+-- an instruction with two things after its word, or a check
 abbrev pub plain : List ℕ → List ℕ → List ℕ → Option Instr
 plain word first second =
     if bytes_eq word (codes "in") then both Take (register first) (short second)
@@ -109,7 +109,7 @@ plain word first second =
     else if bytes_eq word (codes "co") then check true first second
     else None
 
--- the instruction of a word and what stands behind it
+-- the instruction of a word and what stands after it
 abbrev pub instr_by : List ℕ → List ℕ × List ℕ → Option Instr
 instr_by word p = if bytes_eq word (codes "do") then operation p else plain word p.0 p.1
 

@@ -1,4 +1,4 @@
--- Reading as a function: what stands at the front of the tokens, and the tokens behind it, or none.
+-- Reading as a function: what stands at the start of the tokens, and the tokens after it, or none.
 use Rattle.std.specs.Prelude.{◌≡◌, ◌==◌, ◌||◌, ℕ, ℤ, neg_ℤ, Bool, cond, List, [], ◌∷◌, ◌++◌, length, Option, Some, None, Result, Ok, Err}
 use Rattle.std.specs.Str.Parse.{digits_value}
 use Rattle.m_places.specs.declared.place.Place.{Place}
@@ -85,9 +85,9 @@ cells_at ts = do
 unfoldable pub size_at : List Token → Option (Option ℕ × List Token)
 size_at ts = choose (key_at keys.Tableau ts) (Some (None, ts)) (λ o. cells_at o.1)
 
--- Items, behind a name and a colon.
+-- Items, after a name and a colon.
 
--- behind "saisie"
+-- after "saisie"
 unfoldable pub input_at : List ℕ × Place → List Token → Option (Item × List Token)
 input_at n ts = do
   l ← lists_at ts
@@ -104,7 +104,7 @@ computed_at n ts = do
   w ← end_at l.1
   Some (items.Variable (variable n (Computed s.0) l.0 w.0), w.1)
 
--- behind "const"
+-- after "const"
 unfoldable pub constant_at : List ℕ × Place → List Token → Option (Item × List Token)
 constant_at n ts = do
   e ← sign_at signs.Equal ts
@@ -131,7 +131,7 @@ is_four_or_five n = n == 4 || n == 5
 abbrev pub error_of : List ℕ × Place → ErrorKind → List (List ℕ) → Option Item
 error_of n k texts = cond (is_four_or_five (length texts)) (Some (items.Error (error_item n k texts))) None
 
--- behind the kind of an error
+-- after the kind of an error
 unfoldable pub error_at : List ℕ × Place → ErrorKind → List Token → Option (Item × List Token)
 error_at n k ts = do
   c ← sign_at signs.Colon ts
@@ -156,14 +156,14 @@ applications_at ts = do
   c ← sign_at signs.Colon k.1
   list_at Words c.1
 
--- behind "application"
+-- after "application"
 unfoldable pub application_at : Place → List Token → Option (Item × List Token)
 application_at p ts = do
   w ← open_at word ts
   s ← sign_at signs.Semicolon w.1
   Some (items.Silent p, s.1)
 
--- behind "enchaineur"
+-- after "enchaineur"
 unfoldable pub chaining_at : Place → List Token → Option (Item × List Token)
 chaining_at p ts = do
   w ← open_at word ts

@@ -9,6 +9,6 @@ use Rattle.input_kinds.specs.Groups.{key_order}
 abbrev pub IsNumbered : KindIndex → Type 0
 IsNumbered index = (attribute : ℕ) (value : ℤ) → length index.attributes ≤ attribute → get key_order index.groups (attribute, value) ≡ None
 
--- an attribute that was there has its number, and a new one is numbered behind all others
+-- an attribute that was there has its number, and a new one is numbered after all others
 abbrev pub HasNumber : List (List ℕ) → List ℕ → ℕ → List (List ℕ) → Type 0
 HasNumber old attribute n new = ((index_of attribute old ≡ Some n) × (new ≡ old)) ⊎ ((has attribute old ≡ false) × (n ≡ length old) × (new ≡ old ++ attribute ∷ []))

@@ -10,13 +10,13 @@ use Rattle.m_cases.specs.declared.expected.Expected.{Expected}
 use Rattle.m_cases.specs.declared.fault.CasesFault.{CasesFault}
 use Rattle.m_cases.specs.Cases.{expected_said}
 
--- the pairs behind a cell below this column
+-- the pairs after a cell below this column
 abbrev pub amounts_behind : ℕ → List (ℕ × ℤ) → Column → List ℕ → Result (List (ℕ × ℤ)) HouseholdFault
 amounts_behind line before (Input input) cell =
     if length cell == 0 then Ok before else if_read (λ pair. Ok (before ++ pair ∷ [])) (amount_said line input (amount_read (text_value cell)))
 amounts_behind line before (Output output) cell = Ok before
 
--- what is expected behind a cell below this column
+-- what is expected after a cell below this column
 abbrev pub expected_behind : ℕ → List (ℕ × Expected) → Column → List ℕ → Result (List (ℕ × Expected)) CasesFault
 expected_behind line before (Input input) cell = Ok before
 expected_behind line before (Output output) cell =

@@ -30,7 +30,7 @@ use Rattle.m_compile.proofs.words.Names.{cell_named}
 use Rattle.m_compile.proofs.words.Requested.{requests_known}
 use Rattle.m_compile.proofs.words.Labels.{all_numbered, base_printable}
 
--- ---- labels: those of the base, and lines behind them
+-- ---- labels: those of the base, and lines after them
 
 of_base : (labels : List Label) → AllByRecursion IsPrintableVerif labels → AllByRecursion IsPrintableLabel (map Verif labels)
 of_base [] a = tt

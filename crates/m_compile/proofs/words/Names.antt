@@ -19,7 +19,7 @@ text_named : (size : Option ℕ) (name : List ℕ) (k cells : ℕ) → IsPlainNa
 text_named None name k cells p s e h = inl p
 text_named (Some size) name k cells p s e h = inr (name, k, p, omega (arith, s, e, h), refl)
 
--- ---- cells of the first variable, and those behind
+-- ---- cells of the first variable, and those after
 
 get_more : (n number : ℕ) (rest : List ℕ) (i : ℕ) → i < n → get_or (replicate n number ++ rest) i 0 ≡ number
 get_more zero number rest i h = absurd (omega (arith, h))

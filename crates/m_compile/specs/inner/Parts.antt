@@ -84,6 +84,6 @@ pub record IsReady (source : Source) (flat : Flat) (face : Face) : Type 0 where
   pub runnable : IsRunnable face flat
   pub compiled : (code : Listing) → IsAllocation flat (length face.labels) code → IsCompiled source (compiled_of flat face code)
 
--- a driver that weighs too much
+-- a driver that costs too much
 pub data IsHeavy (core : Core) (base : Base) : SourceFault → Type 0 where
   heavy : DRIVER_WEIGHT < weight_of core base → IsHeavy core base (DriverTooLarge (told_weight core base))

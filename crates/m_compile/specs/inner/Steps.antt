@@ -1,4 +1,4 @@
--- The fault of a source that the fault of a step is: the step's want of memory is the one of all.
+-- The fault of a source that the fault of a step is: the step's running out of memory is the one of all.
 use Rattle.rule_base.specs.declared.fault.RuleFault.{RuleFault}
 use Rattle.rule_base.specs.declared.fault.RuleFault.TheVariants as rules
 use Rattle.m_requests.specs.declared.fault.RequestFault.{RequestFault}

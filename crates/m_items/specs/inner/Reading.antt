@@ -1,4 +1,4 @@
--- Reading as a function: what stands at the front of the tokens, and the tokens behind it, or none.
+-- Reading as a function: what stands at the start of the tokens, and the tokens after it, or none.
 use Rattle.std.specs.Prelude.{List, [], length, Option, Some}
 use Rattle.m_lexer.specs.declared.token.Token.{Token}
 use Rattle.m_lexer.specs.declared.token.Key.TheVariants as keys

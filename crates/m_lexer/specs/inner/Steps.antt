@@ -27,7 +27,7 @@ abbrev pub further : Place → ℕ → ℕ → Place
 further p byte lines = record { file = p.file; byte = byte; line = p.line + lines }
 
 -- The bytes from a place on have the tokens and the first fault that those from a later place on
--- have, behind the tokens that stand between the two.
+-- have, after the tokens that stand between the two.
 pub record GoesOn (bytes : List ℕ) (p : Place) (between : List Token) (q : Place) : Type 0 where
   pub lists : (tokens : List Token) → Lexes q (left bytes q) tokens → Lexes p (left bytes p) (between ++ tokens)
   pub faults : (fault : LexFault) → FirstFault q (left bytes q) fault → FirstFault p (left bytes p) fault

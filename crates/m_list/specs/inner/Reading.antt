@@ -18,7 +18,7 @@ is_word_byte byte = (nat_le 65 byte && nat_le byte 90) || ((nat_le 97 byte && na
 abbrev pub is_word : List ℕ → Bool
 is_word text = list_all is_word_byte text && not (list_all is_digit text)
 
--- whether a line behind the first is a file's name, or empty
+-- whether a line after the first is a file's name, or empty
 abbrev pub is_file_line : List ℕ → Bool
 is_file_line line = nat_le (length line) FILE_NAME_BYTES && is_utf8 line
 
@@ -27,11 +27,11 @@ abbrev pub first_bad_from : ℕ → List (List ℕ) → Option ℕ
 first_bad_from number [] = None
 first_bad_from number (line ∷ lines) = if is_file_line line then first_bad_from (number + 1) lines else Some number
 
--- a listing that has so many files as a list may have, or a refusal
+-- a listing that has so many files as a list may have, or an error
 abbrev pub listed : List ℕ → List (List ℕ) → Result Listing ListFault
 listed application files = if nat_le (length files) LIST_FILES then Ok (record { application = application; files = files }) else Err TooManyFiles
 
--- what the lines behind the first say, by their first bad line
+-- what the lines after the first say, by their first bad line
 abbrev pub files_read : List ℕ → List (List ℕ) → Option ℕ → Result Listing ListFault
 files_read application lines (Some number) = Err (BadLine number)
 files_read application lines None = listed application (files_of lines)

@@ -1,4 +1,4 @@
--- What the workers give, joined; and a step's want of memory, which is the one of all.
+-- What the workers give, joined; and a step's running out of memory, which is the one of all.
 use Rattle.std.specs.Prelude.{List, [], ◌∷◌, ◌++◌, Vec, Result, Ok, Err}
 use Rattle.std.specs.declared.alloc.Global.{Global}
 use Rattle.m_lexer.specs.declared.fault.LexFault.{LexFault}
@@ -16,12 +16,12 @@ abbrev pub parse_step : ParseFault → ReadFault
 parse_step parse.Memory = Memory
 parse_step fault = Parse fault
 
--- what is behind a part
+-- what is after a part
 abbrev pub behind : {X E : Type 0} → List X → Result (List X) E → Result (List X) E
 behind xs (Ok more) = Ok (xs ++ more)
 behind xs (Err fault) = Err fault
 
--- the lists one behind another, or the first error
+-- the lists one after another, or the first error
 abbrev pub joined : {X E : Type 0} → List (Result (Vec X Global) E) → Result (List X) E
 joined [] = Ok []
 joined (Err fault ∷ parts) = Err fault

@@ -22,7 +22,7 @@ pub record AreIndexed (t : Tables) : Type 0 where
   pub error_names : t.error_names ≡ error_names_of t.errors.items
   pub few : length t.owners.items ≤ CELLS
 
--- with a further variable, whose first cell comes behind those that are there
+-- with a further variable, whose first cell comes after those that are there
 abbrev pub with_variable : Declared → VariableItem → Declared
 with_variable d v = record d { variables = d.variables ++ record { item = v; first_cell = length (owners_from 0 d.variables); cells = variable_cells v } ∷ [] }
 

@@ -1,4 +1,4 @@
--- Reading as a function: the tree at the front of the tokens and the tokens behind it, or none.
+-- Reading as a function: the tree at the start of the tokens and the tokens after it, or none.
 use Rattle.std.specs.Prelude.{◌≡◌, ℕ, zero, suc, Bool, true, false, List, [], ◌∷◌, ◌++◌, length, Option, Some, None, Result, Ok, Err}
 use Rattle.m_places.specs.declared.place.Place.{Place}
 use Rattle.m_fixed.specs.declared.amount.Value.TheVariants.{Undef, Num}
@@ -67,7 +67,7 @@ is m t = is_kind m t.kind
 abbrev pub mark_at : Mark → List Token → Option (Unit {0} × List Token)
 mark_at m = open_at (is m)
 
--- What stands any number of times: at most n further ones, behind those that are done.
+-- What stands any number of times: at most n further ones, after those that are done.
 unfoldable pub chain_at : {A B X : Type 0} → (Token → Option B) → (B → A → X) → (List Token → Option (A × List Token)) → ℕ → List X → List Token → Option (List X × List Token)
 chain_at opens made p zero done ts = Some (done, ts)
 chain_at opens made p (suc n) done ts = choose (open_at opens ts) (Some (done, ts)) (λ o. p o.1 >>= λ x. chain_at opens made p n (done ++ made o.0 x.0 ∷ []) x.1)
@@ -143,7 +143,7 @@ header_at ts = do
 
 -- Terms, where e reads what stands inside of brackets.
 
--- an expression and a token behind it
+-- an expression and a token after it
 unfoldable pub until_at : (List Token → Option (Syntax × List Token)) → Mark → List Token → Option (Syntax × List Token)
 until_at e m ts = do
   t ← e ts
@@ -187,7 +187,7 @@ loop_at e ts = do
   t ← until_at e (OfSign signs.CloseParen) c.1
   Some (loop h.0 t.0, t.1)
 
--- behind a reserved word that is no function
+-- after a reserved word that is no function
 unfoldable pub other_word_at : (List Token → Option (Syntax × List Token)) → AKey → Place → List Token → Option (Syntax × List Token)
 other_word_at e keys.X p ts = Some (the_x p, ts)
 other_word_at e keys.Si p ts = choice_at e ts

@@ -43,12 +43,12 @@ case_count loaded _ _ = 0
 abbrev pub case_text : Loaded → List Row → List (List (ℕ × Expected)) → List ℕ
 case_text loaded rows expected = case_lines loaded rows expected ++ count_line (length rows) (case_count loaded rows expected)
 
--- a count behind a text that was given, or that a write failed
+-- a count after a text that was given, or that a write failed
 abbrev pub with_count : Result (Unit {0}) Failed → ℕ → Result ℕ Failed
 with_count (Ok given) count = Ok count
 with_count (Err failed) count = Err failed
 
--- the status behind cases that were written with so many mismatches, or not
+-- the status after cases that were written with so many mismatches, or not
 abbrev pub compared_status : Result ℕ GroupFault → Status
 compared_status (Ok count) = count_status count
 compared_status (Err Memory) = NoMemory

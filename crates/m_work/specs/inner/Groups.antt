@@ -30,13 +30,13 @@ Counted (Ok value) old new = new ≡ old
 Counted (Err Memory) old new = new ≡ old
 Counted (Err Failed) old new = Rose old new
 
--- A text was written; or there was no memory on the way, or a write failed, and a front of it was.
+-- A text was written; or there was no memory on the way, or a write failed, and a prefix of it was.
 pub record WritesGroups {S T : Type 0} (written : S → Option (List ℕ)) (faults : S → ℕ) (old new : S) (result : Result T GroupFault) (text : List ℕ) : Type 0 where
   pub all : OnOk result (written new ≡ append_known (written old) text)
   pub prefix : OnErr result (AppendsPrefix (written old) (written new) text)
   pub counted : Counted result (faults old) (faults new)
 
--- the status behind rows that were written or not
+-- the status after rows that were written or not
 abbrev pub group_status : {T : Type 0} → Result T GroupFault → Status
 group_status (Ok value) = Done
 group_status (Err Memory) = NoMemory

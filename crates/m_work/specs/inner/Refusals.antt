@@ -1,4 +1,4 @@
--- What a call has done that tells of a refusal.
+-- What a call has done that tells of an error.
 use Rattle.std.specs.Prelude.{◌≡◌, ℕ, List, Option, Some, None}
 use Rattle.m_plan.specs.Printing.{Prints}
 use Rattle.m_plan.specs.Views.{OutputView}

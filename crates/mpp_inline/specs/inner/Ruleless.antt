@@ -20,7 +20,7 @@ abbrev mutual
   left (call line names received function) = call line names received function ∷ []
   left (solve line names received) = []
 
-  -- what is left of a block, behind these commands
+  -- what is left of a block, after these commands
   pub left_behind : List Action → Block → List Action
   left_behind before no_actions = before
   left_behind before (an_action action rest) = left_behind (before ++ left action) rest

@@ -22,7 +22,7 @@ abbrev pub positions_weight : Base → List ℕ → ℕ
 positions_weight base [] = 0
 positions_weight base (p ∷ ps) = tree_weight (term_at base p) + 1 + positions_weight base ps
 
--- what a function's body weighs, and a command and a block, where calls may be nested so deep
+-- what a function's body costs, and a command and a block, where calls may be nested so deep
 abbrev pub body_size : Whole → ℕ → ℕ → ℕ
 body_size whole depth = body_weight (base_weight whole.ordered.base) whole.ordered.base.cells whole.core.bodies depth
 

@@ -1,4 +1,4 @@
--- Reading lines as a function: as many commands as the lines at the front spell, and the lines behind them.
+-- Reading lines as a function: as many commands as the lines at the start spell, and the lines after them.
 use Rattle.std.specs.Prelude.{◌≡◌, ℕ, zero, suc, ◌==◌, ◌&&◌, nat_lt, Bool, false, cond, List, [], ◌∷◌, ◌++◌, length, Option, Some, None, Result, Ok, Err, is_some}
 use Rattle.std.specs.declared.alloc.AllocError.{AllocError}
 use Rattle.m_places.specs.declared.limits.TheConstants.{DRIVER_LEVEL}
@@ -16,7 +16,7 @@ use Rattle.mpp_parser.specs.Commands.{Act, set, del, when, partition, call}
 use Rattle.mpp_parser.specs.CommandView.{block_of}
 use Rattle.mpp_parser.specs.inner.Reading.{◌>>=◌, choose, line_at}
 
--- at most n further ones, behind those that are done: as many as can be read
+-- at most n further ones, after those that are done: as many as can be read
 unfoldable pub many_at : {A : Type 0} → (List Line → Option (A × List Line)) → ℕ → List A → List Line → List A × List Line
 many_at p zero done ls = (done, ls)
 many_at p (suc n) done ls = choose (p ls) (done, ls) (λ x. many_at p n (done ++ x.0 ∷ []) x.1)
@@ -26,7 +26,7 @@ unfoldable pub is_else : List DriverPiece → Bool
 is_else (Word w ∷ Sign Colon ∷ []) = is_some (found keys.Else (keyword_of w))
 is_else _ = false
 
--- behind an `else:` at the indentation i
+-- after an `else:` at the indentation i
 unfoldable pub else_at : ℕ → List Line → Option (List Line)
 else_at i [] = None
 else_at i (l ∷ ls) = cond ((l.indent == i) && is_else l.tokens) (Some ls) None

@@ -1,4 +1,4 @@
--- Reading as a function: the tree at the front of the tokens and the tokens behind it, or none.
+-- Reading as a function: the tree at the start of the tokens and the tokens after it, or none.
 use Rattle.std.specs.Prelude.{◌≡◌, ℕ, zero, suc, ℤ, cond, List, [], ◌∷◌, ◌++◌, length, Option, Some, None, Result, Ok, Err, codes}
 use Rattle.std.specs.Str.{bytes_eq}
 use Rattle.m_places.specs.declared.limits.TheConstants.{BRACKET_DEPTH}
@@ -84,7 +84,7 @@ word_of _ = None
 abbrev pub word_at : List DriverPiece → Option (List ℕ × List DriverPiece)
 word_at = open_at word_of
 
--- What stands any number of times: at most n further ones, behind those that are done.
+-- What stands any number of times: at most n further ones, after those that are done.
 unfoldable pub chain_at : {A B X : Type 0} → (DriverPiece → Option B) → (B → A → X) → (List DriverPiece → Option (A × List DriverPiece)) → ℕ → List X → List DriverPiece → Option (List X × List DriverPiece)
 chain_at opens made p zero done ts = Some (done, ts)
 chain_at opens made p (suc n) done ts = choose (open_at opens ts) (Some (done, ts)) (λ o. p o.1 >>= λ x. chain_at opens made p n (done ++ made o.0 x.0 ∷ []) x.1)
@@ -106,7 +106,7 @@ bracket_at ts = do
   r ← sign_at CloseBracket n.1
   Some (n.0, r.1)
 
--- behind the word
+-- after the word
 unfoldable pub cell_rest_at : List ℕ → List DriverPiece → Option (CellName × List DriverPiece)
 cell_rest_at w ts = choose (sign_at OpenBracket ts) (Some (record { name = w; index = None }, ts)) (λ o. bracket_at o.1 >>= λ n. Some (record { name = w; index = Some n.0 }, n.1))
 
@@ -138,14 +138,14 @@ enclosed_at p ts = do
 
 -- Terms, where e reads what stands inside of brackets.
 
--- a term and a sign behind it
+-- a term and a sign after it
 unfoldable pub until_at : (List DriverPiece → Option (Term × List DriverPiece)) → DriverSign → List DriverPiece → Option (Term × List DriverPiece)
 until_at e s ts = do
   t ← e ts
   r ← sign_at s t.1
   Some (t.0, r.1)
 
--- behind a word, by the reserved word that it is
+-- after a word, by the reserved word that it is
 unfoldable pub word_prim_at : List ℕ → Option Keyword → List DriverPiece → Option (Term × List DriverPiece)
 word_prim_at w None ts = cell_rest_at w ts >>= λ c. Some (named c.0, c.1)
 word_prim_at w (Some keys.Present) ts = enclosed_at cell_at ts >>= λ c. Some (unary ops.Present (named c.0), c.1)
@@ -204,7 +204,7 @@ term_at = disjunction_at (inner_at BRACKET_DEPTH)
 
 -- Lines.
 
--- behind a name and "<-" the rest of a call, which receives these
+-- after a name and "<-" the rest of a call, which receives these
 unfoldable pub called_at : List CellName → List DriverPiece → Option (Sentence × List DriverPiece)
 called_at cs ts = do
   r ← sign_at Receive ts
@@ -221,7 +221,7 @@ call_at c ts = do
   cs ← cells_at c ts
   called_at cs.0 cs.1
 
--- behind the first word, which isn't reserved
+-- after the first word, which isn't reserved
 unfoldable pub command_rest_at : List ℕ → List DriverPiece → Option (Sentence × List DriverPiece)
 command_rest_at w ts = do
   c ← cell_rest_at w ts
@@ -243,7 +243,7 @@ partition_at ts = do
   r ← sign_at Colon k.1
   Some (sentences.Partition k.0, r.1)
 
--- behind the first word, by the reserved word that it is
+-- after the first word, by the reserved word that it is
 unfoldable pub worded_at : List ℕ → Option Keyword → List DriverPiece → Option (Sentence × List DriverPiece)
 worded_at w None ts = named_at w ts
 worded_at w (Some keys.Del) ts = cell_at ts >>= λ c. Some (sentences.Del c.0, c.1)

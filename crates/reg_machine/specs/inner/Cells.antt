@@ -15,7 +15,7 @@ use Rattle.reg_machine.specs.inner.Packed.{unpacked}
 abbrev pub at : List Value → ℕ → Value
 at values k = slice_index_or values k Undef
 
--- the registers behind an instruction
+-- the registers after an instruction
 abbrev pub registers_behind : List Value → List Value → List Value → List Value → Packed → List Value
 registers_behind inputs pool registers slots (Take r n) = slice_set registers r (at inputs n)
 registers_behind inputs pool registers slots (Lit r k) = slice_set registers r (at pool k)
@@ -25,7 +25,7 @@ registers_behind inputs pool registers slots (Load r k) = slice_set registers r 
 registers_behind inputs pool registers slots (Check g r over_only label) = registers
 registers_behind inputs pool registers slots (Output k r) = registers
 
--- the slots behind an instruction
+-- the slots after an instruction
 abbrev pub slots_behind : List Value → List Value → Packed → List Value
 slots_behind registers slots (Take r n) = slots
 slots_behind registers slots (Lit r k) = slots
@@ -35,7 +35,7 @@ slots_behind registers slots (Load r k) = slots
 slots_behind registers slots (Check g r over_only label) = slots
 slots_behind registers slots (Output k r) = slots
 
--- the outputs behind an instruction
+-- the outputs after an instruction
 abbrev pub outputs_behind : List Value → List Value → Packed → List Value
 outputs_behind registers outputs (Take r n) = outputs
 outputs_behind registers outputs (Lit r k) = outputs

@@ -71,7 +71,7 @@ pub record IsNumbered (numbers : BTreeMap ℕ ℕ) (used : List ℕ) : Type 0 wh
   pub found : (k d : ℕ) → get nat_cmp numbers k ≡ Some d → (d < length used) × (slice_index used d ≡ k)
   pub all : (d : ℕ) → d < length used → get nat_cmp numbers (slice_index used d) ≡ Some d
 
--- nothing is wrong with an instruction behind code with which nothing is
+-- nothing is wrong with an instruction after code with which nothing is
 abbrev pub IsRight : Listing → Instr → Type 0
 IsRight code instr = wrong_behind code instr ≡ None
 

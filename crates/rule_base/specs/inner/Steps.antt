@@ -1,4 +1,4 @@
--- The fault of rule files that the fault of a step is: the step's want of memory is the one of all.
+-- The fault of rule files that the fault of a step is: the step's running out of memory is the one of all.
 use Rattle.m_read_all.specs.declared.fault.ReadFault.{ReadFault}
 use Rattle.m_read_all.specs.declared.fault.ReadFault.TheVariants as read
 use Rattle.m_symbols.specs.declared.fault.DeclareFault.{DeclareFault}

@@ -1,4 +1,4 @@
--- Reading as a function: what stands at the front of the tokens, and the tokens behind it, or none.
+-- Reading as a function: what stands at the start of the tokens, and the tokens after it, or none.
 use Rattle.std.specs.Prelude.{◌≡◌, ℕ, zero, suc, Bool, true, false, cond, List, [], ◌∷◌, ◌++◌, length, Option, Some, None, Result, Ok, Err}
 use Rattle.std.specs.Str.Parse.{digits_value}
 use Rattle.std.specs.declared.alloc.AllocError.{AllocError}
@@ -30,7 +30,7 @@ use Rattle.rule_items.specs.declared.head.Head.{Head}
 
 -- Parts.
 
--- want of memory stays that, and no term is no item
+-- running out of memory stays that, and no term is no item
 abbrev pub item_fault_of : TermFault → ItemFault
 item_fault_of NoTerm = NoItem
 item_fault_of Memory = faults.Memory
@@ -43,12 +43,12 @@ term_at ts = expr_at (inner_at BRACKET_DEPTH) ts >>= λ t. cond (begins_by follo
 unfoldable pub headed_at : List Token → Option (Header × List Token)
 headed_at ts = header_at ts >>= λ h. cond (begins_by (is_sign signs.Colon) h.1) (Some h) None
 
--- the tokens behind the words in front
+-- the tokens after the words at the start
 unfoldable pub behind_words : List Token → List Token
 behind_words [] = []
 behind_words (t ∷ ts) = choose (word t) (t ∷ ts) (λ w. behind_words ts)
 
--- at most n further ones, behind those that are done: as many as can be read
+-- at most n further ones, after those that are done: as many as can be read
 unfoldable pub many_at : {A : Type 0} → (List Token → Option (A × List Token)) → ℕ → List A → List Token → List A × List Token
 many_at p zero done ts = (done, ts)
 many_at p (suc n) done ts = choose (p ts) (done, ts) (λ x. many_at p n (done ++ x.0 ∷ []) x.1)
@@ -76,21 +76,21 @@ head_at k ts = do
 
 -- Formulas.
 
--- behind "pour"
+-- after "pour"
 unfoldable pub loop_at : List Token → Option (Header × List Token)
 loop_at ts = headed_at ts >>= λ h. sign_at signs.Colon h.1 >>= λ c. Some (h.0, c.1)
 
 abbrev pub loops_at : List Token → Option (List Header × List Token)
 loops_at ts = chain_at (is_key keys.Pour) (λ _ h. h) loop_at (length ts) [] ts
 
--- behind "["
+-- after "["
 unfoldable pub index_at : List Token → Option (Slot × List Token)
 index_at ts = choose (key_at keys.X ts) (open_at whole ts >>= λ n. Some (Cell (digits_value 10 n.0), n.1)) (λ o. Some (Every, o.1))
 
 unfoldable pub slot_at : List Token → Option (Slot × List Token)
 slot_at ts = choose (sign_at signs.OpenBracket ts) (Some (Whole, ts)) (λ o. index_at o.1 >>= λ s. sign_at signs.CloseBracket s.1 >>= λ c. Some (s.0, c.1))
 
--- behind the target
+-- after the target
 unfoldable pub set_at : List Token → Option (Syntax × List Token)
 set_at ts = do
   e ← sign_at signs.Equal ts
@@ -120,7 +120,7 @@ rule_at ts = do
 
 -- Verifications.
 
--- behind a condition: the word of the error
+-- after a condition: the word of the error
 unfoldable pub error_at : List Token → Option (List ℕ × List Token)
 error_at ts = do
   a ← key_at keys.Alors ts

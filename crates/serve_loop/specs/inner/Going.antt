@@ -10,7 +10,7 @@ use Rattle.serve_loop.specs.declared.pieces.TheConstants.{MOST_HELD}
 use Rattle.serve_loop.specs.declared.turns.ServeEnd.{ServeEnd}
 use Rattle.serve_loop.specs.declared.turns.ServeEnd.TheVariants.{Done, ReadFault, WriteFault, TooLong}
 
--- Some text was written, and no fault was counted. Whatever comes behind, the session as it was replies to the bytes before as
+-- Some text was written, and no fault was counted. Whatever comes after, the session as it was replies to the bytes before as
 -- this text and as the session as it is replies to the bytes that are left; and so with the lines that have their line feed.
 pub record Goes {K : Type 0} (written : K → Option (List ℕ)) (faults : K → ℕ) (old now : K) (start sitting : Sitting) (before left : List ℕ) : Type 0 where
   pub text : List ℕ
@@ -19,7 +19,7 @@ pub record Goes {K : Type 0} (written : K → Option (List ℕ)) (faults : K →
   pub appended : written now ≡ append_known (written old) text
   pub faultless : faults now ≡ faults old
 
--- A write failed: what was written is a front of the replies to these bytes.
+-- A write failed: what was written is a prefix of the replies to these bytes.
 pub record BreaksOff {K : Type 0} (written : K → Option (List ℕ)) (faults : K → ℕ) (old now : K) (start : Sitting) (bytes : List ℕ) : Type 0 where
   pub rose : Rose (faults old) (faults now)
   pub prefix : AppendsPrefix (written old) (written now) (replies_of start bytes)

@@ -27,7 +27,7 @@ pub record IsReady (ordered : Ordered) (plan : Plan) (room : Room) (input_cells 
   pub each : length input_cells ≡ inputs
   pub within : All (λ c. c < cells) input_cells
 
--- Cells that stand behind all that they read, where these stand before them: none stands twice.
+-- Cells that stand after all that they read, where these stand before them: none stands twice.
 abbrev pub AreFollowing : Base → List ℕ → List ℕ → Type 0
 AreFollowing base front [] = Unit {0}
 AreFollowing base front (x ∷ cells) =
