@@ -1,5 +1,6 @@
 //! Headers: how many instances they have, and which of their indexes are faulty.
 ghost use Rattle.std.specs.Prelude.{◌≡◌, ℕ, ◌*◌, ◌<◌, ◌≤◌, ◌∷◌, ◌++◌, ◌||◌, List, false, IfOk, OnOk, min, slice_index_or};
+ghost use Rattle.loop_values.specs.declared.values.TheConstants.{MANY};
 ghost use Rattle.loop_values.specs.Headers as spec;
 ghost use Rattle.loop_values.specs.Letters.{Letters};
 ghost use Rattle.loop_values.specs.inner.Kept.{AreKept};
@@ -11,8 +12,8 @@ use std::alloc::{AllocError, Global};
 
 /// So many instances for each instance of indexes, or `MANY` where there are more.
 pub fn instance_count(before: u64, indexes: &[Index]) -> u64
-    requires { before ≤ 2000001 }
-    ensures count { result ≡ min (before * spec.instance_count indexes.now) 2000001 }
+    requires { before ≤ MANY }
+    ensures count { result ≡ min (before * spec.instance_count indexes.now) MANY }
 {
     let mut count = before;
     for index in indexes {
@@ -23,7 +24,7 @@ pub fn instance_count(before: u64, indexes: &[Index]) -> u64
 
 /// How many instances all headers of a formula have together, or `MANY` where they have more.
 pub fn headers_count(headers: &[Header]) -> u64
-    ensures { result ≡ min (spec.instance_count (spec.all_indexes headers.now)) 2000001 }
+    ensures { result ≡ min (spec.instance_count (spec.all_indexes headers.now)) MANY }
 {
     let mut count = 1;
     for header in headers {

@@ -4,6 +4,7 @@ ghost use Rattle.std.specs.Bool.{OnTrue};
 ghost use Rattle.std.specs.List.{list_any};
 ghost use Rattle.std.specs.Str.Parse.{digits_value};
 ghost use Rattle.m_fixed.specs.Text.{is_digits, only_digits};
+ghost use Rattle.loop_values.specs.declared.values.TheConstants.{MANY};
 ghost use Rattle.loop_values.specs.Values as spec;
 
 use itoa::Buffer;
@@ -29,7 +30,7 @@ pub fn index_values(alloc: Global, index: &Index) -> Result<Vec<Name>, AllocErro
 
 /// How many values an index has, or `MANY` where it has more.
 pub fn index_count(index: &Index) -> u64
-    ensures { result ≡ min (length (spec.index_values index.now)) 2000001 }
+    ensures { result ≡ min (length (spec.index_values index.now)) MANY }
 {
     let mut count = 0;
     for span in index.values.as_slice() {

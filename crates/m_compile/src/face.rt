@@ -39,7 +39,7 @@ pub(crate) fn face_of(
     })
 }
 
-/// The inputs that are declared, in order: what a program over these declarations shows as its inputs. Its only error is want
+/// The inputs that are declared, in order: what a program over these declarations shows as its inputs. Its only error is running out
 /// of memory.
 pub fn inputs_of(alloc: Global, symbols: &Symbols) -> Result<Seq<Coded>, AllocError>
     ensures { IfOk result (λ inputs. inputs ≡ inputs_said symbols.now) }
