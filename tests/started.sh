@@ -225,13 +225,16 @@ if [ $way = built ]; then
     fi
 fi
 
-# Which files are opened, and how: those that are named, for reading, and no more but the C library's.
+# Which files are opened, and how: those that are named, for reading, and no more but the C library's and those in which the system says how many processors
+# there are. Threads are begun, and no other process. Each thread's calls come in a file of its own, so that none stands in the middle of another.
 opened() {
-    strace -f -e trace=file,network,process -o "$dir/calls" out/m_tax "$@" >/dev/null 2>&1 </dev/null
-    sed 's/^[0-9]* *//' "$dir/calls" | grep -v -e '^execve(' -e '^+++' -e '^exit' -e '"/etc/ld\.so\.' -e '"/lib' -e '"/usr/lib' -e '^newfstatat([0-9]*, "",' -e '^access("/etc/ld' \
-        -e '^wait4(' -e '^arch_prctl' | sed 's/^openat(AT_FDCWD, "\(.*\)", O_RDONLY[A-Z_|]*) = [0-9]*$/reads \1/'
+    rm -f "$dir"/calls.*
+    strace -ff -e trace=file,network,process -o "$dir/calls" out/m_tax "$@" >/dev/null 2>&1 </dev/null
+    cat $(printf '%s\n' "$dir"/calls.* | sort -V) | grep -v -e '^execve(' -e '^+++' -e '^exit' -e '"/etc/ld\.so\.' -e '"/lib' -e '"/usr/lib' -e '^newfstatat([0-9]*, "",' \
+        -e '^access("/etc/ld' -e '^wait4(' -e '^arch_prctl' -e '^openat(AT_FDCWD, "/sys/devices/system/cpu/online", O_RDONLY' -e '^openat(AT_FDCWD, "/sys/fs/cgroup/cpu\.max", O_RDONLY' \
+        -e '^clone3\?(.*CLONE_THREAD' | sed 's/^openat(AT_FDCWD, "\(.*\)", O_RDONLY[A-Z_|]*) = [0-9]*$/reads \1/'
 }
-if [ $way = built ] && command -v strace >/dev/null 2>&1 && strace -o "$dir/calls" true 2>/dev/null; then
+if [ $way = built ] && command -v strace >/dev/null 2>&1 && strace -o "$dir/calls.0" true 2>/dev/null; then
     opened run $impots/rules.list $impots/driver.mpp - $impots/household.csv >"$dir/out" 2>"$dir/err"
     judge 0 0 "reads $impots/rules.list
 reads $impots/impots.m
