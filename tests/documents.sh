@@ -79,14 +79,17 @@ if command -v python3 >/dev/null 2>&1; then
     same "MUTANTS and what tests/tries.py --page prints" docs/MUTANTS.md "$room/mutants"
 fi
 
-# English: no page has a word that ARCHITECTURE's table replaces, outside of code; MUTANTS, which is made of the files, has them.
+# English: no page and no comment of a crate has a word that ARCHITECTURE's table replaces, outside of code; MUTANTS, which is made of the files, has them.
+replaced="front|fronts|behind|want of|wrong body|wrong bodies|second reading|refusal|refusals|weighs"
 for page in $(git ls-files '*.md' | grep -v '^crates/\|^bench/\|^unlanded/\|^docs/MUTANTS.md'); do
-    awk '/^```/{code = !code; next} !code && !/looks that no page has/' "$page" | sed 's/`[^`]*`//g; s/REFUSALS.md//g; s/front page//g; s/leave it behind//g' |
-        grep -niwE "front|fronts|behind|want of|wrong body|wrong bodies|second reading|refusal|refusals|weighs" | sed "s|^|$page: |"
+    awk '/^```/{code = !code; next} !code && !/looks that no page and no comment has/' "$page" | sed 's/`[^`]*`//g; s/REFUSALS.md//g; s/front page//g; s/leave it behind//g' |
+        grep -niwE "$replaced" | sed "s|^|$page: |"
 done >"$room/words"
+git ls-files 'crates/*.rt' | xargs sed -n 's/^ *\(.*[ ;,{}]\)\{0,1\}\/\/[\/!]\{0,1\} //p' | sed 's/`[^`]*`//g' | grep -iwE "$replaced" >>"$room/words"
+git ls-files 'crates/*.antt' | xargs sed -n 's/^ *-- //p' | sed 's/`[^`]*`//g' | grep -iwE "$replaced" >>"$room/words"
 echo none >"$room/none"
 [ -s "$room/words" ] || echo none >"$room/words"
-same "the words of the pages and ARCHITECTURE's table" "$room/none" "$room/words"
+same "the words of the pages and comments and ARCHITECTURE's table" "$room/none" "$room/words"
 
 # Links: each names a file that is there.
 git ls-files '*.md' | grep -v '^unlanded/' | while read -r page; do
