@@ -1,7 +1,7 @@
 #!/bin/sh
 # Compares what the documents say with what the repository has, where a text can be compared: the crates with the tables of
 # ARCHITECTURE and PROVED, the calls that PROVED names with their crates, the limits with FORMATS, the usage line's copies, the reserved
-# words with LANGUAGE, DRIVER and the files for editors, MUTANTS with the files it is made of, links with files, words with ARCHITECTURE's
+# words with LANGUAGE, DRIVER and the files for editors, MUTANTS and DEFINITIONS with the files they are made of, links with files, words with ARCHITECTURE's
 # table of English, and the size of the front page. Prints a line for each difference, and a count. The status is 0 where there is none.
 cd "$(dirname "$0")/.." || exit 1
 room=$(mktemp -d) || exit 1
@@ -73,10 +73,12 @@ for pair in m.tmLanguage.json:listed mpp.tmLanguage.json:driver_listed; do
     same "the words of ${pair%:*} and their list" "$room/coloured" "$room/${pair#*:}"
 done
 
-# MUTANTS is made by a script.
+# MUTANTS and DEFINITIONS are made by scripts.
 if command -v python3 >/dev/null 2>&1; then
     python3 -B tests/tries.py --page >"$room/mutants"
     same "MUTANTS and what tests/tries.py --page prints" docs/MUTANTS.md "$room/mutants"
+    python3 -B tests/definitions.py --page >"$room/definitions"
+    same "DEFINITIONS and what tests/definitions.py --page prints" docs/DEFINITIONS.md "$room/definitions"
 fi
 
 # English: no page and no comment of a crate has a word that ARCHITECTURE's table replaces, outside of code; MUTANTS, which is made of the files, has them.

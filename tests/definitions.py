@@ -1,0 +1,196 @@
+#!/usr/bin/env python3
+"""Every definition that the theorem of the program stands on, with its place and its lines: what an auditor has to read.
+
+    tests/definitions.py            prints how many there are, by crate
+    tests/definitions.py --page     prints docs/DEFINITIONS.md
+
+It begins at the clauses of `m_tax` in m_commands, and goes along the names that each definition of `crates/*/specs` and each type of `crates/*/src` cites. What the kit
+states (lists, numbers, options) is not followed. Lines of comments and empty lines aren't counted.
+"""
+import os
+import re
+import sys
+
+ROOT = os.path.dirname(os.path.dirname(os.path.abspath(__file__)))
+WORD = re.compile(r"[A-Za-z_][A-Za-z0-9_'-]*(?:\.[A-Za-z_][A-Za-z0-9_'-]*)*")
+HEAD = re.compile(r"^(?:abbrev |pub |opaque |instance )*(?:data |record |type )?([A-Za-z_◌][^\s:(){}]*)")
+
+
+def read(path):
+    with open(os.path.join(ROOT, path), encoding="utf-8") as text:
+        return text.read().split("\n")
+
+
+def imports(lines, mark):
+    """The names that use lines bring: a name of this file to (module, name), and an alias to (module, None)."""
+    text = "\n".join(lines)
+    found = {}
+    for module, names, alias in re.findall(rf"^{mark}use (Rattle\.[\w.]+?)(?:\.\{{([^}}]*)\}};?| as (\w+);?)$", text, re.M):
+        if alias:
+            found[alias] = (module, None)
+        for name in filter(None, (part.strip() for part in names.split(","))):
+            first, _, other = name.partition(" as ")
+            found[other or first] = (module, first)
+    return found
+
+
+class Definition:
+    def __init__(self, crate, path, line, name):
+        self.crate, self.path, self.line, self.name = crate, path, line, name
+        self.count, self.words = 0, set()
+
+    def add(self, text):
+        code = re.sub(r"(^|\s)(--|//).*$", "", text)
+        if code.strip():
+            self.count += 1
+            self.words.update(WORD.findall(code))
+
+
+def of_specs(crate, module):
+    """The definitions of a file of specs by name, and what it imports."""
+    path = f"crates/{crate}/specs/{module.replace('.', '/')}.antt"
+    if not os.path.exists(os.path.join(ROOT, path)):
+        return {}, {}
+    lines, found, now, within = read(path), {}, None, [0]
+    for number, text in enumerate(lines, 1):
+        indent = len(text) - len(text.lstrip())
+        while text.strip() and indent < within[-1]:
+            within.pop()
+        if re.match(r"(abbrev |pub )*mutual$|module .* where$", text.strip()):
+            within.append(indent + 2)
+            continue
+        text = text[within[-1]:]
+        if not text.strip() or text.startswith(("--", "use ", "mod ", "pub mod ")):
+            continue
+        if not text[0].isspace() and text[0] not in ")}]":
+            name = HEAD.match(text)
+            if not name:
+                sys.exit(f"{path}:{number}: no definition is read here: {text}")
+            name = name.group(1)
+            if name not in found:
+                found[name] = Definition(crate, path, number, name)
+                if re.match(r"(pub )?data ", text):
+                    found[name].is_data = True
+            now = found[name]
+        elif getattr(now, "is_data", False):
+            case = re.match(r"\s+([A-Za-z_][\w']*)\s*:", text)
+            if case and case.group(1) not in found:
+                found[case.group(1)] = now
+        now.add(text)
+    return found, imports(lines, "")
+
+
+def of_type(crate, module, name):
+    """A struct or enum of a crate's code with its ghost view."""
+    path = f"crates/{crate}/src/{module.replace('.', '/')}.rt"
+    if not os.path.exists(os.path.join(ROOT, path)):
+        path = f"crates/{crate}/src/lib.rt"
+    lines = read(path)
+    found, inside = None, False
+    for number, text in enumerate(lines, 1):
+        if re.match(rf"pub (struct|enum|trait) {name}\b", text) or re.match(rf"impl(<.*>)? Model for {name}\b", text):
+            found = found or Definition(crate, path, number, name)
+            inside = True
+        if inside:
+            found.add(text)
+            inside = text not in ("}",) and not (text.endswith(";") and not text[0].isspace())
+    return found, imports(lines, "ghost ")
+
+
+class Reading:
+    """Walks from names to the definitions that they name, each once."""
+
+    def __init__(self):
+        self.files, self.types, self.seen = {}, {}, {}
+
+    def find(self, module, name):
+        """The definitions by which a name of a module is known, and the imports and neighbours of its file."""
+        parts = module.split(".")
+        crate, kind = parts[1], parts[2] if len(parts) > 2 else ""
+        if not os.path.isdir(os.path.join(ROOT, "crates", crate)) or kind != "specs":
+            return None
+        if len(parts) > 3 and parts[3] == "declared":
+            rest = [part for part in parts[4:] if part not in ("TheVariants", "TheConstants")]
+            if parts[-1] == "TheConstants":
+                return None
+            type_name = rest[-1] if rest else name
+            key = (crate, ".".join(rest[:-1]), type_name)
+            if key not in self.types:
+                self.types[key] = of_type(*key)
+            found, names = self.types[key]
+            return (found, names, {}) if found else None
+        key = (crate, ".".join(parts[3:]))
+        if key not in self.files:
+            self.files[key] = of_specs(*key)
+        found, names = self.files[key]
+        return (found[name], names, found) if name in found else None
+
+    def walk(self, todo):
+        while todo:
+            module, name = todo.pop()
+            known = self.find(module, name)
+            if not known:
+                continue
+            definition, names, neighbours = known
+            key = (definition.path, definition.line)
+            if key in self.seen:
+                continue
+            self.seen[key] = definition
+            for word in definition.words:
+                first, _, rest = word.partition(".")
+                if word in neighbours:
+                    todo.append((module, word))
+                elif first in neighbours:
+                    todo.append((module, first))
+                elif first in names:
+                    source, only = names[first]
+                    todo.append((source, only or rest.split(".")[0]))
+
+
+def clauses():
+    """The names in the clauses of `m_tax`, and the traits of what it is given."""
+    path = "crates/m_commands/src/program.rt"
+    lines = read(path)
+    begin = next(n for n, text in enumerate(lines) if text.startswith("pub fn m_tax"))
+    end = next(n for n in range(begin, len(lines)) if lines[n] == "{")
+    top = Definition("m_commands", path, begin + 1, "m_tax")
+    for text in lines[begin:end]:
+        top.add(text)
+    names = imports(lines, "ghost ")
+    todo = [names[word] for word in (w.split(".")[0] for w in top.words) if word in names]
+    todo += [(f"Rattle.m_ports.specs.declared.{name.lower()}.{name}", name) for name in ("Files", "Source", "Sink")]
+    return top, todo
+
+
+def main():
+    reading = Reading()
+    top, todo = clauses()
+    reading.walk(todo)
+    found = [top, *sorted(reading.seen.values(), key=lambda d: (d.path, d.line))]
+    lines = sum(d.count for d in found)
+    crates = {}
+    for d in found:
+        crates.setdefault(d.crate, []).append(d)
+    if sys.argv[1:] != ["--page"]:
+        for crate in sorted(crates):
+            print(f"{crate}: {len(crates[crate])} definitions, {sum(d.count for d in crates[crate])} lines")
+        print(f"all: {len(found)} definitions, {lines} lines")
+        return
+    print("# What the theorem stands on\n")
+    print("Every definition and type that the clauses of `m_tax` lead to, down to the operators: what is to be read by who wants to know what was proved. `tests/definitions.py --page` makes this")
+    print("page. Lines are those of code; what the kit states of lists, numbers and options isn't followed.\n")
+    print(f"In all {len(found)} definitions, {lines} lines.\n")
+    print("| Crate | definitions | lines |\n|---|---:|---:|")
+    for crate in sorted(crates):
+        print(f"| {crate} | {len(crates[crate])} | {sum(d.count for d in crates[crate])} |")
+    for crate in sorted(crates):
+        print(f"\n## {crate}\n")
+        files = {}
+        for d in crates[crate]:
+            files.setdefault(d.path, []).append(d)
+        for path in sorted(files):
+            named = ", ".join(f"`{d.name}` {d.count}" for d in sorted(files[path], key=lambda d: d.line))
+            print(f"- [{path[len('crates/'):]}](../{path}): {named}")
+
+
+main()
