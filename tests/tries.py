@@ -231,6 +231,8 @@ def page():
 
 def main():
     words = sys.argv[1:]
+    if [word for word in words if word.startswith("-") and word not in ("--page", "--stands")]:
+        sys.exit(__doc__)
     if "--page" in words:
         sys.stdout.write(page())
         return
