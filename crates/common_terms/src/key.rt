@@ -1,14 +1,32 @@
 //! The key under which nodes are hashed.
+ghost use Rattle.std.specs.Prelude.{◌≡◌};
+ghost use Rattle.common_terms.specs.inner.Chains.{hash_after, node_hash};
 
 use flat_code::Node;
 use m_fixed::Value;
 use sha2::{Digest, Sha256};
-use std::hash::{BuildHasher, DefaultHasher, Hasher};
+use std::hash::{BuildHasher, DefaultHasher, Hash, Hasher};
 
 /// A key that nodes are hashed under: each hash goes on from where the key left the hasher.
 #[derive(Clone, Copy)]
 pub struct Key {
     start: DefaultHasher,
+}
+
+// The hash of a value.
+fn hash_under<T: Hash + Copy>(key: &Key, value: &T) -> u32
+    ensures { result ≡ hash_after key.now (T.hash_input value.now) }
+{
+    (key.hash_one(*value) % 4_294_967_296) as u32
+}
+
+impl Key {
+    /// The hash of a node.
+    pub(crate) fn hash_of(&self, node: &Node) -> u32
+        ensures { result ≡ node_hash self.now node.now }
+    {
+        hash_under(self, node)
+    }
 }
 
 /// The digest of nodes, one taken after the other, of which a key is made.
