@@ -59,17 +59,19 @@ impl NodesDigest {
             Value::Undef => self.digest.update(&[1]),
             Value::Over => self.digest.update(&[2]),
             Value::Num(amount) => {
-                self.digest.update(&[3]);
-                self.digest.update(&amount.millionths().to_le_bytes());
+                let mut bytes = [3; 17];
+                bytes[1..].copy_from_slice(&amount.millionths().to_le_bytes());
+                self.digest.update(&bytes);
             }
         }
     }
 
     fn take_numbers(&mut self, kind: u8, a: u32, b: u32, c: u32) {
-        self.digest.update(&[kind]);
-        self.digest.update(&a.to_le_bytes());
-        self.digest.update(&b.to_le_bytes());
-        self.digest.update(&c.to_le_bytes());
+        let mut bytes = [kind; 13];
+        bytes[1..5].copy_from_slice(&a.to_le_bytes());
+        bytes[5..9].copy_from_slice(&b.to_le_bytes());
+        bytes[9..].copy_from_slice(&c.to_le_bytes());
+        self.digest.update(&bytes);
     }
 
     /// The key that is made of the nodes so far.

@@ -1,4 +1,4 @@
-use Rattle.std.proofs.Common.{◌≡◌, ◌+◌, [], ◌∷◌, ◌++◌, length, take, drop, take_at, ap, sym, ◌∙◌, subst}
+use Rattle.std.proofs.Common.{◌≡◌, [], ◌∷◌, ◌++◌, length, take, drop, take_at, ap, sym, ◌∙◌, subst}
 use Rattle.common_terms.specs.inner.Chains.{link_at, AreChained, IsTable}
 use Rattle.common_terms.proofs.ChainLemmas.{cut-table, longer-table, table-added}
 use Rattle.common_terms.proofs.chains.Chains.add.Goals as goal

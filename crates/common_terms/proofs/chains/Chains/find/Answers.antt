@@ -1,7 +1,6 @@
-use Rattle.std.proofs.Common.{◌≡◌, suc, ◌-◌, ◌%◌, ◌<◌, ◌≤◌, length, get_or, rules, arith, ap, sym, ◌∙◌, subst}
+use Rattle.std.proofs.Common.{◌≡◌, suc, ◌-◌, ◌%◌, ◌<◌, ◌≤◌, length, get_or, rules, arith, ap, ◌∙◌, subst}
 use Rattle.std.proofs.lemmas.List.{get_or_read}
 use Rattle.common_terms.specs.declared.chains.Link.{Link}
-use Rattle.common_terms.specs.inner.Chains.{link_at}
 use Rattle.common_terms.proofs.ChainLemmas.{no-link, search-start, search-next}
 use Rattle.common_terms.proofs.chains.Chains.find.Goals as goal
 
