@@ -4,7 +4,6 @@ use common_terms::NodeTable;
 use flat_code::Node;
 use fold_terms::Builder;
 use m_fixed::{Amount, Op, Value};
-use std::alloc::AllocError;
 use std::process::Abort;
 use std::test::Fail;
 
@@ -30,34 +29,6 @@ fn equal_nodes_have_one_number(rt: HostRuntime) -> Result<(), Fail> {
     ];
     assert_eq!(rt; numbers, [0, 1, 2, 3, 4, 1, 4]);
     assert_eq!(rt; table.count(), 5);
-    Ok(())
-}
-
-// The number of a node in a table of at most a thousand.
-fn number_in(table: &mut NodeTable, node: Node) -> Result<u32, AllocError> {
-    if table.count() >= 1_000 {
-        return Ok(1_000);
-    }
-    table.find_or_add(node)
-}
-
-// Whether the first so many inputs have their own numbers.
-fn are_numbered(table: &mut NodeTable, count: u32) -> Result<bool, AllocError> {
-    for k in 0..count {
-        if number_in(table, Node::Input(k))? != k {
-            return Ok(false);
-        }
-    }
-    Ok(true)
-}
-
-#[test]
-fn numbers_stay_while_a_table_grows(rt: HostRuntime) -> Result<(), Fail> {
-    let mut table = NodeTable::new(rt.alloc());
-    let added = are_numbered(&mut table, 100)?;
-    let found = are_numbered(&mut table, 100)?;
-    assert_eq!(rt; (added, found), (true, true));
-    assert_eq!(rt; table.count(), 100);
     Ok(())
 }
 
