@@ -16,7 +16,7 @@ for crate in m_places m_fixed definedness observables flat_code common_terms fol
     done
     grep "^$crate:" "$root/crates.txt" >>"$work/repository/crates.txt"
 done
-echo "bench_tidy: m_places m_fixed definedness observables flat_code common_terms fold_terms dead_rules indexmap sha2 anyhow" >>"$work/repository/crates.txt"
+echo "bench_tidy: m_places m_fixed definedness observables flat_code common_terms fold_terms dead_rules sha2 anyhow" >>"$work/repository/crates.txt"
 cp "$root/HANDLES" "$work/repository/"
 bench=$work/repository/crates/bench_tidy
 mkdir -p "$bench/src" "$bench/proofs/nodes_of" "$bench/proofs/program"

@@ -1,48 +1,29 @@
--- A set in order of insertion as a table of nodes.
-use Rattle.std.proofs.Common.{◌≡◌, ℕ, zero, suc, ◌+◌, ◌<◌, Bool, true, false, ◌⊎◌, List, [], ◌∷◌, ◌++◌, length, Some, None, ◌≤◌, refl, ap, sym, subst, ◌∙◌, inl, inr, ⊎_elim, arith}
-use mathlib.Core.Bool.{◌||◌}
-use Rattle.std.specs.Prelude.{if◌then◌else◌, slice_get}
-use Rattle.std.specs.List.{list_any}
-use Rattle.std.proofs.lemmas.Bool.{true≢false, or_left, cases_lt}
+-- What a table of nodes has after a node was entered.
+use Rattle.std.proofs.Common.{◌≡◌, ℕ, ◌+◌, ◌<◌, ◌⊎◌, List, [], ◌∷◌, ◌++◌, length, ◌≤◌, refl, ap, sym, subst, ◌∙◌, inl, inr, ⊎_elim, arith}
+use Rattle.std.specs.Prelude.{Result, Ok, Err, IfOk, OnOk, OnErr}
+use Rattle.std.proofs.lemmas.Bool.{cases_lt}
 use Rattle.std.proofs.lemmas.List.{length_push}
-use Rattle.indexmap.specs.IndexSet.{insert_key}
 use Rattle.flat_code.specs.declared.program.Node.{Node}
 use Rattle.flat_code.specs.Entries.{node_at}
 use Rattle.flat_code.proofs.ReadLemmas.{node-push, node-last}
 use Rattle.common_terms.specs.Numbers.{IsAbsent, AreApart, IsEntered}
 
-none-some : (x : Node) → None ≡ Some x → ⊥
-none-some x e = cc
+-- a node that was found
+pub entered-found : (nodes : List Node) (node : Node) (k : ℕ) → k < length nodes → node_at nodes k ≡ node → IsEntered nodes nodes node k
+entered-found nodes node k lt is = record { within = lt; is = is; adds = inl refl }
 
-some-same : (x y : Node) → Some x ≡ Some y → x ≡ y
-some-same x y e = cc
-
-got : (nodes : List Node) (k : ℕ) (node : Node) → slice_get nodes k ≡ Some node → (k < length nodes) × (node_at nodes k ≡ node)
-got [] k node e = absurd (none-some node e)
-got (x ∷ nodes) zero node e = (omega arith, some-same x node e)
-got (x ∷ nodes) (suc k) node e = let h = got nodes k node e in (omega (arith, h.0), h.1)
-
-absent : (eq : Node → Node → Bool) → ((x y : Node) → x ≡ y → eq x y ≡ true) → (nodes : List Node) (node : Node) → list_any (eq node) nodes ≡ false → IsAbsent nodes node
-absent eq sure [] node e j lt d = omega arith
-absent eq sure (x ∷ nodes) node e zero lt d = true≢false (sym (or_left (eq node x) (list_any (eq node) nodes) (sure node x (sym d))) ∙ e)
-absent eq sure (x ∷ nodes) node e (suc j) lt d = absent eq sure nodes node (or-second (eq node x) (list_any (eq node) nodes) e) j (omega arith) d
-  where
-    or-second : (a b : Bool) → (a || b) ≡ false → b ≡ false
-    or-second true b e = absurd (true≢false e)
-    or-second false b e = e
-
-pub entered : (eq : Node → Node → Bool) → ((x y : Node) → eq x y ≡ true → x ≡ y) → ((x y : Node) → x ≡ y → eq x y ≡ true) → (old new : List Node) (node : Node) (k : ℕ) → new ≡ insert_key eq old node → ((x : Node) × (slice_get new k ≡ Some x) × (eq node x ≡ true)) → IsEntered old new node k
-entered eq same sure old new node k keys stored =
-    let g = got new k stored.0 stored.1 in
+-- a node that was added
+pub entered-added : {E : Type 0} (r : Result ℕ E) (old mid new : List Node) (node : Node) → mid ≡ old → IsAbsent old node → IfOk r (λ k. k ≡ length mid) → OnOk r (new ≡ mid ++ node ∷ []) → IfOk r (IsEntered old new node)
+entered-added (Err e) old mid new node same absent number added = tt
+entered-added (Ok k) old mid new node same absent number added =
+    let whole : new ≡ old ++ node ∷ [] = added ∙ ap (λ xs. xs ++ node ∷ []) same in
+    let place : k ≡ length old = number ∙ ap length same in
+    let size : length new ≡ length old + 1 = ap length whole ∙ length_push old node in
     record {
-      within = g.0;
-      is = g.1 ∙ sym (same node stored.0 stored.2);
-      adds = go (list_any (eq node) old) refl;
+      within = omega arith;
+      is = ap (λ xs. node_at xs k) whole ∙ node-last old node k place;
+      adds = inr (whole, absent);
     }
-  where
-    go : (b : Bool) → list_any (eq node) old ≡ b → (new ≡ old) ⊎ ((new ≡ old ++ node ∷ []) × IsAbsent old node)
-    go true e = inl (keys ∙ ap (λ b. if b then old else old ++ node ∷ []) e)
-    go false e = inr (keys ∙ ap (λ b. if b then old else old ++ node ∷ []) e, absent eq sure old node e)
 
 pub apart-none : AreApart []
 apart-none p q lt l e = absurd (omega arith)
@@ -70,8 +51,21 @@ apart-entered old new node k apart entered = ⊎_elim
     entered.adds
 
 -- at most one node is added
-pub few-entered : (old new : List Node) (node : Node) (k : ℕ) → IsEntered old new node k → length new ≤ length old + 1
+few-entered : (old new : List Node) (node : Node) (k : ℕ) → IsEntered old new node k → length new ≤ length old + 1
 few-entered old new node k entered = ⊎_elim
     (λ e. let z : length new ≡ length old = ap length e in omega arith)
     (λ a. let z : length new ≡ length old + 1 = ap length a.0 ∙ length_push old node in omega arith)
     entered.adds
+
+-- the same, whatever the table answers
+pub apart-either : {E : Type 0} (r : Result ℕ E) (old new : List Node) (node : Node) → AreApart old → IfOk r (IsEntered old new node) → OnErr r (new ≡ old) → AreApart new
+apart-either (Ok k) old new node apart entered same = apart-entered old new node k apart entered
+apart-either (Err e) old new node apart entered same = subst AreApart (sym same) apart
+
+pub few-either : {E : Type 0} (r : Result ℕ E) (old new : List Node) (node : Node) → IfOk r (IsEntered old new node) → OnErr r (new ≡ old) → length new ≤ length old + 1
+few-either (Ok k) old new node entered same = few-entered old new node k entered
+few-either (Err e) old new node entered same = let z : length new ≡ length old = ap length same in omega arith
+
+pub err-then : {X E : Type 0} (r : Result X E) {P Q : Type 0} → (P → Q) → OnErr r P → OnErr r Q
+err-then (Ok x) f p = tt
+err-then (Err e) f p = f p

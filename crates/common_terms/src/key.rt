@@ -1,14 +1,32 @@
 //! The key under which nodes are hashed.
+ghost use Rattle.std.specs.Prelude.{◌≡◌};
+ghost use Rattle.common_terms.specs.inner.Chains.{hash_after, node_hash};
 
 use flat_code::Node;
 use m_fixed::Value;
 use sha2::{Digest, Sha256};
-use std::hash::{BuildHasher, DefaultHasher, Hasher};
+use std::hash::{BuildHasher, DefaultHasher, Hash, Hasher};
 
 /// A key that nodes are hashed under: each hash goes on from where the key left the hasher.
 #[derive(Clone, Copy)]
 pub struct Key {
     start: DefaultHasher,
+}
+
+// The hash of a value.
+fn hash_under<T: Hash + Copy>(key: &Key, value: &T) -> u32
+    ensures { result ≡ hash_after key.now (T.hash_input value.now) }
+{
+    (key.hash_one(*value) % 4_294_967_296) as u32
+}
+
+impl Key {
+    /// The hash of a node.
+    pub(crate) fn hash_of(&self, node: &Node) -> u32
+        ensures { result ≡ node_hash self.now node.now }
+    {
+        hash_under(self, node)
+    }
 }
 
 /// The digest of nodes, one taken after the other, of which a key is made.
@@ -41,17 +59,19 @@ impl NodesDigest {
             Value::Undef => self.digest.update(&[1]),
             Value::Over => self.digest.update(&[2]),
             Value::Num(amount) => {
-                self.digest.update(&[3]);
-                self.digest.update(&amount.millionths().to_le_bytes());
+                let mut bytes = [3; 17];
+                bytes[1..].copy_from_slice(&amount.millionths().to_le_bytes());
+                self.digest.update(&bytes);
             }
         }
     }
 
     fn take_numbers(&mut self, kind: u8, a: u32, b: u32, c: u32) {
-        self.digest.update(&[kind]);
-        self.digest.update(&a.to_le_bytes());
-        self.digest.update(&b.to_le_bytes());
-        self.digest.update(&c.to_le_bytes());
+        let mut bytes = [kind; 13];
+        bytes[1..5].copy_from_slice(&a.to_le_bytes());
+        bytes[5..9].copy_from_slice(&b.to_le_bytes());
+        bytes[9..].copy_from_slice(&c.to_le_bytes());
+        self.digest.update(&bytes);
     }
 
     /// The key that is made of the nodes so far.

@@ -4,6 +4,7 @@
 //! before they are chosen. This crate doesn't know what nodes compute.
 #![tactic(auto)]
 
+mod chains;
 mod key;
 mod table;
 

@@ -1,31 +1,32 @@
 //! A table of nodes.
-ghost use Rattle.std.specs.Prelude.{◌≡◌, ◌<◌, true, [], Some, length, slice_get, IfOk, OnErr};
-ghost use Rattle.indexmap.specs.IndexSet.{insert_key};
+ghost use Rattle.std.specs.Prelude.{◌≡◌, ◌<◌, [], length, IfOk, OnErr};
+ghost use Rattle.flat_code.specs.Entries.{node_at};
 ghost use Rattle.common_terms.specs.Numbers.{AreApart, IsEntered};
 
+use crate::chains::Chains;
 use crate::{Key, NodesDigest};
 use flat_code::Node;
-use indexmap::IndexSet;
 use std::alloc::{AllocError, Global};
-use std::hash::Hash;
 use std::marker::Model;
 
 /// Nodes, no two of them equal, each with its number, from 0. Contracts see them as their list.
 #[derive(Drop)]
 pub struct NodeTable {
-    nodes: IndexSet<Node, Key>,
+    chains: Chains,
 }
 
 impl Model for NodeTable {
     ghost use Rattle.std.specs.Prelude.{List, ◌<◌, ◌^◌, length};
     ghost use Rattle.flat_code.specs.declared.program.Node.{Node};
     ghost use Rattle.common_terms.specs.Numbers.{AreApart};
+    ghost use Rattle.common_terms.specs.inner.Chains.{IsTable};
 
     ghost Value = { List Node };
 
-    ghost view = { λ t. t.nodes.keys };
+    ghost view = { λ t. t.chains.nodes.items };
 
-    ghost invariant = { λ t. (length t.nodes.keys < 2 ^ 32) × AreApart t.nodes.keys };
+    ghost invariant = { λ t. (length t.chains.nodes.items < 2 ^ 32) × AreApart t.chains.nodes.items
+        × IsTable t.chains.key t.chains.nodes.items t.chains.links.items t.chains.heads.items };
 }
 
 impl NodeTable {
@@ -44,7 +45,13 @@ impl NodeTable {
         ensures { result ≡ [] }
     {
         NodeTable {
-            nodes: IndexSet::with_hasher(alloc, key),
+            chains: Chains {
+                alloc,
+                key,
+                nodes: Vec::new(alloc),
+                links: Vec::new(alloc),
+                heads: Vec::new(alloc),
+            },
         }
     }
 
@@ -52,28 +59,33 @@ impl NodeTable {
     pub fn count(&self) -> u32
         ensures { result ≡ length self.now }
     {
-        self.nodes.len() as u32
+        self.chains.nodes.len() as u32
+    }
+
+    /// The node with this number. Takes no memory.
+    pub fn at(&self, number: u32) -> Node
+        requires { number < length self.now }
+        ensures { result ≡ node_at self.now number }
+    {
+        self.chains.nodes[number as usize]
+    }
+
+    /// The nodes in the order of their numbers. Takes no memory.
+    pub fn into_nodes(self) -> Vec<Node>
+        ensures { result.items ≡ self }
+    {
+        let NodeTable { chains } = self;
+        chains.nodes
     }
 
     /// The number of the equal node that is there, or else the next number, under which this node is
-    /// added. Its only error is running out of memory, and then the table is as it was.
+    /// added. Its only error is running out of memory, and then the table has the nodes that it had.
     pub fn find_or_add(&mut self, node: Node) -> Result<u32, AllocError>
         requires room { length self.old < 4_294_967_295 }
         ensures entered { IfOk result (IsEntered self.old self.new node) }
         ensures apart { AreApart self.new }
         ensures err { OnErr result (self.new ≡ self.old) }
     {
-        let number = insert(&mut self.nodes, &node)?;
-        Ok(number as u32)
+        self.chains.find_or_add(&node)
     }
-}
-
-// The index of the value in the set, at the end of which it is added where no value is equal to it.
-fn insert<T: Eq + Hash + Copy>(set: &mut IndexSet<T, Key>, value: &T) -> Result<usize, AllocError>
-    ensures keys { IfOk result (λ k. set.new.keys ≡ insert_key T.eq set.old.keys value.now) }
-    ensures stored { IfOk result (λ k. (x : T) × (slice_get set.new.keys k ≡ Some x) × (T.eq value.now x ≡ true)) }
-    ensures err { OnErr result (set.new.keys ≡ set.old.keys) }
-{
-    let (index, _) = set.insert_full(*value)?;
-    Ok(index)
 }

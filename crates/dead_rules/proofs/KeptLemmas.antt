@@ -1,8 +1,9 @@
 -- The kept nodes under their new numbers.
-use Rattle.std.proofs.Common.{◌≡◌, ℕ, zero, suc, ◌+◌, ◌<◌, ◌≤◌, Bool, true, false, List, [], ◌∷◌, ◌++◌, length, map, refl, ap, sym, ◌∙◌, subst, inl, inr, ⊎_elim, arith}
+use Rattle.std.proofs.Common.{◌≡◌, ℕ, zero, suc, ◌+◌, ◌<◌, ◌≤◌, Bool, true, false, List, [], ◌∷◌, ◌++◌, length, take, set, map, refl, ap, sym, ◌∙◌, subst, inl, inr, ⊎_elim, arith}
 use Rattle.std.specs.Prelude.{if◌then◌else◌}
 use Rattle.std.proofs.lemmas.Bool.{cases_lt, true≢false}
-use Rattle.std.proofs.lemmas.List.{get_or_append_left, get_or_push, length_push, length-map, get_or-map}
+use Rattle.std.proofs.lemmas.List.{get_or_append_left, get_or_push, length_push, length-map, get_or-map, length-take-le, length-set, get_or-set_other}
+use Rattle.std.proofs.Math.Seq.{take-suc-set}
 use Rattle.m_fixed.specs.declared.amount.Value.TheVariants.{Undef}
 use Rattle.flat_code.specs.declared.program.Node.{Node}
 use Rattle.flat_code.specs.declared.program.Node.TheVariants.{Input, Lit, Do}
@@ -49,7 +50,7 @@ rank-less kept p (suc q) lt k =
 
 -- ---- the loop
 
-pub kept-start : (nodes : List Node) (kept : ℕ → Bool) → Kept nodes kept 0 [] []
+kept-start : (nodes : List Node) (kept : ℕ → Bool) → Kept nodes kept 0 [] []
 kept-start nodes kept = record { size = refl; count = refl; number = λ q lt. absurd (omega arith); node = λ q lt. absurd (omega arith); from = λ k lt. absurd (omega arith) }
 
 renamed-same : (m m' : ℕ → ℕ) (p : ℕ) (node : Node) → ReadsBelow p node → ((q : ℕ) → q < p → m q ≡ m' q) → renamed m node ≡ renamed m' node
@@ -71,7 +72,7 @@ numbered-push kept i numbers k size e h q lt =
     (λ (g : i ≤ q). let d : q ≡ i = omega arith in get_or_push numbers k 0 q (omega arith) ∙ e ∙ ap (rank kept) (sym d))
     (cases_lt q i)
 
-pub kept-skip : (nodes new : List Node) (kept : ℕ → Bool) (i : ℕ) (numbers : List ℕ) (k : ℕ) → Kept nodes kept i new numbers → k ≡ length new → kept i ≡ false → Kept nodes kept (i + 1) new (numbers ++ k ∷ [])
+kept-skip : (nodes new : List Node) (kept : ℕ → Bool) (i : ℕ) (numbers : List ℕ) (k : ℕ) → Kept nodes kept i new numbers → k ≡ length new → kept i ≡ false → Kept nodes kept (i + 1) new (numbers ++ k ∷ [])
 kept-skip nodes new kept i numbers k h e left =
     let size : length numbers ≡ i = h.size in
     let s : i + 1 ≡ suc i = omega arith in
@@ -83,7 +84,7 @@ kept-skip nodes new kept i numbers k h e left =
       from = λ j lt. let f = h.from j lt in (f.0, omega (arith, f.1), f.2, f.3);
     }
 
-pub kept-push : (nodes new : List Node) (kept : ℕ → Bool) (i : ℕ) (numbers : List ℕ) (k : ℕ) (node : Node) → ReadsBelow i (node_at nodes i) → i < length nodes → Kept nodes kept i new numbers → k ≡ length new → kept i ≡ true → node ≡ renamed (look numbers) (node_at nodes i) → Kept nodes kept (i + 1) (new ++ node ∷ []) (numbers ++ k ∷ [])
+kept-push : (nodes new : List Node) (kept : ℕ → Bool) (i : ℕ) (numbers : List ℕ) (k : ℕ) (node : Node) → ReadsBelow i (node_at nodes i) → i < length nodes → Kept nodes kept i new numbers → k ≡ length new → kept i ≡ true → node ≡ renamed (look numbers) (node_at nodes i) → Kept nodes kept (i + 1) (new ++ node ∷ []) (numbers ++ k ∷ [])
 kept-push nodes new kept i numbers k node valid within h e live is =
     let size : length numbers ≡ i = h.size in
     let count : length new ≡ rank kept i = h.count in
@@ -101,6 +102,42 @@ kept-push nodes new kept i numbers k node valid within h e live is =
           (λ (m : j < length new). let f = h.from j m in (f.0, omega (arith, f.1), f.2, f.3))
           (λ (g : length new ≤ j). (i, omega arith, live, omega (arith, length_push new node)))
           (cases_lt j (length new));
+    }
+
+-- The first i nodes are gathered: k of them are kept, and stand at the start of the list, numbered anew.
+pub record IsGathered (old nodes : List Node) (kept : ℕ → Bool) (i k : ℕ) (numbers : List ℕ) : Type 0 where
+  pub size : length nodes ≡ length old
+  pub few : k ≤ i
+  pub rest : (q : ℕ) → i ≤ q → node_at nodes q ≡ node_at old q
+  pub done : Kept old kept i (take k nodes) numbers
+
+pub gathered-start : (old : List Node) (kept : ℕ → Bool) → IsGathered old old kept 0 0 []
+gathered-start old kept = record { size = refl; few = omega arith; rest = λ q le. refl; done = kept-start old kept }
+
+pub gathered-step : (old nodes nodes' : List Node) (kept : ℕ → Bool) (i k k' : ℕ) (numbers : List ℕ) (node : Node) (live : Bool) → ReadsBelow i (node_at old i) → i < length old → IsGathered old nodes kept i k numbers → kept i ≡ live → node ≡ renamed (look numbers) (node_at old i) → nodes' ≡ (if live then set nodes k node else nodes) → k' ≡ (if live then k + 1 else k) → IsGathered old nodes' kept (i + 1) k' (numbers ++ k ∷ [])
+gathered-step old nodes nodes' kept i k k' numbers node true valid lt h here is put more =
+    let size : length nodes ≡ length old = h.size in
+    let le : k ≤ i = h.few in
+    let within : k < length nodes = omega arith in
+    let s : k + 1 ≡ suc k = omega arith in
+    let count : length (take k nodes) ≡ k = length-take-le k nodes (omega arith) in
+    let front : take k' nodes' ≡ take k nodes ++ node ∷ [] = ap (take k') put ∙ ap (λ n. take n (set nodes k node)) (more ∙ s) ∙ take-suc-set nodes k node within in
+    record {
+      size = ap length put ∙ length-set nodes k node ∙ size;
+      few = omega arith;
+      rest = λ q from. ap (λ xs. node_at xs q) put ∙ get_or-set_other nodes k q node (Lit Undef) (λ (e : q ≡ k). absurd (omega arith)) ∙ h.rest q (omega arith);
+      done = subst (λ xs. Kept old kept (i + 1) xs (numbers ++ k ∷ [])) (sym front) (kept-push old (take k nodes) kept i numbers k node valid lt h.done (sym count) here is);
+    }
+gathered-step old nodes nodes' kept i k k' numbers node false valid lt h here is put more =
+    let size : length nodes ≡ length old = h.size in
+    let le : k ≤ i = h.few in
+    let count : length (take k nodes) ≡ k = length-take-le k nodes (omega arith) in
+    let front : take k' nodes' ≡ take k nodes = ap (take k') put ∙ ap (λ n. take n nodes) more in
+    record {
+      size = ap length put ∙ size;
+      few = omega arith;
+      rest = λ q from. ap (λ xs. node_at xs q) put ∙ h.rest q (omega arith);
+      done = subst (λ xs. Kept old kept (i + 1) xs (numbers ++ k ∷ [])) (sym front) (kept-skip old (take k nodes) kept i numbers k h.done (sym count) here);
     }
 
 -- ---- the result

@@ -47,8 +47,12 @@ fn moved(numbers: &[u32], check: Check) -> Check
     }
 }
 
-// The checks with their nodes under other numbers.
-fn moved_checks(alloc: Global, numbers: &[u32], checks: &[Check]) -> Result<Vec<Check>, AllocError>
+/// The checks with their nodes under other numbers.
+pub fn moved_checks(
+    alloc: Global,
+    numbers: &[u32],
+    checks: &[Check],
+) -> Result<Vec<Check>, AllocError>
     requires { AllByRecursion (IsCheck (length numbers.now)) checks.now }
     ensures { IfOk result (λ new. new.items ≡ map (moved (look numbers.now)) checks.now) }
 {
@@ -59,8 +63,12 @@ fn moved_checks(alloc: Global, numbers: &[u32], checks: &[Check]) -> Result<Vec<
     Ok(new)
 }
 
-// Outputs under other numbers.
-fn moved_outputs(alloc: Global, numbers: &[u32], outputs: &[u32]) -> Result<Vec<u32>, AllocError>
+/// Outputs under other numbers.
+pub fn moved_outputs(
+    alloc: Global,
+    numbers: &[u32],
+    outputs: &[u32],
+) -> Result<Vec<u32>, AllocError>
     requires { AllByRecursion (λ output. output < length numbers.now) outputs.now }
     ensures { IfOk result (λ new. new.items ≡ map (look numbers.now) outputs.now) }
 {

@@ -7,22 +7,23 @@ ghost use Rattle.flat_code.specs.Tidy.{IsFolded, IsTidy};
 use crate::compact::compacted;
 use crate::fold::folded;
 use crate::mark::marked;
-use crate::moved::{Ends, moved_ends};
+use crate::moved::{moved_checks, moved_outputs};
 use flat_code::{Flat, Tidy};
 use m_places::Seq;
 use std::alloc::{AllocError, Global};
 
 // The program without the nodes that nothing reads.
-fn removed(alloc: Global, flat: &Flat) -> Result<Flat, AllocError>
-    requires valid { IsFlat flat.now }
-    requires few { length flat.now.nodes ≤ 4_294_967_295 }
-    requires folded { IsFolded flat.now.nodes }
-    ensures becomes { IfOk result (Becomes flat.now) }
+fn removed(alloc: Global, flat: Flat) -> Result<Flat, AllocError>
+    requires valid { IsFlat flat }
+    requires few { length flat.nodes ≤ 4_294_967_295 }
+    requires folded { IsFolded flat.nodes }
+    ensures becomes { IfOk result (Becomes flat) }
     ensures tidy { IfOk result IsTidy }
 {
-    let live = marked(alloc, flat)?;
-    let kept = compacted(alloc, flat, &live)?;
-    let Ends { checks, outputs } = moved_ends(alloc, &kept.numbers, flat)?;
+    let live = marked(alloc, &flat)?;
+    let kept = compacted(alloc, flat.inputs, flat.nodes.into_vec(), &live)?;
+    let checks = moved_checks(alloc, &kept.numbers, flat.checks.as_slice())?;
+    let outputs = moved_outputs(alloc, &kept.numbers, flat.outputs.as_slice())?;
     Ok(Flat {
         inputs: flat.inputs,
         nodes: Seq::from_vec(kept.nodes),
@@ -44,6 +45,6 @@ pub fn tidy(alloc: Global, flat: &Flat) -> Result<Tidy, AllocError>
     ensures tidy { IfOk result IsTidy }
 {
     let folded = folded(alloc, flat)?;
-    let flat = removed(alloc, &folded)?;
+    let flat = removed(alloc, folded)?;
     Ok(Tidy::new(flat))
 }

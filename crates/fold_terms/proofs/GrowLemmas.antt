@@ -103,43 +103,39 @@ take-old old new x n h e = ⊎_elim (λ d. ap (take n) d ∙ take_all n old (ome
 take-whole : {X : Type 0} (xs new : List X) (n : ℕ) → new ≡ xs → n ≡ length xs → take n new ≡ xs
 take-whole xs new n d e = ap (take n) d ∙ take_all n xs (omega arith)
 
--- The table decides what was added: the nodes, and what is known of them, are cut to its number.
-pub record IsCut (count : ℕ) (old new keys : List Node) (known : List Possible) : Type 0 where
+-- The table decides what was added: what is known of the nodes is cut to their number.
+pub record IsCut (count : ℕ) (old new : List Node) (known : List Possible) : Type 0 where
   pub built : IsBuilt count new known
-  pub shared : keys ≡ new
   pub grows : Longer old new
 
-pub cut-same : (count : ℕ) (nodes nodes' nodes'' keys keys' : List Node) (known known' known'' : List Possible) (node : Node) (fact : Possible) (n m : ℕ) → IsBuilt count nodes known → keys ≡ nodes → keys' ≡ keys → Extends nodes nodes' node → Extends known known' fact → nodes'' ≡ take n nodes' → known'' ≡ take m known' → n ≡ length keys' → m ≡ length keys' → IsCut count nodes nodes'' keys' known''
-cut-same count nodes nodes' nodes'' keys keys' known known' known'' node fact n m built shared same more more' cut cut' size size' =
-    let total : length keys' ≡ length nodes = ap length same ∙ ap length shared in
+cut-same : (count : ℕ) (nodes nodes' nodes'' : List Node) (known known' known'' : List Possible) (fact : Possible) → IsBuilt count nodes known → nodes' ≡ nodes → nodes'' ≡ nodes' → Extends known known' fact → known'' ≡ take (length nodes') known' → IsCut count nodes nodes'' known''
+cut-same count nodes nodes' nodes'' known known' known'' fact built same kept more cut =
     let k : length known ≡ length nodes = known-length count nodes known built in
-    let e : nodes'' ≡ nodes = cut ∙ take-old nodes nodes' node n more (omega arith) in
-    let d : known'' ≡ known = cut' ∙ take-old known known' fact m more' (omega arith) in
+    let size : length nodes' ≡ length nodes = ap length same in
+    let e : nodes'' ≡ nodes = kept ∙ same in
+    let d : known'' ≡ known = cut ∙ take-old known known' fact (length nodes') more (omega arith) in
     record {
       built = subst (λ ns. IsBuilt count ns known'') (sym e) (subst (IsBuilt count nodes) (sym d) built);
-      shared = same ∙ shared ∙ sym e;
       grows = inl e;
     }
 
-pub cut-more : (count : ℕ) (nodes nodes' nodes'' keys keys' : List Node) (known known' known'' : List Possible) (node : Node) (fact : Possible) (n m : ℕ) → IsBuilt count nodes known → keys ≡ nodes → keys' ≡ keys ++ node ∷ [] → nodes' ≡ nodes ++ node ∷ [] → known' ≡ known ++ fact ∷ [] → nodes'' ≡ take n nodes' → known'' ≡ take m known' → n ≡ length keys' → m ≡ length keys' → IsBuilt count (nodes ++ node ∷ []) (known ++ fact ∷ []) → IsCut count nodes nodes'' keys' known''
-cut-more count nodes nodes' nodes'' keys keys' known known' known'' node fact n m built shared added more more' cut cut' size size' built' =
-    let whole : keys' ≡ nodes ++ node ∷ [] = added ∙ ap (λ xs. xs ++ node ∷ []) shared in
-    let total : length keys' ≡ length (nodes ++ node ∷ []) = ap length whole in
-    let k : length (known ++ fact ∷ []) ≡ length (nodes ++ node ∷ []) = known-length count (nodes ++ node ∷ []) (known ++ fact ∷ []) built' in
-    let e : nodes'' ≡ nodes ++ node ∷ [] = cut ∙ take-whole (nodes ++ node ∷ []) nodes' n more (omega arith) in
-    let d : known'' ≡ known ++ fact ∷ [] = cut' ∙ take-whole (known ++ fact ∷ []) known' m more' (omega arith) in
+cut-more : (count : ℕ) (nodes nodes' nodes'' : List Node) (known known' known'' : List Possible) (node : Node) (fact : Possible) → nodes' ≡ nodes ++ node ∷ [] → nodes'' ≡ nodes' → known' ≡ known ++ fact ∷ [] → known'' ≡ take (length nodes') known' → IsBuilt count (nodes ++ node ∷ []) (known ++ fact ∷ []) → IsCut count nodes nodes'' known''
+cut-more count nodes nodes' nodes'' known known' known'' node fact added kept more cut built =
+    let k : length (known ++ fact ∷ []) ≡ length (nodes ++ node ∷ []) = known-length count (nodes ++ node ∷ []) (known ++ fact ∷ []) built in
+    let size : length nodes' ≡ length (nodes ++ node ∷ []) = ap length added in
+    let e : nodes'' ≡ nodes ++ node ∷ [] = kept ∙ added in
+    let d : known'' ≡ known ++ fact ∷ [] = cut ∙ take-whole (known ++ fact ∷ []) known' (length nodes') more (omega arith) in
     record {
-      built = subst (λ ns. IsBuilt count ns known'') (sym e) (subst (IsBuilt count (nodes ++ node ∷ [])) (sym d) built');
-      shared = whole ∙ sym e;
+      built = subst (λ ns. IsBuilt count ns known'') (sym e) (subst (IsBuilt count (nodes ++ node ∷ [])) (sym d) built);
       grows = inr (node, e);
     }
 
 -- whatever the table answers
-pub cut-either : {E : Type 0} (r : Result ℕ E) (count : ℕ) (nodes nodes' nodes'' keys keys' : List Node) (known known' known'' : List Possible) (node : Node) (fact : Possible) (n m : ℕ) → IsBuilt count nodes known → keys ≡ nodes → Extends nodes nodes' node → Extends known known' fact → OnOk r (nodes' ≡ nodes ++ node ∷ []) → OnOk r (known' ≡ known ++ fact ∷ []) → IfOk r (IsEntered keys keys' node) → OnErr r (keys' ≡ keys) → nodes'' ≡ take n nodes' → known'' ≡ take m known' → n ≡ length keys' → m ≡ length keys' → (IsAbsent nodes node → IsBuilt count (nodes ++ node ∷ []) (known ++ fact ∷ [])) → IsCut count nodes nodes'' keys' known''
-cut-either (Ok k) count nodes nodes' nodes'' keys keys' known known' known'' node fact n m built shared more more' all all' entered same cut cut' size size' add =
+pub cut-either : {E : Type 0} (r : Result ℕ E) (count : ℕ) (nodes nodes' nodes'' : List Node) (known known' known'' : List Possible) (node : Node) (fact : Possible) → IsBuilt count nodes known → nodes'' ≡ nodes' → Extends known known' fact → OnOk r (known' ≡ known ++ fact ∷ []) → IfOk r (IsEntered nodes nodes' node) → OnErr r (nodes' ≡ nodes) → known'' ≡ take (length nodes') known' → (IsAbsent nodes node → IsBuilt count (nodes ++ node ∷ []) (known ++ fact ∷ [])) → IsCut count nodes nodes'' known''
+cut-either (Ok k) count nodes nodes' nodes'' known known' known'' node fact built kept more all entered same cut add =
     ⊎_elim
-    (λ e. cut-same count nodes nodes' nodes'' keys keys' known known' known'' node fact n m built shared e more more' cut cut' size size')
-    (λ a. cut-more count nodes nodes' nodes'' keys keys' known known' known'' node fact n m built shared a.0 all all' cut cut' size size' (add (subst (λ xs. IsAbsent xs node) shared a.1)))
+    (λ e. cut-same count nodes nodes' nodes'' known known' known'' fact built e kept more cut)
+    (λ a. cut-more count nodes nodes' nodes'' known known' known'' node fact a.0 kept all cut (add a.1))
     entered.adds
-cut-either (Err e) count nodes nodes' nodes'' keys keys' known known' known'' node fact n m built shared more more' all all' entered same cut cut' size size' add =
-    cut-same count nodes nodes' nodes'' keys keys' known known' known'' node fact n m built shared same more more' cut cut' size size'
+cut-either (Err e) count nodes nodes' nodes'' known known' known'' node fact built kept more all entered same cut add =
+    cut-same count nodes nodes' nodes'' known known' known'' fact built same kept more cut

@@ -37,16 +37,14 @@ fn literal_fact(value: &Value) -> Fact
 impl Parts {
     // A node with the value of this one.
     fn push(&mut self, node: Node) -> Result<u32, AllocError>
-        requires built { IsBuilt self.old.inputs self.old.nodes.items self.old.facts }
-        requires shared { self.old.table ≡ self.old.nodes.items }
-        requires room { length self.old.nodes.items < 4_294_967_295 }
-        requires node { IsNode self.old.inputs (length self.old.nodes.items) node }
+        requires built { IsBuilt self.old.inputs self.old.nodes self.old.facts }
+        requires room { length self.old.nodes < 4_294_967_295 }
+        requires node { IsNode self.old.inputs (length self.old.nodes) node }
         ensures inputs { self.new.inputs ≡ self.old.inputs }
-        ensures built { IsBuilt self.old.inputs self.new.nodes.items self.new.facts }
-        ensures shared { self.new.table ≡ self.new.nodes.items }
-        ensures grows { Longer self.old.nodes.items self.new.nodes.items }
-        ensures err { OnErr result (self.new.nodes.items ≡ self.old.nodes.items) }
-        ensures stands { IfOk result (StandsFor self.new.nodes.items node) }
+        ensures built { IsBuilt self.old.inputs self.new.nodes self.new.facts }
+        ensures grows { Longer self.old.nodes self.new.nodes }
+        ensures err { OnErr result (self.new.nodes ≡ self.old.nodes) }
+        ensures stands { IfOk result (StandsFor self.new.nodes node) }
     {
         let node = normalised(node);
         let fact = self.fact_of_node(&node);
@@ -75,9 +73,9 @@ impl Model for Builder {
 
     ghost Value = { Draft };
 
-    ghost view = { λ b. record { inputs = b.parts.inputs; nodes = b.parts.nodes.items } };
+    ghost view = { λ b. record { inputs = b.parts.inputs; nodes = b.parts.nodes } };
 
-    ghost invariant = { λ b. IsBuilt b.parts.inputs b.parts.nodes.items b.parts.facts × (b.parts.table ≡ b.parts.nodes.items) };
+    ghost invariant = { λ b. IsBuilt b.parts.inputs b.parts.nodes b.parts.facts };
 }
 
 impl Builder {
@@ -90,9 +88,8 @@ impl Builder {
         Builder {
             parts: Parts {
                 inputs,
-                nodes: Vec::new(alloc),
+                nodes: NodeTable::new(alloc),
                 facts: KnownFacts::new(alloc),
-                table: NodeTable::new(alloc),
             },
         }
     }
@@ -104,9 +101,8 @@ impl Builder {
         Builder {
             parts: Parts {
                 inputs,
-                nodes: Vec::new(alloc),
+                nodes: NodeTable::under(alloc, key),
                 facts: KnownFacts::new(alloc),
-                table: NodeTable::under(alloc, key),
             },
         }
     }
@@ -116,7 +112,7 @@ impl Builder {
         ensures count { result ≡ length self.now.nodes }
         ensures folded { IsFolded self.now.nodes }
     {
-        self.parts.table.count()
+        self.parts.nodes.count()
     }
 
     /// The number of a node with the value of this one, for each list of values that programs are asked
@@ -143,7 +139,7 @@ impl Builder {
         let Builder { parts } = self;
         Flat {
             inputs: parts.inputs,
-            nodes: Seq::from_vec(parts.nodes),
+            nodes: Seq::from_vec(parts.nodes.into_nodes()),
             checks: Seq::from_vec(checks),
             outputs: Seq::from_vec(outputs),
         }

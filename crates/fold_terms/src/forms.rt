@@ -15,10 +15,10 @@ use m_fixed::Op;
 impl Parts {
     // A sum with 0.
     fn simple_sum(&self, a: u32, b: u32, c: u32) -> Option<u32>
-        requires built { IsBuilt self.now.inputs self.now.nodes.items self.now.facts }
-        requires node { IsNode self.now.inputs (length self.now.nodes.items) (Node.Do Op.Add a b c) }
-        ensures some { IfSome result (StandsFor self.now.nodes.items (Node.Do Op.Add a b c)) }
-        ensures none { IfNone result (has_form self.now.nodes.items (Node.Do Op.Add a b c) ≡ false) }
+        requires built { IsBuilt self.now.inputs self.now.nodes self.now.facts }
+        requires node { IsNode self.now.inputs (length self.now.nodes) (Node.Do Op.Add a b c) }
+        ensures some { IfSome result (StandsFor self.now.nodes (Node.Do Op.Add a b c)) }
+        ensures none { IfNone result (has_form self.now.nodes (Node.Do Op.Add a b c) ≡ false) }
     {
         if is_zero_literal(self.node_at(b)) && !self.fact_at(a).undef {
             return Some(a);
@@ -31,10 +31,10 @@ impl Parts {
 
     // A difference of which 0 is taken.
     fn simple_difference(&self, a: u32, b: u32, c: u32) -> Option<u32>
-        requires built { IsBuilt self.now.inputs self.now.nodes.items self.now.facts }
-        requires node { IsNode self.now.inputs (length self.now.nodes.items) (Node.Do Op.Sub a b c) }
-        ensures some { IfSome result (StandsFor self.now.nodes.items (Node.Do Op.Sub a b c)) }
-        ensures none { IfNone result (has_form self.now.nodes.items (Node.Do Op.Sub a b c) ≡ false) }
+        requires built { IsBuilt self.now.inputs self.now.nodes self.now.facts }
+        requires node { IsNode self.now.inputs (length self.now.nodes) (Node.Do Op.Sub a b c) }
+        ensures some { IfSome result (StandsFor self.now.nodes (Node.Do Op.Sub a b c)) }
+        ensures none { IfNone result (has_form self.now.nodes (Node.Do Op.Sub a b c) ≡ false) }
     {
         if is_zero_literal(self.node_at(b)) && !self.fact_at(a).undef {
             return Some(a);
@@ -44,10 +44,10 @@ impl Parts {
 
     // A product with 1.
     fn simple_product(&self, a: u32, b: u32, c: u32) -> Option<u32>
-        requires built { IsBuilt self.now.inputs self.now.nodes.items self.now.facts }
-        requires node { IsNode self.now.inputs (length self.now.nodes.items) (Node.Do Op.Mul a b c) }
-        ensures some { IfSome result (StandsFor self.now.nodes.items (Node.Do Op.Mul a b c)) }
-        ensures none { IfNone result (has_form self.now.nodes.items (Node.Do Op.Mul a b c) ≡ false) }
+        requires built { IsBuilt self.now.inputs self.now.nodes self.now.facts }
+        requires node { IsNode self.now.inputs (length self.now.nodes) (Node.Do Op.Mul a b c) }
+        ensures some { IfSome result (StandsFor self.now.nodes (Node.Do Op.Mul a b c)) }
+        ensures none { IfNone result (has_form self.now.nodes (Node.Do Op.Mul a b c) ≡ false) }
     {
         if is_unit_literal(self.node_at(b)) {
             return Some(a);
@@ -60,20 +60,20 @@ impl Parts {
 
     // The opposite of an opposite.
     fn simple_opposite(&self, a: u32, b: u32, c: u32) -> Option<u32>
-        requires built { IsBuilt self.now.inputs self.now.nodes.items self.now.facts }
-        requires node { IsNode self.now.inputs (length self.now.nodes.items) (Node.Do Op.Neg a b c) }
-        ensures some { IfSome result (StandsFor self.now.nodes.items (Node.Do Op.Neg a b c)) }
-        ensures none { IfNone result (has_form self.now.nodes.items (Node.Do Op.Neg a b c) ≡ false) }
+        requires built { IsBuilt self.now.inputs self.now.nodes self.now.facts }
+        requires node { IsNode self.now.inputs (length self.now.nodes) (Node.Do Op.Neg a b c) }
+        ensures some { IfSome result (StandsFor self.now.nodes (Node.Do Op.Neg a b c)) }
+        ensures none { IfNone result (has_form self.now.nodes (Node.Do Op.Neg a b c) ≡ false) }
     {
         opposite_of(self.node_at(a))
     }
 
     // The truth of a test that is a number.
     fn simple_truth(&self, a: u32, b: u32, c: u32) -> Option<u32>
-        requires built { IsBuilt self.now.inputs self.now.nodes.items self.now.facts }
-        requires node { IsNode self.now.inputs (length self.now.nodes.items) (Node.Do Op.Truth a b c) }
-        ensures some { IfSome result (StandsFor self.now.nodes.items (Node.Do Op.Truth a b c)) }
-        ensures none { IfNone result (has_form self.now.nodes.items (Node.Do Op.Truth a b c) ≡ false) }
+        requires built { IsBuilt self.now.inputs self.now.nodes self.now.facts }
+        requires node { IsNode self.now.inputs (length self.now.nodes) (Node.Do Op.Truth a b c) }
+        ensures some { IfSome result (StandsFor self.now.nodes (Node.Do Op.Truth a b c)) }
+        ensures none { IfNone result (has_form self.now.nodes (Node.Do Op.Truth a b c) ≡ false) }
     {
         if is_test_node(self.node_at(a)) && self.fact_at(a).is_number() {
             return Some(a);
@@ -83,10 +83,10 @@ impl Parts {
 
     // A choice that is decided.
     fn simple_choice(&self, a: u32, b: u32, c: u32) -> Option<u32>
-        requires built { IsBuilt self.now.inputs self.now.nodes.items self.now.facts }
-        requires node { IsNode self.now.inputs (length self.now.nodes.items) (Node.Do Op.Choose a b c) }
-        ensures some { IfSome result (StandsFor self.now.nodes.items (Node.Do Op.Choose a b c)) }
-        ensures none { IfNone result (has_form self.now.nodes.items (Node.Do Op.Choose a b c) ≡ false) }
+        requires built { IsBuilt self.now.inputs self.now.nodes self.now.facts }
+        requires node { IsNode self.now.inputs (length self.now.nodes) (Node.Do Op.Choose a b c) }
+        ensures some { IfSome result (StandsFor self.now.nodes (Node.Do Op.Choose a b c)) }
+        ensures none { IfNone result (has_form self.now.nodes (Node.Do Op.Choose a b c) ≡ false) }
     {
         if let Some(value) = literal(self.node_at(a)) {
             return Some(choice_of(value, a, b, c));
@@ -99,10 +99,10 @@ impl Parts {
 
     // A node with the value of an operator's node that is to be folded.
     fn simple_operator(&self, op: Op, a: u32, b: u32, c: u32) -> Option<u32>
-        requires built { IsBuilt self.now.inputs self.now.nodes.items self.now.facts }
-        requires node { IsNode self.now.inputs (length self.now.nodes.items) (Node.Do op a b c) }
-        ensures some { IfSome result (StandsFor self.now.nodes.items (Node.Do op a b c)) }
-        ensures none { IfNone result (has_form self.now.nodes.items (Node.Do op a b c) ≡ false) }
+        requires built { IsBuilt self.now.inputs self.now.nodes self.now.facts }
+        requires node { IsNode self.now.inputs (length self.now.nodes) (Node.Do op a b c) }
+        ensures some { IfSome result (StandsFor self.now.nodes (Node.Do op a b c)) }
+        ensures none { IfNone result (has_form self.now.nodes (Node.Do op a b c) ≡ false) }
     {
         match op {
             Op::Add => self.simple_sum(a, b, c),
@@ -117,10 +117,10 @@ impl Parts {
 
     /// A node with the value of one that is to be folded.
     pub fn simple(&self, node: &Node) -> Option<u32>
-        requires built { IsBuilt self.now.inputs self.now.nodes.items self.now.facts }
-        requires node { IsNode self.now.inputs (length self.now.nodes.items) node.now }
-        ensures some { IfSome result (StandsFor self.now.nodes.items node.now) }
-        ensures none { IfNone result (has_form self.now.nodes.items node.now ≡ false) }
+        requires built { IsBuilt self.now.inputs self.now.nodes self.now.facts }
+        requires node { IsNode self.now.inputs (length self.now.nodes) node.now }
+        ensures some { IfSome result (StandsFor self.now.nodes node.now) }
+        ensures none { IfNone result (has_form self.now.nodes node.now ≡ false) }
     {
         match *node {
             Node::Do(op, a, b, c) => self.simple_operator(op, a, b, c),

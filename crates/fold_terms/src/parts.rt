@@ -1,4 +1,4 @@
-//! The nodes of a builder, with what is known of each, and the table that shares them.
+//! The nodes of a builder, in the table that shares them, with what is known of each.
 ghost use Rattle.std.specs.Prelude.{◌≡◌, ◌<◌, false, [], ◌∷◌, ◌++◌, length, take, IfOk, OnOk, OnErr};
 ghost use Rattle.definedness.specs.Facts.{IsFact};
 ghost use Rattle.flat_code.specs.Runs.{entry_of, entries_of, IsNode};
@@ -14,22 +14,12 @@ use definedness::{Fact, fact_of, fact_of_input, fact_of_value};
 use flat_code::Node;
 use std::alloc::AllocError;
 
-/// Nodes that are folded, what is known of each, and the table in which each stands once.
+/// Nodes that are folded, in a table in which each stands once, and what is known of each.
 #[derive(Drop)]
 pub struct Parts {
     pub inputs: u32,
-    pub nodes: Vec<Node>,
+    pub nodes: NodeTable,
     pub facts: KnownFacts,
-    pub table: NodeTable,
-}
-
-// Adds a value at the end.
-fn append<T: Copy>(list: &mut Vec<T>, value: &T) -> Result<(), AllocError>
-    ensures ok { OnOk result (list.new.items ≡ list.old.items ++ value.now ∷ []) }
-    ensures err { OnErr result (list.new.items ≡ list.old.items) }
-{
-    list.push(*value)?;
-    Ok(())
 }
 
 /// The fact, of which it is told that it is one.
@@ -44,26 +34,26 @@ pub fn opened(fact: Fact) -> Fact
 impl Parts {
     /// A node.
     pub fn node_at(&self, k: u32) -> Node
-        requires { k < length self.now.nodes.items }
-        ensures { result ≡ node_at self.now.nodes.items k }
+        requires { k < length self.now.nodes }
+        ensures { result ≡ node_at self.now.nodes k }
     {
-        self.nodes[k as usize]
+        self.nodes.at(k)
     }
 
     /// What is known of a node.
     pub fn fact_at(&self, k: u32) -> Fact
-        requires built { IsBuilt self.now.inputs self.now.nodes.items self.now.facts }
-        requires within { k < length self.now.nodes.items }
-        ensures { result ≡ entry_at facts self.now.nodes.items k }
+        requires built { IsBuilt self.now.inputs self.now.nodes self.now.facts }
+        requires within { k < length self.now.nodes }
+        ensures { result ≡ entry_at facts self.now.nodes k }
     {
         self.facts.at(k)
     }
 
     /// What is known of a new node.
     pub fn fact_of_node(&self, node: &Node) -> Fact
-        requires built { IsBuilt self.now.inputs self.now.nodes.items self.now.facts }
-        requires node { IsNode self.now.inputs (length self.now.nodes.items) node.now }
-        ensures is { result ≡ entry_of facts (entries_of facts self.now.nodes.items) node.now }
+        requires built { IsBuilt self.now.inputs self.now.nodes self.now.facts }
+        requires node { IsNode self.now.inputs (length self.now.nodes) node.now }
+        ensures is { result ≡ entry_of facts (entries_of facts self.now.nodes) node.now }
         ensures fact { IsFact result }
     {
         match *node {
@@ -75,53 +65,46 @@ impl Parts {
         }
     }
 
-    // The number of the equal node that is there, or else of this node, which is added. After the nodes
-    // of the table one may be left over.
+    // The number of the equal node that is there, or else of this node, which is added. After the facts
+    // of the nodes one may be left over.
     fn note(&mut self, node: Node, fact: Fact) -> Result<u32, AllocError>
-        requires room { length self.old.table < 4_294_967_295 }
+        requires room { length self.old.nodes < 4_294_967_295 }
         ensures inputs { self.new.inputs ≡ self.old.inputs }
-        ensures nodes { Extends self.old.nodes.items self.new.nodes.items node }
         ensures facts { Extends self.old.facts self.new.facts fact }
-        ensures all_nodes { OnOk result (self.new.nodes.items ≡ self.old.nodes.items ++ node ∷ []) }
         ensures all_facts { OnOk result (self.new.facts ≡ self.old.facts ++ fact ∷ []) }
-        ensures entered { IfOk result (IsEntered self.old.table self.new.table node) }
-        ensures same { OnErr result (self.new.table ≡ self.old.table) }
+        ensures entered { IfOk result (IsEntered self.old.nodes self.new.nodes node) }
+        ensures same { OnErr result (self.new.nodes ≡ self.old.nodes) }
     {
-        append(&mut self.nodes, &node)?;
         self.facts.push(fact)?;
-        self.table.find_or_add(node)
+        self.nodes.find_or_add(node)
     }
 
-    // What the table doesn't count is cut off.
+    // A fact that is left over is cut off.
     fn cut(&mut self)
         ensures inputs { self.new.inputs ≡ self.old.inputs }
-        ensures nodes { self.new.nodes.items ≡ take (length self.old.table) self.old.nodes.items }
-        ensures facts { self.new.facts ≡ take (length self.old.table) self.old.facts }
-        ensures table { self.new.table ≡ self.old.table }
+        ensures nodes { self.new.nodes ≡ self.old.nodes }
+        ensures facts { self.new.facts ≡ take (length self.old.nodes) self.old.facts }
     {
-        let count = self.table.count() as usize;
-        self.nodes.truncate(count);
+        let count = self.nodes.count() as usize;
         self.facts.truncate(count);
     }
 
     /// The number of the equal node that is there, or else of this node, which is added.
     pub fn enter(&mut self, node: Node, fact: Fact) -> Result<u32, AllocError>
-        requires built { IsBuilt self.old.inputs self.old.nodes.items self.old.facts }
-        requires shared { self.old.table ≡ self.old.nodes.items }
-        requires room { length self.old.nodes.items < 4_294_967_295 }
-        requires node { IsNode self.old.inputs (length self.old.nodes.items) node }
-        requires fact { fact ≡ entry_of facts (entries_of facts self.old.nodes.items) node }
+        requires built { IsBuilt self.old.inputs self.old.nodes self.old.facts }
+        requires room { length self.old.nodes < 4_294_967_295 }
+        requires node { IsNode self.old.inputs (length self.old.nodes) node }
+        requires fact { fact ≡ entry_of facts (entries_of facts self.old.nodes) node }
         requires possible { IsFact fact }
         requires normal { IsNormal node }
         requires unfixed { IsOpen node fact }
-        requires formless { has_form self.old.nodes.items node ≡ false }
+        requires formless { has_form self.old.nodes node ≡ false }
         ensures inputs { self.new.inputs ≡ self.old.inputs }
-        ensures built { IsBuilt self.old.inputs self.new.nodes.items self.new.facts }
-        ensures shared { self.new.table ≡ self.new.nodes.items }
-        ensures grows { Longer self.old.nodes.items self.new.nodes.items }
-        ensures err { OnErr result (self.new.nodes.items ≡ self.old.nodes.items) }
-        ensures within { IfOk result (λ k. k < length self.new.nodes.items) }
-        ensures node { IfOk result (λ k. node_at self.new.nodes.items k ≡ node) }
+        ensures built { IsBuilt self.old.inputs self.new.nodes self.new.facts }
+        ensures grows { Longer self.old.nodes self.new.nodes }
+        ensures err { OnErr result (self.new.nodes ≡ self.old.nodes) }
+        ensures within { IfOk result (λ k. k < length self.new.nodes) }
+        ensures node { IfOk result (λ k. node_at self.new.nodes k ≡ node) }
     {
         let number = self.note(node, fact);
         self.cut();

@@ -5,8 +5,8 @@ use Rattle.fold_terms.proofs.parts.Parts.fact_at.Goals as goal
 
 pub at-requires-clause-within : goal.at-requires-clause-within
 at-requires-clause-within c =
-    let size = known-length c.args.self.now.inputs c.args.self.now.nodes.items c.args.self.now.facts c.requires.built in
-    let lt : c.args.k < length c.args.self.now.nodes.items = c.requires.within in
+    let size = known-length c.args.self.now.inputs c.args.self.now.nodes c.args.self.now.facts c.requires.built in
+    let lt : c.args.k < length c.args.self.now.nodes = c.requires.within in
     omega arith
 
 pub at-requires-clause-fact : goal.at-requires-clause-fact

@@ -12,12 +12,12 @@ use Rattle.fold_terms.proofs.parts.Parts.push.Goals as goal
 
 pub simple-requires-clause-node : goal.simple-requires-clause-node
 simple-requires-clause-node c =
-    let p = length c.args.self.now.nodes.items in
+    let p = length c.args.self.now.nodes in
     subst (IsNode c.args.self.now.inputs p) (sym c.normalised-node.ensures) (normal-node c.args.self.now.inputs p c.args.node c.requires.node)
 
 pub enter-requires-2-clause-node : goal.enter-requires-2-clause-node
 enter-requires-2-clause-node c =
-    let p = length c.args.self.now.nodes.items in
+    let p = length c.args.self.now.nodes in
     subst (IsNode c.args.self.now.inputs p) (sym c.normalised-node.ensures) (normal-node c.args.self.now.inputs p c.args.node c.requires.node)
 
 pub enter-requires-2-clause-normal : goal.enter-requires-2-clause-normal
@@ -26,9 +26,9 @@ enter-requires-2-clause-normal c = subst IsNormal (sym c.normalised-node.ensures
 pub returns-in-Some-clause-stands : goal.returns-in-Some-clause-stands
 returns-in-Some-clause-stands c =
     let count = c.args.self.now.inputs in
-    let nodes = c.args.self.now.nodes.items in
+    let nodes = c.args.self.now.nodes in
     let node = c.normalised-node.result in
-    let new = c.enter.new.self.nodes.items in
+    let new = c.enter.new.self.nodes in
     let early : IsNode count (length nodes) node = subst (IsNode count (length nodes)) (sym c.normalised-node.ensures) (normal-node count (length nodes) c.args.node c.requires.node) in
     let one : one_value (entry_of facts (entries_of facts nodes) node) ≡ Some c.in-Some.value = ap one_value (sym c.fact_of_node-fact.ensures.is) ∙ sym c.value_alone.ensures ∙ c.in-Some.is in
     ok-both c.enter.result (λ k. k < length new) (λ k. node_at new k ≡ Lit c.in-Some.value) (StandsFor new c.args.node)
@@ -38,7 +38,7 @@ returns-in-Some-clause-stands c =
 
 pub returns-clause-stands : goal.returns-clause-stands
 returns-clause-stands c =
-    let new = c.enter-2.new.self.nodes.items in
+    let new = c.enter-2.new.self.nodes in
     let node = c.normalised-node.result in
     ok-both c.enter-2.result (λ k. k < length new) (λ k. node_at new k ≡ node) (StandsFor new c.args.node)
     (λ k lt is. stands-normal new c.args.node k (stands-node c.args.self.now.inputs new (normalised c.args.node) k c.enter-2.ensures.built.valid lt (is ∙ c.normalised-node.ensures)))
@@ -46,4 +46,4 @@ returns-clause-stands c =
 
 pub returns-in-Some-simple-clause-stands : goal.returns-in-Some-simple-clause-stands
 returns-in-Some-simple-clause-stands c =
-    stands-normal c.args.self.now.nodes.items c.args.node c.in-Some-simple.number (subst (λ node. StandsFor c.args.self.now.nodes.items node c.in-Some-simple.number) c.normalised-node.ensures c.in-Some-simple.ensures.some)
+    stands-normal c.args.self.now.nodes c.args.node c.in-Some-simple.number (subst (λ node. StandsFor c.args.self.now.nodes node c.in-Some-simple.number) c.normalised-node.ensures c.in-Some-simple.ensures.some)

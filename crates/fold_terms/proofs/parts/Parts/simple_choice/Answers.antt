@@ -8,7 +8,7 @@ use Rattle.fold_terms.proofs.parts.Parts.simple_choice.Goals as goal
 
 pub returns-in-Some-clause-some : goal.returns-in-Some-clause-some
 returns-in-Some-clause-some c =
-    let nodes = c.args.self.now.nodes.items in
+    let nodes = c.args.self.now.nodes in
     let h = c.requires.node in
     subst (StandsFor nodes (Do Choose c.args.a c.args.b c.args.c)) (sym c.choice_of.ensures)
     (stands-literal-choice c.args.self.now.inputs nodes c.args.a c.args.b c.args.c c.in-Some.value c.requires.built.valid h.0 h.1 h.2 (sym c.node_at.ensures ∙ c.in-Some.ensures.some))
@@ -16,5 +16,5 @@ returns-in-Some-clause-some c =
 pub returns-then-is_decided-clause-some : goal.returns-then-is_decided-clause-some
 returns-then-is_decided-clause-some c =
     let h = c.requires.node in
-    stands-decided c.args.self.now.inputs c.args.self.now.nodes.items c.args.a c.args.b c.args.c c.requires.built.valid h.0 h.1
+    stands-decided c.args.self.now.inputs c.args.self.now.nodes c.args.a c.args.b c.args.c c.requires.built.valid h.0 h.1
     (ap (λ f. is_decided f (eqb c.args.b c.args.c)) (sym c.fact_at.ensures) ∙ sym c.is_decided.ensures ∙ c.if-is_decided.true)
