@@ -18,7 +18,7 @@ use Rattle.flat_code.specs.declared.program.Node.{Node}
 use Rattle.flat_code.specs.declared.program.Node.TheVariants.{Input, Lit, Do}
 use Rattle.flat_code.specs.declared.program.Check.{Check}
 use Rattle.flat_code.specs.Entries.{node_at}
-use Rattle.flat_code.specs.Tidy.{Reads, IsRoot}
+use Rattle.flat_code.specs.Tidy.{Reads, ReadsCheck, check_at, IsRoot}
 use Rattle.driver_core.specs.Answers.{next_input}
 use Rattle.driver_core.specs.Inputs.{type_said, input_said}
 use Rattle.mpp_inline.specs.declared.builder.Builder.{Builder}
@@ -101,9 +101,12 @@ kinds-next kinds v rest =
     by false = refl
 
 -- the type of the next input
+nil-cons : (kind : InputType) (rest : List InputType) → [] ≡ kind ∷ rest → ⊥
+nil-cons kind rest e = cc
+
 drop-cons : (kinds : List InputType) (n : ℕ) (kind : InputType) (rest : List InputType) → drop n kinds ≡ kind ∷ rest → HasInput kinds n kind × (drop (suc n) kinds ≡ rest)
-drop-cons [] zero kind rest e = cc
-drop-cons [] (suc n) kind rest e = cc
+drop-cons [] zero kind rest e = absurd (nil-cons kind rest e)
+drop-cons [] (suc n) kind rest e = absurd (nil-cons kind rest e)
 drop-cons (x ∷ kinds) zero kind rest e = (record { there = omega arith; is = let same : x ≡ kind = cc in same }, let same : kinds ≡ rest = cc in same)
 drop-cons (x ∷ kinds) (suc n) kind rest e = let h = drop-cons kinds n kind rest e in (record { there = omega (arith, h.0.there); is = h.0.is }, h.1)
 
@@ -127,22 +130,29 @@ notes-usable : (b : Builder) (ns : List (ℕ × ℕ)) → AllByRecursion (λ n. 
 notes-usable b [] a = tt
 notes-usable b (n ∷ ns) a = (a.0, notes-usable b ns a.1)
 
+abbrev no-check : Check
+no-check = record { guard = 0; condition = 0; over_only = false; label = 0 }
+
+-- no output and no check reads an input of the type `Truth`
+not-own : (b : Builder) (x y : ℕ) → IsUsable b y → x ≡ y → IsTruthInput b.inputs (node_of b x) → ⊥
+not-own b x y u e t = u.own (subst (λ z. IsTruthInput b.inputs (node_of b z)) e t)
+
+output-own : (b : Builder) (outputs : List ℕ) → AllByRecursion (IsUsable b) outputs → (x : ℕ) → ((j : ℕ) × (j < length outputs) × (x ≡ get_or outputs j 0)) → IsTruthInput b.inputs (node_of b x) → ⊥
+output-own b outputs all x r t = not-own b x (get_or outputs r.0 0) (every (IsUsable b) outputs all r.0 0 r.1) r.2 t
+
+check-own : (b : Builder) (checks : List Check) → AllByRecursion (λ d. IsUsable b d.guard × IsUsable b d.condition) checks → (x : ℕ) → ((j : ℕ) × (j < length checks) × ReadsCheck (check_at checks j) x) → IsTruthInput b.inputs (node_of b x) → ⊥
+check-own b checks all x r t =
+    let c : Check = check_at checks r.0 in
+    let own : IsUsable b c.guard × IsUsable b c.condition = every (λ (d : Check). IsUsable b d.guard × IsUsable b d.condition) checks all r.0 no-check r.1 in
+    ⊎_elim (λ (e : x ≡ c.guard). not-own b x c.guard own.0 e t) (λ (e : x ≡ c.condition). not-own b x c.condition own.1 e t) r.2
+
 -- who reads the inputs of the type `Truth`, in a whole program
 pub whole-truths : (b : Builder) (inputs : ℕ) (asked : List ℕ) → Sane b → AllByRecursion (IsUsable b) asked → HasTruths b.inputs (record { inputs = inputs; nodes = b.nodes.items; checks = b.checks.items; outputs = nodes_of b.notes.items ++ asked })
-whole-truths b inputs asked s a =
-    let outputs = nodes_of b.notes.items ++ asked in
-    let all = all-append (IsUsable b) (nodes_of b.notes.items) asked (notes-usable b b.notes.items s.fenced.notes) a in
-    let apart : (x y : ℕ) → IsUsable b y → x ≡ y → IsTruthInput b.inputs (node_of b x) → ⊥ = λ x y u e t. u.own (subst (λ z. IsTruthInput b.inputs (node_of b z)) e t) in
-    record {
-      read = s.fenced.nodes;
-      rootless = λ x root t. ⊎_elim
-          (λ r. apart x (get_or outputs r.0 0) (every (IsUsable b) outputs all r.0 0 r.1.0) r.1.1 t)
-          (λ r.
-          let c = get_or b.checks.items r.0 no-check in
-          let own = every (λ (d : Check). IsUsable b d.guard × IsUsable b d.condition) b.checks.items s.fenced.checks r.0 no-check r.1.0 in
-          ⊎_elim (λ (e : x ≡ c.guard). apart x c.guard own.0 e t) (λ (e : x ≡ c.condition). apart x c.condition own.1 e t) r.1.1)
-          root;
-    }
-  where
-    abbrev no-check : Check
-    no-check = record { guard = 0; condition = 0; over_only = false; label = 0 }
+whole-truths b inputs asked s a = record {
+  read = s.fenced.nodes;
+  rootless = λ x root t. ⊎_elim
+      (λ (r : (j : ℕ) × (j < length (nodes_of b.notes.items ++ asked)) × (x ≡ get_or (nodes_of b.notes.items ++ asked) j 0)).
+      output-own b (nodes_of b.notes.items ++ asked) (all-append (IsUsable b) (nodes_of b.notes.items) asked (notes-usable b b.notes.items s.fenced.notes) a) x r t)
+      (λ (r : (j : ℕ) × (j < length b.checks.items) × ReadsCheck (check_at b.checks.items j) x). check-own b b.checks.items s.fenced.checks x r t)
+      root;
+}

@@ -39,7 +39,7 @@ reads-older inputs m (Input n ∷ ns) zero x a h r = absurd r
 reads-older inputs m (Lit v ∷ ns) zero x a h r = absurd r
 reads-older inputs m (Do op i j k ∷ ns) zero x a h r = ⊎_elim
     (λ (e : x ≡ i). omega (arith, e, a.0.0))
-    (⊎_elim (λ (e : x ≡ j). omega (arith, e, a.0.1.0)) (λ (e : x ≡ k). omega (arith, e, a.0.1.1)))
+    (⊎_elim (λ (e : x ≡ j). omega (arith, e, a.0.1)) (λ (e : x ≡ k). omega (arith, e, a.0.2)))
     r
 reads-older inputs m (n ∷ ns) (suc p) x a h r =
     let low : x < m + 1 + p = reads-older inputs (m + 1) ns p x a.1 (omega (arith, h)) r in
@@ -54,12 +54,12 @@ pub may-stand : {b : Builder} (n : Node) → MayStand b n → Stands b n
 may-stand (Input n) h = record { node = h; read = λ x r t. absurd r }
 may-stand (Lit v) h = record { node = tt; read = λ x r t. absurd r }
 may-stand {b} (Do op i j k) h = record {
-  node = (h.0.there, h.1.0.there, h.1.1.there);
+  node = (h.0.there, h.1.there, h.2.there);
   read = λ x r t. absurd (⊎_elim
       (λ (e : x ≡ i). h.0.own (subst (λ y. IsTruthInput b.inputs (node_of b y)) e t))
       (⊎_elim
-      (λ (e : x ≡ j). h.1.0.own (subst (λ y. IsTruthInput b.inputs (node_of b y)) e t))
-      (λ (e : x ≡ k). h.1.1.own (subst (λ y. IsTruthInput b.inputs (node_of b y)) e t)))
+      (λ (e : x ≡ j). h.1.own (subst (λ y. IsTruthInput b.inputs (node_of b y)) e t))
+      (λ (e : x ≡ k). h.2.own (subst (λ y. IsTruthInput b.inputs (node_of b y)) e t)))
       r);
 }
 
@@ -73,7 +73,7 @@ reads-node inputs m (Input i) x a r = absurd r
 reads-node inputs m (Lit v) x a r = absurd r
 reads-node inputs m (Do op i j k) x a r = ⊎_elim
     (λ (e : x ≡ i). omega (arith, e, a.0))
-    (⊎_elim (λ (e : x ≡ j). omega (arith, e, a.1.0)) (λ (e : x ≡ k). omega (arith, e, a.1.1)))
+    (⊎_elim (λ (e : x ≡ j). omega (arith, e, a.1)) (λ (e : x ≡ k). omega (arith, e, a.2)))
     r
 
 -- the last node, or one before it

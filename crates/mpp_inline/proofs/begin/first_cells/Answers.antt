@@ -22,11 +22,11 @@ loop-v-preserved c =
     let k = c.in_ok-number.number in
     let here : drop i vars ≡ v ∷ rest = drop-get vars i v c.variable-variable.ensures ∙ ap (λ n. v ∷ drop n vars) (sym (add-one i)) in
     let counted : next + length (inputs_from 0 (v ∷ rest)) ≡ total = subst (λ l. next + length (inputs_from 0 l) ≡ total) here c.loop-v.invariant.counted in
-    let few : total ≤ c.inputs.result = omega (arith, c.inputs.ensures) in
+    let few : total ≤ c.inputs-inputs.result = omega (arith, c.inputs-inputs.ensures) in
     let kind = type_said v.item.value_word in
     let typed = typed-next (kinds_from vars) next v rest (c.loop-v.invariant.typed ∙ ap kinds_from here) in
     let there : InputIsThere b.inputs next kind role = subst (λ ks. InputIsThere ks next kind role) (sym c.requires.inputs) typed.0 in
-    let behind : c.input_behind-next.result ≡ next_input next role = c.input_behind-next.ensures (input-there next total c.inputs.result v rest counted few) in
+    let behind : c.input_behind-next.result ≡ next_input next role = c.input_behind-next.ensures (input-there next total c.inputs-inputs.result v rest counted few) in
     record {
       step = λ s.
           let st = subst (λ l. Starting b c.loop-v.b vars l next env) here (c.loop-v.invariant.step s) in
