@@ -1,5 +1,5 @@
 -- Tables read at an index: a choice for each cell comes to the cell that the index means.
-use Rattle.std.proofs.Common.{◌≡◌, ℕ, zero, suc, ◌+◌, ◌*◌, ◌/◌, ◌<◌, ◌≤◌, Bool, true, false, cond, ltb, leb, List, get_or, ⊎_elim, refl, sym, ap, ◌∙◌, arith, ℤ, pos, negsuc}
+use Rattle.std.proofs.Common.{◌≡◌, ℕ, zero, suc, ◌+◌, ◌*◌, ◌/◌, ◌<◌, ◌≤◌, Bool, true, false, cond, ltb, leb, List, get_or, ⊎_elim, refl, sym, ap, ◌∙◌, arith, ℤ, pos, negsuc, subst}
 use Rattle.std.specs.Prelude.{neg_ℤ, int_le, unsigned_abs}
 use Rattle.std.specs.Ordering.{int_eq}
 use Rattle.std.proofs.lemmas.Bool.{cases_lt}
