@@ -10,7 +10,7 @@ use Rattle.m_fixed.specs.declared.amount.Value.{Value}
 use Rattle.m_fixed.specs.declared.amount.Value.TheVariants.{Undef}
 use Rattle.m_places.specs.declared.verification.Label.{Label}
 use Rattle.flat_code.specs.declared.program.Node.{Node}
-use Rattle.flat_code.specs.declared.program.Node.TheVariants.{Input, Lit, Do}
+use Rattle.flat_code.specs.declared.program.Node.TheVariants.{Lit, Do}
 use Rattle.flat_code.specs.declared.program.Check.{Check}
 use Rattle.observables.specs.declared.face.FaceLabel.{FaceLabel}
 use Rattle.observables.specs.declared.face.FaceLabel.TheVariants.{Verif, DriverLine}
@@ -18,9 +18,8 @@ use Rattle.flat_code.specs.Entries.{node_at}
 use Rattle.flat_code.specs.Runs.{IsNode, AreNodes, entry_of, values_for, node_values, first_stop}
 use Rattle.flat_code.specs.Tidy.{Reads}
 use Rattle.mpp_inline.specs.declared.builder.Builder.{Builder}
-use Rattle.mpp_inline.specs.inner.Growth.{count, faces, face, node_of, at, stop_of, stop_read, note_read, notes_read, so_far, told_more, denoted, outcome_of, run, IsVerif, IsCheckWithin, IsNoteWithin, IsUsable, MayStand, Fenced, Sane, Known, Pushed, Checked, CheckedRule, CheckedLine, NotedAt, HasFaces, Longer, Grows, Gives, TermStep}
+use Rattle.mpp_inline.specs.inner.Growth.{count, faces, face, node_of, at, stop_of, stop_read, note_read, notes_read, so_far, told_more, denoted, outcome_of, run, IsVerif, IsCheckWithin, IsNoteWithin, IsUsable, MayStand, Sane, Known, Pushed, Checked, CheckedRule, CheckedLine, NotedAt, HasFaces, Longer, Grows, Gives, TermStep}
 use Rattle.m_fixed.specs.declared.operator.Op.TheVariants.{And}
-use Rattle.observables.specs.declared.inputs.InputType.{InputType}
 use Rattle.mpp_inline.specs.Inlined.{IsDriverLine, IsTruthInput}
 use Rattle.mpp_inline.specs.inner.Sizes.{load}
 use Rattle.mpp_inline.proofs.ListLemmas.{all-get, all-set, all-more, all-append, map-same}

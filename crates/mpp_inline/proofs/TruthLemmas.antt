@@ -1,5 +1,5 @@
 -- The inputs of a flat program with their types, and who reads those of the type `Truth`.
-use Rattle.std.proofs.Common.{◌≡◌, ℕ, zero, suc, ◌+◌, ◌<◌, ◌≤◌, Bool, true, false, cond, List, [], ◌∷◌, ◌++◌, drop, length, get_or, Option, refl, ⊎_elim, sym, ap, ◌∙◌, subst, arith, add-one, pos}
+use Rattle.std.proofs.Common.{◌≡◌, ℕ, zero, suc, ◌+◌, ◌<◌, Bool, true, false, cond, List, [], ◌∷◌, ◌++◌, drop, length, get_or, Option, refl, ⊎_elim, sym, ap, ◌∙◌, subst, arith, add-one, pos}
 use Rattle.std.specs.List.{AllByRecursion, cons_option, filter_map}
 use Rattle.std.specs.Prelude.{option_map}
 use Rattle.m_fixed.specs.declared.amount.Value.{Value}
@@ -18,13 +18,13 @@ use Rattle.flat_code.specs.declared.program.Node.{Node}
 use Rattle.flat_code.specs.declared.program.Node.TheVariants.{Input, Lit, Do}
 use Rattle.flat_code.specs.declared.program.Check.{Check}
 use Rattle.flat_code.specs.Entries.{node_at}
-use Rattle.flat_code.specs.Tidy.{Reads, ReadsCheck, check_at, IsRoot}
+use Rattle.flat_code.specs.Tidy.{Reads, ReadsCheck, check_at}
 use Rattle.driver_core.specs.Answers.{next_input}
 use Rattle.driver_core.specs.Inputs.{type_said, input_said}
 use Rattle.mpp_inline.specs.declared.builder.Builder.{Builder}
 use Rattle.mpp_inline.specs.Inlined.{IsTruthInput, HasTruths, kinds_of}
 use Rattle.mpp_inline.specs.inner.Told.{nodes_of}
-use Rattle.mpp_inline.specs.inner.Growth.{node_of, at, IsUsable, Fenced, Sane, Pushed, Gives, HasInput, InputIsThere, kinds_from}
+use Rattle.mpp_inline.specs.inner.Growth.{node_of, at, IsUsable, Sane, Pushed, Gives, HasInput, InputIsThere, kinds_from}
 use Rattle.mpp_inline.proofs.ListLemmas.{all-append}
 use Rattle.mpp_inline.proofs.UsableLemmas.{and-stands}
 use Rattle.mpp_inline.proofs.GrowthLemmas.{grows-then, pushed-there, pushed-within, pushed-value, pushed-grows, stood-grows, gives-pushed}

@@ -1,4 +1,4 @@
-use Rattle.std.proofs.Common.{◌<◌, ◌≤◌, ◌+◌, drop}
+use Rattle.std.proofs.Common.{◌≤◌, ◌+◌, drop}
 use Rattle.micro_m.specs.Values.{environment}
 use Rattle.driver_core.specs.FormulaView.{steps_of}
 use Rattle.driver_core.specs.Meaning.{steps_value}

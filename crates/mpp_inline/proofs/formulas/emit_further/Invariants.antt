@@ -1,4 +1,4 @@
-use Rattle.std.proofs.Common.{◌<◌, ◌≤◌, ◌+◌, ◌*◌, length, drop}
+use Rattle.std.proofs.Common.{◌≤◌, ◌+◌, ◌*◌, length, drop}
 use Rattle.micro_m.specs.Values.{environment}
 use Rattle.driver_core.specs.Meaning.{present_or}
 use Rattle.mpp_inline.specs.inner.Sizes.{load}

@@ -1,4 +1,4 @@
-use Rattle.std.proofs.Common.{◌<◌, ◌≤◌, ◌+◌, ◌*◌, drop}
+use Rattle.std.proofs.Common.{◌≤◌, ◌+◌, ◌*◌, drop}
 use Rattle.micro_m.specs.Values.{environment}
 use Rattle.micro_m.specs.Views.{steps_of}
 use Rattle.micro_m.specs.Values.{folded}

@@ -1,4 +1,4 @@
-use Rattle.std.proofs.Common.{[], ◌∷◌, ◌<◌}
+use Rattle.std.proofs.Common.{[], ◌∷◌}
 use Rattle.std.proofs.lemmas.Result.{on_ok_weaker}
 use Rattle.mpp_inline.specs.inner.Growth.{IsUsable, Placed, Held, Merged}
 use Rattle.mpp_inline.proofs.writes.assign_under.Goals as goal
