@@ -32,6 +32,7 @@ use std::alloc::{AllocError, Global};
 
 /// The flat program of a driver over the rules of an ordered base, what its labels tell, and the numbers of the labels of its notes:
 /// for every list of values that the inputs may have it answers what the driver does. The inputs are those of the symbols in order.
+/// An input of the type `Truth` is read by an `And` of it with itself alone, which stands for it everywhere else.
 /// There is an output for each note, in order, and then one for each requested cell.
 ///
 /// The base has the cells of the symbols and is ordered, as `order` answers it. Where the driver costs more than 4,000,000, it is
