@@ -27,7 +27,8 @@ use Rattle.observables.specs.declared.answer.Stop.{Stop}
 use Rattle.observables.specs.declared.answer.Stop.TheVariants.{Failed}
 use Rattle.observables.specs.declared.answer.Answer.TheVariants.{Values, Stopped}
 use Rattle.flat_code.specs.declared.program.Node.{Node}
-use Rattle.flat_code.specs.declared.program.Node.TheVariants.{Input, Lit, Do}
+use Rattle.flat_code.specs.Entries.{node_at}
+use Rattle.flat_code.specs.Tidy.{Reads}
 use Rattle.flat_code.specs.declared.program.Check.{Check}
 use Rattle.observables.specs.declared.face.FaceLabel.{FaceLabel}
 use Rattle.observables.specs.declared.face.FaceLabel.TheVariants.{Verif, DriverLine}
@@ -42,30 +43,34 @@ use Rattle.driver_core.specs.Answers.{first_value, next_input, start_from, told_
 use Rattle.driver_core.specs.Inputs.{type_said, input_said, inputs_said}
 use Rattle.driver_core.specs.Meaning.{Env, RunState, goes, then_do, unless_stopped}
 use Rattle.mpp_inline.specs.declared.builder.Builder.{Builder}
-use Rattle.mpp_inline.specs.inner.Growth.{count, at, stop_of, stop_read, so_far, notes_read, IsVerif, denoted, outcome_of, run, IsCheckWithin, IsNoteWithin, typed_value, begun_value, begun_from, Sane, Known, Pushed, HasLiterals, Begun, Grows, Gives, InputIsThere}
+use Rattle.mpp_inline.specs.inner.Growth.{count, at, stop_of, stop_read, so_far, notes_read, IsVerif, denoted, outcome_of, run, IsCheckWithin, IsNoteWithin, IsUsable, typed_value, begun_value, begun_from, Sane, Known, HasLiterals, Begun, Grows, Gives, IsAnInput}
 use Rattle.driver_core.specs.Weights.{weight_of}
 use Rattle.mpp_inline.specs.inner.Sizes.{load}
 use Rattle.mpp_inline.specs.inner.Told.{ended, ended_so, nodes_of, numbers_of, Answers}
-use Rattle.mpp_inline.specs.Inlined.{IsInlined, IsDriverLine}
+use Rattle.mpp_inline.specs.Inlined.{IsInlined, HasTruths, IsTruthInput, IsDriverLine}
 use Rattle.mpp_inline.specs.inner.Work.{under, Step}
 use Rattle.mpp_inline.proofs.OutcomeLemmas.{append-none}
 use Rattle.mpp_inline.proofs.ListLemmas.{all-append, all-more}
-use Rattle.mpp_inline.proofs.GrowthLemmas.{past-line, grows-none, grows-then, known-on, denoted-on, known-get, denoted-get, gives-pushed, gives-behind}
+use Rattle.mpp_inline.proofs.GrowthLemmas.{past-line, grows-none, grows-then, known-on, denoted-on, known-get, denoted-get}
+use Rattle.mpp_inline.proofs.TruthLemmas.{literals, literal-reads, literal-own, kinds-long, kinds-said, every, whole-truths}
 
 -- ---- the first nodes
-
-abbrev pub literals : List Node
-literals = Lit Undef ∷ Lit (Num (pos 0)) ∷ Lit (Num (pos 1000000)) ∷ []
 
 pub has-literals : (labels : List Label) (b : Builder) → b.nodes.items ≡ literals → b.checks.items ≡ [] → b.labels.items ≡ map Verif labels → b.notes.items ≡ [] → HasLiterals labels b
 has-literals labels b e f g none =
     let value : (inputs : List Value) (k : ℕ) → at b inputs k ≡ get_or (node_values inputs literals) k Undef = λ inputs k. ap (λ ns. get_or (node_values inputs ns) k Undef) e in
     record {
       sane = record {
-        nodes = subst (AreNodes b.inputs 0) (sym e) (tt, (tt, (tt, tt)));
+        nodes = subst (AreNodes (length b.inputs) 0) (sym e) (tt, (tt, (tt, tt)));
+        fenced = record {
+          nodes = λ p x h r t. absurd (literal-reads p x (subst (λ ns. Reads (node_at ns p) x) e r));
+          checks = subst (AllByRecursion (λ c. IsUsable b c.guard × IsUsable b c.condition)) (sym f) tt;
+          notes = subst (AllByRecursion (λ n. IsUsable b n.0)) (sym none) tt;
+        };
         checks = subst (λ cs. AllByRecursion (λ c. IsCheckWithin (count b) (length b.labels.items) c) cs) (sym f) tt;
         notes = subst (λ ns. AllByRecursion (λ n. IsNoteWithin (count b) b.labels.items n) ns) (sym none) tt;
         three = omega (arith, ap length e);
+        literal = λ k h. record { there = omega (arith, ap length e, h); own = λ t. literal-own b.inputs k (subst (λ ns. IsTruthInput b.inputs (node_at ns k)) e t) };
         undef = λ inputs. value inputs 0;
         zero = λ inputs. value inputs 1;
         one = λ inputs. value inputs 2;
@@ -116,7 +121,7 @@ starting-next {b} {c} {d} {all} {rest} {next} {k} {env} v s step =
     let kn = known-on l s.known in
     record {
       grows = grows-then s.grows g.grows;
-      known = record { all = all-append (λ m. m < count d) env (replicate v.cells k) kn.all (all-replicate (λ m. m < count d) v.cells k g.within) };
+      known = record { all = all-append (IsUsable d) env (replicate v.cells k) kn.all (all-replicate (IsUsable d) v.cells k g.within) };
       value = λ inputs.
           ap (λ xs. xs ++ begun_from inputs (next_input next v.item.role) rest)
           (map-append (at d inputs) env (replicate v.cells k)
@@ -131,18 +136,6 @@ starting-last {b} {c} {all} {rest} {next} {env} none s = record {
   known = s.known;
   value = λ inputs. sym (append-none (denoted c inputs env)) ∙ ap (λ vs. denoted c inputs env ++ begun_from inputs next vs) (sym none) ∙ s.value inputs;
 }
-
--- ---- the node of an input
-
-pub input-gives : {b c : Builder} {next k : ℕ} → Pushed b c (Input next) k → next < b.inputs → Sane b → Gives b c (λ inputs. get_or inputs next Undef) k
-input-gives {b} {c} {next} {k} p low s = gives-pushed (λ inputs. get_or inputs next Undef) p low s (λ inputs. refl)
-
-pub truth-gives : {b c d : Builder} {next k j : ℕ} → Pushed b c (Input next) k → Pushed c d (Do And k k k) j → next < b.inputs → Sane b → Gives b d (λ inputs. op_value And (get_or inputs next Undef) (get_or inputs next Undef) (get_or inputs next Undef)) j
-truth-gives {b} {c} {d} {next} {k} {j} p q low s =
-    let g = input-gives p low s in
-    gives-behind g.grows
-    (gives-pushed (λ inputs. op_value And (get_or inputs next Undef) (get_or inputs next Undef) (get_or inputs next Undef)) q (g.within, g.within, g.within) g.grows.base.sane
-    (λ inputs i. op_value And (g.value inputs i) (g.value inputs i) (g.value inputs i)))
 
 -- ---- values that inputs may have
 
@@ -216,12 +209,12 @@ inputs-next next total v rest h = by (is_input v.item.role) h
     by true e = omega (arith, e, inputs-alike 0 1 rest)
     by false e = omega (arith, e, inputs-alike 0 1 rest)
 
-there : (next total most : ℕ) (role : Role) (rest : List ℕ) → next + length (cond (is_input role) (0 ∷ rest) rest) ≡ total → total ≤ most → InputIsThere most next role
+there : (next total most : ℕ) (role : Role) (rest : List ℕ) → next + length (cond (is_input role) (0 ∷ rest) rest) ≡ total → total ≤ most → IsAnInput most next role
 there next total most (InputRole code) rest h l = omega (arith, h, l)
 there next total most (ComputedRole size) rest h l = tt
 there next total most (Constant amount) rest h l = tt
 
-pub input-there : (next total most : ℕ) (v : Variable) (rest : List Variable) → next + length (inputs_from 0 (v ∷ rest)) ≡ total → total ≤ most → InputIsThere most next v.item.role
+pub input-there : (next total most : ℕ) (v : Variable) (rest : List Variable) → next + length (inputs_from 0 (v ∷ rest)) ≡ total → total ≤ most → IsAnInput most next v.item.role
 input-there next total most v rest h l = there next total most v.item.role (inputs_from 1 rest) h l
 
 pub drop-get : (vs : List Variable) (i : ℕ) (v : Variable) → slice_get vs i ≡ Some v → drop i vs ≡ v ∷ drop (suc i) vs
@@ -255,13 +248,13 @@ last-answer b env requests inputs s =
     ap (ended_so (so_far b inputs)) (map-map (at b inputs) (λ x. get_or env x 0) (environment (denoted b inputs env)) (λ x. sym (denoted-get inputs env x s)) requests)
     ∙ ended-run (stop_of b inputs) (so_far b inputs).notes (denoted b inputs env) requests
 
-pub last-known : (b : Builder) (env requests : List ℕ) → Sane b → Known b env → AllByRecursion (λ k. k < count b) (map (λ x. get_or env x 0) requests)
+pub last-known : (b : Builder) (env requests : List ℕ) → Sane b → Known b env → AllByRecursion (IsUsable b) (map (λ x. get_or env x 0) requests)
 last-known b env [] s k = tt
 last-known b env (x ∷ xs) s k = (known-get x s k, last-known b env xs s k)
 
 pub whole-run : {a b c : Builder} {env env' : List ℕ} {next : Env → RunState} {labels : List Label} {start : List Value → Env} (inputs : List Value) → HasLiterals labels a → Begun a b start env → Step b c 2 env env' next → run c inputs env' ≡ next (start inputs)
 whole-run {a} {b} {c} {env} {env'} {next} {labels} {start} inputs l g s =
-    let one : at b inputs 2 ≡ Num (pos 1000000) = g.grows.base.keeps inputs 2 (omega (arith, l.sane.three)) ∙ l.one inputs in
+    let one : at b inputs 2 ≡ Num (pos 1000000) = g.grows.base.keeps inputs 2 (l.sane.literal 2 (omega arith)) ∙ l.one inputs in
     s.moved inputs (inr one) ∙ ap (λ v. under v (run b inputs env) next) one
     ∙ (λ i. then_do (outcome_of ((g.grows.told inputs ∙ l.told inputs) i) (g.value inputs i)) next)
 
@@ -340,14 +333,9 @@ notes-low n m labels (p ∷ ps) others a = (
   notes-low n m labels ps others a.1,
 )
 
-every : {A : Type 0} (P : A → Type 0) (xs : List A) → AllByRecursion P xs → (k : ℕ) (d : A) → k < length xs → P (get_or xs k d)
-every P [] all k d h = absurd (omega arith)
-every P (x ∷ xs) all zero d h = all.0
-every P (x ∷ xs) all (suc k) d h = every P xs all.1 k d (omega arith)
-
 -- the whole program
-inlined-plain : (core : Core) (base : Base) (declared : Declared) (requests : List ℕ) (b : Builder) (outputs : List ℕ) → base.cells ≤ CELLS → weight_of core base ≤ DRIVER_WEIGHT → load b ≤ 3 + length base.labels + 2 * base.cells + 6 * weight_of core base → (a : Answers core base declared requests b outputs) → IsInlined core base declared requests (record { inputs = b.inputs; nodes = b.nodes.items; checks = b.checks.items; outputs = nodes_of b.notes.items ++ a.asked }) b.labels.items (numbers_of b.notes.items)
-inlined-plain core base declared requests b outputs n c l a =
+inlined-plain : (core : Core) (base : Base) (declared : Declared) (requests : List ℕ) (b : Builder) (outputs : List ℕ) (inputs : ℕ) → inputs ≡ length (inputs_from 0 declared.variables) → base.cells ≤ CELLS → weight_of core base ≤ DRIVER_WEIGHT → load b ≤ 3 + length base.labels + 2 * base.cells + 6 * weight_of core base → (a : Answers core base declared requests b outputs) → IsInlined core base declared requests (record { inputs = inputs; nodes = b.nodes.items; checks = b.checks.items; outputs = nodes_of b.notes.items ++ a.asked }) b.labels.items (numbers_of b.notes.items)
+inlined-plain core base declared requests b outputs inputs many-in n c l a =
     let labels = b.labels.items in
     let ps = b.notes.items in
     let many : length (numbers_of ps) ≡ length ps = length-map ps (λ (p : ℕ × ℕ). p.1) in
@@ -358,11 +346,12 @@ inlined-plain core base declared requests b outputs n c l a =
           ∙ (λ i. Some (ended (stop_of b inputs) (notes-out labels (at b inputs) ps a.asked i) (asked-out (at b inputs) ps a.asked i)))
           ∙ ap Some (a.answer inputs typed);
       flat_program = record {
-        nodes = a.sane.nodes;
+        nodes = subst (λ m. AreNodes m 0 b.nodes.items) (ap length a.inputs ∙ kinds-long 0 declared.variables ∙ sym many-in) a.sane.nodes;
         checks = all-more Within (IsCheck (count b)) (λ d h. (h.guard, h.condition)) b.checks.items a.sane.checks;
-        outputs = all-append (λ k. k < count b) (nodes_of ps) a.asked (notes-known (count b) labels ps a.sane.notes) a.asked_known;
+        outputs = all-append (λ k. k < count b) (nodes_of ps) a.asked (notes-known (count b) labels ps a.sane.notes) (all-more (IsUsable b) (λ k. k < count b) (λ k h. h.there) a.asked a.asked_known);
       };
-      inputs = a.inputs;
+      truths = subst (λ ks. HasTruths ks (record { inputs = inputs; nodes = b.nodes.items; checks = b.checks.items; outputs = nodes_of ps ++ a.asked })) (a.inputs ∙ kinds-said declared.variables) (whole-truths b inputs a.asked a.sane a.asked_known);
+      inputs = many-in;
       outputs = omega (arith, length-append (nodes_of ps) a.asked, length-map ps (λ (p : ℕ × ℕ). p.0), many, a.asked_long);
       noted = notes-low (count b) (length base.labels) labels ps a.labelled.others a.sane.notes;
       first_labels = first-faces base.labels labels a.labelled.within a.labelled.same;
@@ -375,11 +364,11 @@ inlined-plain core base declared requests b outputs n c l a =
       size = omega (arith, l, many);
     }
 
-pub inlined : (core : Core) (base : Base) (declared : Declared) (requests : List ℕ) (b : Builder) (outputs : List ℕ) (ns : List Node) (cs : List Check) (os : List ℕ) (ls : List FaceLabel) (ks notes : List ℕ) → ns ≡ b.nodes.items → cs ≡ b.checks.items → os ≡ outputs → ls ≡ b.labels.items → ks ≡ notes → notes ≡ numbers_of b.notes.items → base.cells ≤ CELLS → weight_of core base ≤ DRIVER_WEIGHT → load b ≤ 3 + length base.labels + 2 * base.cells + 6 * weight_of core base → Answers core base declared requests b outputs → IsInlined core base declared requests (record { inputs = b.inputs; nodes = ns; checks = cs; outputs = os }) ls ks
-inlined core base declared requests b outputs ns cs os ls ks notes en ec eo el ek is n c l a =
-    subst (λ xs. IsInlined core base declared requests (record { inputs = b.inputs; nodes = xs; checks = cs; outputs = os }) ls ks) (sym en)
-    (subst (λ xs. IsInlined core base declared requests (record { inputs = b.inputs; nodes = b.nodes.items; checks = xs; outputs = os }) ls ks) (sym ec)
-    (subst (λ xs. IsInlined core base declared requests (record { inputs = b.inputs; nodes = b.nodes.items; checks = b.checks.items; outputs = xs }) ls ks) (sym (eo ∙ a.outputs_are))
-    (subst (λ xs. IsInlined core base declared requests (record { inputs = b.inputs; nodes = b.nodes.items; checks = b.checks.items; outputs = nodes_of b.notes.items ++ a.asked }) xs ks) (sym el)
-    (subst (λ xs. IsInlined core base declared requests (record { inputs = b.inputs; nodes = b.nodes.items; checks = b.checks.items; outputs = nodes_of b.notes.items ++ a.asked }) b.labels.items xs) (sym (ek ∙ is))
-    (inlined-plain core base declared requests b outputs n c l a)))))
+pub inlined : (core : Core) (base : Base) (declared : Declared) (requests : List ℕ) (b : Builder) (outputs : List ℕ) (inputs : ℕ) (ns : List Node) (cs : List Check) (os : List ℕ) (ls : List FaceLabel) (ks notes : List ℕ) → ns ≡ b.nodes.items → cs ≡ b.checks.items → os ≡ outputs → ls ≡ b.labels.items → ks ≡ notes → notes ≡ numbers_of b.notes.items → inputs ≡ length (inputs_from 0 declared.variables) → base.cells ≤ CELLS → weight_of core base ≤ DRIVER_WEIGHT → load b ≤ 3 + length base.labels + 2 * base.cells + 6 * weight_of core base → Answers core base declared requests b outputs → IsInlined core base declared requests (record { inputs = inputs; nodes = ns; checks = cs; outputs = os }) ls ks
+inlined core base declared requests b outputs inputs ns cs os ls ks notes en ec eo el ek is many n c l a =
+    subst (λ xs. IsInlined core base declared requests (record { inputs = inputs; nodes = xs; checks = cs; outputs = os }) ls ks) (sym en)
+    (subst (λ xs. IsInlined core base declared requests (record { inputs = inputs; nodes = b.nodes.items; checks = xs; outputs = os }) ls ks) (sym ec)
+    (subst (λ xs. IsInlined core base declared requests (record { inputs = inputs; nodes = b.nodes.items; checks = b.checks.items; outputs = xs }) ls ks) (sym (eo ∙ a.outputs_are))
+    (subst (λ xs. IsInlined core base declared requests (record { inputs = inputs; nodes = b.nodes.items; checks = b.checks.items; outputs = nodes_of b.notes.items ++ a.asked }) xs ks) (sym el)
+    (subst (λ xs. IsInlined core base declared requests (record { inputs = inputs; nodes = b.nodes.items; checks = b.checks.items; outputs = nodes_of b.notes.items ++ a.asked }) b.labels.items xs) (sym (ek ∙ is))
+    (inlined-plain core base declared requests b outputs inputs many n c l a)))))

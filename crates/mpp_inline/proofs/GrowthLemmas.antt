@@ -1,5 +1,5 @@
 -- A flat program that grows: what stays, and what a node or a check adds.
-use Rattle.std.proofs.Common.{◌≡◌, ℕ, zero, suc, ◌+◌, ◌<◌, ◌≤◌, Bool, true, false, nat_lt, List, [], ◌∷◌, ◌++◌, length, get_or, set, None, refl, sym, ap, ◌∙◌, subst, arith, length-append}
+use Rattle.std.proofs.Common.{◌≡◌, ℕ, zero, suc, ◌+◌, ◌<◌, ◌≤◌, Bool, true, false, nat_lt, List, [], ◌∷◌, ◌++◌, length, get_or, set, None, refl, sym, ap, ◌∙◌, subst, ⊎_elim, arith, length-append}
 use Rattle.std.specs.List.{AllByRecursion, cons_option}
 use Rattle.std.proofs.Math.ListN.{get_or-map, get_or-append}
 use Rattle.std.proofs.Math.Seq.{get_or-append_seam}
@@ -10,18 +10,22 @@ use Rattle.m_fixed.specs.declared.amount.Value.{Value}
 use Rattle.m_fixed.specs.declared.amount.Value.TheVariants.{Undef}
 use Rattle.m_places.specs.declared.verification.Label.{Label}
 use Rattle.flat_code.specs.declared.program.Node.{Node}
-use Rattle.flat_code.specs.declared.program.Node.TheVariants.{Lit}
+use Rattle.flat_code.specs.declared.program.Node.TheVariants.{Lit, Do}
 use Rattle.flat_code.specs.declared.program.Check.{Check}
 use Rattle.observables.specs.declared.face.FaceLabel.{FaceLabel}
 use Rattle.observables.specs.declared.face.FaceLabel.TheVariants.{Verif, DriverLine}
+use Rattle.flat_code.specs.Entries.{node_at}
 use Rattle.flat_code.specs.Runs.{IsNode, AreNodes, entry_of, values_for, node_values, first_stop}
+use Rattle.flat_code.specs.Tidy.{Reads}
 use Rattle.mpp_inline.specs.declared.builder.Builder.{Builder}
-use Rattle.mpp_inline.specs.inner.Growth.{count, faces, face, at, stop_of, stop_read, note_read, notes_read, so_far, told_more, denoted, outcome_of, run, IsVerif, IsCheckWithin, IsNoteWithin, Sane, Known, Pushed, Checked, CheckedRule, CheckedLine, NotedAt, HasFaces, Longer, Grows, Gives, TermStep}
-use Rattle.mpp_inline.specs.Inlined.{IsDriverLine}
+use Rattle.mpp_inline.specs.inner.Growth.{count, faces, face, node_of, at, stop_of, stop_read, note_read, notes_read, so_far, told_more, denoted, outcome_of, run, IsVerif, IsCheckWithin, IsNoteWithin, IsUsable, MayStand, Sane, Known, Pushed, Checked, CheckedRule, CheckedLine, NotedAt, HasFaces, Longer, Grows, Gives, TermStep}
+use Rattle.m_fixed.specs.declared.operator.Op.TheVariants.{And}
+use Rattle.mpp_inline.specs.Inlined.{IsDriverLine, IsTruthInput}
 use Rattle.mpp_inline.specs.inner.Sizes.{load}
 use Rattle.mpp_inline.proofs.ListLemmas.{all-get, all-set, all-more, all-append, map-same}
 use Rattle.mpp_inline.proofs.RunLemmas.{value-kept, value-new, stop-kept, stop-push, read-or, face_fired, read-fired, read-kept, notes-kept, notes-push, notes-within}
 use Rattle.mpp_inline.proofs.OutcomeLemmas.{append-none, or-none}
+use Rattle.mpp_inline.proofs.UsableLemmas.{usable-kept, usable-on, checks-kept, notes-fenced, reads-older, reads-node, Stands, may-stand, last-or, read-as-before}
 
 -- ---- labels
 
@@ -44,14 +48,15 @@ new-then m l first second false e kept old new = new (ltb-false l m e)
 -- ---- longer programs
 
 pub longer-none : {b : Builder} → Sane b → Longer b b
-longer-none {b} s = record { sane = s; inputs = refl; longer = omega arith; keeps = λ inputs k h. refl; more_faces = omega arith; keeps_face = λ l h. refl; new_faces = past-line b.labels.items }
+longer-none {b} s = record { sane = s; inputs = refl; longer = omega arith; keeps_node = λ k h. refl; keeps = λ inputs k h. refl; more_faces = omega arith; keeps_face = λ l h. refl; new_faces = past-line b.labels.items }
 
 pub longer-then : {a b c : Builder} → Longer a b → Longer b c → Longer a c
 longer-then {a} {b} {c} p q = record {
   sane = q.sane;
   inputs = q.inputs ∙ p.inputs;
   longer = omega (arith, p.longer, q.longer);
-  keeps = λ inputs k h. q.keeps inputs k (omega (arith, p.longer, h)) ∙ p.keeps inputs k h;
+  keeps_node = λ k h. q.keeps_node k (omega (arith, p.longer, h)) ∙ p.keeps_node k h;
+  keeps = λ inputs k h. q.keeps inputs k (usable-on p h) ∙ p.keeps inputs k h;
   more_faces = omega (arith, p.more_faces, q.more_faces);
   keeps_face = λ l h. q.keeps_face l (omega (arith, p.more_faces, h)) ∙ p.keeps_face l h;
   new_faces = λ l h. new-then (faces b) l (face b l) (face c l) (nat_lt l (faces b)) refl (q.keeps_face l) (p.new_faces l h) (q.new_faces l);
@@ -64,19 +69,19 @@ pub grows-then : {a b c : Builder} → Grows a b → Grows b c → Grows a c
 grows-then p q = record { base = longer-then p.base q.base; told = λ inputs. q.told inputs ∙ p.told inputs }
 
 pub known-on : {b c : Builder} {env : List ℕ} → Longer b c → Known b env → Known c env
-known-on {b} {c} {env} l k = record { all = all-more (λ n. n < count b) (λ n. n < count c) (λ n h. omega (arith, l.longer, h)) env k.all }
+known-on {b} {c} {env} l k = record { all = all-more (IsUsable b) (IsUsable c) (λ n h. usable-on l h) env k.all }
 
 pub denoted-on : {b c : Builder} {env : List ℕ} (inputs : List Value) → Longer b c → Known b env → denoted c inputs env ≡ denoted b inputs env
-denoted-on {b} {c} {env} inputs l k = map-same (λ n. n < count b) (at c inputs) (at b inputs) (l.keeps inputs) env k.all
+denoted-on {b} {c} {env} inputs l k = map-same (IsUsable b) (at c inputs) (at b inputs) (l.keeps inputs) env k.all
 
 pub run-on : {b c : Builder} {env : List ℕ} (inputs : List Value) → Grows b c → Known b env → run c inputs env ≡ run b inputs env
 run-on inputs g k = λ i. outcome_of (g.told inputs i) (denoted-on inputs g.base k i)
 
-pub known-get : {b : Builder} {env : List ℕ} (x : ℕ) → Sane b → Known b env → get_or env x 0 < count b
-known-get {b} {env} x s k = all-get (λ n. n < count b) env x 0 (omega (arith, s.three)) k.all
+pub known-get : {b : Builder} {env : List ℕ} (x : ℕ) → Sane b → Known b env → IsUsable b (get_or env x 0)
+known-get {b} {env} x s k = all-get (IsUsable b) env x 0 (s.literal 0 (omega arith)) k.all
 
-pub known-set : {b : Builder} {env : List ℕ} (x n : ℕ) → n < count b → Known b env → Known b (set env x n)
-known-set {b} {env} x n h k = record { all = all-set (λ m. m < count b) env x n h k.all }
+pub known-set : {b : Builder} {env : List ℕ} (x n : ℕ) → IsUsable b n → Known b env → Known b (set env x n)
+known-set {b} {env} x n h k = record { all = all-set (IsUsable b) env x n h k.all }
 
 -- the value of a cell
 pub denoted-get : {b : Builder} (inputs : List Value) (env : List ℕ) (x : ℕ) → Sane b → get_or (denoted b inputs env) x Undef ≡ at b inputs (get_or env x 0)
@@ -91,8 +96,21 @@ nodes-push inputs m (d ∷ ns) n k e a h = (a.0, nodes-push inputs (m + 1) ns n 
 pub pushed-count : {b c : Builder} {n : Node} {k : ℕ} → Pushed b c n k → count c ≡ count b + 1
 pushed-count {b} {c} {n} p = ap length p.nodes ∙ length-append b.nodes.items (n ∷ [])
 
-pub pushed-within : {b c : Builder} {n : Node} {k : ℕ} → Pushed b c n k → k < count c
-pushed-within p = omega (arith, p.number, pushed-count p)
+pub pushed-there : {b c : Builder} {n : Node} {k : ℕ} → Pushed b c n k → k < count c
+pushed-there p = omega (arith, p.number, pushed-count p)
+
+pushed-node : {b c : Builder} {n : Node} {k : ℕ} → Pushed b c n k → node_of c (count b) ≡ n
+pushed-node {b} {c} {n} p = ap (λ ns. node_at ns (count b)) p.nodes ∙ get_or-append_seam b.nodes.items n [] (Lit Undef)
+
+pushed-older : {b c : Builder} {n : Node} {k : ℕ} → Pushed b c n k → (j : ℕ) → j < count b → node_of c j ≡ node_of b j
+pushed-older {b} {c} {n} p j h = ap (λ ns. node_at ns j) p.nodes ∙ get_or-append b.nodes.items (n ∷ []) (Lit Undef) j h
+
+-- a new node that is no input of the type `Truth` is usable
+pub pushed-within : {b c : Builder} {n : Node} {k : ℕ} → Pushed b c n k → (IsTruthInput b.inputs n → ⊥) → IsUsable c k
+pushed-within {b} {c} {n} {k} p other = record {
+  there = pushed-there p;
+  own = λ t. other (subst (λ m. IsTruthInput b.inputs m) (ap (node_of c) p.number ∙ pushed-node p) (subst (λ ks. IsTruthInput ks (node_of c k)) p.inputs t));
+}
 
 pub pushed-value : {b c : Builder} {n : Node} {k : ℕ} → Pushed b c n k → (inputs : List Value) → at c inputs k ≡ entry_of (values_for inputs) (node_values inputs b.nodes.items) n
 pushed-value {b} {c} {n} {k} p inputs =
@@ -102,15 +120,35 @@ pushed-keeps : {b c : Builder} {n : Node} {k : ℕ} → Pushed b c n k → (inpu
 pushed-keeps {b} {c} {n} p inputs j h =
     ap (λ ns. get_or (node_values inputs ns) j Undef) p.nodes ∙ value-kept inputs b.nodes.items n j h
 
-pub pushed-grows : {b c : Builder} {n : Node} {k : ℕ} → Pushed b c n k → IsNode b.inputs (count b) n → Sane b → Grows b c
-pushed-grows {b} {c} {n} p w s =
+-- a new node reads what it may
+pushed-nodes : {b c : Builder} {n : Node} {k : ℕ} → Pushed b c n k → Stands b n → Sane b → (q x : ℕ) → q < count c → Reads (node_of c q) x → IsTruthInput c.inputs (node_of c x) → node_of c q ≡ Do And x x x
+pushed-nodes {b} {c} {n} p w s q x h = ⊎_elim
+    (λ (lt : q < count b).
+    λ r. read-as-before b.inputs c.inputs (node_of b q) (node_of c q) (node_of b x) (node_of c x) x p.inputs (pushed-older p q lt)
+    (pushed-older p x (let low : x < 0 + q = reads-older (length b.inputs) 0 b.nodes.items q x s.nodes lt (subst (λ y. Reads y x) (pushed-older p q lt) r) in omega (arith, low, lt)))
+    (s.fenced.nodes q x lt) r)
+    (λ (e : q ≡ count b).
+    let is : node_of c q ≡ n = ap (node_of c) e ∙ pushed-node p in
+    λ r. read-as-before b.inputs c.inputs n (node_of c q) (node_of b x) (node_of c x) x p.inputs is
+    (pushed-older p x (reads-node (length b.inputs) (count b) n x w.node (subst (λ y. Reads y x) is r)))
+    (w.read x) r)
+    (last-or (count b) q (omega (arith, h, pushed-count p)))
+
+pub stood-grows : {b c : Builder} {n : Node} {k : ℕ} → Pushed b c n k → Stands b n → Sane b → Grows b c
+stood-grows {b} {c} {n} p w s =
     let more : count c ≡ count b + 1 = pushed-count p in
+    let on : (j : ℕ) → IsUsable b j → IsUsable c j = λ j h. usable-kept p.inputs (omega (arith, more)) (pushed-older p) h in
     let l = length b.labels.items in
     let old : (j : ℕ) → j < l → get_or c.labels.items j (DriverLine 0) ≡ get_or b.labels.items j (DriverLine 0) = λ j h. ap (λ ls. get_or ls j (DriverLine 0)) p.labels in
     record {
       base = record {
         sane = record {
-          nodes = subst (λ k. AreNodes k 0 c.nodes.items) (sym p.inputs) (subst (AreNodes b.inputs 0) (sym p.nodes) (nodes-push b.inputs 0 b.nodes.items n (count b) (omega arith) s.nodes w));
+          nodes = subst (λ ks. AreNodes (length ks) 0 c.nodes.items) (sym p.inputs) (subst (AreNodes (length b.inputs) 0) (sym p.nodes) (nodes-push (length b.inputs) 0 b.nodes.items n (count b) (omega arith) s.nodes w.node));
+          fenced = record {
+            nodes = pushed-nodes p w s;
+            checks = subst (AllByRecursion (λ d. IsUsable c d.guard × IsUsable c d.condition)) (sym p.checks) (checks-kept on b.checks.items s.fenced.checks);
+            notes = subst (AllByRecursion (λ d. IsUsable c d.0)) (sym p.notes) (notes-fenced on b.notes.items s.fenced.notes);
+          };
           checks = subst (λ cs. AllByRecursion (λ d. IsCheckWithin (count c) (length c.labels.items) d) cs) (sym p.checks)
               (all-more (λ d. IsCheckWithin (count b) l d) (λ d. IsCheckWithin (count c) (length c.labels.items) d)
               (λ d h. record { guard = omega (arith, h.guard, more); condition = omega (arith, h.condition, more); label = omega (arith, h.label, ap length p.labels) })
@@ -118,13 +156,15 @@ pushed-grows {b} {c} {n} p w s =
           notes = subst (AllByRecursion (λ d. IsNoteWithin (count c) c.labels.items d)) (sym p.notes)
               (notes-within b.labels.items c.labels.items (count b) (count c) b.notes.items (omega (arith, more)) (omega (arith, ap length p.labels)) old s.notes);
           three = omega (arith, s.three, more);
+          literal = λ k h. on k (s.literal k h);
           undef = λ inputs. pushed-keeps p inputs 0 (omega (arith, s.three)) ∙ s.undef inputs;
           zero = λ inputs. pushed-keeps p inputs 1 (omega (arith, s.three)) ∙ s.zero inputs;
           one = λ inputs. pushed-keeps p inputs 2 (omega (arith, s.three)) ∙ s.one inputs;
         };
         inputs = p.inputs;
         longer = omega (arith, more);
-        keeps = pushed-keeps p;
+        keeps_node = pushed-older p;
+        keeps = λ inputs j h. pushed-keeps p inputs j h.there;
         more_faces = omega (arith, ap length p.labels);
         keeps_face = old;
         new_faces = λ j h. subst (λ ls. IsDriverLine (get_or ls j (DriverLine 0))) (sym p.labels) (past-line b.labels.items j h);
@@ -138,6 +178,9 @@ pushed-grows {b} {c} {n} p w s =
           ∙ notes-kept b.labels.items c.labels.items (at b inputs) (at c inputs) (count b) b.notes.items old (pushed-keeps p inputs) s.notes in
           λ i. record { stop = stop i; notes = notes i };
     }
+
+pub pushed-grows : {b c : Builder} {n : Node} {k : ℕ} → Pushed b c n k → MayStand b n → Sane b → Grows b c
+pushed-grows {b} {c} {n} p w s = stood-grows p (may-stand n w) s
 
 -- one check more
 pub faces-on : {labels : List Label} {b c : Builder} → Longer b c → HasFaces labels b → HasFaces labels c
@@ -178,28 +221,38 @@ faced-rule {labels} {b} {c} i d h lt p = record {
 checked-keeps : {b c : Builder} {g k l : ℕ} {only : Bool} → Checked b c g k only l → (inputs : List Value) (j : ℕ) → at c inputs j ≡ at b inputs j
 checked-keeps p inputs j = ap (λ ns. get_or (node_values inputs ns) j Undef) p.nodes
 
-pub checked-longer : {b c : Builder} {g k l : ℕ} {only : Bool} {f : FaceLabel} → Checked b c g k only l → Faced b c l f → g < count b → k < count b → Sane b → Longer b c
+pub checked-longer : {b c : Builder} {g k l : ℕ} {only : Bool} {f : FaceLabel} → Checked b c g k only l → Faced b c l f → IsUsable b g → IsUsable b k → Sane b → Longer b c
 checked-longer {b} {c} {g} {k} {l} {only} {f} p q hg hk s =
     let same : count c ≡ count b = ap length p.nodes in
+    let older : (j : ℕ) → node_of c j ≡ node_of b j = λ j. ap (λ ns. node_at ns j) p.nodes in
+    let on : (j : ℕ) → IsUsable b j → IsUsable c j = λ j h. usable-kept p.inputs (omega (arith, same)) (λ i lt. older i) h in
+    let Own : Check → Type 0 = λ d. IsUsable c d.guard × IsUsable c d.condition in
     let Within : Check → Type 0 = λ d. IsCheckWithin (count c) (faces c) d in
     record {
       sane = record {
-        nodes = subst (λ k. AreNodes k 0 c.nodes.items) (sym p.inputs) (subst (AreNodes b.inputs 0) (sym p.nodes) s.nodes);
+        nodes = subst (λ ks. AreNodes (length ks) 0 c.nodes.items) (sym p.inputs) (subst (AreNodes (length b.inputs) 0) (sym p.nodes) s.nodes);
+        fenced = record {
+          nodes = λ j x h. read-as-before b.inputs c.inputs (node_of b j) (node_of c j) (node_of b x) (node_of c x) x p.inputs (older j) (older x) (s.fenced.nodes j x (omega (arith, h, same)));
+          checks = subst (AllByRecursion Own) (sym p.checks) (all-append Own b.checks.items _ (checks-kept on b.checks.items s.fenced.checks) ((on g hg, on k hk), tt));
+          notes = subst (AllByRecursion (λ d. IsUsable c d.0)) (sym p.notes) (notes-fenced on b.notes.items s.fenced.notes);
+        };
         checks = subst (AllByRecursion Within) (sym p.checks)
             (all-append Within b.checks.items _
             (all-more (λ d. IsCheckWithin (count b) (faces b) d) Within
             (λ d h. record { guard = omega (arith, h.guard, same); condition = omega (arith, h.condition, same); label = omega (arith, h.label, q.more) })
             b.checks.items s.checks)
-            (record { guard = omega (arith, hg, same); condition = omega (arith, hk, same); label = q.within }, tt));
+            (record { guard = omega (arith, hg.there, same); condition = omega (arith, hk.there, same); label = q.within }, tt));
         notes = subst (AllByRecursion (λ d. IsNoteWithin (count c) c.labels.items d)) (sym p.notes)
             (notes-within b.labels.items c.labels.items (count b) (count c) b.notes.items (omega (arith, same)) q.more q.keeps s.notes);
         three = omega (arith, s.three, same);
+        literal = λ j h. on j (s.literal j h);
         undef = λ inputs. checked-keeps p inputs 0 ∙ s.undef inputs;
         zero = λ inputs. checked-keeps p inputs 1 ∙ s.zero inputs;
         one = λ inputs. checked-keeps p inputs 2 ∙ s.one inputs;
       };
       inputs = p.inputs;
       longer = omega (arith, same);
+      keeps_node = λ j h. older j;
       keeps = λ inputs j h. checked-keeps p inputs j;
       more_faces = q.more;
       keeps_face = q.keeps;
@@ -230,15 +283,23 @@ checked-told {b} {c} {g} {k} {l} {only} {f} p q s inputs =
 noted-keeps : {b c : Builder} {k l : ℕ} → NotedAt b c k l → (inputs : List Value) (j : ℕ) → at c inputs j ≡ at b inputs j
 noted-keeps p inputs j = ap (λ ns. get_or (node_values inputs ns) j Undef) p.nodes
 
-pub noted-longer : {b c : Builder} {k l : ℕ} → NotedAt b c k l → k < count b → l < faces b → IsVerif (face b l) → Sane b → Longer b c
+pub noted-longer : {b c : Builder} {k l : ℕ} → NotedAt b c k l → IsUsable b k → l < faces b → IsVerif (face b l) → Sane b → Longer b c
 noted-longer {b} {c} {k} {l} p hk hl v s =
     let same : count c ≡ count b = ap length p.nodes in
     let wide : faces c ≡ faces b = ap length p.labels in
+    let older : (j : ℕ) → node_of c j ≡ node_of b j = λ j. ap (λ ns. node_at ns j) p.nodes in
+    let on : (j : ℕ) → IsUsable b j → IsUsable c j = λ j h. usable-kept p.inputs (omega (arith, same)) (λ i lt. older i) h in
+    let Own : ℕ × ℕ → Type 0 = λ d. IsUsable c d.0 in
     let Within : ℕ × ℕ → Type 0 = λ d. IsNoteWithin (count c) c.labels.items d in
     let old : (j : ℕ) → j < faces b → face c j ≡ face b j = λ j h. ap (λ ls. get_or ls j (DriverLine 0)) p.labels in
     record {
       sane = record {
-        nodes = subst (λ k. AreNodes k 0 c.nodes.items) (sym p.inputs) (subst (AreNodes b.inputs 0) (sym p.nodes) s.nodes);
+        nodes = subst (λ ks. AreNodes (length ks) 0 c.nodes.items) (sym p.inputs) (subst (AreNodes (length b.inputs) 0) (sym p.nodes) s.nodes);
+        fenced = record {
+          nodes = λ j x h. read-as-before b.inputs c.inputs (node_of b j) (node_of c j) (node_of b x) (node_of c x) x p.inputs (older j) (older x) (s.fenced.nodes j x (omega (arith, h, same)));
+          checks = subst (AllByRecursion (λ d. IsUsable c d.guard × IsUsable c d.condition)) (sym p.checks) (checks-kept on b.checks.items s.fenced.checks);
+          notes = subst (AllByRecursion Own) (sym p.notes) (all-append Own b.notes.items _ (notes-fenced on b.notes.items s.fenced.notes) (on k hk, tt));
+        };
         checks = subst (AllByRecursion (λ d. IsCheckWithin (count c) (faces c) d)) (sym p.checks)
             (all-more (λ d. IsCheckWithin (count b) (faces b) d) (λ d. IsCheckWithin (count c) (faces c) d)
             (λ d h. record { guard = omega (arith, h.guard, same); condition = omega (arith, h.condition, same); label = omega (arith, h.label, wide) })
@@ -246,14 +307,16 @@ noted-longer {b} {c} {k} {l} p hk hl v s =
         notes = subst (AllByRecursion Within) (sym p.notes)
             (all-append Within b.notes.items _
             (notes-within b.labels.items c.labels.items (count b) (count c) b.notes.items (omega (arith, same)) (omega (arith, wide)) old s.notes)
-            (record { node = omega (arith, hk, same); label = omega (arith, hl, wide); verif = subst IsVerif (sym (old l hl)) v }, tt));
+            (record { node = omega (arith, hk.there, same); label = omega (arith, hl, wide); verif = subst IsVerif (sym (old l hl)) v }, tt));
         three = omega (arith, s.three, same);
+        literal = λ j h. on j (s.literal j h);
         undef = λ inputs. noted-keeps p inputs 0 ∙ s.undef inputs;
         zero = λ inputs. noted-keeps p inputs 1 ∙ s.zero inputs;
         one = λ inputs. noted-keeps p inputs 2 ∙ s.one inputs;
       };
       inputs = p.inputs;
       longer = omega (arith, same);
+      keeps_node = λ j h. older j;
       keeps = λ inputs j h. noted-keeps p inputs j;
       more_faces = omega (arith, wide);
       keeps_face = old;
@@ -269,14 +332,14 @@ noted-told {b} {c} {k} {l} p inputs =
     λ i. record { stop = stop i; notes = notes i }
 
 -- nodes with a value
-pub gives-pushed : {b c : Builder} {n : Node} {k : ℕ} (value : List Value → Value) → Pushed b c n k → IsNode b.inputs (count b) n → Sane b → ((inputs : List Value) → entry_of (values_for inputs) (node_values inputs b.nodes.items) n ≡ value inputs) → Gives b c value k
-gives-pushed value p w s e = record { grows = pushed-grows p w s; within = pushed-within p; value = λ inputs. pushed-value p inputs ∙ e inputs }
+pub gives-pushed : {b c : Builder} {n : Node} {k : ℕ} (value : List Value → Value) → Pushed b c n k → MayStand b n → (IsTruthInput b.inputs n → ⊥) → Sane b → ((inputs : List Value) → entry_of (values_for inputs) (node_values inputs b.nodes.items) n ≡ value inputs) → Gives b c value k
+gives-pushed value p w other s e = record { grows = pushed-grows p w s; within = pushed-within p other; value = λ inputs. pushed-value p inputs ∙ e inputs }
 
 pub gives-lit : {b c : Builder} {k : ℕ} (v : Value) → Pushed b c (Lit v) k → Sane b → Gives b c (λ inputs. v) k
-gives-lit v p s = gives-pushed (λ inputs. v) p tt s (λ inputs. refl)
+gives-lit v p s = gives-pushed (λ inputs. v) p tt (λ t. t) s (λ inputs. refl)
 
 -- a node that is there
-pub gives-old : {b : Builder} (k : ℕ) → Sane b → k < count b → Gives b b (λ inputs. at b inputs k) k
+pub gives-old : {b : Builder} (k : ℕ) → Sane b → IsUsable b k → Gives b b (λ inputs. at b inputs k) k
 gives-old k s h = record { grows = grows-none s; within = h; value = λ inputs. refl }
 
 -- the same value in other words

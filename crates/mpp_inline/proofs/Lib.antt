@@ -1,7 +1,9 @@
 pub mod ListLemmas
 pub mod OutcomeLemmas
 pub mod RunLemmas
+pub mod UsableLemmas
 pub mod GrowthLemmas
+pub mod TruthLemmas
 pub mod StageLemmas
 pub mod WorkLemmas
 pub mod TermLemmas

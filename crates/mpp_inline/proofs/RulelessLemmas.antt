@@ -160,6 +160,7 @@ inlined-left core made base declared requests flat labels notes r is h = record 
       ∙ ap Some (ap (λ (k : Core). answer_of k base declared requests inputs) is
       ∙ ap (told_by requests) (run-left core base (start_of declared inputs) r));
   flat_program = h.flat_program;
+  truths = h.truths;
   inputs = h.inputs;
   outputs = h.outputs;
   noted = h.noted;

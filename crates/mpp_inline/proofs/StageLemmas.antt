@@ -21,10 +21,11 @@ use Rattle.observables.specs.Answers.{Cause, failed, over}
 use Rattle.driver_core.specs.Meaning.{Env, RunState, goes, then_do, chosen_block, with_values, failure_cause, unless_stopped}
 use Rattle.mpp_inline.specs.declared.builder.Builder.{Builder}
 use Rattle.mpp_inline.specs.inner.Cells.{picked, written, received}
-use Rattle.mpp_inline.specs.inner.Growth.{count, faces, face, at, SoFar, so_far, told_more, note_read, IsVerif, denoted, outcome_of, run, Sane, Known, Placed, Ready, CheckedRule, CheckedLine, NotedAt, Pushed, Checked, Longer, Grows, TermStep, Computed, Stage, Opened, over_judged, judged, Held, Merged, entries}
+use Rattle.mpp_inline.specs.inner.Growth.{faces, face, at, IsUsable, SoFar, so_far, told_more, note_read, IsVerif, denoted, outcome_of, run, Sane, Known, Placed, Ready, CheckedRule, CheckedLine, NotedAt, Pushed, Checked, Longer, Grows, TermStep, Computed, Stage, Opened, over_judged, judged, Held, Merged, entries}
 use Rattle.mpp_inline.proofs.OutcomeLemmas.{goes-last, then-then, set-goes, wrap, both-steps, found-run, more-none, more-more}
 use Rattle.mpp_inline.proofs.ListLemmas.{all-picked, all-written, written-map, received-map, with-received}
 use Rattle.mpp_inline.proofs.RunLemmas.{face_judged, face_fired}
+use Rattle.mpp_inline.proofs.UsableLemmas.{usable-on}
 use Rattle.mpp_inline.proofs.GrowthLemmas.{longer-none, longer-then, grows-none, grows-then, known-on, denoted-on, run-on, known-get, known-set, pushed-within, pushed-value, pushed-grows, checked-longer, checked-told, noted-longer, noted-told, denoted-set, faces-on, Faced, faced-line, faced-rule}
 
 -- the two operators of guards
@@ -42,7 +43,7 @@ stage-first does r = record { base = longer-none r.sane; known = r.known; taken 
 
 pub stage-ready : {labels : List Label} {b c : Builder} {env env' : List ℕ} {g : ℕ} {rest whole : Env → RunState} → Ready labels b env g → Stage b c g env env' rest whole → Ready labels c env' g
 stage-ready r s = record {
-  placed = record { sane = s.base.sane; known = s.known; guard = omega (arith, r.placed.guard, s.base.longer) };
+  placed = record { sane = s.base.sane; known = s.known; guard = usable-on s.base r.placed.guard };
   labelled = faces-on s.base r.labelled;
 }
 
@@ -81,7 +82,7 @@ set-stage {b} {c} {env} {g} {k} t x f r =
 
 pub del-stage : {b : Builder} {env : List ℕ} {g : ℕ} (x : ℕ) → Placed b env g → Stage b b g env (set env x 0) (λ e. goes [] e) (λ e. goes [] (set e x Undef))
 del-stage {b} {env} {g} x r =
-    let zero_in : 0 < count b = omega (arith, r.sane.three) in
+    let zero_in = r.sane.literal 0 (omega arith) in
     stage-simple (λ e. set e x Undef) r (grows-none r.sane) (known-set x 0 zero_in r.known)
     (λ inputs. denoted-set inputs x 0 Undef (longer-none r.sane) r.known (r.sane.undef inputs))
 
@@ -103,14 +104,14 @@ found-stage {b} {d} {env} {g} t j cause more same long r taken idle = record {
 }
 
 -- a condition and its check
-check-told : {b c d : Builder} (env : List ℕ) {g k l : ℕ} {only : Bool} {f : FaceLabel} (t : Environment → Value) → TermStep b c env t k → Checked c d g k only l → Faced c d l f → g < count b → (inputs : List Value) → so_far d inputs ≡ told_more (so_far b inputs) (face_fired (at b inputs g) only f (t (environment (denoted b inputs env)))) []
+check-told : {b c d : Builder} (env : List ℕ) {g k l : ℕ} {only : Bool} {f : FaceLabel} (t : Environment → Value) → TermStep b c env t k → Checked c d g k only l → Faced c d l f → IsUsable b g → (inputs : List Value) → so_far d inputs ≡ told_more (so_far b inputs) (face_fired (at b inputs g) only f (t (environment (denoted b inputs env)))) []
 check-told {b} {c} {d} env {g} {k} {l} {only} {f} t s p q h inputs =
     checked-told p q s.grows.base.sane inputs
     ∙ (λ i. told_more (s.grows.told inputs i) (face_fired (s.grows.base.keeps inputs g h i) only f (s.value inputs i)) [])
 
-check-longer : {b c d : Builder} (env : List ℕ) {g k l : ℕ} {only : Bool} {f : FaceLabel} (t : Environment → Value) → TermStep b c env t k → Checked c d g k only l → Faced c d l f → g < count b → Longer b d
+check-longer : {b c d : Builder} (env : List ℕ) {g k l : ℕ} {only : Bool} {f : FaceLabel} (t : Environment → Value) → TermStep b c env t k → Checked c d g k only l → Faced c d l f → IsUsable b g → Longer b d
 check-longer {b} {c} {d} env {g} t s p q h =
-    longer-then s.grows.base (checked-longer p q (omega (arith, h, s.grows.base.longer)) s.within s.grows.base.sane)
+    longer-then s.grows.base (checked-longer p q (usable-on s.grows.base h) s.within s.grows.base.sane)
 
 pub check-stage : {b c d : Builder} {env : List ℕ} {g k l : ℕ} {only : Bool} {f : FaceLabel} (t : Environment → Value) (j : Value → Env → RunState) → ((v : Value) (x : Env) → unless_stopped (face_judged only f v) (goes [] x) ≡ j v x) → (Sane b → Known b env → TermStep b c env t k) → Checked c d g k only l → Faced c d l f → Placed b env g → Stage b d g env env (λ e. goes [] e) (λ e. j (t (environment e)) e)
 check-stage {b} {c} {d} {env} {g} {k} {l} {only} {f} t j same step p q r =
@@ -178,19 +179,19 @@ noted-stage {labels} {b} {c} {d0} {d1} {d2} {e} {env} {g} {k} {i} {j} d label lt
     let s = step r.placed.sane r.placed.known in
     let faced = faced-rule d.1 label (faces-on s.grows.base r.labelled) lt p in
     let l0 = check-longer env t s p.base faced r.placed.guard in
-    let k_in : k < count d0 = omega (arith, s.within, ap length p.base.nodes) in
-    let g_in : g < count d0 = omega (arith, r.placed.guard, l0.longer) in
+    let k_in = usable-on (checked-longer p.base faced (usable-on s.grows.base r.placed.guard) s.within s.grows.base.sane) s.within in
+    let g_in = usable-on l0 r.placed.guard in
     let g1 = pushed-grows q1 (k_in, k_in, k_in) l0.sane in
-    let i_in : i < count d1 = pushed-within q1 in
-    let g_in1 : g < count d1 = omega (arith, g_in, g1.base.longer) in
-    let one_in : 1 < count d1 = omega (arith, g1.base.sane.three) in
+    let i_in = pushed-within q1 (λ t. t) in
+    let g_in1 = usable-on g1.base g_in in
+    let one_in = g1.base.sane.literal 1 (omega arith) in
     let g2 = pushed-grows q2 (g_in1, i_in, one_in) g1.base.sane in
     let grows = grows-then g1 g2 in
     let l2 = longer-then l0 grows.base in
     let labelled = faces-on l2 r.labelled in
     let is : face d2 d.1 ≡ Verif own = labelled.same d.1 label lt in
     let l_in : d.1 < faces d2 = omega (arith, labelled.within, lt) in
-    let long = longer-then l2 (noted-longer n (pushed-within q2) l_in (subst IsVerif (sym is) tt) l2.sane) in
+    let long = longer-then l2 (noted-longer n (pushed-within q2 (λ t. t)) l_in (subst IsVerif (sym is) tt) l2.sane) in
     let value : (inputs : List Value) → at d2 inputs j ≡ chosen (at b inputs g) (truth_of (t (environment (denoted b inputs env)))) (Num (pos 0)) = λ inputs.
     pushed-value q2 inputs ∙ choose-value _ _ _
     ∙ (λ x. chosen
@@ -239,7 +240,7 @@ wrapped {b} {c} {d} {env} {env1} {env2} {env3} {g} {does} before after r grows f
 -- cells of one environment received by another
 pub known-received : {b : Builder} (xs from env : List ℕ) → Sane b → Known b from → Known b env → Known b (received 0 xs from env)
 known-received {b} xs from env s f k = record {
-  all = all-written (λ n. n < count b) (picked 0 xs from) env (all-picked (λ n. n < count b) 0 xs from (omega (arith, s.three)) f.all) k.all;
+  all = all-written (IsUsable b) (picked 0 xs from) env (all-picked (IsUsable b) 0 xs from (s.literal 0 (omega arith)) f.all) k.all;
 }
 
 pub denoted-received : {b : Builder} (inputs : List Value) (xs from env : List ℕ) → Sane b → denoted b inputs (received 0 xs from env) ≡ with_values xs (environment (denoted b inputs from)) (denoted b inputs env)
@@ -250,7 +251,7 @@ denoted-received {b} inputs xs from env s =
 pub rules-stage : {labels : List Label} {b c d : Builder} {env env' : List ℕ} {g : ℕ} {does : Env → RunState} {first : Env → Env} (xs : List ℕ) → (Sane b → Known b env → Computed b c env env' (λ e. e) first) → (Ready labels c env' g → Stage c d g env' env' (λ e. goes [] e) does) → Ready labels b env g → Stage b d g env (received 0 xs env' env) (λ e. goes [] e) (λ e. then_do (does (first e)) (λ f. goes [] (with_values xs (environment f) e)))
 rules-stage {labels} {b} {c} {d} {env} {env'} {g} {does} {first} xs defs checks r =
     let k = defs r.placed.sane r.placed.known in
-    let s = checks (record { placed = record { sane = k.grows.base.sane; known = k.known; guard = omega (arith, r.placed.guard, k.grows.base.longer) }; labelled = faces-on k.grows.base r.labelled }) in
+    let s = checks (record { placed = record { sane = k.grows.base.sane; known = k.known; guard = usable-on k.grows.base r.placed.guard }; labelled = faces-on k.grows.base r.labelled }) in
     let l = longer-then k.grows.base s.base in
     wrapped first (λ e f. with_values xs (environment f) e) r.placed k.grows k.value s
     (known-received xs env' env l.sane s.known (known-on l r.placed.known))
@@ -306,18 +307,18 @@ pub open-branches : {b c c1 c2 d : Builder} {env : List ℕ} {g line v k i j : �
 open-branches {b} {c} {c1} {c2} {d} {env} {g} {line} {v} {k} {i} {j} {t} step p {c3} q1 q2 q3 r =
     let ts = step r.sane r.known in
     let s0 = check-stage t (over_judged line) (line-face line) step p.base (faced-line p) r in
-    let lc = checked-longer p.base (faced-line p) (omega (arith, r.guard, ts.grows.base.longer)) ts.within ts.grows.base.sane in
+    let lc = checked-longer p.base (faced-line p) (usable-on ts.grows.base r.guard) ts.within ts.grows.base.sane in
     let l0 = s0.base in
-    let v_in : v < count c1 = omega (arith, ts.within, lc.longer) in
+    let v_in = usable-on lc ts.within in
     let g1 = pushed-grows q1 (v_in, v_in, v_in) l0.sane in
-    let k_in : k < count c2 = pushed-within q1 in
-    let one_in : 1 < count c2 = omega (arith, g1.base.sane.three) in
-    let g_in : g < count c2 = omega (arith, r.guard, l0.longer, g1.base.longer) in
+    let k_in = pushed-within q1 (λ t. t) in
+    let one_in = g1.base.sane.literal 1 (omega arith) in
+    let g_in = usable-on g1.base (usable-on l0 r.guard) in
     let g2 = pushed-grows q2 (k_in, g_in, one_in) g1.base.sane in
-    let i_in : i < count c3 = pushed-within q2 in
-    let k_in3 : k < count c3 = omega (arith, k_in, g2.base.longer) in
-    let g_in3 : g < count c3 = omega (arith, g_in, g2.base.longer) in
-    let one_in3 : 1 < count c3 = omega (arith, one_in, g2.base.longer) in
+    let i_in = pushed-within q2 (λ t. t) in
+    let k_in3 = usable-on g2.base k_in in
+    let g_in3 = usable-on g2.base g_in in
+    let one_in3 = usable-on g2.base one_in in
     let g3 = pushed-grows q3 (k_in3, one_in3, g_in3) g2.base.sane in
     let grows = grows-then g1 (grows-then g2 g3) in
     let long = longer-then l0 grows.base in
@@ -332,9 +333,9 @@ open-branches {b} {c} {c1} {c2} {d} {env} {g} {line} {v} {k} {i} {j} {t} step p 
         taken = λ inputs h. ap (λ o. then_do o (λ e. goes [] e)) (run-on inputs grows s0.known) ∙ s0.taken inputs h;
         idle = λ inputs h. grows.told inputs ∙ s0.idle inputs h;
       };
-      first_within = omega (arith, i_in, g3.base.longer);
-      second_within = pushed-within q3;
-      truth_within = omega (arith, k_in, l23.longer);
+      first_within = usable-on g3.base i_in;
+      second_within = pushed-within q3 (λ t. t);
+      truth_within = usable-on l23 k_in;
       truth = λ inputs. l23.keeps inputs k k_in ∙ pushed-value q1 inputs ∙ truth-value _ _ _ ∙ ap truth_of (value inputs);
       first = λ inputs.
           g3.base.keeps inputs i i_in ∙ pushed-value q2 inputs ∙ choose-value _ _ _
@@ -348,7 +349,7 @@ open-branches {b} {c} {c1} {c2} {d} {env} {g} {line} {v} {k} {i} {j} {t} step p 
 pub merge-first : {b : Builder} {env : List ℕ} {truth : ℕ} (ps : List (ℕ × ℕ)) → Placed b env truth → Merged b b truth ps ps env env
 merge-first ps r = record { grows = grows-none r.sane; known = r.known; first = λ inputs h. refl; second = λ inputs h. refl }
 
-pub merge-skip : {b c : Builder} {env env' : List ℕ} {truth : ℕ} {p : ℕ × ℕ} {ps whole : List (ℕ × ℕ)} → p.1 < count b → p.1 ≡ get_or env' p.0 0 → Merged b c truth (p ∷ ps) whole env env' → Merged b c truth ps whole env env'
+pub merge-skip : {b c : Builder} {env env' : List ℕ} {truth : ℕ} {p : ℕ × ℕ} {ps whole : List (ℕ × ℕ)} → IsUsable b p.1 → p.1 ≡ get_or env' p.0 0 → Merged b c truth (p ∷ ps) whole env env' → Merged b c truth ps whole env env'
 merge-skip {b} {c} {env} {env'} {truth} {p} {ps} {whole} within same m = record {
   grows = m.grows;
   known = m.known;
@@ -361,18 +362,18 @@ merge-skip {b} {c} {env} {env'} {truth} {p} {ps} {whole} within same m = record 
   second = m.second;
 }
 
-pub merge-write : {b c d : Builder} {env env' : List ℕ} {truth k : ℕ} {p : ℕ × ℕ} {ps whole : List (ℕ × ℕ)} → Placed b env truth → p.1 < count b → Merged b c truth (p ∷ ps) whole env env' → Pushed c d (Do Choose truth p.1 (get_or env' p.0 0)) k → Merged b d truth ps whole env (set env' p.0 k)
+pub merge-write : {b c d : Builder} {env env' : List ℕ} {truth k : ℕ} {p : ℕ × ℕ} {ps whole : List (ℕ × ℕ)} → Placed b env truth → IsUsable b p.1 → Merged b c truth (p ∷ ps) whole env env' → Pushed c d (Do Choose truth p.1 (get_or env' p.0 0)) k → Merged b d truth ps whole env (set env' p.0 k)
 merge-write {b} {c} {d} {env} {env'} {truth} {k} {p} {ps} {whole} r within m q =
     let l = m.grows.base in
-    let t_in : truth < count c = omega (arith, r.guard, l.longer) in
-    let p_in : p.1 < count c = omega (arith, within, l.longer) in
-    let x_in : get_or env' p.0 0 < count c = known-get p.0 l.sane m.known in
+    let t_in = usable-on l r.guard in
+    let p_in = usable-on l within in
+    let x_in = known-get p.0 l.sane m.known in
     let grows = pushed-grows q (t_in, p_in, x_in) l.sane in
     let value : (inputs : List Value) → at d inputs k ≡ chosen (at b inputs truth) (at b inputs p.1) (at c inputs (get_or env' p.0 0)) = λ inputs.
     pushed-value q inputs ∙ choose-value _ _ _ ∙ (λ i. chosen (l.keeps inputs truth r.guard i) (l.keeps inputs p.1 within i) (at c inputs (get_or env' p.0 0))) in
     record {
       grows = grows-then m.grows grows;
-      known = known-set p.0 k (pushed-within q) (known-on grows.base m.known);
+      known = known-set p.0 k (pushed-within q (λ t. t)) (known-on grows.base m.known);
       first = λ inputs h.
           ap (written (entries b inputs ps))
           (denoted-set inputs p.0 k (at b inputs p.1) grows.base m.known
@@ -393,7 +394,7 @@ one-none v e f = cc
 pub write-one : {b : Builder} {env : List ℕ} (ps : List (ℕ × ℕ)) → Placed b env 2 → Held b ps → Merged b b 2 [] ps env (written ps env)
 write-one {b} {env} ps r h = record {
   grows = grows-none r.sane;
-  known = record { all = all-written (λ n. n < count b) ps env h.all r.known.all };
+  known = record { all = all-written (IsUsable b) ps env h.all r.known.all };
   first = λ inputs e. written-map (at b inputs) ps env;
   second = λ inputs e. absurd (one-none (at b inputs 2) (r.sane.one inputs) e);
 }

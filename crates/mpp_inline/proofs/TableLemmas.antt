@@ -1,5 +1,5 @@
 -- Tables read at an index: a choice for each cell comes to the cell that the index means.
-use Rattle.std.proofs.Common.{◌≡◌, ℕ, zero, suc, ◌+◌, ◌*◌, ◌/◌, ◌<◌, ◌≤◌, Bool, true, false, cond, ltb, leb, List, get_or, ⊎_elim, refl, sym, ap, ◌∙◌, arith, ℤ, pos, negsuc}
+use Rattle.std.proofs.Common.{◌≡◌, ℕ, zero, suc, ◌+◌, ◌*◌, ◌/◌, ◌<◌, ◌≤◌, Bool, true, false, cond, ltb, leb, List, get_or, ⊎_elim, refl, sym, ap, ◌∙◌, arith, ℤ, pos, negsuc, subst}
 use Rattle.std.specs.Prelude.{neg_ℤ, int_le, unsigned_abs}
 use Rattle.std.specs.Ordering.{int_eq}
 use Rattle.std.proofs.lemmas.Bool.{cases_lt}
@@ -12,7 +12,8 @@ use Rattle.micro_m.specs.declared.table.Picked.TheVariants.{Cell, Fixed}
 use Rattle.micro_m.specs.Values.{Environment, environment, picked, picked_at, picked_value}
 use Rattle.flat_code.specs.declared.program.Node.TheVariants.{Lit, Do}
 use Rattle.mpp_inline.specs.declared.builder.Builder.{Builder}
-use Rattle.mpp_inline.specs.inner.Growth.{count, at, denoted, Sane, Known, Pushed, Along, Gives, outside, among_cells}
+use Rattle.mpp_inline.specs.inner.Growth.{IsUsable, at, denoted, Sane, Known, Pushed, Along, Gives, outside, among_cells}
+use Rattle.mpp_inline.proofs.UsableLemmas.{usable-on}
 use Rattle.mpp_inline.proofs.GrowthLemmas.{longer-then, grows-then, gives-lit, known-get, denoted-get}
 use Rattle.mpp_inline.proofs.TermLemmas.{do-step}
 use Rattle.mpp_inline.proofs.StageLemmas.{choose-value}
@@ -166,12 +167,12 @@ table-first {b} {c} {k} env index first size g = record {
       ∙ table-value (environment (denoted b inputs env)) first size (at b inputs index);
 }
 
-pub table-next : {b c d : Builder} {x cell k : ℕ} {whole : List Value → Value} (env : List ℕ) (index first n : ℕ) → Along b c (λ inputs v. among_cells (environment (denoted b inputs env)) first (at b inputs index) (suc n) v) whole x → (Sane c → index < count c → cell < count c → x < count c → Gives c d (λ inputs. chosen (op_value At (at c inputs index) (Num (pos (n * 1000000))) Undef) (at c inputs cell) (at c inputs x)) k) → cell ≡ get_or env (first + n) 0 → Sane b → Known b env → index < count b → Along b d (λ inputs v. among_cells (environment (denoted b inputs env)) first (at b inputs index) n v) whole k
+pub table-next : {b c d : Builder} {x cell k : ℕ} {whole : List Value → Value} (env : List ℕ) (index first n : ℕ) → Along b c (λ inputs v. among_cells (environment (denoted b inputs env)) first (at b inputs index) (suc n) v) whole x → (Sane c → IsUsable c index → IsUsable c cell → IsUsable c x → Gives c d (λ inputs. chosen (op_value At (at c inputs index) (Num (pos (n * 1000000))) Undef) (at c inputs cell) (at c inputs x)) k) → cell ≡ get_or env (first + n) 0 → Sane b → Known b env → IsUsable b index → Along b d (λ inputs v. among_cells (environment (denoted b inputs env)) first (at b inputs index) n v) whole k
 table-next {b} {c} {d} {x} {cell} {k} {whole} env index first n a step is s kn hi =
     let l = a.grows.base in
-    let known : get_or env (first + n) 0 < count b = known-get (first + n) s kn in
-    let cell_in : cell < count c = omega (arith, is, known, l.longer) in
-    let g = step l.sane (omega (arith, hi, l.longer)) cell_in a.within in
+    let known : IsUsable b (get_or env (first + n) 0) = known-get (first + n) s kn in
+    let cell_in : IsUsable c cell = subst (IsUsable c) (sym is) (usable-on l known) in
+    let g = step l.sane (usable-on l hi) cell_in a.within in
     record {
       grows = grows-then a.grows g.grows;
       within = g.within;
@@ -184,13 +185,13 @@ table-next {b} {c} {d} {x} {cell} {k} {whole} env index first n a step is s kn h
     }
 
 -- one cell
-pub cell-chosen : {b b1 b2 c : Builder} {index meant test cell other k : ℕ} {v : Value} → Pushed b b1 (Lit v) meant → Pushed b1 b2 (Do At index meant 0) test → Pushed b2 c (Do Choose test cell other) k → Sane b → index < count b → cell < count b → other < count b → Gives b c (λ inputs. chosen (op_value At (at b inputs index) v Undef) (at b inputs cell) (at b inputs other)) k
+pub cell-chosen : {b b1 b2 c : Builder} {index meant test cell other k : ℕ} {v : Value} → Pushed b b1 (Lit v) meant → Pushed b1 b2 (Do At index meant 0) test → Pushed b2 c (Do Choose test cell other) k → Sane b → IsUsable b index → IsUsable b cell → IsUsable b other → Gives b c (λ inputs. chosen (op_value At (at b inputs index) v Undef) (at b inputs cell) (at b inputs other)) k
 cell-chosen {b} {b1} {b2} {c} {index} {meant} {test} {cell} {other} {k} {v} p1 p2 p3 s hi hc ho =
     let s1 = gives-lit v p1 s in
     let l1 = s1.grows.base in
-    let s2 = do-step p2 (omega (arith, l1.longer, hi)) s1.within (omega (arith, l1.sane.three)) l1.sane in
+    let s2 = do-step p2 (usable-on l1 hi) s1.within (l1.sane.literal 0 (omega arith)) l1.sane in
     let l12 = longer-then l1 s2.grows.base in
-    let s3 = do-step p3 s2.within (omega (arith, l12.longer, hc)) (omega (arith, l12.longer, ho)) l12.sane in
+    let s3 = do-step p3 s2.within (usable-on l12 hc) (usable-on l12 ho) l12.sane in
     record {
       grows = grows-then s1.grows (grows-then s2.grows s3.grows);
       within = s3.within;
@@ -200,13 +201,13 @@ cell-chosen {b} {b1} {b2} {c} {index} {meant} {test} {cell} {other} {k} {v} p1 p
     }
 
 -- no cell
-pub outside-chosen : {b b1 b2 c : Builder} {index limit below k : ℕ} → Pushed b b1 (Lit (Num (negsuc 999999))) limit → Pushed b1 b2 (Do Le index limit 0) below → Pushed b2 c (Do Choose below 1 0) k → Sane b → index < count b → Gives b c (λ inputs. outside (at b inputs index)) k
+pub outside-chosen : {b b1 b2 c : Builder} {index limit below k : ℕ} → Pushed b b1 (Lit (Num (negsuc 999999))) limit → Pushed b1 b2 (Do Le index limit 0) below → Pushed b2 c (Do Choose below 1 0) k → Sane b → IsUsable b index → Gives b c (λ inputs. outside (at b inputs index)) k
 outside-chosen {b} {b1} {b2} {c} {index} {limit} {below} {k} p1 p2 p3 s hi =
     let s1 = gives-lit (Num (negsuc 999999)) p1 s in
     let l1 = s1.grows.base in
-    let s2 = do-step p2 (omega (arith, l1.longer, hi)) s1.within (omega (arith, l1.sane.three)) l1.sane in
+    let s2 = do-step p2 (usable-on l1 hi) s1.within (l1.sane.literal 0 (omega arith)) l1.sane in
     let l12 = longer-then l1 s2.grows.base in
-    let s3 = do-step p3 s2.within (omega (arith, l12.sane.three)) (omega (arith, l12.sane.three)) l12.sane in
+    let s3 = do-step p3 s2.within (l12.sane.literal 1 (omega arith)) (l12.sane.literal 0 (omega arith)) l12.sane in
     record {
       grows = grows-then s1.grows (grows-then s2.grows s3.grows);
       within = s3.within;

@@ -13,12 +13,13 @@ use Rattle.driver_core.specs.Formulas.{Formula, nodes_of_formulas, nodes_of_step
 use Rattle.driver_core.specs.FormulaView.{formulas_of, steps_of}
 use Rattle.driver_core.specs.Meaning.{formula_value, formula_values}
 use Rattle.mpp_inline.specs.declared.builder.Builder.{Builder}
-use Rattle.mpp_inline.specs.inner.Growth.{count, at, denoted, Sane, Known, Pushed, Along, Gives, TermStep}
+use Rattle.mpp_inline.specs.inner.Growth.{at, denoted, IsUsable, Sane, Known, Pushed, Along, Gives, TermStep}
+use Rattle.mpp_inline.proofs.UsableLemmas.{usable-on}
 use Rattle.mpp_inline.proofs.GrowthLemmas.{grows-none, grows-then, longer-then, known-on, denoted-on, pushed-within, pushed-value, pushed-grows, gives-pushed}
 
 -- an operator on nodes
-pub do-step : {b c : Builder} {op : Op} {i j k n : ℕ} → Pushed b c (Do op i j k) n → i < count b → j < count b → k < count b → Sane b → Gives b c (λ inputs. op_value op (at b inputs i) (at b inputs j) (at b inputs k)) n
-do-step {b} {c} {op} {i} {j} {k} p hi hj hk s = gives-pushed (λ inputs. op_value op (at b inputs i) (at b inputs j) (at b inputs k)) p (hi, hj, hk) s (λ inputs. refl)
+pub do-step : {b c : Builder} {op : Op} {i j k n : ℕ} → Pushed b c (Do op i j k) n → IsUsable b i → IsUsable b j → IsUsable b k → Sane b → Gives b c (λ inputs. op_value op (at b inputs i) (at b inputs j) (at b inputs k)) n
+do-step {b} {c} {op} {i} {j} {k} p hi hj hk s = gives-pushed (λ inputs. op_value op (at b inputs i) (at b inputs j) (at b inputs k)) p (hi, hj, hk) (λ t. t) s (λ inputs. refl)
 
 pub applied-step : {b b1 b2 b3 c : Builder} {env : List ℕ} {i j k n : ℕ} (op : Op) (values : Environment → List Value) → (Sane b → Known b env → TermStep b b1 env (λ e. get_or (values e) 0 Undef) i) → (Sane b1 → Known b1 env → TermStep b1 b2 env (λ e. get_or (values e) 1 Undef) j) → (Sane b2 → Known b2 env → TermStep b2 b3 env (λ e. get_or (values e) 2 Undef) k) → Pushed b3 c (Do op i j k) n → Sane b → Known b env → TermStep b c env (λ e. applied op (values e)) n
 applied-step {b} {b1} {b2} {b3} {c} {env} {i} {j} {k} {n} op values f1 f2 f3 p s kn =
@@ -28,11 +29,11 @@ applied-step {b} {b1} {b2} {b3} {c} {env} {i} {j} {k} {n} op values f1 f2 f3 p s
     let l2 = longer-then l1 s2.grows.base in
     let s3 = f3 l2.sane (known-on l2 kn) in
     let l23 = longer-then s2.grows.base s3.grows.base in
-    let h1 : i < count b3 = omega (arith, s1.within, l23.longer) in
-    let h2 : j < count b3 = omega (arith, s2.within, s3.grows.base.longer) in
+    let h1 : IsUsable b3 i = usable-on l23 s1.within in
+    let h2 : IsUsable b3 j = usable-on s3.grows.base s2.within in
     record {
       grows = grows-then (grows-then s1.grows (grows-then s2.grows s3.grows)) (pushed-grows p (h1, h2, s3.within) s3.grows.base.sane);
-      within = pushed-within p;
+      within = pushed-within p (λ t. t);
       value = λ inputs.
           pushed-value p inputs
           ∙ (λ d. op_value op
@@ -43,13 +44,13 @@ applied-step {b} {b1} {b2} {b3} {c} {env} {i} {j} {k} {n} op values f1 f2 f3 p s
 
 -- the node of what is missing
 pub undef-step : {b : Builder} (value : List Value → Value) → ((inputs : List Value) → Undef ≡ value inputs) → Sane b → Gives b b value 0
-undef-step value e s = record { grows = grows-none s; within = omega (arith, s.three); value = λ inputs. s.undef inputs ∙ e inputs }
+undef-step value e s = record { grows = grows-none s; within = s.literal 0 (omega arith); value = λ inputs. s.undef inputs ∙ e inputs }
 
 pub zero-step : {b : Builder} (value : List Value → Value) → Sane b → ((inputs : List Value) → at b inputs 1 ≡ value inputs) → Gives b b value 1
-zero-step value s e = record { grows = grows-none s; within = omega (arith, s.three); value = e }
+zero-step value s e = record { grows = grows-none s; within = s.literal 1 (omega arith); value = e }
 
 -- folds
-pub fold-first : {b : Builder} (rest : List Value → Value → Value) (k : ℕ) → Sane b → k < count b → Along b b rest (λ inputs. rest inputs (at b inputs k)) k
+pub fold-first : {b : Builder} (rest : List Value → Value → Value) (k : ℕ) → Sane b → IsUsable b k → Along b b rest (λ inputs. rest inputs (at b inputs k)) k
 fold-first rest k s h = record { grows = grows-none s; within = h; value = λ inputs. refl }
 
 pub fold-next : {b c d e : Builder} {env : List ℕ} {x k n : ℕ} {op : Op} {whole : List Value → Value} (t : Environment → Value) (rest : List Value → Value → Value) → Along b c (λ inputs v. rest inputs (op_value op v (t (environment (denoted b inputs env))) Undef)) whole x → (Sane c → Known c env → TermStep c d env t k) → Pushed d e (Do op x k 0) n → Known b env → Along b e rest whole n
@@ -57,10 +58,10 @@ fold-next {b} {c} {d} {e} {env} {x} {k} {n} {op} {whole} t rest a step p kn =
     let l = a.grows.base in
     let s = step l.sane (known-on l kn) in
     let ld = s.grows.base in
-    let g = pushed-grows p (omega (arith, a.within, ld.longer), s.within, omega (arith, ld.sane.three)) ld.sane in
+    let g = pushed-grows p (usable-on ld a.within, s.within, ld.sane.literal 0 (omega arith)) ld.sane in
     record {
       grows = grows-then a.grows (grows-then s.grows g);
-      within = pushed-within p;
+      within = pushed-within p (λ t. t);
       value = λ inputs.
           ap (rest inputs) (pushed-value p inputs
           ∙ (λ i. op_value op (ld.keeps inputs x a.within i) ((s.value inputs ∙ ap (λ y. t (environment y)) (denoted-on inputs l kn)) i) (ld.sane.undef inputs i)))
@@ -68,7 +69,7 @@ fold-next {b} {c} {d} {e} {env} {x} {k} {n} {op} {whole} t rest a step p kn =
     }
 
 -- what goes on from a term's node
-pub chain-step : {b c d : Builder} {env : List ℕ} {x k : ℕ} (t : Environment → Value) (f : Environment → Value → Value) → (Sane b → Known b env → TermStep b c env t x) → (Sane c → Known c env → x < count c → Gives c d (λ inputs. f (environment (denoted c inputs env)) (at c inputs x)) k) → Sane b → Known b env → TermStep b d env (λ e. f e (t e)) k
+pub chain-step : {b c d : Builder} {env : List ℕ} {x k : ℕ} (t : Environment → Value) (f : Environment → Value → Value) → (Sane b → Known b env → TermStep b c env t x) → (Sane c → Known c env → IsUsable c x → Gives c d (λ inputs. f (environment (denoted c inputs env)) (at c inputs x)) k) → Sane b → Known b env → TermStep b d env (λ e. f e (t e)) k
 chain-step {b} {c} {d} {env} {x} {k} t f first next s kn =
     let a = first s kn in
     let l = a.grows.base in

@@ -1,5 +1,5 @@
 -- What is left, as the program grows, and what each command and item does to it.
-use Rattle.std.proofs.Common.{Bor, ◌≡◌, ℕ, ◌<◌, true, false, cond, List, [], ◌∷◌, ◌++◌, set, inl, inr, ⊎_elim, refl, sym, ap, ◌∙◌, subst, arith, pos}
+use Rattle.std.proofs.Common.{Bor, ◌≡◌, ℕ, true, false, cond, List, [], ◌∷◌, ◌++◌, set, inl, inr, ⊎_elim, refl, sym, ap, ◌∙◌, subst, arith, pos}
 use Rattle.std.specs.List.{AllByRecursion}
 use Rattle.std.specs.declared.vec.Vec.{Vec}
 use Rattle.std.specs.declared.alloc.Global.{Global}
@@ -18,9 +18,10 @@ use Rattle.mpp_inline.specs.declared.branches.Branches.{Branches}
 use Rattle.mpp_inline.specs.declared.work.Work.{Work}
 use Rattle.mpp_inline.specs.declared.work.Work.TheVariants.{Run, Under, Restore, Return}
 use Rattle.mpp_inline.specs.inner.Cells.{picked, written, received, blanked}
-use Rattle.mpp_inline.specs.inner.Growth.{count, at, so_far, denoted, outcome_of, run, entries, Sane, Known, Held, Placed, Ready, Longer, TermStep, Computed, Stage, Opened, Merged, SameBut, over_judged, calls}
+use Rattle.mpp_inline.specs.inner.Growth.{IsUsable, at, so_far, denoted, outcome_of, run, entries, Sane, Known, Held, Placed, Ready, Longer, TermStep, Computed, Stage, Opened, Merged, SameBut, over_judged, calls}
 use Rattle.mpp_inline.specs.inner.Work.{under, Point, point, Whole, does, does_one, done, finish, ahead, block_ahead, IsBit, Guarding, Kept, Standing, Moves, Step}
 use Rattle.mpp_inline.proofs.ListLemmas.{all-more, all-append, all-picked, all-written, all-blanked, picked-map, written-map, blanked-map, restored, same-none, same-back, same-blanked, with-received, without-blanked}
+use Rattle.mpp_inline.proofs.UsableLemmas.{usable-on}
 use Rattle.mpp_inline.proofs.GrowthLemmas.{longer-none, longer-then, known-on, denoted-on, faces-on}
 use Rattle.mpp_inline.proofs.OutcomeLemmas.{goes-last, then-then, set-goes, wrap}
 use Rattle.mpp_inline.proofs.StageLemmas.{set-stage, del-stage, rules-stage, truth-cases, both-zero, chosen-first, chosen-second, known-received, denoted-received}
@@ -61,16 +62,16 @@ step-written {b} {d} {f} {env} {env1} {env2} {g} {next} given r s is m =
 
 -- one write, and the rules
 held-picked : {b : Builder} (xs env : List ℕ) → Sane b → Known b env → Held b (picked 0 xs env)
-held-picked {b} xs env s k = record { all = all-picked (λ n. n < count b) 0 xs env (omega (arith, s.three)) k.all }
+held-picked {b} xs env s k = record { all = all-picked (IsUsable b) 0 xs env (s.literal 0 (omega arith)) k.all }
 
-pub set-step : {b c d : Builder} {env env' : List ℕ} {g k : ℕ} (t : Environment → Value) (x : ℕ) → (Sane b → Known b env → TermStep b c env t k) → (Placed c env g → k < count c → Merged c d g [] ((x, k) ∷ []) env env') → Placed b env g → Step b d g env env' (λ e. goes [] (set e x (t (environment e))))
+pub set-step : {b c d : Builder} {env env' : List ℕ} {g k : ℕ} (t : Environment → Value) (x : ℕ) → (Sane b → Known b env → TermStep b c env t k) → (Placed c env g → IsUsable c k → Merged c d g [] ((x, k) ∷ []) env env') → Placed b env g → Step b d g env env' (λ e. goes [] (set e x (t (environment e))))
 set-step {b} {c} {d} {env} {env'} {g} {k} t x term write r =
     let t' = term r.sane r.known in
     let l = t'.grows.base in
-    step-written ((x, k) ∷ []) r (set-stage t x term r) refl (write (record { sane = l.sane; known = known-on l r.known; guard = omega (arith, r.guard, l.longer) }) t'.within)
+    step-written ((x, k) ∷ []) r (set-stage t x term r) refl (write (record { sane = l.sane; known = known-on l r.known; guard = usable-on l r.guard }) t'.within)
 
-pub del-step : {b d : Builder} {env env' : List ℕ} {g : ℕ} (x : ℕ) → (Placed b env g → 0 < count b → Merged b d g [] ((x, 0) ∷ []) env env') → Placed b env g → Step b d g env env' (λ e. goes [] (set e x Undef))
-del-step {b} {d} {env} {env'} {g} x write r = step-written ((x, 0) ∷ []) r (del-stage x r) refl (write r (omega (arith, r.sane.three)))
+pub del-step : {b d : Builder} {env env' : List ℕ} {g : ℕ} (x : ℕ) → (Placed b env g → IsUsable b 0 → Merged b d g [] ((x, 0) ∷ []) env env') → Placed b env g → Step b d g env env' (λ e. goes [] (set e x Undef))
+del-step {b} {d} {env} {env'} {g} x write r = step-written ((x, 0) ∷ []) r (del-stage x r) refl (write r (r.sane.literal 0 (omega arith)))
 
 -- each of these cells chosen, and then some cells taken from them
 merged-received : {d f : Builder} {env env1 env2 : List ℕ} {g : ℕ} (xs ds : List ℕ) → Placed d env g → SameBut ds env env1 → Merged d f g [] (picked 0 ds env1) env env2 → Merged d f g [] (picked 0 xs env1) env (received 0 xs env2 env)
@@ -99,23 +100,23 @@ pub rules-step : {labels : List Label} {b c d f : Builder} {env env1 env2 : List
 rules-step {labels} {b} {c} {d} {f} {env} {env1} {env2} {g} xs defs checks write r =
     let k = defs r.placed.sane r.placed.known in
     let l1 = k.grows.base in
-    let s = checks (record { placed = record { sane = l1.sane; known = k.known; guard = omega (arith, r.placed.guard, l1.longer) }; labelled = faces-on l1 r.labelled }) in
+    let s = checks (record { placed = record { sane = l1.sane; known = k.known; guard = usable-on l1 r.placed.guard }; labelled = faces-on l1 r.labelled }) in
     let l = longer-then l1 s.base in
     step-written (picked 0 xs env1) r.placed (rules-stage xs defs checks r) refl
-    (write (record { sane = l.sane; known = known-on l r.placed.known; guard = omega (arith, r.placed.guard, l.longer) }) (held-picked xs env1 l.sane s.known))
+    (write (record { sane = l.sane; known = known-on l r.placed.known; guard = usable-on l r.placed.guard }) (held-picked xs env1 l.sane s.known))
 
 pub rules-step-all : {labels : List Label} {b c d f : Builder} {env env1 env2 : List ℕ} {g : ℕ} {checks' : Env → RunState} {first : Env → Env} (xs ds : List ℕ) → SameBut ds env env1 → (Sane b → Known b env → Computed b c env env1 (λ e. e) first) → (Ready labels c env1 g → Stage c d g env1 env1 (λ e. goes [] e) checks') → (Placed d env g → Held d (picked 0 ds env1) → Merged d f g [] (picked 0 ds env1) env env2) → Ready labels b env g → Step b f g env (received 0 xs env2 env) (λ e. then_do (checks' (first e)) (λ h. goes [] (with_values xs (environment h) e)))
 rules-step-all {labels} {b} {c} {d} {f} {env} {env1} {env2} {g} xs ds frame defs checks write r =
     let k = defs r.placed.sane r.placed.known in
     let l1 = k.grows.base in
-    let s = checks (record { placed = record { sane = l1.sane; known = k.known; guard = omega (arith, r.placed.guard, l1.longer) }; labelled = faces-on l1 r.labelled }) in
+    let s = checks (record { placed = record { sane = l1.sane; known = k.known; guard = usable-on l1 r.placed.guard }; labelled = faces-on l1 r.labelled }) in
     let l = longer-then l1 s.base in
-    let p : Placed d env g = record { sane = l.sane; known = known-on l r.placed.known; guard = omega (arith, r.placed.guard, l.longer) } in
+    let p : Placed d env g = record { sane = l.sane; known = known-on l r.placed.known; guard = usable-on l r.placed.guard } in
     step-written (picked 0 xs env1) r.placed (rules-stage xs defs checks r) refl
     (merged-received xs ds p frame (write p (held-picked ds env1 l.sane s.known)))
 
 -- what is left, as the program grows
-pub entries-on : {b c : Builder} (inputs : List Value) (ps : List (ℕ × ℕ)) → Longer b c → AllByRecursion (λ p. p.1 < count b) ps → entries c inputs ps ≡ entries b inputs ps
+pub entries-on : {b c : Builder} (inputs : List Value) (ps : List (ℕ × ℕ)) → Longer b c → AllByRecursion (λ p. IsUsable b p.1) ps → entries c inputs ps ≡ entries b inputs ps
 entries-on inputs [] l a = refl
 entries-on inputs (p ∷ ps) l a = λ i. (p.0, l.keeps inputs p.1 a.0 i) ∷ entries-on inputs ps l a.1 i
 
@@ -134,10 +135,10 @@ finish-last whole b inputs [] w p = refl
 finish-last whole b inputs (v ∷ ws) w p = ap (done whole b inputs v) (finish-last whole b inputs ws w p)
 
 pub guarding-on : {b c : Builder} {k : ℕ} → Longer b c → Guarding b k → Guarding c k
-guarding-on {b} {c} {k} l g = record { within = omega (arith, l.longer, g.within); bit = λ inputs. bit-of (l.keeps inputs k g.within) (g.bit inputs) }
+guarding-on {b} {c} {k} l g = record { within = usable-on l g.within; bit = λ inputs. bit-of (l.keeps inputs k g.within) (g.bit inputs) }
 
 pub held-on : {b c : Builder} {ps : List (ℕ × ℕ)} → Longer b c → Held b ps → Held c ps
-held-on {b} {c} {ps} l h = record { all = all-more (λ p. p.1 < count b) (λ p. p.1 < count c) (λ p k. omega (arith, l.longer, k)) ps h.all }
+held-on {b} {c} {ps} l h = record { all = all-more (λ p. IsUsable b p.1) (λ p. IsUsable c p.1) (λ p k. usable-on l k) ps h.all }
 
 pub kept-on : {b c : Builder} (w : Work) → Longer b c → Kept b w → Kept c w
 kept-on (Run depth block) l k = tt
@@ -159,7 +160,7 @@ left-fewer b (v ∷ ws) w a = let r = left-fewer b ws w a.1 in ((a.0, r.0), r.1)
 pub standing-on : {whole : Whole} {b c : Builder} {env env' : List ℕ} {g : ℕ} {ws : List Work} → Longer b c → Known c env' → Standing whole b env g ws → Standing whole c env' g ws
 standing-on {whole} {b} {c} {env} {env'} {g} {ws} l kn s = record {
   ready = record {
-    placed = record { sane = l.sane; known = kn; guard = omega (arith, l.longer, s.ready.placed.guard) };
+    placed = record { sane = l.sane; known = kn; guard = usable-on l s.ready.placed.guard };
     labelled = faces-on l s.ready.labelled;
   };
   bit = λ inputs. bit-of (l.keeps inputs g s.ready.placed.guard) (s.bit inputs);
@@ -253,7 +254,7 @@ if-moves {whole} {b} {d} {env} {g} {line} {r} {ws} t' depth first second opens s
 
 -- a partition
 known-blanked : {b : Builder} (xs env : List ℕ) → Sane b → Known b env → Known b (blanked 0 xs env)
-known-blanked {b} xs env s k = record { all = all-blanked (λ n. n < count b) 0 xs env (omega (arith, s.three)) k.all }
+known-blanked {b} xs env s k = record { all = all-blanked (IsUsable b) 0 xs env (s.literal 0 (omega arith)) k.all }
 
 entries-picked : {b : Builder} (inputs : List Value) (xs env : List ℕ) → Sane b → entries b inputs (picked 0 xs env) ≡ picked Undef xs (denoted b inputs env)
 entries-picked {b} inputs xs env s = picked-map (at b inputs) 0 xs env ∙ ap (λ v. picked v xs (denoted b inputs env)) (s.undef inputs)
@@ -358,7 +359,7 @@ restore-moves {whole} {b} {env} {g} {ws} before h s =
     let l = longer-none s.ready.placed.sane in
     record {
       base = l;
-      standing = standing-on l (record { all = all-written (λ n. n < count b) before.items env h.all s.ready.placed.known.all }) s;
+      standing = standing-on l (record { all = all-written (IsUsable b) before.items env h.all s.ready.placed.known.all }) s;
       same = λ inputs.
           (λ i. finish whole b inputs ws (record { guard = at b inputs g; far = (ap (outcome_of (so_far b inputs)) (written-map (at b inputs) before.items env) ∙ set-goes (so_far b inputs) (denoted b inputs env) (written (entries b inputs before.items))) i }));
     }

@@ -1,5 +1,5 @@
 -- What the flat program of a driver is, and when there is none.
-use Rattle.std.specs.Prelude.{◌≡◌, ℕ, ◌+◌, ◌*◌, ◌<◌, ◌≤◌, min, List, take, drop, map, length, Some, All}
+use Rattle.std.specs.Prelude.{◌≡◌, ℕ, ◌+◌, ◌*◌, ◌<◌, ◌≤◌, min, List, take, drop, map, length, slice_index_or, Some, All}
 use Rattle.std.specs.List.{AllByRecursion}
 use Rattle.m_fixed.specs.declared.amount.Value.{Value}
 use Rattle.m_places.specs.declared.limits.TheConstants.{DRIVER_WEIGHT}
@@ -9,8 +9,16 @@ use Rattle.observables.specs.declared.face.FaceLabel.{FaceLabel}
 use Rattle.observables.specs.declared.face.FaceLabel.TheVariants.{Verif, DriverLine}
 use Rattle.flat_code.specs.declared.program.Flat.{Flat}
 use Rattle.observables.specs.Answers.{told_of}
+use Rattle.observables.specs.declared.inputs.Coded.{Coded}
+use Rattle.observables.specs.declared.inputs.InputType.{InputType}
+use Rattle.observables.specs.declared.inputs.InputType.TheVariants.{Any, Truth}
 use Rattle.observables.specs.Inputs.{AreValuesOf}
+use Rattle.m_fixed.specs.declared.operator.Op.TheVariants.{And}
+use Rattle.flat_code.specs.declared.program.Node.{Node}
+use Rattle.flat_code.specs.declared.program.Node.TheVariants.{Input, Lit, Do}
+use Rattle.flat_code.specs.Entries.{node_at}
 use Rattle.flat_code.specs.Runs.{IsFlat, flat_run}
+use Rattle.flat_code.specs.Tidy.{Reads, IsRoot}
 use Rattle.driver_core.specs.declared.program.Core.{Core}
 use Rattle.driver_core.specs.Answers.{answer_of}
 use Rattle.driver_core.specs.Inputs.{inputs_said}
@@ -27,11 +35,29 @@ abbrev pub IsDriverLine : FaceLabel → Type 0
 IsDriverLine (Verif label) = ⊥
 IsDriverLine (DriverLine line) = Unit {0}
 
+-- a node that is an input of the type `Truth`, where the inputs have these types
+abbrev pub IsTruthInput : List InputType → Node → Type 0
+IsTruthInput kinds (Input n) = slice_index_or kinds n Any ≡ Truth
+IsTruthInput kinds (Lit v) = ⊥
+IsTruthInput kinds (Do op a b c) = ⊥
+
+-- An input of the type `Truth` is read by an And of it with itself alone, which is undefined, 0 or 1 whatever the input is. Neither an
+-- output nor a check reads it, and so no note does: a note's node is an output.
+pub record HasTruths (kinds : List InputType) (flat : Flat) : Type 0 where
+  pub read : (p x : ℕ) → p < length flat.nodes → Reads (node_at flat.nodes p) x → IsTruthInput kinds (node_at flat.nodes x) → node_at flat.nodes p ≡ Do And x x x
+  pub rootless : (x : ℕ) → IsRoot flat x → IsTruthInput kinds (node_at flat.nodes x) → ⊥
+
+-- the types of inputs, in order
+abbrev pub kinds_of : List Coded → List InputType
+kinds_of inputs = map (λ input. input.kind) inputs
+
 -- The flat program of a driver with what its labels tell, and the numbers of the labels of its notes.
 pub record IsInlined (core : Core) (base : Base) (declared : Declared) (requests : List ℕ) (flat : Flat) (labels : List FaceLabel) (notes : List ℕ) : Type 0 where
   -- for every list of values that the inputs may have its answer, read through the labels and the notes, is the driver's
   pub answer : (inputs : List Value) → AreValuesOf (inputs_said declared) inputs → told_of labels notes (flat_run flat inputs) ≡ Some (answer_of core base declared requests inputs)
   pub flat_program : IsFlat flat
+  -- the inputs of the type `Truth` are read by their Ands alone
+  pub truths : HasTruths (kinds_of (inputs_said declared)) flat
   -- it has the inputs that are declared, and an output for each note and then for each request; a note is of a label of the base
   pub inputs : flat.inputs ≡ length (inputs_from 0 declared.variables)
   pub outputs : length flat.outputs ≡ length notes + length requests

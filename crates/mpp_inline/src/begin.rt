@@ -1,13 +1,13 @@
 //! The first nodes, and the outputs at the end.
 
-ghost use Rattle.std.specs.Prelude.{◌≡◌, ◌<◌, ◌≤◌, ◌+◌, ◌*◌, ◌^◌, ◌++◌, pos, IfOk, OnOk, length, map, replicate, slice_index_or};
+ghost use Rattle.std.specs.Prelude.{◌≡◌, ◌<◌, ◌≤◌, ◌+◌, ◌*◌, ◌^◌, [], ◌∷◌, ◌++◌, pos, IfOk, OnOk, length, map, replicate, slice_index_or, if◌then◌else◌};
 ghost use Rattle.m_fixed.specs.declared.amount.Value.TheVariants.{Undef, Num};
 ghost use Rattle.observables.specs.declared.face.FaceLabel.TheVariants.{Verif};
-ghost use Rattle.m_ast.specs.Items.{cells_in, size_in};
-ghost use Rattle.m_symbols.specs.Declarations.{inputs_from, owners_from, placed_from};
+ghost use Rattle.m_ast.specs.Items.{cells_in, size_in, is_input};
+ghost use Rattle.m_symbols.specs.Declarations.{owners_from, placed_from};
 ghost use Rattle.driver_core.specs.Answers.{next_input};
 ghost use Rattle.driver_core.specs.Inputs.{type_said};
-ghost use Rattle.mpp_inline.specs.inner.Growth.{Sane, Gives, Begun, HasLiterals, InputIsThere, typed_value, begun_value, begun_from};
+ghost use Rattle.mpp_inline.specs.inner.Growth.{Sane, Gives, Begun, HasLiterals, HasInput, InputIsThere, IsAnInput, typed_value, begun_value, begun_from, kinds_from};
 ghost use Rattle.mpp_inline.specs.inner.Told.{nodes_of, numbers_of};
 ghost use Rattle.mpp_inline.specs.inner.Sizes.{load};
 
@@ -16,14 +16,18 @@ use crate::cells::look;
 use flat_code::Node;
 use m_ast::{Role, VariableItem};
 use m_fixed::{Amount, Op, Value};
-use m_places::Label;
+use m_places::{Label, Seq};
 use m_symbols::Symbols;
 use micro_m::Base;
 use observables::{FaceLabel, InputType, type_of};
 use std::alloc::{AllocError, Global};
 
 /// The three literals, and the labels of the rules.
-pub fn first_nodes(alloc: Global, inputs: u32, base: &Base) -> Result<Builder, AllocError>
+pub fn first_nodes(
+    alloc: Global,
+    inputs: Seq<InputType>,
+    base: &Base,
+) -> Result<Builder, AllocError>
     requires { 3 + length base.now.labels < 2 ^ 32 }
     ensures literals { IfOk result (HasLiterals base.now.labels) }
     ensures inputs { IfOk result (λ b. b.inputs ≡ inputs) }
@@ -40,6 +44,30 @@ pub fn first_nodes(alloc: Global, inputs: u32, base: &Base) -> Result<Builder, A
     b.push(Node::Lit(Value::Num(Amount::zero())))?;
     b.push(Node::Lit(one()))?;
     Ok(b)
+}
+
+/// The types of the inputs, in order.
+pub fn input_types(alloc: Global, symbols: &Symbols) -> Result<Seq<InputType>, AllocError>
+    ensures { IfOk result (λ kinds. kinds ≡ kinds_from symbols.now.variables) }
+{
+    let mut kinds = Vec::new(alloc);
+    for v in 0..symbols.count() {
+        add_type(&mut kinds, &symbols.variable(v).item)?;
+    }
+    Ok(Seq::from_vec(kinds))
+}
+
+/// The type of a variable that is an input, after others.
+fn add_type(kinds: &mut Vec<InputType>, item: &VariableItem) -> Result<(), AllocError>
+    ensures { OnOk result (kinds.new.items ≡ kinds.old.items
+        ++ (if is_input item.now.role then type_said item.now.value_word ∷ [] else [])) }
+{
+    match &item.role {
+        Role::Input(_) => kinds.push(kind_of(item))?,
+        Role::Computed(_) => {}
+        Role::Constant(_) => {}
+    }
+    Ok(())
 }
 
 /// The number 1.
@@ -84,14 +112,14 @@ pub fn first_cells(
     b: &mut Builder,
     symbols: &Symbols,
 ) -> Result<Vec<u32>, AllocError>
-    requires inputs { b.old.inputs ≡ length (inputs_from 0 symbols.now.variables) }
+    requires inputs { b.old.inputs ≡ kinds_from symbols.now.variables }
     requires placed { symbols.now.variables ≡ placed_from 0 (map (λ v. v.item) symbols.now.variables) }
     requires room { load b.old + 2 * length (owners_from 0 symbols.now.variables) < 2 ^ 32 }
     ensures step { IfOk result (λ env. Sane b.old
         → Begun b.old b.new (λ inputs. begun_from inputs 0 symbols.now.variables) env.items) }
     ensures size { OnOk result (load b.new ≤ load b.old + 2 * length (owners_from 0 symbols.now.variables)) }
 {
-    let inputs = b.inputs;
+    let inputs = symbols.inputs();
     let mut env = Vec::new(alloc);
     let mut next = 0;
     for v in 0..symbols.count() {
@@ -106,7 +134,7 @@ pub fn first_cells(
 /// What a variable begins with, where the next input has this number.
 fn first_node(b: &mut Builder, item: &VariableItem, next: u32) -> Result<u32, AllocError>
     requires { load b.old + 2 * cells_in (size_in item.now.role) < 2 ^ 32 }
-    ensures step { IfOk result (λ k. Sane b.old → InputIsThere b.old.inputs next item.now.role
+    ensures step { IfOk result (λ k. Sane b.old → InputIsThere b.old.inputs next (type_said item.now.value_word) item.now.role
         → Gives b.old b.new (λ inputs. begun_value inputs next item.now) k) }
     ensures size { OnOk result (load b.new ≤ load b.old + 2 * cells_in (size_in item.now.role)) }
 {
@@ -121,7 +149,7 @@ fn first_node(b: &mut Builder, item: &VariableItem, next: u32) -> Result<u32, Al
 /// is. Nothing else reads such an input.
 fn input_node(b: &mut Builder, kind: InputType, next: u32) -> Result<u32, AllocError>
     requires { load b.old + 2 < 2 ^ 32 }
-    ensures step { IfOk result (λ k. Sane b.old → next < b.old.inputs
+    ensures step { IfOk result (λ k. Sane b.old → HasInput b.old.inputs next kind
         → Gives b.old b.new (λ inputs. typed_value kind (slice_index_or inputs next Undef)) k) }
     ensures size { OnOk result (load b.new ≤ load b.old + 2) }
 {
@@ -145,7 +173,7 @@ fn kind_of(item: &VariableItem) -> InputType
 
 /// The number of the input after a variable, where there are so many inputs.
 fn input_behind(role: &Role, next: u32, inputs: u32) -> u32
-    ensures { InputIsThere inputs next role.now → result ≡ next_input next role.now }
+    ensures { IsAnInput inputs next role.now → result ≡ next_input next role.now }
 {
     match role {
         Role::Input(_) => { if next < inputs { next + 1 } else { next } }

@@ -5,7 +5,8 @@ ghost use Rattle.mpp_inline.specs.inner.Growth.{Pushed, CheckedRule, CheckedLine
 ghost use Rattle.mpp_inline.specs.inner.Sizes.{load};
 
 use flat_code::{Check, Node};
-use observables::FaceLabel;
+use m_places::Seq;
+use observables::{FaceLabel, InputType};
 use std::alloc::AllocError;
 
 /// The literal undefined, which cells that aren't there name too.
@@ -15,11 +16,11 @@ pub const ZERO: u32 = 1;
 /// The literal 1, the guard of what is always reached.
 pub const ONE: u32 = 2;
 
-/// The program so far: how many inputs there are, the nodes, the checks, what the labels tell, and for each note its node and the
+/// The program so far: the types of the inputs, the nodes, the checks, what the labels tell, and for each note its node and the
 /// number of its label.
 #[derive(Drop)]
 pub struct Builder {
-    pub inputs: u32,
+    pub inputs: Seq<InputType>,
     pub nodes: Vec<Node>,
     pub checks: Vec<Check>,
     pub labels: Vec<FaceLabel>,

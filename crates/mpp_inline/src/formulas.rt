@@ -6,7 +6,7 @@ ghost use Rattle.micro_m.specs.Values.{environment, applied};
 ghost use Rattle.driver_core.specs.FormulaView.{formulas_of, steps_of};
 ghost use Rattle.driver_core.specs.Meaning.{formula_value, formula_values, steps_value, present_in, present_or, any_present};
 ghost use Rattle.driver_core.specs.Weights.{formula_weight, formulas_weight, steps_weight};
-ghost use Rattle.mpp_inline.specs.inner.Growth.{Sane, Known, Gives, TermStep, at, count, denoted};
+ghost use Rattle.mpp_inline.specs.inner.Growth.{IsUsable, Sane, Known, Gives, TermStep, at, denoted};
 ghost use Rattle.mpp_inline.specs.inner.Sizes.{load};
 
 use crate::builder::{Builder, UNDEF, ZERO};
@@ -92,7 +92,7 @@ fn emit_steps(
     steps: &[CStep],
 ) -> Result<u32, AllocError>
     requires { load b.old + steps_weight (steps_of steps.now) < 2 ^ 32 }
-    ensures step { IfOk result (λ k. Sane b.old → Known b.old env.now → so_far < count b.old
+    ensures step { IfOk result (λ k. Sane b.old → Known b.old env.now → IsUsable b.old so_far
         → Gives b.old b.new
         (λ inputs. steps_value (environment (denoted b.old inputs env.now)) (at b.old inputs so_far) (steps_of steps.now)) k) }
     ensures size { OnOk result (load b.new ≤ load b.old + steps_weight (steps_of steps.now)) }
@@ -151,7 +151,7 @@ fn emit_present(b: &mut Builder, env: &[u32], cell: u32) -> Result<u32, AllocErr
 fn emit_further(b: &mut Builder, env: &[u32], so_far: u32, cells: &[u32]) -> Result<u32, AllocError>
     requires { load b.old + 2 * length cells.now < 2 ^ 32 }
     ensures size { OnOk result (load b.new ≤ load b.old + 2 * length cells.now) }
-    ensures step { IfOk result (λ k. Sane b.old → Known b.old env.now → so_far < count b.old
+    ensures step { IfOk result (λ k. Sane b.old → Known b.old env.now → IsUsable b.old so_far
         → Gives b.old b.new
         (λ inputs. present_or (environment (denoted b.old inputs env.now)) (at b.old inputs so_far) cells.now) k) }
 {

@@ -11,12 +11,12 @@ ghost use Rattle.mpp_inline.specs.declared.fault.InlineFault.TheVariants.{Memory
 ghost use Rattle.driver_core.specs.declared.program.Core.{Core};
 ghost use Rattle.driver_core.specs.Weights.{weight_of};
 ghost use Rattle.mpp_inline.specs.Inlined.{IsInlined, HasWeight, IsTooLarge};
-ghost use Rattle.mpp_inline.specs.inner.Growth.{HasLiterals};
+ghost use Rattle.mpp_inline.specs.inner.Growth.{HasLiterals, kinds_from};
 ghost use Rattle.mpp_inline.specs.inner.Sizes.{load};
 ghost use Rattle.mpp_inline.specs.inner.Told.{Answers, numbers_of};
 
 use crate::InlineFault;
-use crate::begin::{first_cells, first_nodes, numbers_of, outputs_of};
+use crate::begin::{first_cells, first_nodes, input_types, numbers_of, outputs_of};
 use crate::blocks::emit_all;
 use crate::builder::Builder;
 use crate::ruleless::{is_ruleless, without_rules};
@@ -32,6 +32,7 @@ use std::alloc::{AllocError, Global};
 
 /// The flat program of a driver over the rules of an ordered base, what its labels tell, and the numbers of the labels of its notes:
 /// for every list of values that the inputs may have it answers what the driver does. The inputs are those of the symbols in order.
+/// An input of the type `Truth` is read by an `And` of it with itself alone, which stands for it everywhere else.
 /// There is an output for each note, in order, and then one for each requested cell.
 ///
 /// The base has the cells of the symbols and is ordered, as `order` answers it. Where the driver costs more than 4,000,000, it is
@@ -107,10 +108,11 @@ fn whole_program(
     requires light { weight_of core.now ordered.now.base ≤ DRIVER_WEIGHT }
     ensures { IfOk result (λ made. IsInlined core.now ordered.now.base symbols.now requests.now made.0 made.1 made.2) }
 {
-    let mut b = first_nodes(alloc, symbols.inputs(), &ordered.base)?;
+    let inputs = input_types(alloc, symbols)?;
+    let mut b = first_nodes(alloc, inputs, &ordered.base)?;
     let outputs = emit_driver(alloc, &mut b, core, ordered, symbols, requests)?;
     let notes = numbers_of(alloc, &b.notes)?;
-    Ok(finished(b, outputs, notes))
+    Ok(finished(b, symbols.inputs(), outputs, notes))
 }
 
 /// What the driver does, from its inputs to the nodes of the requested cells.
@@ -125,7 +127,7 @@ fn emit_driver(
     requires base { IsValidBase ordered.now.base }
     requires order { IsOrder ordered.now.base ordered.now.sequence }
     requires cells { ordered.now.base.cells ≡ length (owners_from 0 symbols.now.variables) }
-    requires inputs { b.old.inputs ≡ length (inputs_from 0 symbols.now.variables) }
+    requires inputs { b.old.inputs ≡ kinds_from symbols.now.variables }
     requires placed { symbols.now.variables ≡ placed_from 0 (map (λ v. v.item) symbols.now.variables) }
     requires room { load b.old + 2 * ordered.now.base.cells + 6 * weight_of core.now ordered.now.base < 2 ^ 32 }
     ensures size { OnOk result (load b.new ≤ load b.old + 2 * ordered.now.base.cells + 6 * weight_of core.now ordered.now.base) }
@@ -138,15 +140,21 @@ fn emit_driver(
 }
 
 /// The program with its outputs, and the numbers of the labels of its notes.
-fn finished(b: Builder, outputs: Vec<u32>, notes: Vec<u32>) -> (Flat, Seq<FaceLabel>, Seq<u32>)
+fn finished(
+    b: Builder,
+    inputs: u32,
+    outputs: Vec<u32>,
+    notes: Vec<u32>,
+) -> (Flat, Seq<FaceLabel>, Seq<u32>)
     ensures { (core : Core) (base : Base) (declared : Declared) (requests : List ℕ)
         → Answers core base declared requests b outputs.items → notes.items ≡ numbers_of b.notes.items
+        → inputs ≡ length (inputs_from 0 declared.variables)
         → base.cells ≤ CELLS → weight_of core base ≤ DRIVER_WEIGHT
         → load b ≤ 3 + length base.labels + 2 * base.cells + 6 * weight_of core base
         → IsInlined core base declared requests result.0 result.1 result.2 }
 {
     let Builder {
-        inputs,
+        inputs: _,
         nodes,
         checks,
         labels,

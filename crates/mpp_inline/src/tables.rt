@@ -7,7 +7,7 @@ ghost use Rattle.m_fixed.specs.Operators.{op_value, chosen};
 ghost use Rattle.micro_m.specs.Trees.{lit};
 ghost use Rattle.micro_m.specs.Values.{environment, picked, picked_value};
 ghost use Rattle.driver_core.specs.Weights.{read_weight};
-ghost use Rattle.mpp_inline.specs.inner.Growth.{Sane, Known, Gives, TermStep, at, count, denoted, outside};
+ghost use Rattle.mpp_inline.specs.inner.Growth.{IsUsable, Sane, Known, Gives, TermStep, at, denoted, outside};
 ghost use Rattle.mpp_inline.specs.inner.Sizes.{load};
 
 use crate::builder::{Builder, UNDEF, ZERO};
@@ -57,7 +57,7 @@ pub fn emit_table(
     index: u32,
 ) -> Result<u32, AllocError>
     requires { load b.old + 3 * size + 3 < 2 ^ 32 }
-    ensures step { IfOk result (λ k. Sane b.old → Known b.old env.now → index < count b.old
+    ensures step { IfOk result (λ k. Sane b.old → Known b.old env.now → IsUsable b.old index
         → Gives b.old b.new
         (λ inputs. picked_value (environment (denoted b.old inputs env.now)) (picked first size (at b.old inputs index))) k) }
     ensures size { OnOk result (load b.new ≤ load b.old + 3 * size + 3) }
@@ -75,7 +75,7 @@ pub fn emit_table(
 /// What a table comes to at an index that means none of its cells.
 fn emit_outside(b: &mut Builder, index: u32) -> Result<u32, AllocError>
     requires { load b.old + 3 < 2 ^ 32 }
-    ensures step { IfOk result (λ k. Sane b.old → index < count b.old
+    ensures step { IfOk result (λ k. Sane b.old → IsUsable b.old index
         → Gives b.old b.new (λ inputs. outside (at b.old inputs index)) k) }
     ensures size { OnOk result (load b.new ≤ load b.old + 3) }
 {
@@ -93,7 +93,7 @@ fn emit_cell(
     other: u32,
 ) -> Result<u32, AllocError>
     requires { load b.old + 3 < 2 ^ 32 }
-    ensures step { IfOk result (λ k. Sane b.old → index < count b.old → cell < count b.old → other < count b.old
+    ensures step { IfOk result (λ k. Sane b.old → IsUsable b.old index → IsUsable b.old cell → IsUsable b.old other
         → Gives b.old b.new
         (λ inputs. chosen (op_value At (at b.old inputs index) (Num (pos (place * 1000000))) Undef)
         (at b.old inputs cell) (at b.old inputs other)) k) }

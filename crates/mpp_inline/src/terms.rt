@@ -5,7 +5,7 @@ ghost use Rattle.m_fixed.specs.declared.amount.Value.TheVariants.{Undef};
 ghost use Rattle.micro_m.specs.Views.{trees_of, steps_of};
 ghost use Rattle.micro_m.specs.Values.{environment, term_value, argument_values, applied, folded, picked, picked_value};
 ghost use Rattle.driver_core.specs.Weights.{read_weight, tree_weight, trees_weight, tree_steps_weight};
-ghost use Rattle.mpp_inline.specs.inner.Growth.{Sane, Known, Gives, TermStep, at, count, denoted};
+ghost use Rattle.mpp_inline.specs.inner.Growth.{IsUsable, Sane, Known, Gives, TermStep, at, denoted};
 ghost use Rattle.mpp_inline.specs.inner.Sizes.{load};
 
 use crate::builder::{Builder, UNDEF};
@@ -102,7 +102,7 @@ fn emit_argument(
 fn emit_steps(b: &mut Builder, env: &[u32], so_far: u32, steps: &[Step]) -> Result<u32, AllocError>
     requires { load b.old + 2 * tree_steps_weight (steps_of steps.now) < 2 ^ 32 }
     ensures size { OnOk result (load b.new ≤ load b.old + 2 * tree_steps_weight (steps_of steps.now)) }
-    ensures step { IfOk result (λ k. Sane b.old → Known b.old env.now → so_far < count b.old
+    ensures step { IfOk result (λ k. Sane b.old → Known b.old env.now → IsUsable b.old so_far
         → Gives b.old b.new
         (λ inputs. folded (environment (denoted b.old inputs env.now)) (at b.old inputs so_far) (steps_of steps.now)) k) }
 {

@@ -1,7 +1,7 @@
 //! Writes that count where a guard is 1.
 
 ghost use Rattle.std.specs.Prelude.{◌<◌, ◌≤◌, ◌+◌, ◌^◌, [], ◌∷◌, length, OnOk};
-ghost use Rattle.mpp_inline.specs.inner.Growth.{Placed, Held, Merged, SameBut, cells_of, count};
+ghost use Rattle.mpp_inline.specs.inner.Growth.{IsUsable, Placed, Held, Merged, SameBut, cells_of};
 ghost use Rattle.mpp_inline.specs.inner.Sizes.{load};
 
 use crate::builder::{Builder, ONE};
@@ -62,7 +62,7 @@ pub fn assign_under(
     number: u32,
 ) -> Result<(), AllocError>
     requires { load b.old + 1 < 2 ^ 32 }
-    ensures step { OnOk result (Placed b.old env.old guard → number < count b.old
+    ensures step { OnOk result (Placed b.old env.old guard → IsUsable b.old number
         → Merged b.old b.new guard [] ((cell, number) ∷ []) env.old env.new) }
     ensures size { OnOk result (load b.new ≤ load b.old + 1) }
 {

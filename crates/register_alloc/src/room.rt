@@ -96,7 +96,7 @@ impl Room {
         ensures loads { OnOk result ((y : ℕ) → loads_of y self.new.code ≡ loads_of y self.old.code) }
     {
         let Some(x) = self.registers[register as usize] else {
-            return Ok(());
+            unreachable!()
         };
         match self.slots.find(x) {
             Some(_) => Ok(()),

@@ -18,6 +18,9 @@ use Rattle.micro_m.specs.Failures.{Check, kind_at, failure_of, note_of}
 use Rattle.micro_m.specs.Values.{Environment, environment, term_value}
 use Rattle.observables.specs.declared.answer.Stop.{Stop}
 use Rattle.flat_code.specs.declared.program.Node.{Node}
+use Rattle.flat_code.specs.declared.program.Node.TheVariants.{Input, Lit, Do}
+use Rattle.flat_code.specs.Entries.{node_at}
+use Rattle.flat_code.specs.Tidy.{Reads}
 use Rattle.flat_code.specs.declared.program.Check.{Check as Guarded}
 use Rattle.observables.specs.declared.face.FaceLabel.{FaceLabel}
 use Rattle.observables.specs.declared.face.FaceLabel.TheVariants.{Verif, DriverLine}
@@ -31,7 +34,7 @@ use Rattle.driver_core.specs.Actions.{Action, Block}
 use Rattle.driver_core.specs.Answers.{first_value, next_input}
 use Rattle.driver_core.specs.Inputs.{type_said}
 use Rattle.driver_core.specs.Meaning.{Env, RunState, goes, stops, then_do, with_values, unless_stopped, failure_cause, action_run, block_run, called}
-use Rattle.mpp_inline.specs.Inlined.{IsDriverLine}
+use Rattle.mpp_inline.specs.Inlined.{IsDriverLine, IsTruthInput}
 use Rattle.mpp_inline.specs.inner.Cells.{written}
 use Rattle.mpp_inline.specs.declared.builder.Builder.{Builder}
 use Rattle.mpp_inline.specs.declared.branches.Branches.{Branches}
@@ -104,25 +107,48 @@ pub record IsNoteWithin (nodes : ℕ) (labels : List FaceLabel) (n : ℕ × ℕ)
   pub label : n.1 < length labels
   pub verif : IsVerif (slice_index_or labels n.1 (DriverLine 0))
 
+-- the node with this number
+abbrev pub node_of : Builder → ℕ → Node
+node_of b k = node_at b.nodes.items k
+
+-- A node that any other may read: it is there, and isn't an input of the type `Truth`, whose And stands for it.
+pub record IsUsable (b : Builder) (k : ℕ) : Type 0 where
+  pub there : k < count b
+  pub own : IsTruthInput b.inputs (node_of b k) → ⊥
+
+-- a node that may be pushed: its input is there, or its arguments are usable
+abbrev pub MayStand : Builder → Node → Type 0
+MayStand b (Input n) = n < length b.inputs
+MayStand b (Lit v) = Unit {0}
+MayStand b (Do op i j k) = IsUsable b i × IsUsable b j × IsUsable b k
+
+-- what checks and notes read is usable, and a node reads an input of the type `Truth` only as its And
+pub record Fenced (b : Builder) : Type 0 where
+  pub nodes : (p x : ℕ) → p < count b → Reads (node_of b p) x → IsTruthInput b.inputs (node_of b x) → node_of b p ≡ Do And x x x
+  pub checks : AllByRecursion (λ c. IsUsable b c.guard × IsUsable b c.condition) b.checks.items
+  pub notes : AllByRecursion (λ n. IsUsable b n.0) b.notes.items
+
 -- What nodes, checks and notes name is there, and the first three nodes are undefined, 0 and 1.
 pub record Sane (b : Builder) : Type 0 where
-  pub nodes : AreNodes b.inputs 0 b.nodes.items
+  pub nodes : AreNodes (length b.inputs) 0 b.nodes.items
+  pub fenced : Fenced b
   pub notes : AllByRecursion (λ n. IsNoteWithin (count b) b.labels.items n) b.notes.items
   pub checks : AllByRecursion (λ c. IsCheckWithin (count b) (length b.labels.items) c) b.checks.items
   pub three : 3 ≤ count b
+  pub literal : (k : ℕ) → k < 3 → IsUsable b k
   pub undef : (inputs : List Value) → at b inputs 0 ≡ Undef
   pub zero : (inputs : List Value) → at b inputs 1 ≡ Num (pos 0)
   pub one : (inputs : List Value) → at b inputs 2 ≡ Num (pos 1000000)
 
--- each node of the environment is there
+-- each node of the environment is usable
 pub record Known (b : Builder) (env : List ℕ) : Type 0 where
-  pub all : AllByRecursion (λ k. k < count b) env
+  pub all : AllByRecursion (IsUsable b) env
 
 -- what a place needs that is reached where a guard is 1
 pub record Placed (b : Builder) (env : List ℕ) (g : ℕ) : Type 0 where
   pub sane : Sane b
   pub known : Known b env
-  pub guard : g < count b
+  pub guard : IsUsable b g
 
 -- one node more
 pub record Pushed (b c : Builder) (node : Node) (k : ℕ) : Type 0 where
@@ -180,7 +206,8 @@ pub record Longer (b c : Builder) : Type 0 where
   pub sane : Sane c
   pub inputs : c.inputs ≡ b.inputs
   pub longer : count b ≤ count c
-  pub keeps : (inputs : List Value) (k : ℕ) → k < count b → at c inputs k ≡ at b inputs k
+  pub keeps_node : (k : ℕ) → k < count b → node_of c k ≡ node_of b k
+  pub keeps : (inputs : List Value) (k : ℕ) → IsUsable b k → at c inputs k ≡ at b inputs k
   pub more_faces : faces b ≤ faces c
   pub keeps_face : (l : ℕ) → l < faces b → face c l ≡ face b l
   pub new_faces : (l : ℕ) → faces b ≤ l → IsDriverLine (face c l)
@@ -193,7 +220,7 @@ pub record Grows (b c : Builder) : Type 0 where
 -- a node whose value, once the rest is computed, is that of the whole
 pub record Along (b c : Builder) (rest : List Value → Value → Value) (whole : List Value → Value) (k : ℕ) : Type 0 where
   pub grows : Grows b c
-  pub within : k < count c
+  pub within : IsUsable c k
   pub value : (inputs : List Value) → rest inputs (at c inputs k) ≡ whole inputs
 
 -- a node with this value
@@ -238,9 +265,9 @@ over_judged line OverValue env = stops (over_driver line)
 -- the condition of a choice, with the guards of its blocks
 pub record Opened (b c : Builder) (env : List ℕ) (g line : ℕ) (term : Environment → Value) (r : Branches) : Type 0 where
   pub stage : Stage b c g env env (λ e. goes [] e) (λ e. over_judged line (term (environment e)) e)
-  pub first_within : r.first < count c
-  pub second_within : r.second < count c
-  pub truth_within : r.truth < count c
+  pub first_within : IsUsable c r.first
+  pub second_within : IsUsable c r.second
+  pub truth_within : IsUsable c r.truth
   pub truth : (inputs : List Value) → at c inputs r.truth ≡ truth_of (term (environment (denoted b inputs env)))
   pub first : (inputs : List Value) → at c inputs r.first ≡ chosen (at c inputs r.truth) (at b inputs g) (Num (pos 0))
   pub second : (inputs : List Value) → at c inputs r.second ≡ chosen (at c inputs r.truth) (Num (pos 0)) (at b inputs g)
@@ -253,7 +280,7 @@ abbrev pub cells_of : List (ℕ × ℕ) → List ℕ
 cells_of ps = map (λ p. p.0) ps
 
 pub record Held (b : Builder) (ps : List (ℕ × ℕ)) : Type 0 where
-  pub all : AllByRecursion (λ p. p.1 < count b) ps
+  pub all : AllByRecursion (λ p. IsUsable b p.1) ps
 
 -- The given nodes at their cells where the truth is 1, once the rest of them is written, and no
 -- change where it is 0.
@@ -292,11 +319,27 @@ abbrev pub begun_from : List Value → ℕ → List Variable → Env
 begun_from inputs n [] = []
 begun_from inputs n (v ∷ vs) = replicate v.cells (begun_value inputs n v.item) ++ begun_from inputs (next_input n v.item.role) vs
 
--- the input of a variable that is one is there
-abbrev pub InputIsThere : ℕ → ℕ → Role → Type 0
-InputIsThere inputs next (InputRole code) = next < inputs
-InputIsThere inputs next (ComputedRole size) = Unit {0}
-InputIsThere inputs next (Constant amount) = Unit {0}
+-- the input with this number is there, and has this type
+pub record HasInput (kinds : List InputType) (next : ℕ) (kind : InputType) : Type 0 where
+  pub there : next < length kinds
+  pub is : slice_index_or kinds next Any ≡ kind
+
+-- the input of a variable that is one is there, with its type
+abbrev pub InputIsThere : List InputType → ℕ → InputType → Role → Type 0
+InputIsThere kinds next kind (InputRole code) = HasInput kinds next kind
+InputIsThere kinds next kind (ComputedRole size) = Unit {0}
+InputIsThere kinds next kind (Constant amount) = Unit {0}
+
+-- an input of this number is there, where there are so many
+abbrev pub IsAnInput : ℕ → ℕ → Role → Type 0
+IsAnInput inputs next (InputRole code) = next < inputs
+IsAnInput inputs next (ComputedRole size) = Unit {0}
+IsAnInput inputs next (Constant amount) = Unit {0}
+
+-- the types of the inputs among variables
+abbrev pub kinds_from : List Variable → List InputType
+kinds_from [] = []
+kinds_from (v ∷ vs) = if is_input v.item.role then type_said v.item.value_word ∷ kinds_from vs else kinds_from vs
 
 -- ---- tables
 

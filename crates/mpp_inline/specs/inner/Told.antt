@@ -1,8 +1,8 @@
 -- What a program tells at its end.
-use Rattle.std.specs.Prelude.{◌≡◌, ℕ, ◌<◌, List, ◌++◌, Option, Some, None, map, length}
+use Rattle.std.specs.Prelude.{◌≡◌, ℕ, List, ◌++◌, Option, Some, None, map, length}
 use Rattle.std.specs.List.{AllByRecursion}
 use Rattle.m_fixed.specs.declared.amount.Value.{Value}
-use Rattle.m_symbols.specs.Declarations.{Declared, inputs_from}
+use Rattle.m_symbols.specs.Declarations.{Declared}
 use Rattle.micro_m.specs.declared.base.Base.{Base}
 use Rattle.m_places.specs.declared.verification.Label.{Label}
 use Rattle.observables.specs.Answers.{Cause, Told, values, stopped}
@@ -11,7 +11,7 @@ use Rattle.driver_core.specs.declared.program.Core.{Core}
 use Rattle.driver_core.specs.Answers.{answer_of}
 use Rattle.driver_core.specs.Inputs.{inputs_said}
 use Rattle.mpp_inline.specs.declared.builder.Builder.{Builder}
-use Rattle.mpp_inline.specs.inner.Growth.{count, at, SoFar, so_far, Sane, HasFaces}
+use Rattle.mpp_inline.specs.inner.Growth.{at, SoFar, so_far, Sane, HasFaces, IsUsable, kinds_from}
 
 -- the stop if there is one, and else these notes and values
 abbrev pub ended : Option Cause → List Label → List Value → Told
@@ -32,9 +32,9 @@ numbers_of notes = map (λ n. n.1) notes
 pub record Answers (core : Core) (base : Base) (declared : Declared) (requests : List ℕ) (b : Builder) (outputs : List ℕ) : Type 0 where
   pub sane : Sane b
   pub labelled : HasFaces base.labels b
-  pub inputs : b.inputs ≡ length (inputs_from 0 declared.variables)
+  pub inputs : b.inputs ≡ kinds_from declared.variables
   pub asked : List ℕ
   pub outputs_are : outputs ≡ nodes_of b.notes.items ++ asked
-  pub asked_known : AllByRecursion (λ k. k < count b) asked
+  pub asked_known : AllByRecursion (IsUsable b) asked
   pub asked_long : length asked ≡ length requests
   pub answer : (inputs : List Value) → AreValuesOf (inputs_said declared) inputs → ended_so (so_far b inputs) (map (at b inputs) asked) ≡ answer_of core base declared requests inputs

@@ -1,5 +1,5 @@
 -- What is left to do, as a change of a point of the run, and what a step keeps.
-use Rattle.std.specs.Prelude.{◌≡◌, ℕ, ◌<◌, pos, List, [], ◌∷◌, ◌⊎◌, if◌then◌else◌}
+use Rattle.std.specs.Prelude.{◌≡◌, ℕ, pos, List, [], ◌∷◌, ◌⊎◌, if◌then◌else◌}
 use Rattle.std.specs.List.{AllByRecursion}
 use Rattle.m_fixed.specs.declared.amount.Value.{Value}
 use Rattle.m_fixed.specs.declared.amount.Value.TheVariants.{Num}
@@ -14,7 +14,7 @@ use Rattle.mpp_inline.specs.inner.Cells.{written}
 use Rattle.mpp_inline.specs.declared.builder.Builder.{Builder}
 use Rattle.mpp_inline.specs.declared.work.Work.{Work}
 use Rattle.mpp_inline.specs.declared.work.Work.TheVariants.{Run, Under, Restore, Return}
-use Rattle.mpp_inline.specs.inner.Growth.{count, at, denoted, run, entries, Known, Held, Ready, Longer, means, means_one}
+use Rattle.mpp_inline.specs.inner.Growth.{at, denoted, run, entries, IsUsable, Known, Held, Ready, Longer, means, means_one}
 
 -- what counts where a guard is 1
 abbrev pub under : Value → RunState → (Env → RunState) → RunState
@@ -66,12 +66,12 @@ block_ahead whole b inputs env g depth block = record { guard = at b inputs g; f
 abbrev pub IsBit : Value → Type 0
 IsBit v = (v ≡ Num (pos 0)) ⊎ (v ≡ Num (pos 1000000))
 
--- a guard is there, and is 0 or 1
+-- a guard is usable, and is 0 or 1
 pub record Guarding (b : Builder) (k : ℕ) : Type 0 where
-  pub within : k < count b
+  pub within : IsUsable b k
   pub bit : (inputs : List Value) → IsBit (at b inputs k)
 
--- what an item names is there
+-- what an item names is usable
 abbrev pub Kept : Builder → Work → Type 0
 Kept b (Run depth block) = Unit {0}
 Kept b (Under k) = Guarding b k

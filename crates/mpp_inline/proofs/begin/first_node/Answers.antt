@@ -1,4 +1,4 @@
-use Rattle.std.proofs.Common.{◌<◌, sym, subst, cond}
+use Rattle.std.proofs.Common.{sym, subst, cond}
 use Rattle.std.specs.Prelude.{slice_index_or}
 use Rattle.std.proofs.lemmas.Result.{IfOk-weaker}
 use Rattle.m_fixed.specs.declared.amount.Value.TheVariants.{Undef, Num}
@@ -6,7 +6,7 @@ use Rattle.m_ast.specs.Items.{is_input}
 use Rattle.flat_code.specs.declared.program.Node.TheVariants.{Lit}
 use Rattle.driver_core.specs.Answers.{first_value}
 use Rattle.driver_core.specs.Inputs.{type_said}
-use Rattle.mpp_inline.specs.inner.Growth.{Pushed, Gives, Sane, InputIsThere, typed_value}
+use Rattle.mpp_inline.specs.inner.Growth.{Pushed, Gives, Sane, HasInput, InputIsThere, typed_value}
 use Rattle.mpp_inline.proofs.GrowthLemmas.{gives-lit}
 use Rattle.mpp_inline.proofs.begin.first_node.Goals as goal
 
@@ -17,9 +17,9 @@ returns-in-Input-clause-step c =
     let next = c.args.next in
     let word = c.args.item.now.value_word in
     let is = c.in-Input.is in
-    IfOk-weaker _ (λ k. Sane b → next < b.inputs → Gives b d (λ inputs. typed_value c.kind_of.result (slice_index_or inputs next Undef)) k) _
-    (λ k step s. subst (λ r. InputIsThere b.inputs next r → Gives b d (λ inputs. cond (is_input r) (typed_value (type_said word) (slice_index_or inputs next Undef)) (first_value inputs next r)) k) (sym is)
-    (λ low. subst (λ kind. Gives b d (λ inputs. typed_value kind (slice_index_or inputs next Undef)) k) c.kind_of.ensures (step s low)))
+    IfOk-weaker _ (λ k. Sane b → HasInput b.inputs next c.kind_of.result → Gives b d (λ inputs. typed_value c.kind_of.result (slice_index_or inputs next Undef)) k) _
+    (λ k step s. subst (λ r. InputIsThere b.inputs next (type_said word) r → Gives b d (λ inputs. cond (is_input r) (typed_value (type_said word) (slice_index_or inputs next Undef)) (first_value inputs next r)) k) (sym is)
+    (λ low. subst (λ kind. Gives b d (λ inputs. typed_value kind (slice_index_or inputs next Undef)) k) c.kind_of.ensures (step s (subst (HasInput b.inputs next) (sym c.kind_of.ensures) low))))
     c.input_node.ensures.step
 
 pub returns-in-Constant-clause-step : goal.returns-in-Constant-clause-step

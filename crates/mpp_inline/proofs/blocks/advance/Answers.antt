@@ -1,11 +1,28 @@
 use Rattle.std.proofs.Common.{◌≡◌, ◌++◌, length, take, drop, sym, ap, ◌∙◌, subst, arith}
 use Rattle.mpp_inline.specs.inner.Cells.{picked, written, received}
 use Rattle.mpp_inline.specs.declared.work.Work.{Work}
-use Rattle.mpp_inline.specs.declared.work.Work.TheVariants.{Restore, Return}
-use Rattle.mpp_inline.specs.inner.Work.{Standing, Kept, Moves, done, point, whole_of}
+use Rattle.mpp_inline.specs.declared.work.Work.TheVariants.{Run, Restore, Return}
+use Rattle.mpp_inline.specs.inner.Work.{Standing, Kept, Moves, done, point, block_ahead, whole_of}
 use Rattle.mpp_inline.proofs.ListLemmas.{front-all}
 use Rattle.mpp_inline.proofs.WorkLemmas.{restore-moves, return-moves}
 use Rattle.mpp_inline.proofs.blocks.advance.Goals as goal
+
+pub returns-in_ok-next-in-Run-clause-step : goal.returns-in_ok-next-in-Run-clause-step
+returns-in_ok-next-in-Run-clause-step c =
+    let whole = whole_of c.args.core.now c.args.ordered.now in
+    let b = c.args.b.now in
+    let d = c.begin_block.new.b in
+    let e = c.args.env.now.items in
+    let g = c.args.guard in
+    let k = c.in_ok-next-in-Run.next in
+    let ws = c.args.left.now.items in
+    let ws' = c.begin_block.new.left.items in
+    let depth = c.in-Run.depth in
+    let block = c.in-Run.block in
+    let last : take c.args.env.now.len (c.begin_block.new.env ++ drop (length c.begin_block.new.env) e) ≡ c.begin_block.new.env = front-all c.begin_block.new.env _ _ (omega arith) in
+    subst (λ (x : Work). Standing whole b e g ws → Kept b x → Moves whole b d (take c.args.env.now.len (c.begin_block.new.env ++ drop (length c.begin_block.new.env) e)) k ws ws' (λ inputs. done whole b inputs x (point b inputs e g))) (sym c.in-Run.is)
+    (λ s kept. subst (λ x. Moves whole b d x k ws ws' (λ inputs. done whole b inputs (Run depth block) (point b inputs e g))) (sym last)
+    (subst (λ x. Standing whole b x g ws → Moves whole b d c.begin_block.new.env k ws ws' (λ inputs. block_ahead whole b inputs x g depth block.now)) c.deref_mut.ensures.value c.in_ok-next-in-Run.ensures.step s))
 
 pub returns-in-Restore-clause-step : goal.returns-in-Restore-clause-step
 returns-in-Restore-clause-step c =

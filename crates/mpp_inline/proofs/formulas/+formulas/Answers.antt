@@ -1,4 +1,4 @@
-use Rattle.std.proofs.Common.{◌≡◌, ℕ, ◌+◌, ◌<◌, ◌≤◌, ◌∷◌, drop, sym, ap, ◌∙◌, subst, arith}
+use Rattle.std.proofs.Common.{◌≡◌, ℕ, ◌+◌, ◌≤◌, ◌∷◌, drop, sym, ap, ◌∙◌, subst, arith}
 use Rattle.std.proofs.lemmas.Result.{IfOk-weaker}
 use Rattle.std.proofs.lemmas.List.{drop_all}
 use Rattle.micro_m.specs.Values.{environment}
@@ -8,7 +8,7 @@ use Rattle.driver_core.specs.Meaning.{formula_value, formula_values, steps_value
 use Rattle.mpp_inline.proofs.TermLemmas.{formula_values-at, formula_values-past, sizes-fall, terms-fall}
 use Rattle.driver_core.specs.Weights.{formula_weight, formulas_weight, steps_weight}
 use Rattle.flat_code.specs.declared.program.Node.TheVariants.{Lit, Do}
-use Rattle.mpp_inline.specs.inner.Growth.{count, at, denoted, Sane, Known, Pushed, Along, Gives, TermStep}
+use Rattle.mpp_inline.specs.inner.Growth.{IsUsable, at, denoted, Sane, Known, Pushed, Along, Gives, TermStep}
 use Rattle.mpp_inline.specs.inner.Sizes.{load}
 use Rattle.mpp_inline.proofs.SizeLemmas.{three-formulas}
 use Rattle.mpp_inline.proofs.ListLemmas.{drop_next}
@@ -59,7 +59,7 @@ emit_formula-returns-in_ok-so_far-in-Chain-clause-step t c =
     let x = c.in_ok-so_far-in-Chain.so_far in
     let steps = c.deref-in-Chain-2.result.now in
     let is = (λ i. chain (c.deref-in-Chain.ensures i) (steps_of (c.deref-in-Chain-2.ensures.value i))) ∙ sym (ap formula_of c.in-Chain.is) ∙ c.term.view_is in
-    IfOk-weaker c.emit_steps.result (λ k. Sane d → Known d e → x < count d → Gives d c.emit_steps.new.b (λ inputs. steps_value (environment (denoted d inputs e)) (at d inputs x) (steps_of steps)) k) _
+    IfOk-weaker c.emit_steps.result (λ k. Sane d → Known d e → IsUsable d x → Gives d c.emit_steps.new.b (λ inputs. steps_value (environment (denoted d inputs e)) (at d inputs x) (steps_of steps)) k) _
     (λ k f s kn. subst (λ g. TermStep b c.emit_steps.new.b e (λ y. formula_value y g) k) is
     (chain-step (λ y. formula_value y c.deref-in-Chain.result.now) (λ y v. steps_value y v (steps_of steps)) c.in_ok-so_far-in-Chain.ensures.step f s kn))
     c.emit_steps.ensures.step

@@ -16,5 +16,5 @@ returns-clause-step c =
     (λ k p s kn.
     let q = subst (λ x. Pushed b c.push.new.self (Do Present x 0 0) k) c.look.ensures p in
     gives-same (λ inputs. λ i. op_value Present (sym (denoted-get inputs e c.args.cell s) i) (s.undef inputs i) (s.undef inputs i))
-    (do-step q (known-get c.args.cell s kn) (omega (arith, s.three)) (omega (arith, s.three)) s))
+    (do-step q (known-get c.args.cell s kn) (s.literal 0 (omega arith)) (s.literal 0 (omega arith)) s))
     c.push.ensures

@@ -8,7 +8,7 @@ emit_driver-requires c = record {
   order = c.requires.order;
   cells = c.requires.cells;
   placed = c.requires.placed;
-  inputs = c.in_ok-b.ensures.inputs ∙ c.inputs.ensures;
+  inputs = c.in_ok-b.ensures.inputs ∙ c.in_ok-inputs.ensures;
   room = omega (arith, c.requires.few_cells, c.requires.few_labels, c.requires.light, c.in_ok-b.ensures.size);
 }
 
@@ -16,4 +16,5 @@ pub returns : goal.returns
 returns c =
     c.finished.ensures c.args.core.now c.args.ordered.now.base c.args.symbols.now c.args.requests.now (c.in_ok-outputs.ensures.answers c.in_ok-b.ensures.literals)
     (c.in_ok-notes.ensures ∙ ap numbers_of c.deref.ensures.value)
+    c.inputs.ensures
     c.requires.few_cells c.requires.light (omega (arith, c.in_ok-b.ensures.size, c.in_ok-outputs.ensures.size))

@@ -1,4 +1,4 @@
-use Rattle.std.proofs.Common.{◌≡◌, ℕ, ◌+◌, ◌*◌, ◌<◌, ◌≤◌, ◌∷◌, drop, sym, ap, ◌∙◌, subst, arith}
+use Rattle.std.proofs.Common.{◌≡◌, ℕ, ◌+◌, ◌*◌, ◌≤◌, ◌∷◌, drop, sym, ap, ◌∙◌, subst, arith}
 use Rattle.std.proofs.lemmas.Result.{IfOk-weaker}
 use Rattle.std.proofs.lemmas.List.{drop_all}
 use Rattle.micro_m.specs.Values.{environment}
@@ -9,7 +9,7 @@ use Rattle.micro_m.specs.inner.Falls.{sizes_fall, terms_fall}
 use Rattle.micro_m.proofs.TermLemmas.{argument_values-at, argument_values-past}
 use Rattle.driver_core.specs.Weights.{tree_weight, trees_weight, tree_steps_weight}
 use Rattle.flat_code.specs.declared.program.Node.TheVariants.{Lit, Do}
-use Rattle.mpp_inline.specs.inner.Growth.{count, at, denoted, Sane, Known, Pushed, Along, Gives, TermStep}
+use Rattle.mpp_inline.specs.inner.Growth.{IsUsable, at, denoted, Sane, Known, Pushed, Along, Gives, TermStep}
 use Rattle.mpp_inline.specs.inner.Sizes.{load}
 use Rattle.mpp_inline.proofs.SizeLemmas.{three-trees}
 use Rattle.mpp_inline.proofs.ListLemmas.{drop_next}
@@ -60,7 +60,7 @@ emit_term-returns-in_ok-so_far-in-Chain-clause-step t c =
     let x = c.in_ok-so_far-in-Chain.so_far in
     let steps = c.deref-in-Chain-2.result.now in
     let is = (λ i. chain (c.deref-in-Chain.ensures i) (steps_of (c.deref-in-Chain-2.ensures.value i))) ∙ sym (ap tree_of c.in-Chain.is) ∙ c.term.view_is in
-    IfOk-weaker c.emit_steps.result (λ k. Sane d → Known d e → x < count d → Gives d c.emit_steps.new.b (λ inputs. folded (environment (denoted d inputs e)) (at d inputs x) (steps_of steps)) k) _
+    IfOk-weaker c.emit_steps.result (λ k. Sane d → Known d e → IsUsable d x → Gives d c.emit_steps.new.b (λ inputs. folded (environment (denoted d inputs e)) (at d inputs x) (steps_of steps)) k) _
     (λ k f s kn. subst (λ g. TermStep b c.emit_steps.new.b e (λ y. term_value y g) k) is
     (chain-step (λ y. term_value y c.deref-in-Chain.result.now) (λ y v. folded y v (steps_of steps)) c.in_ok-so_far-in-Chain.ensures.step f s kn))
     c.emit_steps.ensures.step
@@ -100,7 +100,7 @@ emit_read-returns-in_ok-place-in-None-clause-step t c =
     let x = c.in_ok-place-in-None.place in
     let first = c.args.first in
     let size = c.args.size in
-    IfOk-weaker c.emit_table.result (λ k. Sane d → Known d e → x < count d → Gives d c.emit_table.new.b (λ inputs. picked_value (environment (denoted d inputs e)) (picked first size (at d inputs x))) k) _
+    IfOk-weaker c.emit_table.result (λ k. Sane d → Known d e → IsUsable d x → Gives d c.emit_table.new.b (λ inputs. picked_value (environment (denoted d inputs e)) (picked first size (at d inputs x))) k) _
     (λ k f s kn. chain-step (λ y. term_value y c.args.index.now) (λ y v. picked_value y (picked first size v)) c.in_ok-place-in-None.ensures.step f s kn)
     c.emit_table.ensures.step
 

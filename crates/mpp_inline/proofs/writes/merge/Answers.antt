@@ -1,8 +1,8 @@
-use Rattle.std.proofs.Common.{◌≡◌, ◌+◌, ◌<◌, [], ◌∷◌, drop, get_or, length, sym, ap, ◌∙◌, subst, arith}
+use Rattle.std.proofs.Common.{◌≡◌, ◌+◌, [], ◌∷◌, drop, get_or, length, sym, ap, ◌∙◌, subst, arith}
 use Rattle.std.proofs.lemmas.List.{drop_more, drop_all}
 use Rattle.m_fixed.specs.declared.operator.Op.TheVariants.{Choose}
 use Rattle.flat_code.specs.declared.program.Node.TheVariants.{Do}
-use Rattle.mpp_inline.specs.inner.Growth.{count, Placed, Held, Pushed, Merged, SameButSome, cells_of}
+use Rattle.mpp_inline.specs.inner.Growth.{IsUsable, Placed, Held, Pushed, Merged, SameButSome, cells_of}
 use Rattle.mpp_inline.specs.inner.Sizes.{load}
 use Rattle.mpp_inline.proofs.ListLemmas.{all-get, some-first, some-next, some-last, same-put, same-none}
 use Rattle.mpp_inline.proofs.GrowthLemmas.{pushed-load}
@@ -21,7 +21,7 @@ loop-cell-preserved c =
     let p = get_or all i (0, 0) in
     let rest = drop (i + 1) all in
     let next : drop i all ≡ p ∷ rest = drop_more all i (0, 0) c.loop-cell-test.true in
-    let within : Placed b e truth → Held b all → p.1 < count b = λ r h. all-get (λ q. q.1 < count b) all i (0, 0) (omega (arith, r.sane.three)) h.all in
+    let within : Placed b e truth → Held b all → IsUsable b p.1 = λ r h. all-get (λ q. IsUsable b q.1) all i (0, 0) (r.sane.literal 0 (omega arith)) h.all in
     let step : Placed b e truth → Held b all → Merged b c.loop-cell.b truth (p ∷ rest) all e f = λ r h. subst (λ ps. Merged b c.loop-cell.b truth ps all e f) next (c.loop-cell.invariant.step r h) in
     let frame : SameButSome (p.0 ∷ cells_of rest) (cells_of all) e f = subst (λ ps. SameButSome (cells_of ps) (cells_of all) e f) next c.loop-cell.invariant.frame in
     elim c.if-first-second.branch [
