@@ -20,14 +20,6 @@ enum Told {
     Wrong(CodeWrong),
 }
 
-// One input, and a number of slots that is no room.
-fn made(alloc: Global, instrs: &[Instr], outputs: u32) -> Result<Code, CodeWrong> {
-    if instrs.len() > 100 {
-        return Err(CodeWrong::NoOutput);
-    }
-    make_code(alloc, 1, 4_294_967_295, 2, outputs, instrs)
-}
-
 // The first output of a run.
 fn ran(alloc: Global, code: &Code, input: Value) -> Result<Told, Fail> {
     if code.inputs() != 1 || code.outputs() == 0 {
@@ -40,8 +32,12 @@ fn ran(alloc: Global, code: &Code, input: Value) -> Result<Told, Fail> {
     })
 }
 
+// The same of these instructions with one input, and a number of slots that is no room. No test has many of them.
 fn answered(alloc: Global, instrs: &[Instr], outputs: u32, input: Value) -> Result<Told, Fail> {
-    match made(alloc, instrs, outputs) {
+    if instrs.len() > 100 {
+        return Err(Fail::from("too many instructions"));
+    }
+    match make_code(alloc, 1, 4_294_967_295, 2, outputs, instrs) {
         Ok(code) => ran(alloc, &code, input),
         Err(wrong) => Ok(Told::Wrong(wrong)),
     }

@@ -1,28 +1,30 @@
 //! Code files that are read: what is written reads back, and each fault is the first one.
 use code_file::{CodeFault, Loaded, read_code, write_code};
+use m_places::limits::CODE_FILE_BYTES;
 use m_ports::{MemSink, Sink};
 use observables::{FaceLabel, FaceOutput, InputType};
 use std::alloc::Global;
 use std::test::Fail;
 
-fn read(alloc: Global, bytes: &[u8]) -> Result<Loaded, CodeFault> {
-    if bytes.len() > 1_000_000 {
-        return Err(CodeFault::Memory);
+// What a text says, or its fault. No test has a text that is too long.
+fn read(alloc: Global, bytes: &[u8]) -> Result<Result<Loaded, CodeFault>, Fail> {
+    if bytes.len() as u64 > CODE_FILE_BYTES {
+        return Err(Fail::from("a text that is too long"));
     }
-    read_code(alloc, bytes)
+    Ok(read_code(alloc, bytes))
 }
 
 // The fault of a text, if it has one.
-fn fault(alloc: Global, bytes: &[u8]) -> Option<CodeFault> {
-    match read(alloc, bytes) {
-        Ok(_) => None,
-        Err(fault) => Some(fault),
+fn fault(alloc: Global, bytes: &[u8]) -> Result<Option<CodeFault>, Fail> {
+    match read(alloc, bytes)? {
+        Ok(_) => Ok(None),
+        Err(fault) => Ok(Some(fault)),
     }
 }
 
 // Whether what is read of a text is written as the same.
 fn reads_back(alloc: Global, bytes: &[u8]) -> Result<bool, Fail> {
-    match read(alloc, bytes) {
+    match read(alloc, bytes)? {
         Err(_) => Ok(false),
         Ok(loaded) => {
             let mut out = MemSink::new(alloc, 5, Vec::new(alloc))?;
@@ -92,7 +94,7 @@ fn what_is_read_is_written_as_the_same(rt: HostRuntime) -> Result<(), Fail> {
 #[test]
 fn a_face_is_read(rt: HostRuntime) -> Result<(), Fail> {
     let alloc = rt.alloc();
-    let loaded = match read(alloc, FORMS) {
+    let loaded = match read(alloc, FORMS)? {
         Ok(loaded) => loaded,
         Err(_) => return Err(Fail::from("a fault")),
     };
@@ -132,7 +134,7 @@ fn each_prefix_ends_early(rt: HostRuntime) -> Result<(), Fail> {
         } else {
             CodeFault::BadLine(line)
         };
-        assert_eq!(rt; fault(alloc, &EXAMPLE[..end]), Some(wanted));
+        assert_eq!(rt; fault(alloc, &EXAMPLE[..end])?, Some(wanted));
         if EXAMPLE[end] == b'\n' && line < 100 {
             line += 1;
         }
@@ -160,7 +162,7 @@ fn with_line(alloc: Global, line: &[u8], at: usize) -> Result<Vec<u8>, Fail> {
 // The fault of the example where these bytes stand in place of a line.
 fn changed(alloc: Global, line: &[u8], at: usize) -> Result<Option<CodeFault>, Fail> {
     let text = with_line(alloc, line, at)?;
-    Ok(fault(alloc, &text))
+    fault(alloc, &text)
 }
 
 #[test]

@@ -10,3 +10,5 @@ mod codes;
 mod commands;
 #[cfg(test)]
 mod inputs;
+#[cfg(test)]
+mod shows;

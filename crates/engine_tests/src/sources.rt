@@ -1,4 +1,4 @@
-//! Sources: one whose inputs are all held to its end, the generated one, and one that looks like a real year.
+//! Sources: one whose inputs are all held to its end, the generated one, one that looks like a real year, and one with types and notes.
 ghost use Rattle.std.specs.Prelude.{◌≤◌, IfOk, length};
 ghost use Rattle.m_places.specs.declared.limits.TheConstants.{FILE_BYTES};
 ghost use Rattle.rule_text.specs.Limits.{FileIsWithin, SourceKeepsLimits, TextsAreWithin};
@@ -71,6 +71,22 @@ without_benefits():
   partition with taxbenefit:
     IRNET <- call_m()
   AVANT = IRNET
+";
+
+// Four inputs with types and without, and a verification of each kind.
+const NOTED: &[u8] = b"V : saisie revenu classe = 0 alias 1AJ : \"v\" type ENTIER ;
+B : saisie revenu classe = 0 alias 1BB : \"b\" type BOOLEEN ;
+C : saisie revenu classe = 0 alias 1CC : \"c\" type REEL ;
+D : saisie revenu classe = 0 alias 1DD : \"d\" ;
+R : calculee restituee : \"r\" ;
+A10 : anomalie : \"A\" : \"10\" : \"00\" : \"too much\" : \"N\" ;
+A20 : discordance : \"A\" : \"20\" : \"00\" : \"nothing\" : \"N\" ;
+A30 : informative : \"A\" : \"30\" : \"00\" : \"both\" : \"N\" ;
+regle 1 : application : iliad ;
+R = V + B + C + D ;
+verif 1000 : application : iliad ;  si V > 9 alors erreur A10 ;
+verif 2000 : application : iliad ;  si V = 0 alors erreur A20 ;
+verif 3000 : application : iliad ;  si B > 0 alors erreur A30 ;
 ";
 
 // The bytes of a file.
@@ -183,4 +199,16 @@ fn add_wages(
         text.extend_from_slice(line.as_bytes())?;
     }
     Ok(())
+}
+
+/// Inputs with types, and verifications that are noted.
+pub fn with_notes(alloc: Global) -> Result<Source, Fail>
+    ensures { IfOk result SourceKeepsLimits }
+{
+    source(alloc, noted(), None, None)
+}
+
+// The rules, out of reach of the proof.
+fn noted() -> &'static [u8] {
+    NOTED
 }

@@ -294,11 +294,9 @@ fn is_judged<R: Threads + Sync>(
     given: Option<i128>,
     report: &[u8],
     wanted: &[u8],
-) -> Result<bool, AllocError> {
-    match base_of(rt, alloc, formulas) {
-        Ok(made) => Ok(judged(alloc, &made, given, report)?.as_slice() == wanted),
-        Err(_) => Ok(false),
-    }
+) -> Result<bool, Fail> {
+    let made = base_of(rt, alloc, formulas)?;
+    Ok(judged(alloc, &made, given, report)?.as_slice() == wanted)
 }
 
 #[test]
@@ -338,10 +336,8 @@ fn all_are_bad(alloc: Global, symbols: &Symbols) -> Result<(), Fail>
 
 #[test]
 fn bad_lines(rt: HostRuntime) -> Result<(), Fail> {
-    match base_of(&rt, rt.alloc(), COPIED) {
-        Ok(made) => all_are_bad(rt.alloc(), &made.symbols),
-        Err(_) => Err(Fail::from("refused rules")),
-    }
+    let made = base_of(&rt, rt.alloc(), COPIED)?;
+    all_are_bad(rt.alloc(), &made.symbols)
 }
 
 // A report as it is printed once it is read.
@@ -385,8 +381,6 @@ fn all_are_printed(alloc: Global, symbols: &Symbols) -> Result<(), Fail>
 
 #[test]
 fn read_and_printed(rt: HostRuntime) -> Result<(), Fail> {
-    match base_of(&rt, rt.alloc(), COPIED) {
-        Ok(made) => all_are_printed(rt.alloc(), &made.symbols),
-        Err(_) => Err(Fail::from("refused rules")),
-    }
+    let made = base_of(&rt, rt.alloc(), COPIED)?;
+    all_are_printed(rt.alloc(), &made.symbols)
 }

@@ -9,6 +9,7 @@ use m_places::{Name, Seq};
 use rule_base::{RuleBase, RuleFault, rule_base};
 use rule_text::Text;
 use std::alloc::{AllocError, Global};
+use std::test::Fail;
 use std::thread::Threads;
 
 /// Declarations in which REV is the cell 0, IRN is the cell 1, T is the cells 2 to 4, A and B are the cells 5 and 6, and SEUIL, which
@@ -16,12 +17,8 @@ use std::thread::Threads;
 pub const CELLS: &[u8] =
     b" REV : saisie alias 1AJ : \"r\" ; IRN : calculee : \"i\" ; T : tableau[3] calculee : \"t\" ; A : calculee : \"a\" ; B : calculee : \"b\" ; SEUIL : const = 1000 ;";
 
-/// The base of a rule of iliad with these formulas.
-pub fn base_of<R: Threads + Sync>(
-    rt: &R,
-    alloc: Global,
-    formulas: &[u8],
-) -> Result<RuleBase, RuleFault>
+/// The base of a rule of iliad with these formulas, which have no fault.
+pub fn base_of<R: Threads + Sync>(rt: &R, alloc: Global, formulas: &[u8]) -> Result<RuleBase, Fail>
     ensures valid { IfOk result (λ made. IsValidBase made.ordered.base) }
     ensures order { IfOk result (λ made. IsOrder made.ordered.base made.ordered.sequence) }
     ensures placed { IfOk result (λ made. IsPlaced made.symbols) }
@@ -29,9 +26,12 @@ pub fn base_of<R: Threads + Sync>(
 {
     let bytes = source(alloc, formulas)?;
     if bytes.len() > 4_096 {
-        return Err(RuleFault::Memory);
+        return Err(Fail::from("rules that are too long"));
     }
-    base_over(rt, alloc, bytes)
+    match base_over(rt, alloc, bytes) {
+        Ok(made) => Ok(made),
+        Err(_) => Err(Fail::from("refused rules")),
+    }
 }
 
 fn source(alloc: Global, formulas: &[u8]) -> Result<Vec<u8>, AllocError> {

@@ -1,5 +1,5 @@
-//! Tests of rules over cells, of source text through the base of rule files: names that become cells, orders and cycles, and
-//! what the rules are worth.
+//! Tests of rules over cells, of source text through the base of rule files: names that become cells, orders and cycles,
+//! what the rules are worth, and rule files that several workers read.
 #![tactic(auto)]
 
 #[cfg(test)]
@@ -10,3 +10,5 @@ mod resolution;
 mod runs;
 #[cfg(test)]
 mod source;
+#[cfg(test)]
+mod threads;

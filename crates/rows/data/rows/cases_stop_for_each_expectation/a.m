@@ -1,0 +1,8 @@
+REV : saisie revenu classe = 0 alias 1AJ : "s" ;
+SEUIL : const = 1000 ;
+IRN : calculee restituee : "n" ;
+B : calculee restituee : "b" ;
+regle 10 : application : iliad ;
+IRN = max(0, REV - SEUIL) ;
+A20 : anomalie : "A" : "20" : "00" : "revenu nul" : "N" ;
+verif 2000 : application : iliad ; si REV > 100 alors erreur A20 ;

@@ -1,0 +1,9 @@
+REV : saisie revenu classe = 0 alias 1AJ : "s" ;
+SEUIL : const = 1000 ;
+IRN : calculee restituee : "n" ;
+U : calculee : "u" ;
+V : calculee : "v" ;
+regle 10 : application : iliad ;
+IRN = max(0, REV - SEUIL) ;
+regle 20 : application : oceans ;
+IRN = V ;

@@ -1,0 +1,10 @@
+REV : saisie revenu classe = 0 alias 1AJ : "s" ;
+SEUIL : const = 1000 ;
+IRN : calculee restituee : "n" ;
+Z : saisie alias 1ZZ : "z" ;
+W : saisie alias 1WW : "w" ;
+Y : saisie alias 1AA : "y" ;
+regle 10 : application : iliad ;
+IRN = max(0, REV - SEUIL) ;
+A20 : anomalie : "A" : "20" : "00" : "revenu nul" : "N" ;
+verif 7 : application : iliad ; si W > 5 alors erreur A20 ;

@@ -1,0 +1,22 @@
+use Rattle.std.proofs.Common.{◌≡◌, ◌≤◌, ◌+◌, ℕ, length, length-append, List, [], ◌∷◌, ◌++◌, subst, sym, ap, ◌∙◌, arith}
+use Rattle.rule_text.specs.Limits.{EachIsWithin}
+use Rattle.rule_text.specs.declared.Text.{Text}
+use Rattle.rule_base_tests.proofs.threads.texts_of.Goals as goal
+
+-- one more text that is short
+within_one : (texts : List Text) (text : Text) → EachIsWithin texts → length text.bytes ≤ 4096 → EachIsWithin (texts ++ text ∷ [])
+within_one [] text w l = (omega (arith, l), tt)
+within_one (one ∷ texts) text w l = (w.0, within_one texts text w.1 l)
+
+within_push : (texts new : List Text) (text : Text) → new ≡ texts ++ text ∷ [] → EachIsWithin texts → length text.bytes ≤ 4096 → EachIsWithin new
+within_push texts new text e w l = subst EachIsWithin (sym e) (within_one texts text w l)
+
+-- and they are one more
+pushed : (texts new : List Text) (text : Text) (n : ℕ) → new ≡ texts ++ text ∷ [] → length texts ≡ n → length new ≡ n + 1
+pushed texts new text n e l = ap length e ∙ length-append texts (text ∷ []) ∙ ap (λ k. k + 1) l
+
+pub loop-preserved : goal.loop-preserved
+loop-preserved c = record {
+  each = within_push _ _ _ c.in_ok-push.ensures.items c.loop.invariant.each c.in_ok-text_of.ensures;
+  so_many = pushed c.loop.texts.items _ _ c.loop.counter c.in_ok-push.ensures.items c.loop.invariant.so_many;
+}
