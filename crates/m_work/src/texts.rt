@@ -15,10 +15,8 @@ ghost use Rattle.m_lint.specs.Lines.{findings_text};
 ghost use Rattle.tax_print.specs.Lines.{AnswerIsWithin, answer_lines};
 ghost use Rattle.m_work.specs.Larges.{large_line};
 ghost use Rattle.m_work.specs.inner.CaseGroups.{compared_count, compared_lines, with_count};
-ghost use Rattle.m_work.specs.inner.Groups.{answered_lines};
 
 use crate::case_groups::print_all_mismatches;
-use crate::groups::print_answers;
 use crate::large::print_large;
 use code_file::{Loaded, write_code};
 use held_text::{FixedText, HeldText};
@@ -70,25 +68,6 @@ pub(crate) fn give_large<K: Sink>(
     match print_large(n, face, answer, held) {
         Ok(()) => give_all(out, held.text()),
         Err(_) => print_large(n, face, answer, out),
-    }
-}
-
-/// Gives the lines of rows with their answers.
-pub(crate) fn give_answers<K: Sink>(
-    face: &Face,
-    rows: &[Row],
-    answers: &[Answer],
-    held: &mut FixedText,
-    out: &mut K,
-) -> Result<(), Failed>
-    requires many { length answers.now ≡ length rows.now }
-    requires within { AllByRecursion (AnswerIsWithin face.now) answers.now }
-    ensures { Gives K.written K.faults out.old out.new result (answered_lines face.now rows.now answers.now) }
-{
-    held.clear();
-    match print_answers(face, rows, answers, held) {
-        Ok(()) => give_all(out, held.text()),
-        Err(_) => print_answers(face, rows, answers, out),
     }
 }
 
