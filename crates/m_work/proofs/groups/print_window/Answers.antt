@@ -6,7 +6,9 @@ use Rattle.m_work.proofs.GroupLemmas.{answers_within, program_answered}
 use Rattle.m_work.proofs.groups.print_window.Goals as goal
 
 pub give_rows-requires-clause-within : goal.give_rows-requires-clause-within
-give_rows-requires-clause-within g c = ?
+give_rows-requires-clause-within g c = λ κs lives.
+    subst (AllByRecursion (AnswerIsWithin c.args.loaded.now.face)) (sym (c.as_slice.ensures ∙ c.in_ok-answers.ensures))
+    (answers_within c.args.loaded.now c.args.rows.now c.requires.runnable)
 
 pub returns : goal.returns
 returns g c =
