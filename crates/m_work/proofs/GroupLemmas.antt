@@ -116,10 +116,10 @@ pub part_within : (face : Face) (answers : List Answer) (size n : ℕ) → AllBy
 part_within face answers size n all = all_taken (AnswerIsWithin face) size (drop (n * size) answers) (all_dropped (AnswerIsWithin face) (n * size) answers all)
 
 -- the rows that are left begin with a part
-part_at_front : (face : Face) (rows : List Row) (answers : List Answer) (size n : ℕ) → length answers ≡ length rows
+part_first : (face : Face) (rows : List Row) (answers : List Answer) (size n : ℕ) → length answers ≡ length rows
     → answered_lines face (drop (n * size) rows) (drop (n * size) answers)
     ≡ answered_lines face (slice_chunk rows size n) (slice_chunk answers size n) ++ answered_lines face (drop ((n + 1) * size) rows) (drop ((n + 1) * size) answers)
-part_at_front face rows answers size n many =
+part_first face rows answers size n many =
     let from = n * size in
     let there : from + size ≡ (n + 1) * size =
     (let one : n + 1 ≡ suc n = omega arith in let turned = ap (λ k. k * size) one in let more = suc-mul n size in omega (arith, turned, more)) in
@@ -133,7 +133,7 @@ part_at_front face rows answers size n many =
 pub part_next : (face : Face) (rows part : List Row) (answers told : List Answer) (size n : ℕ) → length answers ≡ length rows → part ≡ slice_chunk rows size n → told ≡ slice_chunk answers size n
     → answered_lines face (drop (n * size) rows) (drop (n * size) answers) ≡ answered_lines face part told ++ answered_lines face (drop ((n + 1) * size) rows) (drop ((n + 1) * size) answers)
 part_next face rows part answers told size n many is_part is_told =
-    part_at_front face rows answers size n many
+    part_first face rows answers size n many
     ∙ ap (λ left. answered_lines face left (slice_chunk answers size n) ++ answered_lines face (drop ((n + 1) * size) rows) (drop ((n + 1) * size) answers)) (sym is_part)
     ∙ ap (λ left. answered_lines face part left ++ answered_lines face (drop ((n + 1) * size) rows) (drop ((n + 1) * size) answers)) (sym is_told)
 

@@ -74,9 +74,9 @@ pub(crate) fn print_rows<R: Threads + Sync, K: Sink>(
     Ok(())
 }
 
-// How many rows are computed at once of code with so many outputs: some hundred at least, so that their answers take no more than some 10 MB
-// or the room of so many.
-fn window_for(outputs: u32) -> usize
+/// How many rows are computed at once of code with so many outputs: some hundred at least, so that their answers take no more than some 10 MB
+/// or the room of so many.
+pub(crate) fn window_for(outputs: u32) -> usize
     ensures { 0 < result }
 {
     match VALUES.checked_div(outputs as usize) {
@@ -85,8 +85,8 @@ fn window_for(outputs: u32) -> usize
     }
 }
 
-// Where a window of so many rows ends that begins at a place.
-fn window_end(from: usize, count: usize, size: usize) -> usize
+/// Where a window of so many rows ends that begins at a place.
+pub(crate) fn window_end(from: usize, count: usize, size: usize) -> usize
     requires begun { from < count }
     requires size { 0 < size }
     ensures some { from < result }

@@ -19,7 +19,7 @@ use std::thread::Threads;
 const ALONE: usize = 256;
 
 // How many bytes the texts have room for that are held at once.
-const ROOM: usize = 16_777_216;
+const ROOM: usize = 33_554_432;
 
 /// Gives the lines of rows with their answers. Several workers print them, each those of a part.
 pub(crate) fn give_rows<R: Threads + Sync, K: Sink>(

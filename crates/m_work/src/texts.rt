@@ -33,8 +33,8 @@ use tax_print::print_answer;
 /// The room for the lines of one answer.
 pub(crate) const ANSWER_ROOM: usize = 65_536;
 
-/// The room for the lines of a group of rows.
-pub(crate) const GROUP_ROOM: usize = 1_048_576;
+/// The room for the lines of cases that are computed at once.
+pub(crate) const CASES_ROOM: usize = 4_194_304;
 
 /// Gives the lines of an answer.
 pub(crate) fn give_answer<K: Sink>(
