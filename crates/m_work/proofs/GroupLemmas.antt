@@ -1,6 +1,8 @@
 -- Rows of a table, one after another and group after group.
-use Rattle.std.proofs.Common.{◌≡◌, ℕ, zero, suc, ◌+◌, ◌-◌, ◌<◌, ◌≤◌, min, length, get_or, take, drop, List, [], ◌∷◌, ◌++◌, Option, None, Some, Result, Ok, Err, refl, sym, ◌∙◌, ap, subst, append_assoc, arith}
+use Rattle.std.proofs.Common.{◌≡◌, ℕ, zero, suc, ◌+◌, ◌-◌, ◌*◌, ◌<◌, ◌≤◌, min, length, get_or, take, drop, List, [], ◌∷◌, ◌++◌, Option, None, Some, Result, Ok, Err, refl, sym, ◌∙◌, ap, subst, append_assoc, append-nil, arith}
 use Rattle.std.specs.Prelude.{codes}
+use Rattle.std.specs.Fork.{slice_chunk}
+use native.Mathlib.Nat.{suc-mul}
 use Rattle.std.specs.List.{AllByRecursion}
 use Rattle.std.specs.Io.KnownBytes.{append_known}
 use Rattle.std.proofs.lemmas.List.{drop_more, drop_all, take-append-drop, drop-drop, length-take, length-drop}
@@ -100,20 +102,40 @@ answered_append face (row ∷ one) other (answer ∷ first) second same =
     ap (λ rest. household_lines row.label face answer ++ rest) (answered_append face one other first second (omega (arith, same)))
     ∙ sym (append_assoc (household_lines row.label face answer) (answered_lines face one first) (answered_lines face other second))
 
--- the rows that are left begin with a group
-pub answered_part : (face : Face) (rows : List Row) (answers : List Answer) (from end : ℕ) → from < end → length answers ≡ length rows
-    → answered_lines face (drop from rows) (drop from answers)
-    ≡ answered_lines face (take (end - from) (drop from rows)) (take (end - from) (drop from answers)) ++ answered_lines face (drop end rows) (drop end answers)
-answered_part face rows answers from end h many =
-    let n = end - from in
-    let there : from + n ≡ end = omega arith in
-    let same : length (take n (drop from rows)) ≡ length (take n (drop from answers)) =
-    length-take n (drop from rows) ∙ ap (min n) (length-drop from rows ∙ ap (λ k. k - from) (sym many) ∙ sym (length-drop from answers)) ∙ sym (length-take n (drop from answers)) in
-    ap (λ left. answered_lines face left (drop from answers)) (sym (take-append-drop n (drop from rows)))
-    ∙ ap (answered_lines face (take n (drop from rows) ++ drop n (drop from rows))) (sym (take-append-drop n (drop from answers)))
-    ∙ answered_append face (take n (drop from rows)) (drop n (drop from rows)) (take n (drop from answers)) (drop n (drop from answers)) same
-    ∙ ap (λ left. answered_lines face (take n (drop from rows)) (take n (drop from answers)) ++ answered_lines face left (drop n (drop from answers))) (drop-drop n from rows ∙ ap (λ k. drop k rows) there)
-    ∙ ap (λ left. answered_lines face (take n (drop from rows)) (take n (drop from answers)) ++ answered_lines face (drop end rows) left) (drop-drop n from answers ∙ ap (λ k. drop k answers) there)
+-- ---- rows and their answers, cut into parts of one size
+
+-- a part has as many answers as rows
+pub part_many : (rows : List Row) (answers : List Answer) (size n : ℕ) → length answers ≡ length rows → length (slice_chunk answers size n) ≡ length (slice_chunk rows size n)
+part_many rows answers size n many =
+    length-take size (drop (n * size) answers)
+    ∙ ap (min size) (length-drop (n * size) answers ∙ ap (λ k. k - n * size) many ∙ sym (length-drop (n * size) rows))
+    ∙ sym (length-take size (drop (n * size) rows))
+
+-- and each of them is within the face
+pub part_within : (face : Face) (answers : List Answer) (size n : ℕ) → AllByRecursion (AnswerIsWithin face) answers → AllByRecursion (AnswerIsWithin face) (slice_chunk answers size n)
+part_within face answers size n all = all_taken (AnswerIsWithin face) size (drop (n * size) answers) (all_dropped (AnswerIsWithin face) (n * size) answers all)
+
+-- the rows that are left begin with a part
+part_first : (face : Face) (rows : List Row) (answers : List Answer) (size n : ℕ) → length answers ≡ length rows
+    → answered_lines face (drop (n * size) rows) (drop (n * size) answers)
+    ≡ answered_lines face (slice_chunk rows size n) (slice_chunk answers size n) ++ answered_lines face (drop ((n + 1) * size) rows) (drop ((n + 1) * size) answers)
+part_first face rows answers size n many =
+    let from = n * size in
+    let there : from + size ≡ (n + 1) * size =
+    (let one : n + 1 ≡ suc n = omega arith in let turned = ap (λ k. k * size) one in let more = suc-mul n size in omega (arith, turned, more)) in
+    ap (λ left. answered_lines face left (drop from answers)) (sym (take-append-drop size (drop from rows)))
+    ∙ ap (answered_lines face (take size (drop from rows) ++ drop size (drop from rows))) (sym (take-append-drop size (drop from answers)))
+    ∙ answered_append face (take size (drop from rows)) (drop size (drop from rows)) (take size (drop from answers)) (drop size (drop from answers)) (sym (part_many rows answers size n many))
+    ∙ ap (λ left. answered_lines face (take size (drop from rows)) (take size (drop from answers)) ++ answered_lines face left (drop size (drop from answers))) (drop-drop size from rows ∙ ap (λ k. drop k rows) there)
+    ∙ ap (λ left. answered_lines face (take size (drop from rows)) (take size (drop from answers)) ++ answered_lines face (drop ((n + 1) * size) rows) left) (drop-drop size from answers ∙ ap (λ k. drop k answers) there)
+
+-- the same of a part that was cut
+pub part_next : (face : Face) (rows part : List Row) (answers told : List Answer) (size n : ℕ) → length answers ≡ length rows → part ≡ slice_chunk rows size n → told ≡ slice_chunk answers size n
+    → answered_lines face (drop (n * size) rows) (drop (n * size) answers) ≡ answered_lines face part told ++ answered_lines face (drop ((n + 1) * size) rows) (drop ((n + 1) * size) answers)
+part_next face rows part answers told size n many is_part is_told =
+    part_first face rows answers size n many
+    ∙ ap (λ left. answered_lines face left (slice_chunk answers size n) ++ answered_lines face (drop ((n + 1) * size) rows) (drop ((n + 1) * size) answers)) (sym is_part)
+    ∙ ap (λ left. answered_lines face part left ++ answered_lines face (drop ((n + 1) * size) rows) (drop ((n + 1) * size) answers)) (sym is_told)
 
 -- ---- answers are within the face
 
@@ -140,6 +162,19 @@ part_stopped written faults old now new text piece rest left whole other Failed 
       (AppendsPrefix-after (written old) (written now) (written new) given.front (piece ++ rest) given.appended
       (AppendsPrefix-before (written now) (written new) piece rest prefix));
   counted = subst (λ count. Rose count (faults new)) given.faultless counted;
+})
+
+nothing_more : (known : Option (List ℕ)) → known ≡ append_known known []
+nothing_more None = refl
+nothing_more (Some bytes) = ap Some (sym (append-nil bytes))
+
+-- there was no memory before the first write
+pub nothing_written : {S U : Type 0} (written : S → Option (List ℕ)) (faults : S → ℕ) (old : S) (text : List ℕ) (result : Result U GroupFault) (fault : GroupFault)
+    → result ≡ Err fault → fault ≡ Memory → WritesGroups written faults old old result text
+nothing_written written faults old text result fault f s = rw (f ∙ ap Err s) (record {
+  all = tt;
+  prefix = record { part = []; rest = text; whole = refl; appended = nothing_more (written old) };
+  counted = refl;
 })
 
 -- a call failed that was to write all

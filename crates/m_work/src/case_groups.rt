@@ -11,8 +11,8 @@ ghost use Rattle.m_work.specs.Prepared.{IsRunnableCode};
 ghost use Rattle.m_work.specs.inner.CaseGroups.{case_count, case_lines, case_text, compared_count, compared_lines};
 ghost use Rattle.m_work.specs.inner.Groups.{WritesGroups};
 
-use crate::groups::GroupFault;
-use crate::texts::{GROUP_ROOM, give_compared};
+use crate::groups::{GroupFault, window_end, window_for};
+use crate::texts::{CASES_ROOM, give_compared};
 use code_file::Loaded;
 use held_text::FixedText;
 use household::Row;
@@ -23,9 +23,6 @@ use m_ports::{Failed, Sink};
 use observables::{Answer, Face};
 use std::alloc::Global;
 use std::thread::Threads;
-
-// How many rows are computed before they are written.
-const GROUP: usize = 256;
 
 /// Computes, compares and writes rows, a group after the other, and then how many rows and mismatches there are. Answers how many mismatches.
 pub(crate) fn print_cases<R: Threads + Sync, K: Sink>(
@@ -66,29 +63,17 @@ fn print_compared<R: Threads + Sync, K: Sink>(
     ensures text { WritesGroups K.written K.faults out.old out.new result (case_lines loaded.now rows.now expected.now) }
     ensures count { IfOk result (λ count. count ≡ case_count loaded.now rows.now expected.now) }
 {
-    let mut held = FixedText::new(alloc, GROUP_ROOM)?;
+    let mut held = FixedText::new(alloc, CASES_ROOM)?;
+    let size = window_for(loaded.code.outputs());
     let mut from = 0;
     let mut count = 0;
     while from < rows.len() {
-        let end = group_end(from, rows.len());
+        let end = window_end(from, rows.len(), size);
         let (group, wanted) = (&rows[from..end], &expected[from..end]);
         count += print_group(rt, alloc, loaded, group, wanted, &mut held, out)?;
         from = end;
     }
     Ok(count)
-}
-
-// Where the group ends that begins at a place.
-fn group_end(from: usize, count: usize) -> usize
-    requires { from < count }
-    ensures some { from < result }
-    ensures within { result ≤ count }
-{
-    if count - from <= GROUP {
-        count
-    } else {
-        from + GROUP
-    }
 }
 
 // Computes rows, and then writes what they expect and code doesn't answer. Answers how much that is.

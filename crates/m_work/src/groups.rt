@@ -1,4 +1,4 @@
-//! The rows of a table, computed some thousand at once, and written in groups.
+//! The rows of a table, computed and printed by several workers some thousand at once.
 ghost use Rattle.std.specs.Prelude.{◌≡◌, ◌<◌, ◌≤◌, length};
 ghost use Rattle.std.specs.List.{AllByRecursion};
 ghost use Rattle.text_pieces.specs.Giving.{Gives};
@@ -8,9 +8,8 @@ ghost use Rattle.m_work.specs.Prepared.{IsRunnableCode};
 ghost use Rattle.m_work.specs.inner.Groups.{WritesGroups, answered_lines, program_lines};
 ghost use Rattle.m_work.specs.declared.groups.GroupFault.TheVariants.{Memory as NoMemory, Failed as NotWritten};
 
-use crate::texts::{GROUP_ROOM, give_answers};
+use crate::parts::give_rows;
 use code_file::Loaded;
-use held_text::FixedText;
 use household::Row;
 use m_batch::run_batch;
 use m_places::Open;
@@ -20,13 +19,12 @@ use std::alloc::{AllocError, Global};
 use std::thread::Threads;
 use tax_print::print_household;
 
-// How many rows' lines are given in one call.
-const GROUP: usize = 256;
-
-// How many rows are computed before they are written, at most.
+// How many rows are computed before they are written, at most, and at least where there are so many.
 const WINDOW: usize = 8_192;
 
-// How many values the answers of a window may have, where it has more rows than a group.
+const FEWEST: usize = 256;
+
+// How many values the answers of a window may have, where it has more rows than the fewest.
 const VALUES: usize = 262_144;
 
 /// Why rows are not written to their end.
@@ -66,30 +64,29 @@ pub(crate) fn print_rows<R: Threads + Sync, K: Sink>(
     requires inputs { AllByRecursion (HasInputsBelow loaded.now.code.counts.inputs) rows.now }
     ensures { WritesGroups K.written K.faults out.old out.new result (program_lines loaded.now rows.now) }
 {
-    let mut held = FixedText::new(alloc, GROUP_ROOM)?;
     let size = window_for(loaded.code.outputs());
     let mut from = 0;
     while from < rows.len() {
-        let end = part_end(from, rows.len(), size);
-        print_window(rt, alloc, loaded, &rows[from..end], &mut held, out)?;
+        let end = window_end(from, rows.len(), size);
+        print_window(rt, alloc, loaded, &rows[from..end], out)?;
         from = end;
     }
     Ok(())
 }
 
-// How many rows are computed at once of code with so many outputs: at least a group, so that their answers take no more than some 10 MB or
-// a group's room.
-fn window_for(outputs: u32) -> usize
+/// How many rows are computed at once of code with so many outputs: some hundred at least, so that their answers take no more than some 10 MB
+/// or the room of so many.
+pub(crate) fn window_for(outputs: u32) -> usize
     ensures { 0 < result }
 {
     match VALUES.checked_div(outputs as usize) {
-        Some(rows) => rows.clamp(GROUP, WINDOW),
+        Some(rows) => rows.clamp(FEWEST, WINDOW),
         None => WINDOW,
     }
 }
 
-// Where a part of so many rows ends that begins at a place.
-fn part_end(from: usize, count: usize, size: usize) -> usize
+/// Where a window of so many rows ends that begins at a place.
+pub(crate) fn window_end(from: usize, count: usize, size: usize) -> usize
     requires begun { from < count }
     requires size { 0 < size }
     ensures some { from < result }
@@ -108,7 +105,6 @@ fn print_window<R: Threads + Sync, K: Sink>(
     alloc: Global,
     loaded: &Loaded,
     rows: &[Row],
-    held: &mut FixedText,
     out: &mut K,
 ) -> Result<(), GroupFault>
     requires runnable { IsRunnableCode loaded.now }
@@ -116,29 +112,7 @@ fn print_window<R: Threads + Sync, K: Sink>(
     ensures { WritesGroups K.written K.faults out.old out.new result (program_lines loaded.now rows.now) }
 {
     let answers = run_batch(rt, alloc, &loaded.code, rows, &Open)?;
-    give_groups(&loaded.face, rows, answers.as_slice(), held, out)?;
-    Ok(())
-}
-
-// Gives the lines of rows with their answers, a group after the other.
-fn give_groups<K: Sink>(
-    face: &Face,
-    rows: &[Row],
-    answers: &[Answer],
-    held: &mut FixedText,
-    out: &mut K,
-) -> Result<(), Failed>
-    requires many { length answers.now ≡ length rows.now }
-    requires within { AllByRecursion (AnswerIsWithin face.now) answers.now }
-    ensures { Gives K.written K.faults out.old out.new result (answered_lines face.now rows.now answers.now) }
-{
-    let mut from = 0;
-    while from < rows.len() {
-        let end = part_end(from, rows.len(), GROUP);
-        give_answers(face, &rows[from..end], &answers[from..end], held, out)?;
-        from = end;
-    }
-    Ok(())
+    give_rows(rt, alloc, &loaded.face, rows, answers.as_slice(), out)
 }
 
 /// Prints the rows with their answers.

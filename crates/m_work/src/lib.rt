@@ -14,6 +14,7 @@ mod exec;
 mod groups;
 mod large;
 mod lint;
+mod parts;
 mod program;
 mod run;
 mod serving;

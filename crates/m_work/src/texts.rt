@@ -15,10 +15,8 @@ ghost use Rattle.m_lint.specs.Lines.{findings_text};
 ghost use Rattle.tax_print.specs.Lines.{AnswerIsWithin, answer_lines};
 ghost use Rattle.m_work.specs.Larges.{large_line};
 ghost use Rattle.m_work.specs.inner.CaseGroups.{compared_count, compared_lines, with_count};
-ghost use Rattle.m_work.specs.inner.Groups.{answered_lines};
 
 use crate::case_groups::print_all_mismatches;
-use crate::groups::print_answers;
 use crate::large::print_large;
 use code_file::{Loaded, write_code};
 use held_text::{FixedText, HeldText};
@@ -35,8 +33,8 @@ use tax_print::print_answer;
 /// The room for the lines of one answer.
 pub(crate) const ANSWER_ROOM: usize = 65_536;
 
-/// The room for the lines of a group of rows.
-pub(crate) const GROUP_ROOM: usize = 1_048_576;
+/// The room for the lines of cases that are computed at once.
+pub(crate) const CASES_ROOM: usize = 4_194_304;
 
 /// Gives the lines of an answer.
 pub(crate) fn give_answer<K: Sink>(
@@ -70,25 +68,6 @@ pub(crate) fn give_large<K: Sink>(
     match print_large(n, face, answer, held) {
         Ok(()) => give_all(out, held.text()),
         Err(_) => print_large(n, face, answer, out),
-    }
-}
-
-/// Gives the lines of rows with their answers.
-pub(crate) fn give_answers<K: Sink>(
-    face: &Face,
-    rows: &[Row],
-    answers: &[Answer],
-    held: &mut FixedText,
-    out: &mut K,
-) -> Result<(), Failed>
-    requires many { length answers.now ≡ length rows.now }
-    requires within { AllByRecursion (AnswerIsWithin face.now) answers.now }
-    ensures { Gives K.written K.faults out.old out.new result (answered_lines face.now rows.now answers.now) }
-{
-    held.clear();
-    match print_answers(face, rows, answers, held) {
-        Ok(()) => give_all(out, held.text()),
-        Err(_) => print_answers(face, rows, answers, out),
     }
 }
 

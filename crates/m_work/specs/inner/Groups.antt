@@ -1,6 +1,8 @@
 -- Rows of a table by a program, and what is known of a call that writes them.
-use Rattle.std.specs.Prelude.{◌≡◌, ℕ, List, [], ◌∷◌, ◌++◌, Option, Result, Ok, Err, OnOk, OnErr}
+use Rattle.std.specs.Prelude.{◌≡◌, ℕ, ◌<◌, List, [], ◌∷◌, ◌++◌, Option, Result, Ok, Err, IfSome, OnOk, OnErr, length, slice_index_or}
+use Rattle.std.specs.Fork.{slice_chunk}
 use Rattle.std.specs.Io.KnownBytes.{append_known}
+use Rattle.held_text.specs.Texts.{TextIn}
 use Rattle.m_ports.specs.Counts.{Rose}
 use Rattle.m_ports.specs.Sink.{AppendsPrefix}
 use Rattle.observables.specs.declared.answer.Answer.{Answer}
@@ -23,6 +25,12 @@ program_lines loaded (row ∷ rows) = household_lines row.label loaded.face (row
 abbrev pub answered_lines : Face → List Row → List Answer → List ℕ
 answered_lines face (row ∷ rows) (answer ∷ answers) = household_lines row.label face answer ++ answered_lines face rows answers
 answered_lines face _ _ = []
+
+-- Each text that there is has the lines of its part, where rows with their answers are cut into parts of this size.
+abbrev pub AreTexts : Face → List Row → List Answer → ℕ → List (Option TextIn) → Type 0
+AreTexts face rows answers size texts =
+    (n : ℕ) (d : Option TextIn) → n < length texts
+    → IfSome (slice_index_or texts n d) (λ text. text.bytes ≡ answered_lines face (slice_chunk rows size n) (slice_chunk answers size n))
 
 -- the count of faults of an output rose where a write failed, and else it is the same
 abbrev pub Counted : {T : Type 0} → Result T GroupFault → ℕ → ℕ → Type 0

@@ -10,19 +10,19 @@ pub returns-in_err-count-clause-text : goal.returns-in_err-count-clause-text
 returns-in_err-count-clause-text g c =
     let p = err_from_is_err_and c.from_residual-in_err-count.result c.from_residual-in_err-count.ensures.1 in
     part_stopped _ _ _ _ _ _ _ _ _ _ _ _ p.1 p.2
-    (lines_at c.args.loaded.now c.args.rows.now c.args.expected.now c.loop-from.from c.group_end-end.result c.group_end-end.ensures.some c.requires.many)
+    (lines_at c.args.loaded.now c.args.rows.now c.args.expected.now c.loop-from.from c.window_end-end.result c.window_end-end.ensures.some c.requires.many)
     c.loop-from.invariant.given c.in_err-count.ensures.text.prefix c.in_err-count.ensures.text.counted
 
 pub loop-from-preserved : goal.loop-from-preserved
 loop-from-preserved g c = record {
-  within = c.group_end-end.ensures.within;
+  within = c.window_end-end.ensures.within;
   given = piece_given _ _ _ _ _ _ _ _ _
-      (lines_at c.args.loaded.now c.args.rows.now c.args.expected.now c.loop-from.from c.group_end-end.result c.group_end-end.ensures.some c.requires.many)
+      (lines_at c.args.loaded.now c.args.rows.now c.args.expected.now c.loop-from.from c.window_end-end.result c.window_end-end.ensures.some c.requires.many)
       c.loop-from.invariant.given c.in_ok-count.ensures.text.all c.in_ok-count.ensures.text.counted;
   counted = omega (
     arith,
     c.loop-from.invariant.counted,
-    count_at c.args.loaded.now c.args.rows.now c.args.expected.now c.loop-from.from c.group_end-end.result c.group_end-end.ensures.some c.requires.many,
+    count_at c.args.loaded.now c.args.rows.now c.args.expected.now c.loop-from.from c.window_end-end.result c.window_end-end.ensures.some c.requires.many,
     c.in_ok-count.ensures.count,
   );
 }
@@ -32,7 +32,7 @@ overflow_add-count g c =
     omega (
       arith,
       c.loop-from.invariant.counted,
-      count_at c.args.loaded.now c.args.rows.now c.args.expected.now c.loop-from.from c.group_end-end.result c.group_end-end.ensures.some c.requires.many,
+      count_at c.args.loaded.now c.args.rows.now c.args.expected.now c.loop-from.from c.window_end-end.result c.window_end-end.ensures.some c.requires.many,
       c.in_ok-count.ensures.count,
       count_few c.args.loaded.now (length (names_of c.args.loaded.now.face.outputs)) c.args.rows.now c.args.expected.now c.requires.expected,
       c.requires.few,

@@ -5,15 +5,15 @@ use Rattle.m_work.proofs.groups.print_rows.Goals as goal
 
 pub returns-in_err-print_window : goal.returns-in_err-print_window
 returns-in_err-print_window g c =
-    let p = err_from_is_err_and c.from_residual-in_err-print_window.result c.from_residual-in_err-print_window.ensures.1 in
+    let p = err_from_is_err_and c.from_residual.result c.from_residual.ensures.1 in
     part_stopped _ _ _ _ _ _ _ _ _ _ _ _ p.1 p.2
-    (group_at c.args.loaded.now c.args.rows.now c.loop-from.from c.part_end-end.result c.part_end-end.ensures.some)
+    (group_at c.args.loaded.now c.args.rows.now c.loop-from.from c.window_end-end.result c.window_end-end.ensures.some)
     c.loop-from.invariant.given c.in_err-print_window.ensures.prefix c.in_err-print_window.ensures.counted
 
 pub loop-from-preserved : goal.loop-from-preserved
 loop-from-preserved g c = record {
-  within = c.part_end-end.ensures.within;
+  within = c.window_end-end.ensures.within;
   given = piece_given _ _ _ _ _ _ _ _ _
-      (group_at c.args.loaded.now c.args.rows.now c.loop-from.from c.part_end-end.result c.part_end-end.ensures.some)
+      (group_at c.args.loaded.now c.args.rows.now c.loop-from.from c.window_end-end.result c.window_end-end.ensures.some)
       c.loop-from.invariant.given c.in_ok-print_window.ensures.all c.in_ok-print_window.ensures.counted;
 }
