@@ -75,9 +75,10 @@ class Answer:
         return self._all()[2]
 
     def __getitem__(self, name: str) -> Value:
-        if self._read is None and not self._lines.startswith(LABELS):
+        if self._read is None:
             lines = "\n" + self._lines
-            at = lines.find(f"\n{name} ") + 1
+            begin = after_notes(lines, 1)
+            at = 0 if lines.startswith(LABELS, begin) else lines.find(f"\n{name} ", begin - 1) + 1
             match = VALUE.match(lines, at) if at else None
             if match and match[1] == name and lines[match.end() : match.end() + 1] in ("", "\n"):
                 return value_of(match)
@@ -94,14 +95,14 @@ class Answer:
 
     def _all(self) -> tuple[dict[str, Value], tuple[Note, ...], Stop | None]:
         if self._read is None:
-            self._read = parts_of(iter(self._lines.split("\n") if self._lines else ()))
+            self._read = values_of(self._lines) or parts_of(iter(self._lines.split("\n") if self._lines else ()))
         return self._read
 
 
 LABELS = ("failed ", "noted ", "over ")
 LABELLED = re.compile(r"(failed|noted) ([0-9]+) ([^ ]+) (anomalie|discordance|informative)")
 OVER_LINE = re.compile(r"over (?:verification ([0-9]+) ([^ ]+)|driver line ([0-9]+))")
-VALUE = re.compile(r"([^ ]+)(?: = (-?[0-9]+(?:\.[0-9]+)?)|( undefined)|( over))")
+VALUE = re.compile(r"([^ \n]+)(?: = (-?[0-9]+(?:\.[0-9]+)?)|( undefined)|( over))")
 
 
 def value_of(match: re.Match[str]) -> Value:
@@ -109,6 +110,31 @@ def value_of(match: re.Match[str]) -> Value:
     if match[2] is not None:
         return Decimal(match[2])
     return None if match[3] else OVER
+
+
+def after_notes(lines: str, begin: int) -> int:
+    """Where the lines after the notes begin, each of which has two; the lines begin at a place."""
+    while lines.startswith("noted ", begin):
+        text = lines.find("\n", begin) + 1
+        behind = lines.find("\n", text) + 1
+        if not text or not behind:
+            return len(lines)
+        begin = behind
+    return begin
+
+
+VALUES = re.compile("(?m)^" + VALUE.pattern + "$")
+
+
+def values_of(lines: str) -> tuple[dict[str, Value], tuple[Note, ...], Stop | None] | None:
+    """What `parts_of` says where each line is a note's or a value's, all values at once; None where one is another."""
+    begin = after_notes(lines, 0)
+    told = lines[begin:]
+    found = [] if told.startswith(LABELS) else VALUES.findall(told)
+    if len(found) != told.count("\n") + 1:
+        return None
+    notes = parts_of(iter(lines[:begin].split("\n")[:-1]))[1] if begin else ()
+    return {name: Decimal(number) if number else None if undefined else OVER for name, number, undefined, _ in found}, notes, None
 
 
 def parts_of(lines: Iterator[str]) -> tuple[dict[str, Value], tuple[Note, ...], Stop | None]:

@@ -212,13 +212,12 @@ def lines_of(output: bytes) -> str:
 
 def parted(text: str, count: int) -> Iterator[Answer]:
     """The answers that a batch of so many households printed, each after its label."""
-    parts = [part.partition("\n") for part in ("\n" + text).split("\nhousehold h")]
-    if len(parts) != count + 1:
-        parts = [part.partition("\n") for part in parted_by_line(text)]
-    labels = [label for label, _, _ in parts]
-    if labels != ["", *map(str, range(count))]:
-        raise Broken(f"{len(parts) - 1} answers for {count} households")
-    return map(Answer.of_lines, (lines for _, _, lines in parts[1:]))
+    parts = ("\n" + text).split("\nhousehold h")
+    if len(parts) != count + 1 or parts[0] or not all(map(str.startswith, parts[1:], map("{}\n".format, range(count)))):
+        parts = parted_by_line(text)
+        if [part.partition("\n")[0] for part in parts] != ["", *map(str, range(count))]:
+            raise Broken(f"{len(parts) - 1} answers for {count} households")
+    return (Answer.of_lines(part.partition("\n")[2]) for part in parts[1:])
 
 
 def parted_by_line(text: str) -> list[str]:
