@@ -97,6 +97,15 @@ class Package(unittest.TestCase):
         self.assertEqual([answer["IRN"] for answer in found], [1500, 0, 3000])
         self.assertEqual([len(answer.notes) for answer in found], [1, 0, 1])
 
+    def test_texts_of_several_lines(self):
+        self.put("lines.m", RULES.replace('"household h1"', '"a\nIRN = 7"'))
+        with self.assertRaisesRegex(Broken, "error A30 has a line feed"):
+            Rules(self.put("lines.txt", f"iliad\n{self.room.name}/lines.m\n"), cache=self.room.name)
+        code = "mcode 1\nslots 0\nlabel verif 1 E anomalie 6e0a\ncode\nend\n"
+        with self.assertRaisesRegex(Broken, "error E has a line feed"):
+            Rules.from_code(self.put("lines.code", code))
+        self.assertEqual(Rules.from_code(self.put("one.code", code.replace("6e0a", "60a0"))).inputs(), {})
+
     def test_one_value_is_that_of_all(self):
         for amount in (2500, 9001, 0, None, 10_000_000):
             for name in ("IRN", "C"):

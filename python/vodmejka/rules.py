@@ -58,6 +58,7 @@ class Rules:
         self._words = ["list", *("-" if text is None else self._put(name, text) for name, text in zip(("driver", "requests"), given))]
         pieces = [fetched(self.program), content, *(text for _, text in rules), *(b"none" if text is None else b"some" + text for text in given)]
         self._code = self._compiled(digest_of(*pieces), cache)
+        self._lines = self._interface()
 
     @classmethod
     def from_code(cls, file: str, *, program: str | None = None) -> Rules:
@@ -67,6 +68,7 @@ class Rules:
         made._room = tempfile.TemporaryDirectory(prefix="vodmejka-")
         made._names, made._words = {}, []
         made._code = made._path(made._put("code", fetched(file)))
+        made._lines = made._interface()
         return made
 
     # ---- what is computed
@@ -96,14 +98,23 @@ class Rules:
 
     def inputs(self) -> dict[str, str]:
         """The codes of the inputs in order, each with its type: `truth`, `whole`, or nothing."""
-        words = [line.split(" ") for line in self._interface() if line.startswith("input ")]
+        words = [line.split(" ") for line in self._lines if line.startswith("input ")]
         return {line[1]: line[2] if len(line) > 2 else "" for line in words}
 
     # ---- inside
 
     def _interface(self) -> list[str]:
-        """The lines of the code file before its instructions."""
-        return fetched(self._code).split(b"\ncode\n")[0].decode(ENCODING).split("\n")
+        """The lines of the code file before its instructions. Answers are read line by line, so a label whose text has more than one is rejected."""
+        lines = []
+        with open(self._code, "rb") as file:
+            for raw in file:
+                if raw == b"code\n":
+                    break
+                lines.append(raw.decode(ENCODING).removesuffix("\n"))
+                words = lines[-1].split(" ")
+                if words[:2] == ["label", "verif"] and len(words) == 6 and "0a" in (words[5][k : k + 2] for k in range(0, len(words[5]), 2)):
+                    raise Broken(f"the text of error {words[3]} has a line feed, so answers can't be told apart by their lines")
+        return lines
 
     def _path(self, name: str) -> str:
         return os.path.join(self._room.name, name)
@@ -143,7 +154,7 @@ class Rules:
 
     def _answers(self, rows: Iterable[Household], at_once: int) -> Iterator[Answer]:
         left = iter(rows)
-        outputs = sum(line.startswith(("output ", "note ")) for line in self._interface())
+        outputs = sum(line.startswith(("output ", "note ")) for line in self._lines)
         size = max(1, min(at_once, MOST_ROWS, VALUES // (outputs + 1)))
         while chunk := list(itertools.islice(left, size)):
             yield from self._batch(chunk) if self._words else map(self.run, chunk)
