@@ -47,7 +47,7 @@ class Trial:
         self.compiled = Compiled(source)
         self.types = {code.decode("latin-1"): kind for code, kind in self.compiled.declared.types.items()}
         numbers = {0, 1, 2, 1000, *(int(float(text)) for _, rules in source.rule_files for text in re.findall(rb"\b[0-9]{1,13}\b", rules))}
-        self.numbers = sorted({number + step for number in numbers for step in (-1, 0, 1)} | {-1000})
+        self.numbers = sorted({number + step for number in numbers if number < 9_999_999_999_999 for step in (-1, 0, 1)} | {-1000})
         self.draw = random.Random(1)
 
     def amount(self, code):

@@ -114,7 +114,7 @@ def table(room):
     print("\n| Change of meaning | Found by a household |\n|---|---|")
     for name, pairs in CHANGED.items():
         status, text = said(room, pairs)
-        household = " ".join(line for line in text.split("\nby ")[0].split("\n")[2:] if line)
+        household = " ".join(line for line in text.split("\nby ")[0].split("\n")[2:] if line) or "one that says nothing"
         print(f"| {name} | {household if status == 1 else f'no: status {status}'} |")
     return 0
 
