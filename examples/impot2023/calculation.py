@@ -1,12 +1,26 @@
 """The tax on the incomes of 2023 a second time, from the articles of the code général des impôts, in exact fractions.
 
-It knows nothing of the rule files: the scale is applied to the income for one part, as article 197 words it.
+It knows nothing of the rule files: the scale is applied to the income for one part, as article 197 words it. `Law` has the two figures that
+examples/reform2023 changes.
 """
 from dataclasses import dataclass, replace
 from fractions import Fraction
 from math import floor
 
-SCALE = [(11294, Fraction(11, 100)), (28797, Fraction(30, 100)), (82341, Fraction(41, 100)), (177106, Fraction(45, 100))]
+
+@dataclass(frozen=True)
+class Law:
+    """What the example of a reform changes: where the rate of 30 % begins, and the greatest advantage of a half part."""
+
+    begin_of_30: int = 28797
+    half_part: int = 1759
+
+    def scale(self):
+        """197 I 1: thresholds for one part, each with the rate above it."""
+        return [(11294, Fraction(11, 100)), (self.begin_of_30, Fraction(30, 100)), (82341, Fraction(41, 100)), (177106, Fraction(45, 100))]
+
+
+OF_2023 = Law()
 
 
 @dataclass
@@ -59,26 +73,26 @@ def parts(household):
     return result
 
 
-def scale(income_of_a_part):
+def scale(income_of_a_part, law):
     """197 I 1: each rate on what lies between its threshold and the next one."""
-    tax = Fraction(0)
-    for number, (threshold, rate) in enumerate(SCALE):
-        above = SCALE[number + 1][0] if number + 1 < len(SCALE) else None
+    tax, steps = Fraction(0), law.scale()
+    for number, (threshold, rate) in enumerate(steps):
+        above = steps[number + 1][0] if number + 1 < len(steps) else None
         top = income_of_a_part if above is None else min(income_of_a_part, Fraction(above))
         tax += rate * max(Fraction(0), top - threshold)
     return tax
 
 
-def by_parts(income, count):
-    return scale(Fraction(income) / count) * count
+def by_parts(income, count, law):
+    return scale(Fraction(income) / count, law) * count
 
 
-def greatest_advantage(household):
+def greatest_advantage(household, law):
     """197 I 2: 1,759 for each half part of the children; 4,149 for the whole part of the first one in box T."""
     halves = 2 * (parts(household) - base_parts(household))
     if alone_with_children(household):
-        return 4149 + 1759 * (halves - 2)
-    return 1759 * halves
+        return 4149 + law.half_part * (halves - 2)
+    return law.half_part * halves
 
 
 def rebate(household, tax):
@@ -101,32 +115,33 @@ def contribution(household, income):
     return nearest(Fraction(3, 100) * max(0, min(income, high) - low) + Fraction(4, 100) * max(0, income - high))
 
 
-def scale_tax(household):
+def scale_tax(household, law):
     """197 I 1 and 2: by the scale, with the children's parts as far as their advantage goes."""
     income = taxable_income(household)
-    with_children = by_parts(income, parts(household))
-    without = by_parts(income, base_parts(household))
-    return max(with_children, without - greatest_advantage(household))
+    with_children = by_parts(income, parts(household), law)
+    without = by_parts(income, base_parts(household), law)
+    return max(with_children, without - greatest_advantage(household, law))
 
 
-def income_tax(household):
+def income_tax(household, law):
     income = taxable_income(household)
-    tax = scale_tax(household)
+    tax = scale_tax(household, law)
     tax = max(Fraction(0), tax - rebate(household, tax))
     tax = nearest(max(Fraction(0), tax - gifts_reduction(household, income)))
     return 0 if tax < 61 else tax
 
 
-def rate_of_bracket(household):
+def rate_of_bracket(household, law):
     """The rate of the bracket of the income for one part: of all parts, or where their advantage is bounded of those without the children."""
     income, count = taxable_income(household), parts(household)
-    if by_parts(income, base_parts(household)) - greatest_advantage(household) > by_parts(income, count):
+    if by_parts(income, base_parts(household), law) - greatest_advantage(household, law) > by_parts(income, count, law):
         count = base_parts(household)
-    return max([Fraction(0), *(rate for threshold, rate in SCALE if Fraction(income) / count > threshold)])
+    return max([Fraction(0), *(rate for threshold, rate in law.scale() if Fraction(income) / count > threshold)])
 
 
-def total(household):
-    return income_tax(household) + contribution(household, taxable_income(household))
+def total(household, law=OF_2023):
+    """The income tax and the contribution on high incomes."""
+    return income_tax(household, law) + contribution(household, taxable_income(household))
 
 
 def impossible(household):
@@ -144,9 +159,9 @@ def impossible(household):
     return next((number for number, fails in tests if fails), None)
 
 
-def told(household):
+def told(household, law):
     """The numbers of what is told with the answer: gifts above a fifth of the taxable income; that the rebate was applied."""
-    tax = scale_tax(household)
+    tax = scale_tax(household, law)
     tests = [
         (201, household.gifts_to_aid + household.other_gifts > Fraction(taxable_income(household), 5)),
         (301, tax > 0 and rebate(household, tax) > 0),
@@ -154,22 +169,22 @@ def told(household):
     return [number for number, is_so in tests if is_so]
 
 
-def answer(household):
+def answer(household, law=OF_2023):
     """What the rules and the driver return of the same names and note, or the verification that stops them. The driver first computes without the gifts."""
     without = replace(household, gifts_to_aid=0, other_gifts=0)
     stop = impossible(without) or impossible(household)
     if stop is not None:
         return stop
-    income, tax, before = taxable_income(household), income_tax(household), total(without)
+    income, tax, before = taxable_income(household), income_tax(household, law), total(without, law)
     more = contribution(household, income)
     return {
         "RNI": income,
         "NBPT": parts(household),
-        "TMI": rate_of_bracket(household),
+        "TMI": rate_of_bracket(household, law),
         "IINET": tax,
         "CHR": more,
         "TOTAL": tax + more,
         "AVANT": before,
         "GAIN": before - tax - more,
-        "noted": told(without) + told(household),
+        "noted": told(without, law) + told(household, law),
     }

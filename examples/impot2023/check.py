@@ -5,7 +5,8 @@ At the top of the repository, after ./build. It computes --count households at o
 a declaration that a verification stops the verification. The households come from the seed alone. The status is 0 where none differs, 1 where one
 does, and 2 where the program is missing or doesn't answer.
 
-With --picture FILE it also draws the marginal rate over the income of a single person, from a table of its own.
+With --picture FILE it also draws the marginal rate over the income of a single person, from a table of its own. With --cases FILE it starts no program, and
+writes the households as a table of cases, with what the second calculation says of each.
 """
 import argparse
 import os
@@ -134,14 +135,37 @@ def picture(file_name, room):
     draw(file_name, points)
 
 
+def spelled(amount):
+    """An amount as tables have it."""
+    millionths = Fraction(amount) * 1_000_000
+    if millionths.denominator != 1:
+        sys.exit(f"check: {amount} has more than six decimals")
+    return f"{'-' if amount < 0 else ''}{abs(millionths.numerator) // 1_000_000}.{abs(millionths.numerator) % 1_000_000:06}".rstrip("0").rstrip(".")
+
+
+def write_cases(file_name, households):
+    """A table of cases: the households, and what the calculation says of each value."""
+    names = [name for name in answer(Household()) if name != "noted"]
+    with open(file_name, "w") as file:
+        file.write(",".join(["name", *CODES, *(f"={name}" for name in names)]) + "\n")
+        for number, household in enumerate(households):
+            said = answer(household)
+            expected = ["stop"] * len(names) if isinstance(said, int) else [spelled(said[name]) for name in names]
+            file.write(",".join([f"h{number}", *fields(household), *expected]) + "\n")
+
+
 def main():
     parser = argparse.ArgumentParser(description=__doc__)
     parser.add_argument("--seed", type=int, default=2023)
     parser.add_argument("--count", type=int, default=20000)
     parser.add_argument("--picture")
+    parser.add_argument("--cases")
     told = parser.parse_args()
     chance = random.Random(told.seed)
     households = [mistaken(random_household(chance), chance) for _ in range(told.count)]
+    if told.cases:
+        write_cases(told.cases, households)
+        return
     with tempfile.TemporaryDirectory() as room:
         results = answers(households, room)
         if told.picture:

@@ -79,6 +79,47 @@ class Package(unittest.TestCase):
             list(self.rules.batch([{"1AJ": 1}, {"1AJ": "x"}]))
         self.assertEqual(next(self.rules.batch(({"1AJ": k} for k in range(10**9)), rows_at_once=10))["IRN"], 0)
 
+    def test_batch_of_all_amounts(self):
+        amounts = [2500, "2500", Decimal("2500.00"), Decimal("2.5E+3"), Decimal("25E2"), None, "0002500"]
+        found = [answer["IRN"] for answer in self.rules.batch([{"1AJ": amount} for amount in amounts])]
+        self.assertEqual(found, [1500, 1500, 1500, 1500, 1500, 0, 1500])
+        small = self.rules.batch([{"1AJ": Decimal("0.0000001")}, {"1AJ": Decimal("1000.0000015")}])
+        self.assertEqual([answer["IRN"] for answer in small], [0, Decimal("0.000002")])
+        for wrong, error in ((2.5, TypeError), (True, TypeError), (Decimal("NaN"), ValueError), (Decimal("-Infinity"), ValueError)):
+            with self.assertRaises(error):
+                list(self.rules.batch([{"1AJ": 1}, {"1AJ": wrong}]))
+
+    def test_texts_that_look_like_labels(self):
+        text = RULES.replace('"A" : "30" : "00" : "household h1"', '"household h1' + '" : "" : "" : ""')
+        self.put("label.m", text.replace("> 9000", "> 9"))
+        rules = Rules(self.put("label.txt", f"iliad\n{self.room.name}/label.m\n"), cache=self.room.name)
+        found = list(rules.batch([{"1AJ": 2500}, {"1AJ": 3}, {"1AJ": 4000}]))
+        self.assertEqual([answer["IRN"] for answer in found], [1500, 0, 3000])
+        self.assertEqual([len(answer.notes) for answer in found], [1, 0, 1])
+
+    def test_texts_of_several_lines(self):
+        """In rules a line feed of a text is told as a blank; a code file that nobody compiled may have one."""
+        self.put("lines.m", RULES.replace('"household h1"', '"a\nIRN = 7"'))
+        rules = Rules(self.put("lines.txt", f"iliad\n{self.room.name}/lines.m\n"), cache=self.room.name)
+        self.assertEqual(rules.run({"1AJ": 9001}).notes[0].text, "A:30:00:a IRN = 7:N")
+        code = "mcode 1\nslots 0\nlabel verif 1 E anomalie 6e0a\ncode\nend\n"
+        with self.assertRaisesRegex(Broken, "error E has a line feed"):
+            Rules.from_code(self.put("lines.code", code))
+        self.assertEqual(Rules.from_code(self.put("one.code", code.replace("6e0a", "60a0"))).inputs(), {})
+
+    def test_one_value_is_that_of_all(self):
+        for amount in (2500, 9001, 0, None, 10_000_000):
+            for name in ("IRN", "C"):
+                (answer,) = self.rules.batch([{"1AJ": amount}])
+                (again,) = self.rules.batch([{"1AJ": amount}])
+                self.assertEqual(answer[name], again.values[name])
+        (answer,) = self.rules.batch([{"1AJ": -1}])
+        for name in ("IRN", "IR", "X"):
+            with self.assertRaises(KeyError):
+                answer[name]
+        with self.assertRaises(KeyError):
+            self.rules.run({})["IR"]
+
     def test_session(self):
         with self.rules.session({"1AJ": 2500}) as session:
             self.assertEqual(session.show()["IRN"], 1500)

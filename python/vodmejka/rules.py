@@ -7,16 +7,18 @@ import itertools
 import os
 import re
 import shutil
-import subprocess
 import tempfile
+from decimal import Decimal
 from typing import Any, Iterable, Iterator, Mapping
 
-from .answers import Answer, answer_of
+from .answers import Answer
 from .errors import Broken, NotFound, Refused
-from .program import ENCODING, Amount, digest_of, household_bytes, program_path, raise_for, run, spelled
+from .program import ENCODING, Amount, digest_of, household_bytes, program_path, run, spelled
 from .session import Session
 
-ROWS = 20_000
+ROWS, MOST_ROWS = 20_000, 100_000
+TABLE_BYTES = 16_777_216
+VALUES = 4_000_000
 Household = Mapping[str, Amount]
 
 
@@ -56,6 +58,7 @@ class Rules:
         self._words = ["list", *("-" if text is None else self._put(name, text) for name, text in zip(("driver", "requests"), given))]
         pieces = [fetched(self.program), content, *(text for _, text in rules), *(b"none" if text is None else b"some" + text for text in given)]
         self._code = self._compiled(digest_of(*pieces), cache)
+        self._lines = self._interface()
 
     @classmethod
     def from_code(cls, file: str, *, program: str | None = None) -> Rules:
@@ -65,6 +68,7 @@ class Rules:
         made._room = tempfile.TemporaryDirectory(prefix="vodmejka-")
         made._names, made._words = {}, []
         made._code = made._path(made._put("code", fetched(file)))
+        made._lines = made._interface()
         return made
 
     # ---- what is computed
@@ -73,7 +77,7 @@ class Rules:
         """What the household is told. `household` has amounts by codes: Decimal, int or text, and None for nothing."""
         path = self._put("household.csv", household_bytes(household))
         text, _ = self._run("exec", self._code, path)
-        return answer_of(iter(text.decode(ENCODING).split("\n")[:-1]))
+        return Answer.of_lines(lines_of(text))
 
     def batch(self, rows: Any, rows_at_once: int = ROWS) -> Any:
         """What households are told, in their order, as they are computed: any number of them, of which some thousand are in memory at once.
@@ -94,11 +98,23 @@ class Rules:
 
     def inputs(self) -> dict[str, str]:
         """The codes of the inputs in order, each with its type: `truth`, `whole`, or nothing."""
-        front = fetched(self._code).split(b"\ncode\n")[0].decode(ENCODING)
-        words = [line.split(" ") for line in front.split("\n") if line.startswith("input ")]
+        words = [line.split(" ") for line in self._lines if line.startswith("input ")]
         return {line[1]: line[2] if len(line) > 2 else "" for line in words}
 
     # ---- inside
+
+    def _interface(self) -> list[str]:
+        """The lines of the code file before its instructions. Answers are read line by line, so a label whose text has more than one is rejected."""
+        lines = []
+        with open(self._code, "rb") as file:
+            for raw in file:
+                if raw == b"code\n":
+                    break
+                lines.append(raw.decode(ENCODING).removesuffix("\n"))
+                words = lines[-1].split(" ")
+                if words[:2] == ["label", "verif"] and len(words) == 6 and "0a" in (words[5][k : k + 2] for k in range(0, len(words[5]), 2)):
+                    raise Broken(f"the text of error {words[3]} has a line feed, so answers can't be told apart by their lines")
+        return lines
 
     def _path(self, name: str) -> str:
         return os.path.join(self._room.name, name)
@@ -138,46 +154,20 @@ class Rules:
 
     def _answers(self, rows: Iterable[Household], at_once: int) -> Iterator[Answer]:
         left = iter(rows)
-        while chunk := list(itertools.islice(left, max(1, min(at_once, 100_000)))):
+        outputs = sum(line.startswith(("output ", "note ")) for line in self._lines)
+        size = max(1, min(at_once, MOST_ROWS, VALUES // (outputs + 1)))
+        while chunk := list(itertools.islice(left, size)):
             yield from self._batch(chunk) if self._words else map(self.run, chunk)
 
     def _batch(self, households: list[Household]) -> Iterator[Answer]:
-        """The answers of some households, by one batch, as it prints them."""
-        codes = list(dict.fromkeys(code for household in households for code in household))
-        out = io.StringIO(newline="")
-        writer = csv.writer(out, lineterminator="\n")
-        writer.writerow(["name", *codes])
-        for k, household in enumerate(households):
-            amounts = (household.get(code) for code in codes)
-            writer.writerow([f"h{k}", *("" if amount is None else spelled(code, amount) for code, amount in zip(codes, amounts))])
-        self._put("table.csv", out.getvalue().encode(ENCODING))
-        words = [self.program, "batch", *self._words, "table.csv"]
-        with subprocess.Popen(words, cwd=self._room.name, stdin=subprocess.DEVNULL, stdout=subprocess.PIPE, stderr=subprocess.DEVNULL) as child:
-            try:
-                yield from self._parted(child, len(households))
-            finally:
-                child.kill()
-
-    def _parted(self, child: subprocess.Popen[bytes], count: int) -> Iterator[Answer]:
-        """The answers that a batch prints, each behind its label. A note's text may look like a label, so it is passed over with its line."""
-        assert child.stdout is not None
-        lines: list[str] = []
-        number, in_text = -1, False
-        for raw in child.stdout:
-            line = raw.decode(ENCODING).removesuffix("\n")
-            if not in_text and line == f"household h{number + 1}":
-                if number >= 0:
-                    yield answer_of(iter(lines))
-                number, lines = number + 1, []
-                continue
-            lines.append(line)
-            in_text = not in_text and line.startswith(("failed ", "noted "))
-        if number < 0:
-            raise_refusal(self._told("\n".join(lines)), child.wait())
-        if child.wait() != 0 or number != count - 1:
-            raise_for(b"", child.returncode)
-            raise Broken(f"{number + 1} answers for {count} households")
-        yield answer_of(iter(lines))
+        """The answers of some households, by one batch, or by several where the table would be too long for one."""
+        table = table_bytes(households)
+        if len(table) > TABLE_BYTES and len(households) > 1:
+            half = len(households) // 2
+            return itertools.chain(self._batch(households[:half]), self._batch(households[half:]))
+        self._put("table.csv", table)
+        text, _ = self._run("batch", *self._words, "table.csv")
+        return parted(lines_of(text), len(households))
 
     def _frame(self, frame: Any, at_once: int) -> Any:
         """The answers to the rows of a frame, as a frame."""
@@ -193,10 +183,65 @@ class Rules:
         return pandas.DataFrame(made, index=frame.index, columns=[*names, "stop", "notes"], dtype=object)
 
 
-def raise_refusal(text: str, status: int) -> None:
-    """The error of a batch that answered no household."""
-    raise_for(text.encode(ENCODING), status)
-    raise Broken(f"no answers: {text[:200]}")
+def table_bytes(households: list[Household]) -> bytes:
+    """Households as a table, labelled h0, h1 and so on.
+
+    What csv writes of whole numbers, texts and None is an amount as it stands; where all amounts are of these types, or decimals none of which is written with an
+    exponent or is no number, nothing is looked at one by one.
+    """
+    codes: dict[str, object] = {}
+    types: set[type] = set()
+    for household in households:
+        codes.update(household)
+        types.update(map(type, household.values()))
+    rows = ((f"h{k}", *map(household.get, codes)) for k, household in enumerate(households))
+    text = csv_text(["name", *codes], rows) if types <= PLAIN else None
+    if text is None or Decimal in types and WORDS.search(text, text.index("\n")):
+        rows = ((f"h{k}", *(None if amount is None else spelled(code, amount) for code, amount in zip(codes, map(household.get, codes)))) for k, household in enumerate(households))
+        text = csv_text(["name", *codes], rows)
+    return text.encode(ENCODING)
+
+
+PLAIN = {int, str, Decimal, type(None)}
+WORDS = re.compile("[EeIN]")
+
+
+def csv_text(head: list[str], rows: Iterable[Iterable[object]]) -> str:
+    out = io.StringIO(newline="")
+    writer = csv.writer(out, lineterminator="\n")
+    writer.writerow(head)
+    writer.writerows(rows)
+    return out.getvalue()
+
+
+def lines_of(output: bytes) -> str:
+    """The lines of an output, with a line feed between them."""
+    if output and not output.endswith(b"\n"):
+        raise Broken(f"a last line without its end: {output[-200:]!r}")
+    return output[:-1].decode(ENCODING)
+
+
+def parted(text: str, count: int) -> Iterator[Answer]:
+    """The answers that a batch of so many households printed, each after its label."""
+    parts = ("\n" + text).split("\nhousehold h")
+    if len(parts) != count + 1 or parts[0] or not all(map(str.startswith, parts[1:], map("{}\n".format, range(count)))):
+        parts = parted_by_line(text)
+        if [part.partition("\n")[0] for part in parts] != ["", *map(str, range(count))]:
+            raise Broken(f"{len(parts) - 1} answers for {count} households")
+    return (Answer.of_lines(part.partition("\n")[2]) for part in parts[1:])
+
+
+def parted_by_line(text: str) -> list[str]:
+    """The same where the text of a note or a stop looks like a label: it is passed over with the line before it."""
+    parts: list[list[str]] = [[]]
+    in_text = False
+    for line in text.split("\n"):
+        if not in_text and line == f"household h{len(parts) - 1}":
+            parts.append([str(len(parts) - 1)])
+            continue
+        parts[-1].append(line)
+        in_text = not in_text and line.startswith(("failed ", "noted "))
+    return ["\n".join(part) for part in parts]
 
 
 def exact(code: str, value: Any) -> Amount:
