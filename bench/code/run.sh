@@ -24,7 +24,7 @@ bench=$work/repository/crates/bench_code
 mkdir -p "$bench/src" "$bench/proofs/are_below"
 cp "$here/main.rt.txt" "$bench/src/main.rt"
 cp "$here/are_below.antt.txt" "$bench/proofs/are_below/Invariants.antt"
-(cd "$bench" && rt run >"$work/rt.log" 2>&1) || { cat "$work/rt.log" >&2; exit 1; }
+(cd "$bench" && sh "$root/bench/built.sh" >"$work/rt.log" 2>&1) || { cat "$work/rt.log" >&2; exit 1; }
 
 # One row: a name, and the words of the program.
 row() {

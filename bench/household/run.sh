@@ -100,7 +100,7 @@ fn main(rt: HostRuntime) -> Result<()> {
     Ok(())
 }
 DRIVER
-(cd "$driver" && rt run >"$work/rt.log" 2>&1) || { cat "$work/rt.log" >&2; exit 1; }
+(cd "$driver" && sh "$root/bench/built.sh" >"$work/rt.log" 2>&1) || { cat "$work/rt.log" >&2; exit 1; }
 
 # How many instructions a program carries out.
 instructions() {

@@ -22,7 +22,7 @@ cp "$root/HANDLES" "$work/repository/"
 bench=$work/repository/crates/bench_items
 mkdir -p "$bench/src"
 cp "$here/main.rt.txt" "$bench/src/main.rt"
-(cd "$bench" && rt run >"$work/rt.log" 2>&1) || { cat "$work/rt.log" >&2; exit 1; }
+(cd "$bench" && sh "$root/bench/built.sh" >"$work/rt.log" 2>&1) || { cat "$work/rt.log" >&2; exit 1; }
 python3 "$here/generate.py" 1600000 1 "$work/small"
 python3 "$here/generate.py" 16000000 1 "$work/great"
 python3 "$here/generate.py" 64000000 64 "$work/many"

@@ -58,7 +58,7 @@ fn main(rt: HostRuntime) -> Result<()> {
     Ok(())
 }
 DRIVER
-(cd "$driver" && rt run >"$work/rt.log" 2>&1) || { cat "$work/rt.log" >&2; exit 1; }
+(cd "$driver" && sh "$root/bench/built.sh" >"$work/rt.log" 2>&1) || { cat "$work/rt.log" >&2; exit 1; }
 
 # The least time of a program's five runs in seconds, its megabytes a second, and its peak memory.
 row() {

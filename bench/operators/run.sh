@@ -24,7 +24,7 @@ timer() {
         (cd "$work/$1.$place/crates/m_fixed" && rm -rf src specs proofs)
         cp -r "$2/crates/m_fixed/src" "$2/crates/m_fixed/specs" "$2/crates/m_fixed/proofs" "$work/$1.$place/crates/m_fixed/"
         cat "$work/main.rt" "$work/$place.rt" >"$work/$1.$place/crates/timer/src/main.rt"
-        (cd "$work/$1.$place/crates/timer" && rt run) >"$work/$1.$place.first" 2>"$work/rt.log" || { tail -20 "$work/rt.log"; exit 1; }
+        (cd "$work/$1.$place/crates/timer" && KEPT= sh "$here/../built.sh") >"$work/$1.$place.first" 2>"$work/rt.log" || { tail -20 "$work/rt.log"; exit 1; }
     done
 }
 

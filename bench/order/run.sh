@@ -21,7 +21,7 @@ cp "$root/HANDLES" "$work/repository/"
 bench=$work/repository/crates/bench_order
 mkdir -p "$bench/src"
 cp "$here/main.rt.txt" "$bench/src/main.rt"
-(cd "$bench" && rt run >"$work/rt.log" 2>&1) || { cat "$work/rt.log" >&2; exit 1; }
+(cd "$bench" && sh "$root/bench/built.sh" >"$work/rt.log" 2>&1) || { cat "$work/rt.log" >&2; exit 1; }
 
 ulimit -s 8192
 

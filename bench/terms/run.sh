@@ -23,7 +23,7 @@ cp "$root/HANDLES" "$work/repository/"
 driver=$work/repository/crates/bench_terms
 mkdir -p "$driver/src"
 cp "$here/main.rt.txt" "$driver/src/main.rt"
-(cd "$driver" && rt run >"$work/rt.log" 2>&1) || { cat "$work/rt.log" >&2; exit 1; }
+(cd "$driver" && sh "$root/bench/built.sh" >"$work/rt.log" 2>&1) || { cat "$work/rt.log" >&2; exit 1; }
 program=$driver/out/bench_terms
 
 # Millions of instructions of the program with one file.
