@@ -14,7 +14,7 @@ import sys
 HERE = os.path.dirname(os.path.abspath(__file__))
 ROOT = os.path.dirname(os.path.dirname(HERE))
 sys.path.insert(0, os.path.dirname(HERE))
-from measured import least  # noqa: E402
+from measured import figure, least, timed  # noqa: E402
 
 EXAMPLES = ("examples/impots", "examples/impot2023")
 LARGE = (10_000, 100_000)
@@ -69,6 +69,12 @@ def row(program, name, words, household, place, folder, smallest):
         f" | {(exec_peak - smallest[1]) / instructions:.0f} |",
         flush=True,
     )
+    return done, run, len(text) / 1e6 / reading, (exec_peak - smallest[1]) / instructions
+
+
+def started(code, household, program, place):
+    """Milliseconds by the clock from the start of `exec` to its end, the least of twenty."""
+    return min(timed([program, "exec", code, household], place)[4] for _ in range(20)) * 1e3
 
 
 def main():
@@ -82,9 +88,14 @@ def main():
     print("| Base | MB | instructions | slots | stores | loads | `compile` | `run` | `exec` | MB read a second, with the run | bytes of memory an instruction |")
     print("|---|---:|---:|---:|---:|---:|---:|---:|---:|---:|---:|")
     for name in EXAMPLES:
-        row(program, name, *example(name, folder), folder, smallest)
+        words, household, place = example(name, folder)
+        row(program, name, words, household, place, folder, smallest)
+        figure(f"code.exec_{name.split('/')[1]}_ms", started(os.path.join(folder, "code"), household, program, place), "<=3")
     for n in LARGE:
-        row(program, f"`large {n}`", *large(n, folder), folder, smallest)
+        done, run, speed, memory = row(program, f"`large {n}`", *large(n, folder), folder, smallest)
+    figure("code.exec_to_run_of_large_100000", done / run, "<=0.2")
+    figure("code.read_MB_a_second", speed, ">=60")
+    figure("code.read_bytes_an_instruction", memory, "<=40")
 
 
 main()

@@ -26,20 +26,7 @@ cp "$here/main.rt.txt" "$bench/src/main.rt"
 cp "$here/are_below.antt.txt" "$bench/proofs/are_below/Invariants.antt"
 (cd "$bench" && sh "$root/bench/built.sh" >"$work/rt.log" 2>&1) || { cat "$work/rt.log" >&2; exit 1; }
 
-# One row: a name, and the words of the program.
-row() {
-    name=$1
-    shift
-    echo "$name: $("$bench/out/bench_code" "$@" | tr '\n' ' ')"
-}
-
-echo "nodes, instructions, width, slots, stores, loads; microseconds of allocate, of a flat run, of a machine's run"
-row impots "$root/examples/impots/driver.mpp" - "$root/examples/impots/impots.m"
 (cd "$root" && sed 1d examples/impot2023/rules.list | xargs cat) >"$work/impot2023.m"
-row impot2023 "$root/examples/impot2023/driver.mpp" - "$work/impot2023.m"
-for n in 10000 100000; do
-    python3 "$root/bench/flat/generate.py" "$n" 0 "$work/$n"
-    row "large $n" - "$work/$n/requests.txt" "$work/$n/large.m"
-done
+for n in 10000 100000; do python3 "$root/bench/flat/generate.py" "$n" 0 "$work/$n"; done
 python3 "$root/bench/flat/generate.py" 10000 40 "$work/calls"
-row "large 10000, 40 calls" "$work/calls/driver.mpp" "$work/calls/requests.txt" "$work/calls/large.m"
+python3 "$here/measure.py" "$bench/out/bench_code" "$root" "$work"
