@@ -48,7 +48,7 @@ class Writer:
         return self.let(f"m_{operator}({', '.join(arguments)})")
 
     def term(self, term):
-        """The name of a term's value, behind the statements that make it."""
+        """The name of a term's value, after the statements that make it."""
         if isinstance(term, Number):
             return self.let(number(term.value))
         if isinstance(term, Cell):

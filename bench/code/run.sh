@@ -9,15 +9,17 @@ root=$(cd "$here/../.." && pwd)
 work=$(mktemp -d "${TMPDIR:-/tmp}/bench_code.XXXXXX")
 trap 'rm -rf "$work"' EXIT
 mkdir -p "$work/repository/crates"
-for crate in $(grep -o '^m_compile:.*' "$root/crates.txt" | tr -d ':'); do
-    if [ -d "$root/crates/$crate" ]; then
-        mkdir "$work/repository/crates/$crate"
-        for part in src specs proofs; do
-            if [ -d "$root/crates/$crate/$part" ]; then cp -r "$root/crates/$crate/$part" "$work/repository/crates/$crate/"; fi
-        done
-        grep "^$crate:" "$root/crates.txt" >>"$work/repository/crates.txt"
-    fi
-done
+: >"$work/repository/crates.txt"
+copy() {
+    if [ ! -d "$root/crates/$1" ] || [ -d "$work/repository/crates/$1" ]; then return; fi
+    mkdir "$work/repository/crates/$1"
+    for below in $(sed -n "s/^$1: *//p" "$root/crates.txt"); do copy "$below"; done
+    for part in src specs proofs; do
+        if [ -d "$root/crates/$1/$part" ]; then cp -r "$root/crates/$1/$part" "$work/repository/crates/$1/"; fi
+    done
+    grep "^$1:" "$root/crates.txt" >>"$work/repository/crates.txt"
+}
+copy m_compile
 echo "bench_code: m_places m_fixed rule_text observables flat_code reg_machine register_alloc m_compile anyhow" >>"$work/repository/crates.txt"
 cp "$root/HANDLES" "$work/repository/"
 bench=$work/repository/crates/bench_code

@@ -59,7 +59,7 @@ def typed(code, amounts, count):
 
 
 def answers(text):
-    """The shown answers, each without its `.`, behind replies that are `ok`."""
+    """The shown answers, each without its `.`, after replies that are `ok`."""
     found, shown = [], []
     for line in text.decode("latin-1").split("\n")[:-1]:
         if line == ".":
