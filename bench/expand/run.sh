@@ -47,7 +47,9 @@ for kind in short sums long headers; do
         done
         for step in items expand; do
             echo "up to $step: $(instructions "$step" "$file") thousand instructions, $(peak "$step" "$file") KiB"
-        done
+        done | tee "$work/counts.$size"
         echo
     done
+    few=$(awk '{ n[NR] = $4 } END { print n[2] - n[1] }' "$work/counts.1")
+    awk -v kind="$kind" -v few="$few" '{ n[NR] = $4 } END { printf "figure expand.%s_ten_times %.3g <=11\n", kind, (n[2] - n[1]) / few }' "$work/counts.10"
 done

@@ -46,7 +46,8 @@ for kind in small great many; do
         echo "tokens, items, names, microseconds of lex, parse, declare: $("$bench/out/bench_items" declare "$work/$kind"/*.m)"
     done
     if [ "$kind" != many ]; then
-        for step in lex parse declare; do echo "up to $step: $(instructions "$step" "$work/$kind"/*.m) thousand instructions"; done
+        for step in lex parse declare; do echo "up to $step: $(instructions "$step" "$work/$kind"/*.m) thousand instructions"; done | tee "$work/counts"
+        awk -v kind="$kind" '{ n[NR] = $4 } END { printf "figure items.%s_to_lex %.3g <=3.5\n", kind, n[3] / n[1] }' "$work/counts"
     fi
     echo "peak: $(peak lex "$work/$kind"/*.m) KiB with lex alone, $(peak declare "$work/$kind"/*.m) KiB with all"
     echo

@@ -53,8 +53,10 @@ counts() {
 for kind in chain sum dynamic ring; do
     for count in 10000 100000; do
         timed "$kind" "$count"
-        counts "$kind" "$count"
+        counts "$kind" "$count" | tee "$work/counts.$count"
     done
+    few=$(awk '/fill/ { print $4 }' "$work/counts.10000")
+    awk -v kind="$kind" -v few="$few" '/fill/ { printf "figure order.%s_100000_to_10000_instructions %.3g <=11\n", kind, $4 / few }' "$work/counts.100000"
 done
 timed dynamic 300000
 timed ring 200000

@@ -52,6 +52,7 @@ for kind in dense base nests; do
             { tokens += $1; terms = $2; lex += $3; reading += $4 }
             END {
                 printf "| %s | %.1f | %d | %d | %.2f s | %.2f s | %d | %d | %.1f |\n", kind, 3 * size / 1e6, tokens, terms, lex / 1e6, reading / 1e6, lexed, read - lexed, (most - least) * 1024 / (3 * size)
+                printf "figure terms.%s_of_%d_MB_reading_to_lex %.3g <=3\n", kind, 3 * size / 1e6, (read - lexed) / lexed
             }' "$work/read.lines"
     done
 done

@@ -8,3 +8,4 @@ work=$(mktemp -d "${TMPDIR:-/tmp}/bench_tidy.XXXXXX")
 trap 'rm -rf "$work"' EXIT
 sh "$here/build.sh" "$work"
 python3 "$here/measure.py" "$work/repository/crates/bench_tidy/out/bench_tidy"
+if [ -x "$here/../../out/m_tax" ]; then python3 "$here/nodes.py" "$here/../../out/m_tax" "$work"; fi
