@@ -1,11 +1,10 @@
 #!/usr/bin/env python3
-"""Counts the nodes of sources before they are made tidy and after it.
+"""Counts the nodes of sources that were made tidy.
 
     nodes.py PROGRAM FOLDER
 
-After: the nodes of the code that `compile` prints (`in`, `lit` and `do`). Before: what a pass without folding and sharing makes of the driver by the reference
-implementation: a node for each number, name at its first read, operator, branch of a conditional and cell of a choice, by the cost of a driver, which bounds
-it (docs/DRIVER.md). One call of the rules alone stands beside a driver of several.
+The nodes of a tidy program are those of the code that `compile` prints (`in`, `lit` and `do`). Beside them stand the cost of the driver, by the reference
+implementation, and of a driver of several calls how many nodes one call of the rules has. How many nodes there were before isn't printed by any command.
 """
 import os
 import subprocess
