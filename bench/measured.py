@@ -1,24 +1,43 @@
-"""What one run of a command takes: used by the benches that time whole runs of the program."""
+"""What one run of a command takes, and how a figure is told: used by the benches that time whole runs of programs."""
 import os
 import subprocess
+import sys
 import tempfile
+import time
 
 RUNS = 3
 
 
-def used(command, folder, typed=b""):
-    """Seconds of the processor (user and system), peak bytes of resident memory, the status and what was printed, of one run."""
-    with tempfile.TemporaryFile() as out, tempfile.TemporaryFile() as given:
+def timed(command, folder, typed=b"", out=None):
+    """Seconds of the processor (user and system), peak bytes of resident memory, the status, what was printed, and seconds by the clock, of one run."""
+    with tempfile.TemporaryFile() as printed, tempfile.TemporaryFile() as given:
         given.write(typed)
         given.seek(0)
-        child = subprocess.Popen(command, cwd=folder, stdout=out, stdin=given)
+        begin = time.monotonic()
+        child = subprocess.Popen(command, cwd=folder, stdout=out or printed, stdin=given)
         _, status, usage = os.wait4(child.pid, 0)
+        elapsed = time.monotonic() - begin
         child.returncode = os.waitstatus_to_exitcode(status)
-        out.seek(0)
-        return usage.ru_utime + usage.ru_stime, usage.ru_maxrss * 1024, child.returncode, out.read()
+        printed.seek(0)
+        return usage.ru_utime + usage.ru_stime, usage.ru_maxrss * 1024, child.returncode, printed.read(), elapsed
+
+
+def used(command, folder, typed=b""):
+    """The same without the seconds by the clock."""
+    return timed(command, folder, typed)[:4]
 
 
 def least(command, folder, typed=b""):
     """The same of three runs: the least seconds, the greatest peak, and the first run's status and text."""
     runs = [used(command, folder, typed) for _ in range(RUNS)]
     return min(run[0] for run in runs), max(run[1] for run in runs), runs[0][2], runs[0][3]
+
+
+def figure(name, value, aim="-"):
+    """Tells a figure to bench/all: a name without blanks, a number, and the aim, as `<=3` or `>=60`, or `-` for none."""
+    print(f"figure {name} {value:.4g} {aim}" if value < 1000 else f"figure {name} {value:.0f} {aim}", flush=True)
+
+
+def machine():
+    """What the page says of the machine: its processors, and how many programs wanted one in the last minute."""
+    return f"{os.cpu_count()} processors, load {os.getloadavg()[0]:.1f}, Python {sys.version.split()[0]}"

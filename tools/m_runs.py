@@ -1,11 +1,14 @@
-"""Batches that `scale` starts: the source, which is read once and copied, the program, and the children, which end with their parent."""
+"""Batches that `scale` starts: the source, which is read once and copied, the program, and the children and workers, which end with their parent."""
+import concurrent.futures
 import contextlib
 import hashlib
 import os
 import re
 import shutil
+import signal
 import subprocess
 import threading
+import time
 
 import m_source
 
@@ -37,6 +40,21 @@ def file_digest(path, out=None):
             if out is not None:
                 out.write(piece)
     return made.hexdigest()
+
+
+# ---- memory
+
+
+def free_memory():
+    """How many bytes of memory are free on this machine, and in the group of processes where that has a limit."""
+    free = [os.sysconf("SC_AVPHYS_PAGES") * os.sysconf("SC_PAGE_SIZE")]
+    with contextlib.suppress(OSError, StopIteration), open("/proc/meminfo", encoding="ascii") as lines:
+        free = [int(next(line for line in lines if line.startswith("MemAvailable:")).split()[1]) << 10]
+    for most, used in (("memory.max", "memory.current"), ("memory/memory.limit_in_bytes", "memory/memory.usage_in_bytes")):
+        with contextlib.suppress(OSError, ValueError):
+            limit, taken = (int(open(f"/sys/fs/cgroup/{name}", encoding="ascii").read()) for name in (most, used))
+            free.append(max(limit - taken, 0))
+    return min(free)
 
 
 # ---- the program
@@ -88,6 +106,32 @@ class Children:
 
 
 CHILDREN = Children()
+
+
+# ---- workers
+
+
+def watch(parent):
+    """Ends this process soon after its parent has ended in any way."""
+    while os.getppid() == parent:
+        time.sleep(0.5)
+    os._exit(1)
+
+
+def begin_worker(parent):
+    """A worker leaves an interrupt to its parent."""
+    signal.signal(signal.SIGINT, signal.SIG_IGN)
+    for number in (signal.SIGHUP, signal.SIGTERM):
+        signal.signal(number, signal.SIG_DFL)
+    threading.Thread(target=watch, args=(parent,), daemon=True).start()
+
+
+@contextlib.contextmanager
+def workers():
+    """Processes for pieces of work, as many as there are processors. They are started here, before any thread."""
+    with concurrent.futures.ProcessPoolExecutor(os.cpu_count(), initializer=begin_worker, initargs=(os.getpid(),)) as pool:
+        pool.submit(os.getpid).result()
+        yield pool
 
 
 # ---- the source

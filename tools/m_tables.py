@@ -58,12 +58,26 @@ def records(source, longest):
             ended = True
             if at < len(buffer) and not buffer.endswith((b"\r", b"\n")):
                 buffer += b"\n"
+        end = buffer.rfind(b"\n") + 1
+        if not is_first and end > at and b'"' not in buffer and b"\r" not in buffer:
+            # (without quotes and carriage returns each line is a record, and its first field is what it says)
+            for line in buffer[at : end - 1].split(b"\n"):
+                if line:
+                    count += 1
+                    yield line, line.partition(b",")[0]
+            at = end
 
 
 def values_of(names):
     """The forms that the lines of these values have, a few hundred lines to a form."""
     lines = [re.escape(name) + VALUE for name in names]
     return [re.compile(b"".join(lines[k : k + AT_ONCE])) for k in range(0, len(lines), AT_ONCE)]
+
+
+def whole_form(names):
+    """The form of a household's lines where all is as it must be: its label, and its stop or its notes and values."""
+    lines = b"".join(re.escape(name) + VALUE for name in names)
+    return re.compile(HEAD.pattern + b"(?:" + STOP.pattern + b"|" + NOTES.pattern + lines + b")")
 
 
 def strange(text, at):
@@ -81,8 +95,15 @@ def read_answer(path, names=None):
         if os.fstat(file.fileno()).st_size == 0:
             return labels, names
         with mmap.mmap(file.fileno(), 0, access=mmap.ACCESS_READ) as text:
-            at, forms = 0, None if names is None else values_of(names)
+            at, forms, whole = 0, None, None
             while at < len(text):
+                if whole is None and names is not None:
+                    forms, whole = values_of(names), whole_form(names if len(names) <= AT_ONCE else [])
+                found = whole and len(names) <= AT_ONCE and whole.match(text, at)
+                if found:
+                    labels.append(found[1])
+                    at = found.end()
+                    continue
                 head = HEAD.match(text, at)
                 if head is None:
                     raise strange(text, at)
@@ -95,7 +116,7 @@ def read_answer(path, names=None):
                 at = NOTES.match(text, at).end()
                 if forms is None:
                     names = names_at(text, at)
-                    forms = values_of(names)
+                    forms, whole = values_of(names), whole_form(names if len(names) <= AT_ONCE else [])
                 for form in forms:
                     found = form.match(text, at)
                     if found is None:

@@ -1,83 +1,148 @@
 #!/usr/bin/env python3
-"""Times tables of households and sessions, over the base of examples/impots and over the base of `large 10000`.
+"""Times tables of households beside C that computes the same tables, on one thread and on all processors, and their memory.
 
     measure.py PROGRAM FOLDER
 
-A table has 100,000 rows of 8 columns; a session shows its household after each of so many edits. What the source costs is measured by a
-table of no rows and a session of no lines, and taken off. Times are user and system, the least of three runs. Each table is looked at by its first row,
-and each session by its last show, against the same household by `run`.
+At the top of the repository, which has the examples. A table has 100,000 rows of 8 columns (examples/impot2023: 9). Each table is computed by `m_tax batch` on one
+processor (`taskset -c 0`), by the C that a plain translator makes of the rules and the driver (translate.py), and by straight-line C for the code file
+(straight.py), whose outputs must be the same bytes. Seconds are user and system, the least of three runs by turns. What a row takes is what is above a table
+without rows. On all processors it is seconds by the clock, since threads overlap.
 """
 import os
 import subprocess
 import sys
 
 sys.path.insert(0, os.path.dirname(os.path.dirname(os.path.abspath(__file__))))
-from measured import least
+from measured import figure, timed
 
 HERE = os.path.dirname(os.path.abspath(__file__))
-ROOT = os.path.dirname(os.path.dirname(HERE))
 ROWS = 100_000
+ROW_AIMS = {"plain": 1.0, "straight": 3.0}
+TABLE_BYTES = 16_777_216
+CODES = {
+    "examples/impots": ["A01", "A02", "A03", "A04", "B01", "B02", "B03", "B04"],
+    "examples/impot2023": ["0AM", "0BT", "0CF", "1AJ", "1BJ", "1AS", "1BS", "7UD", "7UF"],
+}
+BASES = [("examples/impots", "-"), ("examples/impots", "driver.mpp"), ("examples/impot2023", "driver.mpp")]
+SMALL = {"0AM": 2, "0BT": 1, "0CF": 4}
 
 
-def done(command, folder, typed=b""):
-    """Seconds, peak and text of a command that must end with the status 0."""
-    seconds, peak, status, text = least(command, folder, typed)
-    if status != 0:
-        sys.exit(f"{command}: status {status}, {text[:200]}")
-    return seconds, peak, text
-
-
-def amount(row, column):
+def amount(row, column, code):
+    """An amount that the verifications let pass: a second person and box T only where they may be."""
+    if code in SMALL:
+        return row % SMALL[code]
+    if code in ("1BJ", "1BS") and row % 2 == 0:
+        return 0
     return (row * 7919 + column * 104729) % 40000
 
 
-def write(path, lines):
-    with open(path, "w") as out:
-        out.writelines(lines)
+def table(path, codes, rows, cell=amount):
+    with open(path, "w", encoding="ascii") as out:
+        out.write("name," + ",".join(codes) + "\n")
+        out.writelines(f"h{r}," + ",".join(str(cell(r, c, code)) for c, code in enumerate(codes)) + "\n" for r in range(rows))
 
 
-def batch(program, folder, source, codes, name):
-    path = os.path.join(folder, "table.csv")
-    write(path, ["name," + ",".join(codes) + "\n", *(f"h{r}," + ",".join(str(amount(r, c)) for c in range(len(codes))) + "\n" for r in range(ROWS))])
-    write(os.path.join(folder, "none.csv"), ["name," + ",".join(codes) + "\n"])
-    write(os.path.join(folder, "first.csv"), ["code,amount\n", *(f"{code},{amount(0, c)}\n" for c, code in enumerate(codes))])
-    alone = subprocess.run([program, "run", *source, "first.csv"], cwd=folder, stdout=subprocess.PIPE, check=False).stdout
-    nothing = done([program, "batch", *source, "none.csv"], folder)[0]
-    seconds, peak, text = done([program, "batch", *source, "table.csv"], folder)
-    if not text.startswith(b"household h0\n" + alone) or text.count(b"household ") != ROWS:
-        sys.exit(f"{name}: the first household isn't that of a run")
-    print(f"| `batch`, {ROWS:,} rows of {len(codes)} columns | {name} | {seconds:.2f} | {(seconds - nothing) / ROWS * 1e6:.1f} | {peak / 1e6:.0f} |", flush=True)
+def done(words, taken, wanted=None):
+    """User and system seconds, peak and seconds by the clock, the least of so many runs, of a command whose output is as it must be."""
+    runs = [timed(words, ".") for _ in range(taken)]
+    for run in runs:
+        if run[2] != 0 or wanted is not None and run[3] != wanted:
+            sys.exit(f"{words}: status {run[2]}, {run[3][:200]}")
+    return min(run[0] for run in runs), max(run[1] for run in runs), min(run[4] for run in runs), runs[0][3]
 
 
-def session(program, folder, source, code, shows, name):
-    write(os.path.join(folder, "empty.csv"), ["code,amount\n"])
-    typed = "".join(f"set {code} {amount(k, 0)}\nshow\n" for k in range(shows)).encode()
-    write(os.path.join(folder, "last.csv"), [f"code,amount\n{code},{amount(shows - 1, 0)}\n"])
-    alone = subprocess.run([program, "run", *source, "last.csv"], cwd=folder, stdout=subprocess.PIPE, check=False).stdout
-    nothing = done([program, "serve", *source, "empty.csv"], folder)[0]
-    seconds, peak, text = done([program, "serve", *source, "empty.csv"], folder, typed)
-    if not text.endswith(b"ok\n" + alone + b".\n") or text.count(b"\n.\n") != shows:
-        sys.exit(f"{name}: the last show isn't that of a run")
-    print(f"| `serve`, {shows:,} edits and shows | {name} | {seconds:.2f} | {(seconds - nothing) / shows * 1e6:.1f} | {peak / 1e6:.0f} |", flush=True)
+def compiled(folder, name, maker, words):
+    """A program of C that one of the scripts writes."""
+    source, made = os.path.join(folder, name + ".c"), os.path.join(folder, name)
+    with open(source, "wb") as out:
+        subprocess.run([sys.executable, os.path.join(HERE, maker), *words], stdout=out, check=True)
+    subprocess.run(["gcc", "-O2", "-o", made, source], check=True)
+    return made
+
+
+def base(program, folder, example, driver, rows):
+    """The rows of the table of one base, and its figures."""
+    source = [f"{example}/rules.list", driver if driver == "-" else f"{example}/{driver}", "-"]
+    name = example.split("/")[1] + ("" if driver == "-" else "_driver")
+    code = os.path.join(folder, name + ".code")
+    with open(code, "wb") as out:
+        subprocess.run([program, "compile", *source], stdout=out, check=True)
+    full, none = (os.path.join(folder, f"{name}_{n}.csv") for n in (rows, 0))
+    table(full, CODES[example], rows)
+    table(none, CODES[example], 0)
+    batch = [program, "batch", *source]
+    programs = {
+        "m_tax": ["taskset", "-c", "0", *batch],
+        "plain": ["taskset", "-c", "0", compiled(folder, name + "_plain", "translate.py", source[:2])],
+        "straight": ["taskset", "-c", "0", compiled(folder, name + "_straight", "straight.py", [code])],
+    }
+    wanted = timed([*batch, full], ".")[3]
+    if wanted.count(b"household ") != rows:
+        sys.exit(f"{name}: {wanted[:300]}")
+    each = {}
+    for kind, words in programs.items():
+        seconds = done([*words, full], 3, wanted)[0] - done([*words, none], 3)[0]
+        each[kind] = seconds / rows * 1e6
+    ratios = {kind: each["m_tax"] / each[kind] for kind in ROW_AIMS}
+    print(f"| {example}{'' if driver == '-' else ' with its driver'} | {each['m_tax']:.2f} | {each['plain']:.2f} | {each['straight']:.2f}"
+          f" | {ratios['plain']:.2f} | {ratios['straight']:.2f} |", flush=True)
+    return name, [*batch, full], wanted, each["m_tax"], ratios
+
+
+def threads(name, words, wanted):
+    """One processor and all of them, by the clock, by turns, and what part of the work must be on one for that."""
+    count = os.cpu_count()
+    one = min(done(["taskset", "-c", "0", *words], 2, wanted)[2] for _ in range(2))
+    all_ = min(done(words, 2, wanted)[2] for _ in range(2))
+    gain = one / all_
+    alone = (count / gain - 1) / (count - 1)
+    print(f"| {name} | {one:.3f} | {all_:.3f} | {gain:.2f} | {100 * alone:.0f} % |", flush=True)
+    return gain
+
+
+def long_amount(row, column, _code):
+    return f"{(row * 7919 + column * 104729) % 40000}.{(row * 31 + column) % 1000000:06}{'0' * 8}"
+
+
+def memory(program, folder, name, words, codes, cell, rows, aim):
+    """The peak of one batch over a table of so many rows, cut at the limit of a table's bytes."""
+    path = os.path.join(folder, "memory.csv")
+    table(path, codes, rows, cell)
+    with open(path, "rb+") as file:
+        text = file.read()
+        if len(text) > TABLE_BYTES:
+            file.truncate(text.rindex(b"\n", 0, TABLE_BYTES) + 1)
+    size = os.path.getsize(path)
+    _, peak, _, text = done([program, "batch", *words, path], 1)
+    print(f"| {name} | {text.count(b'household '):,} | {len(codes)} | {size / 1e6:.1f} | {peak / 1e6:.0f} | {aim} |", flush=True)
+    return peak / 1e6
+
+
+def all_codes(program, words, folder):
+    """The codes of all inputs of a base, by its code file."""
+    text = subprocess.run([program, "compile", *words], stdout=subprocess.PIPE, check=True).stdout
+    return [line.split()[1].decode() for line in text.split(b"\n") if line.startswith(b"input ")]
 
 
 def main():
-    program, room = sys.argv[1:3]
-    print("| Command | Base | seconds | microseconds a row or show | peak, MB |\n|---|---|---:|---:|---:|")
-    impots = os.path.join(room, "impots")
-    os.makedirs(impots, exist_ok=True)
-    for name in ("impots.m", "driver.mpp"):
-        with open(os.path.join(ROOT, "examples/impots", name), "rb") as source, open(os.path.join(impots, name), "wb") as copy:
-            copy.write(source.read())
-    write(os.path.join(impots, "list.txt"), ["iliad\nimpots.m\n"])
-    codes = ["A01", "A02", "A03", "A04", "B01", "B02", "B03", "B04"]
-    plain, driven = ["list.txt", "-", "-"], ["list.txt", "driver.mpp", "-"]
-    batch(program, impots, plain, codes, "examples/impots")
-    batch(program, impots, driven, codes, "examples/impots with its driver")
-    session(program, impots, driven, "A01", 100_000, "examples/impots with its driver")
-    large = os.path.join(room, "large")
-    subprocess.run([sys.executable, os.path.join(ROOT, "bench/flat/generate.py"), "10000", "0", large], check=True)
-    session(program, large, ["list.txt", "-", "requests.txt"], "C7", 2_000, "`large 10000`")
+    program, folder, rows = os.path.abspath(sys.argv[1]), sys.argv[2], int(sys.argv[3]) if len(sys.argv) > 3 else ROWS
+    print("| Base | `batch`, microseconds a row | plain C | straight-line C | ratio to plain | ratio to straight |\n|---|---:|---:|---:|---:|---:|")
+    told = [base(program, folder, example, driver, rows) for example, driver in BASES]
+    print("\n| Base | one processor, s | all, s | times | part on one processor |\n|---|---:|---:|---:|---:|")
+    gains = {name: threads(name, words, wanted) for name, words, wanted, _, _ in told}
+    print("\n| Table | rows | columns | MB | peak, MB | aim, MB |\n|---|---:|---:|---:|---:|---:|")
+    impots = ["examples/impots/rules.list", "examples/impots/driver.mpp", "-"]
+    eight, codes = CODES["examples/impots"], all_codes(program, impots, folder)
+    small = memory(program, folder, "8 columns", impots, eight, amount, rows, 40)
+    great = max(memory(program, folder, "8 columns of long amounts", impots, eight, long_amount, rows, 120),
+                memory(program, folder, "all columns, one digit each", impots, codes, lambda r, c, _code: (r + c) % 10, rows, 120))
+    for name, _, _, each, ratios in told:
+        figure(f"batch.{name}_us_a_row", each)
+        for kind, ratio in ratios.items():
+            figure(f"batch.{name}_to_{kind}_c", ratio, f"<={ROW_AIMS[kind]}")
+        figure(f"batch.{name}_{os.cpu_count()}_processors_to_one", gains[name], ">=3.2")
+    figure("batch.100000_rows_of_8_columns_MB", small, "<=40")
+    figure("batch.table_of_16_MB_MB", great, "<=120")
 
 
 main()

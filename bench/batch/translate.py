@@ -1,131 +1,156 @@
 #!/usr/bin/env python3
-"""Writes C for the rules of examples/impots, as a plain translator would: one statement for each operator, over values of __int128 millionths.
+"""Writes C for rules and a driver, as a plain translator would: one statement for each operator, over an array of cells.
 
-    translate.py > plain.c
+    translate.py LIST DRIVER > plain.c
 
-The C program reads a table with the codes A01 to A04 and B01 to B04 from its first argument, and prints what `m_tax batch .. - - TABLE` prints. The formulas
-stand below as in `examples/impots/impots.m`, their loops written out. It checks nothing of its input.
+The files are read by the reference implementation (tests/second). All definitions and verifications are translated, and each call of the rules computes
+all of them. A call of a function works on a copy of the cells. The C program reads a table from its first argument, and prints what
+`m_tax batch LIST DRIVER - TABLE` prints. DRIVER is `-` for none.
 """
-HEAD = r"""
-#include <stdio.h>
-#include <stdlib.h>
-#include <string.h>
-typedef __int128 wide;
-typedef struct { wide v; int k; } value; /* k: 0 a number, 1 undefined, 2 over */
-static const wide ONE = 1000000;
-static value num(wide v) { wide most = (wide)10000000000000 * ONE; value r = { v, 0 }; if (v > most || v < -most) { r.v = 0; r.k = 2; } return r; }
-static const value undef = { 0, 1 }, over = { 0, 2 };
-static wide nearest(wide n, wide d) { wide s = n < 0 ? -1 : 1; n *= s; return s * ((2 * n + d) / (2 * d)); }
-#define SUMS(name, e) static value name(value a, value b) { if (a.k == 2 || b.k == 2) return over; if (a.k && b.k) return undef; return num(e); }
-#define STRICT(name, e) static value name(value a, value b) { if (a.k == 2 || b.k == 2) return over; if (a.k || b.k) return undef; return num(e); }
-SUMS(add, a.v + b.v)
-SUMS(sub, a.v - b.v)
-SUMS(greater, a.v > b.v ? a.v : b.v)
-SUMS(lesser, a.v < b.v ? a.v : b.v)
-SUMS(or, (a.v || b.v) ? ONE : 0)
-STRICT(mul, nearest(a.v * b.v, ONE))
-STRICT(quotient, b.v == 0 ? 0 : b.v < 0 ? nearest(-a.v * ONE, -b.v) : nearest(a.v * ONE, b.v))
-STRICT(above, a.v > b.v ? ONE : 0)
-STRICT(below, a.v < b.v ? ONE : 0)
-STRICT(at_least, a.v >= b.v ? ONE : 0)
-STRICT(at_most, a.v <= b.v ? ONE : 0)
-STRICT(equal, a.v == b.v ? ONE : 0)
-STRICT(and, (a.v && b.v) ? ONE : 0)
-STRICT(at, a.v / ONE == b.v / ONE ? ONE : 0)
-static value not(value a) { if (a.k) return a; return num(a.v == 0 ? ONE : 0); }
-static value present(value a) { if (a.k == 2) return over; return num(a.k == 0 ? ONE : 0); }
-static value arr(value a) { if (a.k) return a; wide h = a.v < 0 ? a.v - 500050 : a.v + 500050; return num(h / ONE * ONE); }
-static value choose(value c, value a, value b) { if (c.k) return c; return c.v ? a : b; }
-static int stops(value c) { return c.k == 2 || (c.k == 0 && c.v != 0); }
-static void show(const char *name, value a) {
-    if (a.k) { printf("%s %s\n", name, a.k == 1 ? "undefined" : "over"); return; }
-    unsigned long long w = (unsigned long long)((a.v < 0 ? -a.v : a.v) / ONE), d = (unsigned long long)((a.v < 0 ? -a.v : a.v) % ONE);
-    printf("%s = %s%llu", name, a.v < 0 ? "-" : "", w);
-    if (d) { char t[8]; sprintf(t, "%06llu", d); for (int i = 5; t[i] == '0'; i--) t[i] = 0; printf(".%s", t); }
-    putchar('\n');
+import os
+import sys
+
+HERE = os.path.dirname(os.path.abspath(__file__))
+sys.path.insert(0, os.path.join(os.path.dirname(os.path.dirname(HERE)), "tests", "second"))
+sys.path.insert(0, HERE)
+from plain_c import number, program, quoted  # noqa: E402
+from reading.driver_grammar import Assignment, Conditional, Deletion, Partition  # noqa: E402
+from reading.driver_names import RULES  # noqa: E402
+from reading.files import read_list  # noqa: E402
+from reading.sources import Compiled, Source  # noqa: E402
+from reading.trees import Cell, Chain, Exists, Number, Operation  # noqa: E402
+from reading.values import label_lines  # noqa: E402
+
+PICK = r"""
+static inline value pick(const value *cells, int size, value index) {
+    if (index.k) return index;
+    if (index.v < 0 && whole(index.v) < 0) return exact(0);
+    return whole(index.v) < size ? cells[(int)whole(index.v)] : undef;
 }
-static value read(const char *p, const char *end) {
-    if (p == end) return undef;
-    wide v = 0, s = 1; int d = -1;
-    for (; p < end; p++) { if (*p == '-') s = -1; else if (*p == '.') d = 0; else if (d < 6) { v = v * 10 + (*p - '0'); if (d >= 0) d++; } }
-    for (int i = d < 0 ? 0 : d; i < 6; i++) v *= 10;
-    return num(s * v);
-}
+static int notes[65536], noted;
 """
-FOOT = r"""
-int main(int n, char **words) {
-    FILE *f = fopen(words[1], "r");
-    char line[4096];
-    if (!f || !fgets(line, sizeof line, f)) return 1;
-    while (fgets(line, sizeof line, f)) {
-        value in[8]; char *p = line, *q = strchr(p, ','); *q = 0;
-        printf("household %s\n", p);
-        for (int i = 0; i < 8; i++) { p = q + 1; q = p + strcspn(p, ",\n"); in[i] = read(p, q); }
-        answer(in);
-    }
-    return n != 2;
-}
-"""
-LINES = []
 
 
-def let(expression):
-    """One statement, and the name of its value."""
-    name = f"n{len(LINES)}"
-    LINES.append(f"    value {name} = {expression};")
-    return name
+class Writer:
+    """The statements of one function."""
+
+    def __init__(self):
+        self.lines = []
+        self.count = 0
+
+    def let(self, expression):
+        """One statement, and the name of its value."""
+        self.count += 1
+        self.lines.append(f"    value n{self.count} = {expression};")
+        return f"n{self.count}"
+
+    def do(self, operator, *arguments):
+        return self.let(f"m_{operator}({', '.join(arguments)})")
+
+    def term(self, term):
+        """The name of a term's value, after the statements that make it."""
+        if isinstance(term, Number):
+            return self.let(number(term.value))
+        if isinstance(term, Cell):
+            return f"c[{term.number}]"
+        if isinstance(term, Operation):
+            return self.do(term.operator, *[self.term(argument) for argument in term.arguments])
+        if isinstance(term, Chain):
+            so_far = self.term(term.first)
+            for operator, operand in term.links:
+                so_far = self.do(operator, so_far, self.term(operand))
+            return so_far
+        if isinstance(term, Exists):
+            found = self.let("exact(0)")
+            for cell in term.cells:
+                found = self.do("or", found, self.do("present", f"c[{cell}]"))
+            return found
+        return self.let(f"pick(c + {term.first}, {term.size}, {self.term(term.index)})")
+
+    def add(self, line):
+        self.lines.append("    " + line)
 
 
-def do(op, *arguments):
-    return let(f"{op}({', '.join(arguments)})")
+def rules(base, order):
+    """One call of the rules: 1 where a verification stopped it."""
+    out = Writer()
+    for cell in order:
+        out.add(f"c[{cell}] = {out.term(base.terms[cell])};")
+    for condition, label in base.checks:
+        name = out.term(condition)
+        over = quoted(b"over verification " + label.verification + b" " + label.error + b"\n")
+        out.add(f"if ({name}.k == 2) {{ fputs({over}, stdout); return 1; }}")
+        if label.kind == b"anomalie":
+            out.add(f"if (holds({name})) {{ fputs({quoted(label_lines(b'failed', label))}, stdout); return 1; }}")
+        else:
+            out.add(f"if (holds({name})) notes[noted++] = {base.checks.index((condition, label))};")
+    return ["static int rules(value *c) {", *out.lines, "    return 0;", "}"]
 
 
-def lit(amount):
-    return let(f"num({round(amount * 1000000)}LL)")
+def block(out, commands, driver, cells):
+    for command in commands:
+        out.add("{")
+        if isinstance(command, Assignment):
+            out.add(f"c[{command.cell}] = {out.term(command.term)};")
+        elif isinstance(command, Deletion):
+            out.add(f"c[{command.cell}] = undef;")
+        elif isinstance(command, Conditional):
+            name = out.term(command.condition)
+            out.add(f"if ({name}.k == 2) {{ fputs({quoted(b'over driver line %d' % command.line)} \"\\n\", stdout); return 1; }}")
+            out.add(f"if (holds({name})) {{")
+            block(out, command.block, driver, cells)
+            out.add("} else {")
+            block(out, command.other, driver, cells)
+            out.add("}")
+        elif isinstance(command, Partition):
+            kind = list(command.kind)
+            out.add(f"value before[{len(kind) + 1}];")
+            for k, cell in enumerate(kind):
+                out.add(f"before[{k}] = c[{cell}]; c[{cell}] = undef;")
+            block(out, command.block, driver, cells)
+            for k, cell in enumerate(kind):
+                out.add(f"c[{cell}] = before[{k}];")
+        else:
+            name = "rules" if command.function == RULES else f"do_{command.function.decode()}"
+            out.add(f"value copy[{cells}]; memcpy(copy, c, sizeof copy); if ({name}(copy)) return 1;")
+            for cell in command.received:
+                out.add(f"c[{cell}] = copy[{cell}];")
+        out.add("}")
 
 
-def fold(op, operands):
-    first, *others = operands
-    for operand in others:
-        first = do(op, first, operand)
-    return first
+def function(name, commands, driver, cells):
+    out = Writer()
+    block(out, commands, driver, cells)
+    return [f"static int do_{name.decode()}(value *c) {{", *out.lines, "    return 0;", "}"]
 
 
-def check(condition, number):
-    LINES.append(f'    if (stops({condition})) {{ if ({condition}.k == 2) printf("over verif {number}\\n"); '
-                 f'else printf("failed {number} A01 anomalie\\nA:01:00:parts:N\\n"); return; }}')
+def answer(compiled):
+    base, declared = compiled.base, compiled.declared
+    lines = ["static void answer(const value *in) {", f"    value c[{declared.cells}];", f"    for (int i = 0; i < {declared.cells}; i++) c[i] = undef;"]
+    start = compiled.start([])
+    lines += [f"    c[{cell}] = {number(value)};" for cell, value in enumerate(start) if value is not None]
+    lines += [f"    c[{cell}] = in[{place}];" for place, cell in enumerate(declared.inputs.values())]
+    lines += ["    noted = 0;", "    if (do_main(c)) return;"]
+    texts = ", ".join(quoted(label_lines(b"noted", label)) for _, label in base.checks) or '""'
+    lines += [f"    static const char *texts[] = {{ {texts} }};", "    for (int i = 0; i < noted; i++) fputs(texts[notes[i]], stdout);"]
+    lines += [f"    show({quoted(name)}, c[{cell}]);" for name, cell in zip(compiled.request_names, compiled.requests)]
+    return [*lines, "}"]
 
 
-def answer():
-    given = {f"TS{p}{j:02}": (f"in[{4 * q + j - 1}]" if j <= 4 else "undef") for q, p in enumerate("VC") for j in range(1, 21)}
-    nbpt, riben, zero = "undef", "undef", lit(0)
-    s1, s2, s3 = lit(10000), lit(25000), lit(80000)
-    gross = {p: fold("add", [given[f"TS{p}{j:02}"] for j in range(1, 21)]) for p in "VC"}
-    net = {}
-    for p in "VC":
-        rebate = do("lesser", lit(13000), do("greater", do("mul", gross[p], lit(0.1)), do("lesser", lit(400), gross[p])))
-        net[p] = do("greater", zero, do("sub", gross[p], rebate))
-    income = do("add", net["V"], net["C"])
-    parts = do("choose", do("present", nbpt), nbpt, lit(1))
-    share = do("quotient", income, parts)
-    rates = [lit(0.1), lit(0.3), lit(0.4)]
-    bands = [do("sub", do("lesser", share, s2), s1), do("sub", do("lesser", share, s3), s2), do("sub", share, s3)]
-    tax = fold("add", [do("mul", do("greater", zero, band), rate) for band, rate in zip(bands, rates)])
-    whole = do("arr", do("mul", tax, parts))
-    due = do("greater", zero, do("sub", whole, riben))
-    step = fold("add", [do("above", share, s) for s in (s1, s2, s3)])
-    table = [do("mul", lit(x), lit(0.1)) for x in range(4)]
-    rate = fold("add", [do("mul", do("at", step, lit(x)), table[x]) for x in range(4)])
-    check(do("below", nbpt, lit(1)), 2001)
-    check(do("or", do("below", given["TSV01"], zero), do("below", given["TSC01"], zero)), 2002)
-    check(do("above", riben, lit(100000)), 2003)
-    check(do("above", due, whole), 2004)
-    inside = [do("equal", nbpt, lit(x)) for x in (1, 1.5, 2, 2.5)] + [do("and", do("at_least", nbpt, lit(3)), do("at_most", nbpt, lit(20)))]
-    check(do("not", fold("or", inside)), 2005)
-    check(do("and", do("above", do("add", gross["V"], gross["C"]), lit(1000000)), do("not", do("present", nbpt))), 2006)
-    for name, value in (("IRNET", due), ("MARG", rate), ("AVANT", "undef"), ("GAIN", "undef")):
-        LINES.append(f'    show("{name}", {value});')
+def fetch(name):
+    with open(name, "rb") as text:
+        return text.read()
 
 
-answer()
-print(HEAD + "static void answer(const value *in) {\n" + "\n".join(LINES) + "\n}\n" + FOOT)
+def main():
+    application, names = read_list(fetch(sys.argv[1]))
+    driver = None if sys.argv[2] == "-" else fetch(sys.argv[2])
+    compiled = Compiled(Source(application, [(name, fetch(name)) for name in names], driver, None))
+    blocks, order = compiled.run.driver.blocks, compiled.run.driver.order
+    lines = [PICK, *rules(compiled.base, compiled.order)]
+    for name in order:
+        lines += function(name, blocks[name], compiled.run.driver, compiled.declared.cells)
+    print(program(list(compiled.declared.inputs), [*lines, *answer(compiled)]))
+
+
+main()

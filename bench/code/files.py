@@ -5,7 +5,7 @@
 
 Seconds are those of the processor (user and system), the least of three runs; the peak is that of resident memory. `exec` begins with the file on the
 disk, so its time has the start of the program, the reading of the code file and of the household, and the run. Each answer of `exec` is compared with
-`run`'s. The last two columns are of the reading alone: the time of `exec` of the whole file, less that of the smallest one.
+`run`'s. The last two columns are of the reading: what `exec` with a household without rows takes for the whole file, less that for the smallest one.
 """
 import os
 import subprocess
@@ -14,7 +14,7 @@ import sys
 HERE = os.path.dirname(os.path.abspath(__file__))
 ROOT = os.path.dirname(os.path.dirname(HERE))
 sys.path.insert(0, os.path.dirname(HERE))
-from measured import least  # noqa: E402
+from measured import figure, least, timed  # noqa: E402
 
 EXAMPLES = ("examples/impots", "examples/impot2023")
 LARGE = (10_000, 100_000)
@@ -52,8 +52,12 @@ def asked(program, words, place, name):
     return seconds, peak, text
 
 
+def code_path(name, folder):
+    return os.path.join(folder, name.split("/")[-1].replace(" ", "_").strip("`") + ".code")
+
+
 def row(program, name, words, household, place, folder, smallest):
-    code = os.path.join(folder, "code")
+    code = code_path(name, folder)
     compiled, compile_peak, text = asked(program, ["compile", *words], place, name)
     with open(code, "wb") as out:
         out.write(text)
@@ -62,13 +66,20 @@ def row(program, name, words, household, place, folder, smallest):
     if by_rules != by_code:
         sys.exit(f"{name}: run says {by_rules[:200]}, exec says {by_code[:200]}")
     instructions, slots, stores, loads = counts(text)
-    reading = max(done - smallest[0], 1e-9)
+    empty, empty_peak, _ = asked(program, ["exec", code, os.path.join(folder, "none.csv")], place, name)
+    reading = max(empty - smallest[0], 1e-9)
     print(
         f"| {name} | {len(text) / 1e6:.2f} | {instructions:,} | {slots:,} | {stores:,} | {loads:,} | {compiled:.3f} s, {compile_peak / 1e6:.0f} MB"
         f" | {run:.3f} s, {run_peak / 1e6:.0f} MB | {done:.4f} s, {exec_peak / 1e6:.0f} MB | {len(text) / 1e6 / reading:.0f}"
-        f" | {(exec_peak - smallest[1]) / instructions:.0f} |",
+        f" | {(empty_peak - smallest[1]) / instructions:.0f} |",
         flush=True,
     )
+    return done, run, len(text) / 1e6 / reading, (empty_peak - smallest[1]) / instructions
+
+
+def started(code, household, program, place):
+    """Milliseconds by the clock from the start of `exec` to its end, the least of twenty."""
+    return min(timed([program, "exec", code, household], place)[4] for _ in range(20)) * 1e3
 
 
 def main():
@@ -82,9 +93,14 @@ def main():
     print("| Base | MB | instructions | slots | stores | loads | `compile` | `run` | `exec` | MB read a second, with the run | bytes of memory an instruction |")
     print("|---|---:|---:|---:|---:|---:|---:|---:|---:|---:|---:|")
     for name in EXAMPLES:
-        row(program, name, *example(name, folder), folder, smallest)
+        words, household, place = example(name, folder)
+        row(program, name, words, household, place, folder, smallest)
+        figure(f"code.exec_{name.split('/')[1]}_ms", started(code_path(name, folder), household, program, place), "<=3")
     for n in LARGE:
-        row(program, f"`large {n}`", *large(n, folder), folder, smallest)
+        done, run, speed, memory = row(program, f"`large {n}`", *large(n, folder), folder, smallest)
+    figure("code.exec_to_run_of_large_100000", done / run, "<=0.2")
+    figure("code.read_MB_a_second", speed, ">=60")
+    figure("code.read_bytes_an_instruction", memory, "<=40")
 
 
 main()

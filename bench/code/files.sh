@@ -1,5 +1,5 @@
 #!/bin/sh
-# Times `compile` and `exec`. It needs ./build before and python3, and prints a table for RESULTS.md.
+# Times `compile` and `exec`, and counts stores and loads with other choices of a victim. It needs ./build before and python3, and prints a table for RESULTS.md.
 #
 #     sh bench/code/files.sh [PROGRAM]
 set -eu
@@ -8,3 +8,5 @@ root=$(cd "$here/../.." && pwd)
 work=$(mktemp -d "${TMPDIR:-/tmp}/bench_code.XXXXXX")
 trap 'rm -rf "$work"' EXIT
 python3 "$here/files.py" "${1-$root/out/m_tax}" "$work"
+echo
+python3 "$here/victims.py" "$work/impots.code" "$work/impot2023.code" "$work/large_10000.code" "$work/large_100000.code"

@@ -9,37 +9,26 @@ root=$(cd "$here/../.." && pwd)
 work=$(mktemp -d "${TMPDIR:-/tmp}/bench_code.XXXXXX")
 trap 'rm -rf "$work"' EXIT
 mkdir -p "$work/repository/crates"
-for crate in $(grep -o '^m_compile:.*' "$root/crates.txt" | tr -d ':'); do
-    if [ -d "$root/crates/$crate" ]; then
-        mkdir "$work/repository/crates/$crate"
-        for part in src specs proofs; do
-            if [ -d "$root/crates/$crate/$part" ]; then cp -r "$root/crates/$crate/$part" "$work/repository/crates/$crate/"; fi
-        done
-        grep "^$crate:" "$root/crates.txt" >>"$work/repository/crates.txt"
-    fi
-done
+: >"$work/repository/crates.txt"
+copy() {
+    if [ ! -d "$root/crates/$1" ] || [ -d "$work/repository/crates/$1" ]; then return; fi
+    mkdir "$work/repository/crates/$1"
+    for below in $(sed -n "s/^$1: *//p" "$root/crates.txt"); do copy "$below"; done
+    for part in src specs proofs; do
+        if [ -d "$root/crates/$1/$part" ]; then cp -r "$root/crates/$1/$part" "$work/repository/crates/$1/"; fi
+    done
+    grep "^$1:" "$root/crates.txt" >>"$work/repository/crates.txt"
+}
+copy m_compile
 echo "bench_code: m_places m_fixed rule_text observables flat_code reg_machine register_alloc m_compile anyhow" >>"$work/repository/crates.txt"
 cp "$root/HANDLES" "$work/repository/"
 bench=$work/repository/crates/bench_code
 mkdir -p "$bench/src" "$bench/proofs/are_below"
 cp "$here/main.rt.txt" "$bench/src/main.rt"
 cp "$here/are_below.antt.txt" "$bench/proofs/are_below/Invariants.antt"
-(cd "$bench" && rt run >"$work/rt.log" 2>&1) || { cat "$work/rt.log" >&2; exit 1; }
+(cd "$bench" && sh "$root/bench/built.sh" >"$work/rt.log" 2>&1) || { cat "$work/rt.log" >&2; exit 1; }
 
-# One row: a name, and the words of the program.
-row() {
-    name=$1
-    shift
-    echo "$name: $("$bench/out/bench_code" "$@" | tr '\n' ' ')"
-}
-
-echo "nodes, instructions, width, slots, stores, loads; microseconds of allocate, of a flat run, of a machine's run"
-row impots "$root/examples/impots/driver.mpp" - "$root/examples/impots/impots.m"
 (cd "$root" && sed 1d examples/impot2023/rules.list | xargs cat) >"$work/impot2023.m"
-row impot2023 "$root/examples/impot2023/driver.mpp" - "$work/impot2023.m"
-for n in 10000 100000; do
-    python3 "$root/bench/flat/generate.py" "$n" 0 "$work/$n"
-    row "large $n" - "$work/$n/requests.txt" "$work/$n/large.m"
-done
+for n in 10000 100000; do python3 "$root/bench/flat/generate.py" "$n" 0 "$work/$n"; done
 python3 "$root/bench/flat/generate.py" 10000 40 "$work/calls"
-row "large 10000, 40 calls" "$work/calls/driver.mpp" "$work/calls/requests.txt" "$work/calls/large.m"
+python3 "$here/measure.py" "$bench/out/bench_code" "$root" "$work"

@@ -22,7 +22,7 @@ cp "$root/HANDLES" "$work/repository/"
 bench=$work/repository/crates/bench_expand
 mkdir -p "$bench/src"
 cp "$here/main.rt.txt" "$bench/src/main.rt"
-(cd "$bench" && rt run >"$work/rt.log" 2>&1) || { cat "$work/rt.log" >&2; exit 1; }
+(cd "$bench" && sh "$root/bench/built.sh" >"$work/rt.log" 2>&1) || { cat "$work/rt.log" >&2; exit 1; }
 
 # The instructions of the program up to this step, in thousands.
 instructions() {
@@ -47,7 +47,9 @@ for kind in short sums long headers; do
         done
         for step in items expand; do
             echo "up to $step: $(instructions "$step" "$file") thousand instructions, $(peak "$step" "$file") KiB"
-        done
+        done | tee "$work/counts.$size"
         echo
     done
+    few=$(awk '{ n[NR] = $4 } END { print n[2] - n[1] }' "$work/counts.1")
+    awk -v kind="$kind" -v few="$few" '{ n[NR] = $4 } END { printf "figure expand.%s_ten_times %.3g <=11\n", kind, (n[2] - n[1]) / few }' "$work/counts.10"
 done

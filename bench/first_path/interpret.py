@@ -129,7 +129,7 @@ class Interpreter:
         return total
 
     def product(self):
-        """A product, and the token behind it."""
+        """A product, and the token after it."""
         value = self.factor()
         while (sign := self.next()) == "*":
             value = multiplied(value, self.factor())

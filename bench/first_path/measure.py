@@ -94,8 +94,10 @@ def main():
     for less, more in zip(sizes, sizes[1:]):
         by = found[more][0].processor / found[less][0].processor
         print(f"time for {more} by that for {less}: {by:.1f} (the aim is at most {TIME_AIM})")
+        print(f"figure first_path.{more}_to_{less} {by:.3g} <={TIME_AIM}")
     last, read = found[sizes[-1]]
     print(f"peak memory by the bytes read, {read}: {last.peak / read:.1f} (the aim is at most {MEMORY_AIM})")
+    print(f"figure first_path.memory_to_bytes_read {last.peak / read:.3g} <={MEMORY_AIM}")
     print(f"load of the machine: {os.getloadavg()[0]:.1f}")
 
 

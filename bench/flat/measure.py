@@ -11,7 +11,7 @@ import subprocess
 import sys
 
 sys.path.insert(0, os.path.dirname(os.path.dirname(os.path.abspath(__file__))))
-from measured import least
+from measured import figure, least
 
 HERE = os.path.dirname(os.path.abspath(__file__))
 SHAPES = [(10_000, 0), (100_000, 0), (1_000, 20), (10_000, 20)]
@@ -27,6 +27,7 @@ def wanted(n, calls):
 def main():
     program, room = sys.argv[1:3]
     print("| N | calls of the rules | seconds | peak, MB |\n|---:|---:|---:|---:|")
+    times = {}
     for n, calls in SHAPES:
         folder = os.path.join(room, f"{n}_{calls}")
         subprocess.run([sys.executable, f"{HERE}/generate.py", str(n), str(calls), folder], check=True)
@@ -35,6 +36,9 @@ def main():
         if (status, text) != (0, wanted(n, calls)):
             sys.exit(f"{n}, {calls}: status {status}, {text[:200]}")
         print(f"| {n:,} | {max(calls, 1)} | {seconds:.3f} | {peak / 1e6:.0f} |", flush=True)
+        times[n, calls] = seconds
+    figure("flat.large_100000_to_10000", times[100_000, 0] / times[10_000, 0], "<=12")
+    figure("flat.large_100000_s", times[100_000, 0])
 
 
 main()

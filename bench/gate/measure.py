@@ -5,8 +5,8 @@ Starts `rt ci` at the top of the repository, hands on what it prints, and looks 
 (out/figures.txt, if it isn't named) gets a line for each crate: its name, and the seconds of CPU of its check, of its tests and
 of its must-fail edits; then come the seconds that the whole took, the processors it ran on, and its last line. A run that is
 stopped (SIGTERM, SIGINT) writes what it saw, with no verdict. tests/budget.sh FIGURES compares them with the budget.
-With --anew, which is for `rt ci`, all is proved and tried though an earlier run on this machine passed it. `taskset -c 0,1`
-in front measures a machine of two processors.
+With --anew, which is for `rt ci`, all is proved and tried though an earlier run on this machine passed it. `taskset -c 0,1` as
+prefix measures a machine of two processors.
 """
 import collections
 import os

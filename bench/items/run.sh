@@ -22,7 +22,7 @@ cp "$root/HANDLES" "$work/repository/"
 bench=$work/repository/crates/bench_items
 mkdir -p "$bench/src"
 cp "$here/main.rt.txt" "$bench/src/main.rt"
-(cd "$bench" && rt run >"$work/rt.log" 2>&1) || { cat "$work/rt.log" >&2; exit 1; }
+(cd "$bench" && sh "$root/bench/built.sh" >"$work/rt.log" 2>&1) || { cat "$work/rt.log" >&2; exit 1; }
 python3 "$here/generate.py" 1600000 1 "$work/small"
 python3 "$here/generate.py" 16000000 1 "$work/great"
 python3 "$here/generate.py" 64000000 64 "$work/many"
@@ -46,7 +46,8 @@ for kind in small great many; do
         echo "tokens, items, names, microseconds of lex, parse, declare: $("$bench/out/bench_items" declare "$work/$kind"/*.m)"
     done
     if [ "$kind" != many ]; then
-        for step in lex parse declare; do echo "up to $step: $(instructions "$step" "$work/$kind"/*.m) thousand instructions"; done
+        for step in lex parse declare; do echo "up to $step: $(instructions "$step" "$work/$kind"/*.m) thousand instructions"; done | tee "$work/counts"
+        awk -v kind="$kind" '{ n[NR] = $4 } END { printf "figure items.%s_to_lex %.3g <=3.5\n", kind, n[3] / n[1] }' "$work/counts"
     fi
     echo "peak: $(peak lex "$work/$kind"/*.m) KiB with lex alone, $(peak declare "$work/$kind"/*.m) KiB with all"
     echo

@@ -4,22 +4,34 @@
     measure.py PROGRAM SCANNER FOLDER SIZE:FILES..
 
 PROGRAM is out/m_tax as ./build made it, SCANNER the compiled bench/lexer/plain.rs, and FOLDER a place for the generated files. Each line tells the
-bytes read, the least time of the processor (user and system) of three runs, and the peak of resident memory.
+bytes read, the least time of the processor (user and system) of three runs, of `run` and of `compile`, and the peak of resident memory.
 """
 import os
 import subprocess
 import sys
 
 sys.path.insert(0, os.path.dirname(os.path.dirname(os.path.abspath(__file__))))
-from measured import least, used
+from measured import figure, least, used
 
 HERE = os.path.dirname(os.path.abspath(__file__))
 
 
+RUN_BEFORE = 4.64  # seconds of `run` for 60 MB before programs were made tidy and code
+
+
+def scanned(scanner, rules, folder):
+    """Seconds of the scanner, which goes five times over each file, and prints a count and the microseconds of each time."""
+    times = 0.0
+    for name in rules:
+        printed = used([scanner, name], folder)[3].decode().split("\n")
+        times += min(int(line.split()[1]) for line in printed if line) / 1e6
+    return times
+
+
 def main():
     program, scanner, room = sys.argv[1:4]
-    print("| bytes read | files | program, s | peak, MB | peak / bytes | scanner, s | program / scanner |")
-    print("|---:|---:|---:|---:|---:|---:|---:|")
+    print("| bytes read | files | `run`, s | `compile`, s | peak, MB | peak / bytes | scanner, s | `run` / scanner | `compile` / scanner |")
+    print("|---:|---:|---:|---:|---:|---:|---:|---:|---:|")
     for shape in sys.argv[4:]:
         size, files = shape.split(":")
         folder = os.path.join(room, f"{size}_{files}")
@@ -27,14 +39,15 @@ def main():
         rules = [f"rules{n + 1}.m" for n in range(int(files))]
         read = sum(os.path.getsize(os.path.join(folder, name)) for name in ["list.txt", "household.csv", *rules])
         seconds, peak, status, text = least([program, "run", "list.txt", "-", "-", "household.csv"], folder)
-        if status != 0:
-            sys.exit(f"{shape}: status {status}, {text[:200]}")
-        # the scanner goes five times over each file, and prints a count and the microseconds of each time
-        times = 0.0
-        for name in rules:
-            printed = used([scanner, name], folder)[3].decode().split("\n")
-            times += min(int(line.split()[1]) for line in printed if line) / 1e6
-        print(f"| {read:,} | {files} | {seconds:.2f} | {peak / 1e6:.0f} | {peak / read:.1f} | {times:.3f} | {seconds / times:.1f} |", flush=True)
+        compiled, peak_too, status_too, text_too = least([program, "compile", "list.txt", "-", "-"], folder)
+        if status != 0 or status_too != 0:
+            sys.exit(f"{shape}: status {status}, {text[:200]}; {status_too}, {text_too[:200]}")
+        times, most = scanned(scanner, rules, folder), max(peak, peak_too)
+        print(f"| {read:,} | {files} | {seconds:.2f} | {compiled:.2f} | {most / 1e6:.0f} | {most / read:.1f} | {times:.3f} | {seconds / times:.1f} | {compiled / times:.1f} |", flush=True)
+    figure("language.run_60_MB_to_scanner", seconds / times, "<=6")
+    figure("language.compile_60_MB_to_scanner", compiled / times)
+    figure("language.compile_60_MB_s", compiled, f"<={1.3 * RUN_BEFORE:.2f}")
+    figure("language.bytes_of_memory_a_byte", most / read, "<=60")
 
 
 main()

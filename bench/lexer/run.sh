@@ -58,7 +58,7 @@ fn main(rt: HostRuntime) -> Result<()> {
     Ok(())
 }
 DRIVER
-(cd "$driver" && rt run >"$work/rt.log" 2>&1) || { cat "$work/rt.log" >&2; exit 1; }
+(cd "$driver" && sh "$root/bench/built.sh" >"$work/rt.log" 2>&1) || { cat "$work/rt.log" >&2; exit 1; }
 
 # The least time of a program's five runs in seconds, its megabytes a second, and its peak memory.
 row() {
@@ -66,10 +66,11 @@ row() {
     file=$2
     shift 2
     /usr/bin/time -f '%M' -o "$work/peak" "$@" "$file" >"$work/times"
-    awk -v name="$name" -v size="$(wc -c <"$file")" -v peak="$(cat "$work/peak")" '
+    awk -v name="$name" -v size="$(wc -c <"$file")" -v peak="$(cat "$work/peak")" -v to="$work/best" '
         NR == 1 || $2 < best { best = $2; count = $1 }
         END {
             printf "| %s | %d | %.3f | %.0f | %.0f |\n", name, count, best / 1e6, size / best, peak / 1024
+            print best >> to
         }' "$work/times"
 }
 
@@ -89,8 +90,10 @@ for kind in chain base; do
     echo
     echo '| Program | Tokens or words | Seconds | MB/s | Peak MiB |'
     echo '|---|---|---|---|---|'
+    : >"$work/best"
     row 'the lexer' "$work/$kind.m" "$driver/out/bench_lexer"
     row 'plain scanner' "$work/$kind.m" "$work/plain"
     row '`wc -w`' "$work/$kind.m" sh "$work/words"
     echo
+    awk -v kind="$kind" 'NR == 1 { lexer = $1 } NR == 2 { printf "figure lexer.%s_to_plain_scanner %.3g <=4\n", kind, lexer / $1 }' "$work/best"
 done

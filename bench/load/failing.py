@@ -6,11 +6,11 @@
 Each command of COMMANDS is run as it is, and then once for each call of a kind, in which that one call fails (failing.c, by
 LD_PRELOAD). What must come of it stands in docs/FORMATS.md:
 
-- no memory: status 5 with nothing on the standard output, but that of a table, of which a front of the answer may stand; or the same as
+- no memory: status 5 with nothing on the standard output, but that of a table, of which a prefix of the answer may stand; or the same as
   without it, where the call only asked for room that isn't needed (a sort's, say);
 - an open or a read that fails: status 3 and the line `unreadable NAME`, of a file that the command names; in a session that has
   begun, the replies to the lines so far and the line `unreadable input`;
-- a write that fails: status 4, and a front of the answer.
+- a write that fails: status 4, and a prefix of the answer.
 
 Prints a line for each run that ends in another way, and a table of the counts. The status is 1 where there was one.
 """
@@ -19,6 +19,9 @@ import re
 import subprocess
 import sys
 from collections import Counter
+
+sys.path.insert(0, os.path.dirname(os.path.dirname(os.path.abspath(__file__))))
+from measured import figure  # noqa: E402
 
 HERE = os.path.dirname(os.path.abspath(__file__))
 TOP = os.path.dirname(os.path.dirname(HERE))
@@ -30,15 +33,21 @@ COMMANDS = {
     "large": (["large", "3"], b""),
     "compile": (["compile", *RUN], b""),
     "exec": (["exec", "impots.code", "household.csv"], b""),
+    "check": (["check", "rules.list", "household.csv", "report.txt"], b""),
+    "lint": (["lint", *RUN], b""),
+    "cases": (["cases", *RUN, "cases.csv"], b""),
+    "a batch of several windows": (["batch", "small.list", "-", "-", "wide.csv"], b""),
+    "rule files on threads": (["run", "eight.list", "-", "-", "none.csv"], b""),
     "a refused code file": (["exec", "cut.code", "household.csv"], b""),
     "a refused source": (["run", "refused.list", "-", "-", "household.csv"], b""),
     "a refused household": (["run", *RUN, "refused.csv"], b""),
 }
-UNREADABLE = re.compile(rb"unreadable (rules\.list|refused\.list|impots\.m|refused\.m|driver\.mpp|household\.csv|refused\.csv|table\.csv|impots\.code|cut\.code)\n")
+UNREADABLE = re.compile(rb"unreadable [a-z0-9]+\.(list|m|mpp|csv|code|txt)\n")
 
 
 def files(program, folder):
-    """The files of the commands: those of examples/impots with their code file, a table of 600 households (groups have 256), and refused ones."""
+    """The files of the commands: those of examples/impots with their code file, a table of 600 households (groups have 256), one of 20,000 over a
+    single rule, which is more than a window has, eight rule files, and refused ones."""
     for name in ("impots.m", "driver.mpp", "household.csv"):
         with open(os.path.join(TOP, "examples", "impots", name), "rb") as it, open(os.path.join(folder, name), "wb") as out:
             out.write(it.read())
@@ -47,6 +56,14 @@ def files(program, folder):
         "refused.list": "iliad\nrefused.m\n",
         "refused.m": "A : calculee : \"\" ;\nregle 1 : application : iliad ; A = B ;\n",
         "refused.csv": "code,amount\n7UD,x\n",
+        "report.txt": "S1 = 10000\nS2 = 25000\nS3 = 80000\n",
+        "cases.csv": "name,A01,=IRNET\n" + "".join(f"h{n},{100 * n},0\n" for n in range(300)),
+        "small.list": "iliad\nsmall.m\n",
+        "small.m": "V : saisie revenu classe = 0 alias 7UD : \"\" ;\nA : calculee restituee : \"\" ;\nregle 1 : application : iliad ; A = V + 1 ;\n",
+        "wide.csv": "name,7UD\n" + "".join(f"h{n},{n}\n" for n in range(20_000)),
+        "eight.list": "iliad\n" + "".join(f"r{n}.m\n" for n in range(8)),
+        **{f"r{n}.m": f"A{n} : calculee restituee : \"\" ;\nregle {n + 1} : application : iliad ; A{n} = {n} ;\n" for n in range(8)},
+        "none.csv": "code,amount\n",
         "table.csv": "name,7UD\n" + "".join(f"h{n},{100 * n}\n" for n in range(600)),
     }
     for name, text in texts.items():
@@ -105,6 +122,7 @@ def main():
     for command in COMMANDS:
         print(f"| {command} |", " | ".join(str(counts[command, it]) for it in ("as it is", "memory", "open", "read", "write")), "|")
     print(f"{sum(n for (_, it), n in counts.items() if it != 'as it is')} runs with a failing call, {wrong} ended wrongly")
+    figure("load.failing_calls_that_end_wrongly", wrong, "<=0")
     sys.exit(wrong > 0)
 
 

@@ -1,12 +1,13 @@
 #!/usr/bin/env python3
 """Runs the program on inputs that a hostile writer would choose, each at a tenth and at its full size.
 
-    measure.py PROGRAM FOLDER [WORD..]
+    measure.py PROGRAM FOLDER [--stack=KB] [--memory=MB] [WORD..]
 
 Each shape of shapes.py is written into FOLDER, with what must be printed for it, which was worked out by hand. The program
 runs, and what it prints is compared byte by byte. A row is told on standard output: user and system time at a tenth and at the full size, how
 many times as much that is, the peak of memory, the answer (its first bytes) and the status. Only shapes with one of the WORDs in their
-names run, if any are given. A shape fails where it prints anything else, ends by a signal, takes more than a minute of processor or five by the clock, or takes more than 12 times
+names run, if any are given. With --stack each shape runs once, with a stack of so many KB; with --memory a run has so many MB of addresses in the place of
+8 GB. A shape fails where it prints anything else, ends by a signal, takes more than a minute of processor or five by the clock, or takes more than 12 times
 as long for 10 times the size. The status is 1 where one failed.
 """
 import filecmp
@@ -18,6 +19,9 @@ import sys
 import time
 
 import shapes
+
+sys.path.insert(0, os.path.dirname(os.path.dirname(os.path.abspath(__file__))))
+from measured import figure  # noqa: E402
 
 MINUTE = 60
 GROWTH = 12
@@ -53,7 +57,7 @@ def make(shape, size, folder):
     write(os.path.join(folder, "case"), json.dumps({"words": case["words"], "status": case["status"]}))
 
 
-def run(program, words, folder, stack):
+def run(program, words, folder, stack, memory):
     """The status (below zero for a signal, None past a minute), seconds of user and system, and the peak of memory in bytes."""
     child = os.fork()
     if child == 0:
@@ -61,7 +65,7 @@ def run(program, words, folder, stack):
         for name, end, flags in (("typed", 0, os.O_RDONLY), ("printed", 1, os.O_WRONLY | os.O_CREAT | os.O_TRUNC), ("told", 2, os.O_WRONLY | os.O_CREAT | os.O_TRUNC)):
             os.dup2(os.open(name, flags, 0o644), end)
         resource.setrlimit(resource.RLIMIT_STACK, (stack << 10, stack << 10))
-        resource.setrlimit(resource.RLIMIT_AS, (MEMORY, MEMORY))
+        resource.setrlimit(resource.RLIMIT_AS, (memory, memory))
         resource.setrlimit(resource.RLIMIT_CPU, (MINUTE, MINUTE + 1))
         os.execv(program, [program, *words])
     end = time.monotonic() + 5 * MINUTE
@@ -75,17 +79,17 @@ def run(program, words, folder, stack):
     return os.waitstatus_to_exitcode(status), usage.ru_utime + usage.ru_stime, usage.ru_maxrss * 1024
 
 
-def measure(program, shape, size, room, stack):
+def measure(program, shape, size, room, stack, memory):
     folder = os.path.join(room, "shape")
     shutil.rmtree(folder, ignore_errors=True)
     os.makedirs(folder)
     in_child(lambda: make(shape, size, folder))
     with open(os.path.join(folder, "case")) as text:
         case = json.load(text)
-    status, seconds, peak = run(program, case["words"], folder, stack)
+    status, seconds, peak = run(program, case["words"], folder, stack, memory)
     again = 0 if seconds > 0.1 else 1
     for _ in range(again):
-        seconds = min(seconds, run(program, case["words"], folder, stack)[1])
+        seconds = min(seconds, run(program, case["words"], folder, stack, memory)[1])
     faults = []
     if status == -24:
         faults.append("more than a minute of processor")
@@ -99,9 +103,9 @@ def measure(program, shape, size, room, stack):
     if not faults and not filecmp.cmp(printed, os.path.join(folder, "expected"), shallow=False):
         faults.append("another answer")
     with open(printed, "rb") as text:
-        front = text.read(44).decode("utf-8", "replace").split("\n")
+        first = text.read(44).decode("utf-8", "replace").split("\n")
     length = os.path.getsize(printed)
-    answer = front[0] + (" .." if length > len(front[0]) + 1 else "")
+    answer = first[0] + (" .." if length > len(first[0]) + 1 else "")
     if os.path.getsize(os.path.join(folder, "told")):
         with open(os.path.join(folder, "told"), "rb") as text:
             faults.append("on standard error: " + text.read(80).decode("utf-8", "replace").split("\n")[0])
@@ -109,15 +113,15 @@ def measure(program, shape, size, room, stack):
     return {"seconds": seconds, "peak": peak, "status": status, "answer": answer, "bytes": length, "faults": faults}
 
 
-def told(program, shape, room, stack):
-    small = measure(program, shape, shape.full // 10, room, stack) if shape.grows else None
-    big = measure(program, shape, shape.full, room, stack)
+def told(program, shape, room, stack, memory):
+    small = measure(program, shape, shape.full // 10, room, stack, memory) if shape.grows else None
+    big = measure(program, shape, shape.full, room, stack, memory)
     faults = [*(f"at a tenth: {f}" for f in (small["faults"] if small else [])), *big["faults"]]
     times = big["seconds"] / small["seconds"] if small else 0
     # Under some hundredths of a second the growth says more of the machine than of the program.
     if small and times > GROWTH and big["seconds"] > 0.05:
-        small = min(small, measure(program, shape, shape.full // 10, room, stack), key=lambda one: one["seconds"])
-        big = min(big, measure(program, shape, shape.full, room, stack), key=lambda one: one["seconds"])
+        small = min(small, measure(program, shape, shape.full // 10, room, stack, memory), key=lambda one: one["seconds"])
+        big = min(big, measure(program, shape, shape.full, room, stack, memory), key=lambda one: one["seconds"])
         times = big["seconds"] / small["seconds"]
         if times > GROWTH:
             faults.append(f"{times:.1f} times for 10 times the size")
@@ -130,14 +134,20 @@ def told(program, shape, room, stack):
 
 def main():
     program, room, words = os.path.abspath(sys.argv[1]), os.path.abspath(sys.argv[2]), sys.argv[3:]
+    limits = {"--stack": None, "--memory": MEMORY >> 20}
+    for word in [word for word in words if word.startswith("--")]:
+        name, _, number = word.partition("=")
+        limits[name] = int(number)
+        words.remove(word)
     print("| Shape | size | stack, KB | seconds at a tenth | seconds | times | peak, MB | answer (bytes) | status | verdict |\n|---|---:|---:|---:|---:|---:|---:|---|---:|---|")
-    good = True
+    bad = 0
     for shape in shapes.SHAPES:
         if words and not any(word in shape.name for word in words):
             continue
-        for stack in shape.stacks:
-            good = told(program, shape, room, stack) and good
-    sys.exit(0 if good else 1)
+        for stack in [limits["--stack"]] if limits["--stack"] else shape.stacks:
+            bad += not told(program, shape, room, stack, limits["--memory"] << 20)
+    figure("load.shapes_that_fail", bad, "<=0")
+    sys.exit(0 if bad == 0 else 1)
 
 
 if __name__ == "__main__":

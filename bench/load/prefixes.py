@@ -1,11 +1,11 @@
 #!/usr/bin/env python3
-"""Runs the program on every front of the files of examples/impots.
+"""Runs the program on every prefix of the files of examples/impots.
 
     prefixes.py PROGRAM FOLDER
 
-The rule file is cut at each byte of its first 4 KB and then at each seventh, its driver and its household at each byte. For a front of the rule
+The rule file is cut at each byte of its first 4 KB and then at each seventh, its driver and its household at each byte. For a prefix of the rule
 file the line that must be printed is worked out here from the places of texts and semicolons; for the others the line must be one of those of
-docs/REFUSALS.md that fits the file, with a line of the front. Where a front is whole, the four lines of the answer must come, with status 0.
+docs/REFUSALS.md that fits the file, with a line of the prefix. Where a prefix is whole, the four lines of the answer must come, with status 0.
 """
 import os
 import re
@@ -22,20 +22,20 @@ OF_HOUSEHOLD = re.compile(rb"refused household line ([0-9]+): (bad row|unknown c
 TOKEN = re.compile(rb'[ \t\r\n]+|#[^\n]*|(?P<text>"[^"]*")|(?P<end>;)|(?P<other>[0-9]+\.[0-9]+|\.\.|[<>!]=|[A-Za-z0-9_]+|[-+*/=<>()\[\],:])')
 
 
-def refusal(front, place, what):
-    return b"refused impots.m line %d byte %d: %s\n" % (1 + front[:place].count(b"\n"), place, what)
+def fault_line(prefix, place, what):
+    return b"refused impots.m line %d byte %d: %s\n" % (1 + prefix[:place].count(b"\n"), place, what)
 
 
-def of_rules(front):
-    """The line for a front of the rule file, or None where it is whole.
+def of_rules(prefix):
+    """The line for a prefix of the rule file, or None where it is whole.
 
     All of this file's semicolons end an item, a formula, a check or the head of a rule or verification. A head is whole with what follows it.
     """
     at, begun, head = 0, None, False
-    while at < len(front):
-        token = TOKEN.match(front, at)
+    while at < len(prefix):
+        token = TOKEN.match(prefix, at)
         if token is None:
-            return refusal(front, at, b"open string" if front[at : at + 1] == b'"' else b"bad byte")
+            return fault_line(prefix, at, b"open string" if prefix[at : at + 1] == b'"' else b"bad byte")
         if token["end"]:
             if not head:
                 begun = None
@@ -43,14 +43,14 @@ def of_rules(front):
         elif token.lastgroup and begun is None:
             begun, head = at, token["other"] in (b"regle", b"verif")
         at = token.end()
-    return None if begun is None else refusal(front, begun, b"syntax")
+    return None if begun is None else fault_line(prefix, begun, b"syntax")
 
 
-def of_whole(front):
-    """The line for a whole front, which lacks declarations of what the driver names, or None where it has them all."""
+def of_whole(prefix):
+    """The line for a whole prefix, which lacks declarations of what the driver names, or None where it has them all."""
     # The driver's names from the top on, by line: without_benefits() receives AVANT; then come IRNET, MARG, RIBEN, GAIN.
     for line, name in ((2, b"AVANT"), (3, b"IRNET"), (3, b"MARG"), (4, b"RIBEN"), (5, b"GAIN")):
-        if not re.search(rb"(^|[\n;] *)" + name + rb" : [^;]*;", front):
+        if not re.search(rb"(^|[\n;] *)" + name + rb" : [^;]*;", prefix):
             return b"refused driver line %d: unknown %s\n" % (line, name)
     return None
 
@@ -71,25 +71,25 @@ class Runs:
             out.write(text)
 
     def run(self, name, length):
-        front = self.files[name][:length]
-        self.put(name, front)
+        prefix = self.files[name][:length]
+        self.put(name, prefix)
         words = [self.program, "run", "rules.list", "driver.mpp", "-", "household.csv"]
         done = subprocess.run(words, cwd=self.folder, stdin=subprocess.DEVNULL, capture_output=True, check=False)
-        self.judge(name, front, done.returncode, done.stdout, done.stderr)
+        self.judge(name, prefix, done.returncode, done.stdout, done.stderr)
 
-    def judge(self, name, front, status, printed, told):
-        lines = front.count(b"\n") + 1
+    def judge(self, name, prefix, status, printed, told):
+        lines = prefix.count(b"\n") + 1
         if ANSWER.fullmatch(printed):
-            due, good = 0, name != "impots.m" or of_rules(front) is None and of_whole(front) is None
+            due, good = 0, name != "impots.m" or of_rules(prefix) is None and of_whole(prefix) is None
         elif STOP.fullmatch(printed):
             due, good = 6, name == "household.csv"
         elif name == "impots.m":
-            due, good = 1, printed == (of_rules(front) or of_whole(front))
+            due, good = 1, printed == (of_rules(prefix) or of_whole(prefix))
         else:
             line = (OF_DRIVER if name == "driver.mpp" else OF_HOUSEHOLD).fullmatch(printed)
             due, good = 1, bool(line) and int(line[1] or 1) <= lines
         if not good or status != due or told:
-            self.faults.append(f"{name}, its first {len(front)} bytes: status {status}, {printed[:120]!r} {told[:80]!r}")
+            self.faults.append(f"{name}, its first {len(prefix)} bytes: status {status}, {printed[:120]!r} {told[:80]!r}")
         kind = re.sub(rb"(line|byte) [0-9]+", rb"\1 ..", printed.split(b"\n")[0]) if due else b"an answer"
         kind = re.sub(rb"unknown [A-Za-z_]+$", rb"unknown ..", kind)
         self.seen[name, kind.decode(), status] += 1
@@ -104,7 +104,7 @@ def main():
             if name != "impots.m" or length < 4096 or length % 7 == 0:
                 runs.run(name, length)
         runs.put(name, text)
-    print("| File | line | status | fronts |\n|---|---|---:|---:|")
+    print("| File | line | status | prefixes |\n|---|---|---:|---:|")
     for (name, line, status), count in sorted(runs.seen.items()):
         print(f"| {name} | `{line}` | {status} | {count:,} |")
     for fault in runs.faults:

@@ -201,7 +201,7 @@ def _(n):
     return case(["I : saisie ", *many("a=1 ", m), 'alias C : "" ;\n', BASE], "A = 1\n")
 
 
-@shape("rules: words behind the number of one error", FILE)
+@shape("rules: words after the number of one error", FILE)
 def _(n):
     m = (n - 200) // 2
     return case([BASE, 'E : anomalie : "" : "" : "" : "" ; verif 1 : application : iliad ; si 0 alors erreur E', *many(" E", m), " ;"], "A = 1\n")
@@ -264,7 +264,7 @@ shape("256 brackets: indexes", 256, grows=False, stacks=DEEP)(
 )
 
 
-@shape("257 brackets in 65,000 formulas behind 256", FILE)
+@shape("257 brackets in 65,000 formulas after 256", FILE)
 def _(n):
     one = "A=" + "(" * 256 + "1" + ")" * 256 + ";"
     m = (n - 1000) // len(one)
@@ -744,7 +744,7 @@ def _(n):
     return case(ONE, "A = 1\n", driver=["main():\n A=1\n", *(f"f{k:07}():\n A=1\n" for k in range(m))])
 
 
-@shape("driver: two functions of one name behind many", FILE)
+@shape("driver: two functions of one name after many", FILE)
 def _(n):
     m = (n - 40) // 20
     return case(ONE, f"refused driver line {2 * m + 1}: function twice f0000000\n", 1, driver=[*(f"f{k:07}():\n A=1\n" for k in range(m)), "f0000000():\n A=1\n"])
@@ -928,7 +928,7 @@ def _(n):
     return case(None, f"household h\nI{n - 1} = 3\n", command="batch", household=["name", *(f",C{k}" for k in range(n)), "\nh", *many(",", n), "3"], files=packed(rules))
 
 
-@shape("batch: a column twice behind many", 1_000_000)
+@shape("batch: a column twice after many", 1_000_000)
 def _(n):
     rules = [f'I{k}:saisie alias C{k}:"";' for k in range(n)]
     return case(None, "refused household line 1: code twice\n", 1, command="batch", household=["name", *(f",C{k}" for k in range(n)), ",C0\n"], files=packed(rules))

@@ -28,7 +28,7 @@ cp "$root/HANDLES" "$work/repository/"
 bench=$work/repository/crates/bench_names
 mkdir -p "$bench/src"
 cp "$here/main.rt.txt" "$bench/src/main.rt"
-(cd "$bench" && rt run >"$work/rt.log" 2>&1) || { cat "$work/rt.log" >&2; exit 1; }
+(cd "$bench" && sh "$root/bench/built.sh" >"$work/rt.log" 2>&1) || { cat "$work/rt.log" >&2; exit 1; }
 
 # The least of twenty: microseconds of keeping the names and of finding each.
 row() {
@@ -36,7 +36,7 @@ row() {
         awk -v name="$2 names, $1" '
             NR == 1 || $2 < keeping { keeping = $2 }
             NR == 1 || $3 < finding { finding = $3 }
-            END { printf "| %s | %.1f | %.1f |\n", name, keeping / 1000, finding / 1000 }'
+            END { printf "| %s | %.1f | %.1f |\n", name, keeping / 1000, finding / 1000 }' | tee -a "$work/rows"
 }
 echo "| Names, hash | keeping, ms | finding each, ms |"
 echo "|---|---:|---:|"
@@ -44,6 +44,8 @@ row keyed random
 row keyed colliding
 row default random
 
+awk -F'|' 'NR == 1 { random = $3 } NR == 2 { printf "figure names.colliding_to_random %.3g <=2\n", $3 / random }' "$work/rows"
+awk -F'|' 'NR == 1 { keyed = $4 } NR == 3 { printf "figure names.keyed_find_to_default %.3g <=1.15\n", keyed / $4 }' "$work/rows"
 [ $# -ge 2 ] || exit 0
 program=$(readlink -f "$2")
 older=$(readlink -f "${3:-$2}")

@@ -1,12 +1,12 @@
 #!/bin/sh
 # Times each operator of m_fixed, and reading and writing an amount, beside plain Rust, in one run on
 # this machine, and prints tables of nanoseconds for one operation. With the top of an older clone as
-# its argument it times that one too, by turns. Needs rt and rustc; leaves nothing behind.
+# its argument it times that one too, by turns. Needs rt and rustc; leaves no files.
 #
 #   run.sh [OLDER_CLONE]
 #
 # Each operator is in a function of its own that is called by a pointer, so that it isn't inlined and none changes the code of another.
-# Each program is built twice, the second time with an empty function in front of these, by which each lies 16 bytes farther: a processor of
+# Each program is built twice, the second time with an empty function before these, by which each lies 16 bytes farther: a processor of
 # this kind takes longer over a jump that lies across a line of 32 bytes. The less counts. plain.rs is built with no such jump.
 # With WORK set to a folder it builds there and keeps what it built.
 set -eu
@@ -24,7 +24,7 @@ timer() {
         (cd "$work/$1.$place/crates/m_fixed" && rm -rf src specs proofs)
         cp -r "$2/crates/m_fixed/src" "$2/crates/m_fixed/specs" "$2/crates/m_fixed/proofs" "$work/$1.$place/crates/m_fixed/"
         cat "$work/main.rt" "$work/$place.rt" >"$work/$1.$place/crates/timer/src/main.rt"
-        (cd "$work/$1.$place/crates/timer" && rt run) >"$work/$1.$place.first" 2>"$work/rt.log" || { tail -20 "$work/rt.log"; exit 1; }
+        (cd "$work/$1.$place/crates/timer" && KEPT= sh "$here/../built.sh") >"$work/$1.$place.first" 2>"$work/rt.log" || { tail -20 "$work/rt.log"; exit 1; }
     done
 }
 

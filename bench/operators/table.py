@@ -27,6 +27,8 @@ def main():
     for at in (2 * OPERATORS, 2 * OPERATORS + 1):
         name, was, now = old[at][0], old[at][1], new[at][1]
         print(f"| {name}_amount | {was:.2f} | {now:.2f} | {now / was:.2f} | {plain[name]:.2f} | {now / plain[name]:.1f} |")
+    worst = max((now / plain[name], name) for name, now in new[:OPERATORS] if name in plain)
+    print(f"\nfigure operators.worst_to_plain_{worst[1]} {worst[0]:.3g} -")
     print("\n| Operator near the bound | before, ns | now, ns | of before |\n|---|---|---|---|")
     great = slice(2 * OPERATORS + 3, None)
     for (name, was), (_, now) in zip(old[great], new[great]):

@@ -10,7 +10,7 @@ RULE = "regle 1:application:iliad;\n"
 
 
 def chain(count):
-    """Each cell reads the one that is defined behind it: the worst order."""
+    """Each cell reads the one that is defined after it: the worst order."""
     declared = [f'V{k}:calculee:"";' for k in range(count)]
     formulas = [f"V{k}=V{k + 1};" for k in range(count - 1)] + [f"V{count - 1}=1;"]
     return declared, formulas

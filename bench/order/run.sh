@@ -21,7 +21,7 @@ cp "$root/HANDLES" "$work/repository/"
 bench=$work/repository/crates/bench_order
 mkdir -p "$bench/src"
 cp "$here/main.rt.txt" "$bench/src/main.rt"
-(cd "$bench" && rt run >"$work/rt.log" 2>&1) || { cat "$work/rt.log" >&2; exit 1; }
+(cd "$bench" && sh "$root/bench/built.sh" >"$work/rt.log" 2>&1) || { cat "$work/rt.log" >&2; exit 1; }
 
 ulimit -s 8192
 
@@ -53,8 +53,10 @@ counts() {
 for kind in chain sum dynamic ring; do
     for count in 10000 100000; do
         timed "$kind" "$count"
-        counts "$kind" "$count"
+        counts "$kind" "$count" | tee "$work/counts.$count"
     done
+    few=$(awk '/fill/ { print $4 }' "$work/counts.10000")
+    awk -v kind="$kind" -v few="$few" '/fill/ { printf "figure order.%s_100000_to_10000_instructions %.3g <=11\n", kind, $4 / few }' "$work/counts.100000"
 done
 timed dynamic 300000
 timed ring 200000

@@ -1,68 +1,83 @@
 #!/usr/bin/env python3
-"""Households a second: a batch of 100,000 on one core, and tools/scale on all, for the base of examples/impots and for examples/impot2023.
+"""Computes a table of so many made-up households over examples/impot2023 with tools/scale, each step timed.
 
-    measure.py PROGRAM FOLDER
+    measure.py PROGRAM FOLDER [HOUSEHOLDS [STEP..]]
 
-At the top of the repository. One core is user and system time of a batch, the least of three runs. All cores is the elapsed time of `tools/scale run` over
-eight parts of 100,000 households, with as many at once as there are processors, and the processor time that all of it took.
+The steps are make, cut, run, join, in this order (all of them, where none is named), each of which needs those before it in the same FOLDER. HOUSEHOLDS is
+38,000,000 where it isn't said, for which FOLDER needs 12 GB. The table is made by households.c; `cut` looks that no label stands twice, `run` checks each line of
+the answers, and `join` looks through all of them again and prints them into a file. For each step: seconds by the clock, seconds of all processors, and bytes.
 """
 import os
+import resource
 import subprocess
 import sys
 import time
 
-ROWS, PARTS = 100_000, 8
-BASES = {
-    "examples/impots": ["A01", "A02", "A03", "A04", "B01", "B02", "B03", "B04"],
-    "examples/impot2023": ["0AM", "0BT", "0CF", "1AJ", "1BJ", "1AS", "1BS", "7UD", "7UF"],
-}
-SMALL = {"0AM": 2, "0BT": 1, "0CF": 4}
+HERE = os.path.dirname(os.path.abspath(__file__))
+ROOT = os.path.dirname(os.path.dirname(HERE))
+sys.path.insert(0, os.path.dirname(HERE))
+from measured import figure  # noqa: E402
+
+WORDS = [f"examples/impot2023/{name}" for name in ("rules.list", "driver.mpp")] + ["-"]
+NATION = 38_000_000
+STEPS = ["make", "cut", "run", "join"]
+LIMIT = 300
 
 
-def amount(row, column, code):
-    """An amount that the verifications let pass: a second person and box T only where they may be."""
-    if code in SMALL:
-        return row % SMALL[code]
-    if code in ("1BJ", "1BS") and row % 2 == 0:
-        return 0
-    return (row * 7919 + column * 104729) % 40000
+def sizes(folder, ending):
+    return sum(entry.stat().st_size for entry in os.scandir(folder) if entry.name.endswith(ending))
 
 
-def write(path, codes, rows):
-    with open(path, "w") as out:
-        out.write("name," + ",".join(codes) + "\n")
-        out.writelines(f"h{r}," + ",".join(str(amount(r, c, code)) for c, code in enumerate(codes)) + "\n" for r in range(rows))
+def done(name, words, out, households):
+    """Does a step, and tells what it took. What runs in other processes is counted with it."""
+    before, begin = resource.getrusage(resource.RUSAGE_CHILDREN), time.monotonic()
+    child = subprocess.run(words, stdout=out, cwd=ROOT, check=False)
+    elapsed, after = time.monotonic() - begin, resource.getrusage(resource.RUSAGE_CHILDREN)
+    if child.returncode != 0:
+        sys.exit(f"{name}: status {child.returncode}")
+    used = after.ru_utime + after.ru_stime - before.ru_utime - before.ru_stime
+    print(f"| {name} | {elapsed:.1f} | {used:.1f} | {households / elapsed:,.0f} |", flush=True)
+    return elapsed
 
 
-def used(words, out):
-    begin = time.monotonic()
-    child = subprocess.Popen(words, stdout=out)
-    _, status, usage = os.wait4(child.pid, 0)
-    if status != 0:
-        sys.exit(f"{words}: status {status}")
-    return usage.ru_utime + usage.ru_stime, time.monotonic() - begin
+def counted(path):
+    """How many households an answer has, and how many of them stopped."""
+    count = stopped = 0
+    with open(path, "rb") as text:
+        for line in text:
+            count += line.startswith(b"household ")
+            stopped += line.startswith((b"failed ", b"over "))
+    return count, stopped
 
 
 def main():
-    program, room = os.path.abspath(sys.argv[1]), sys.argv[2]
+    program, room = os.path.abspath(sys.argv[1]), os.path.abspath(sys.argv[2])
+    households = int(sys.argv[3]) if len(sys.argv) > 3 else NATION
+    steps = sys.argv[4:] or STEPS
     os.environ["M_TAX"] = program
-    for base, codes in BASES.items():
-        words = [f"{base}/rules.list", f"{base}/driver.mpp", "-"]
-        folder = os.path.join(room, base.replace("/", "_"))
-        os.makedirs(folder)
-        table, parts = os.path.join(folder, "table.csv"), os.path.join(folder, "parts")
-        write(table, codes, ROWS)
-        with open(os.path.join(folder, "answers"), "w+b") as out:
-            seconds = min(used([program, "batch", *words, table], out)[0] for _ in range(3))
-            out.seek(0)
-            text = out.read()
-        print(f"{base}: {seconds:.2f} s, {ROWS / seconds:,.0f} households a second on one core; stops: {text.count(b'failed ')}", flush=True)
-        write(table, codes, PARTS * ROWS)
-        cutting = used(["tools/scale", "cut", table, parts, "--once"], subprocess.DEVNULL)
-        running = used(["tools/scale", "run", parts, *words], subprocess.DEVNULL)
-        joining = used(["tools/scale", "join", parts], subprocess.DEVNULL)
-        for name, (cpu, elapsed) in (("cut", cutting), ("run", running), ("join", joining)):
-            print(f"{base}: {name}: {elapsed:.1f} s elapsed, {cpu:.1f} s of processors, {PARTS * ROWS / elapsed:,.0f} households a second", flush=True)
+    os.makedirs(room, exist_ok=True)
+    table, parts, answers = (os.path.join(room, name) for name in ("table.csv", "parts", "answers.txt"))
+    total = 0
+    print("| step | seconds by the clock | seconds of the processors | households a second |\n|---|---:|---:|---:|")
+    if "make" in steps:
+        maker = os.path.join(room, "households")
+        subprocess.run(["gcc", "-O2", "-o", maker, os.path.join(HERE, "households.c")], check=True)
+        with open(table, "wb") as out:
+            done("making the table", [maker, str(households)], out, households)
+    if "cut" in steps:
+        total += done("`scale cut --once`", ["tools/scale", "cut", table, parts, "--once"], subprocess.DEVNULL, households)
+    if "run" in steps:
+        total += done("`scale run`", ["tools/scale", "run", parts, *WORDS], subprocess.DEVNULL, households)
+    if "join" in steps:
+        with open(answers, "wb") as out:
+            total += done("`scale join`", ["tools/scale", "join", parts], out, households)
+        sizes_now = [os.path.getsize(table), sizes(parts, ".csv"), sizes(parts, ".out"), os.path.getsize(answers)]
+        print("\nThe table, the parts, their answers and the joined answers have " + ", ".join(f"{size / 1e9:.2f}" for size in sizes_now) + " GB.")
+    if steps == STEPS:
+        if households == counted(answers)[0]:
+            figure(f"scale.{households}_households_s", total, f"<={LIMIT * households / NATION:.4g}")
+        else:
+            sys.exit("other households")
 
 
 main()

@@ -1,11 +1,12 @@
 #!/usr/bin/env python3
-"""Times sessions: what a show takes after an edit, the first show apart.
+"""Times sessions: what a show takes after an edit, the first show apart, and what the session holds in memory.
 
     measure.py PROGRAM FOLDER
 
 Each line is a base, an edit that is made to and fro, and so many edits and shows. A show's time is the difference of a session with all of them and of one
 with a single show, over their number; the first show's is that of a session with one show, less that of one without lines. Each reply is compared: an
-edit says `ok`, and each second show of the same edit says the same. What the last show says is what `run` says of the household with that edit.
+edit says `ok`, and each second show of the same edit says the same. What the last show says is what `run` says of the household with that edit. The
+memory is what the heap holds while the session waits after its first show (live.c, by LD_PRELOAD), less the 48 bytes a node of the program's own list.
 """
 import os
 import subprocess
@@ -14,11 +15,12 @@ import sys
 HERE = os.path.dirname(os.path.abspath(__file__))
 ROOT = os.path.dirname(os.path.dirname(HERE))
 sys.path.insert(0, os.path.dirname(HERE))
-from measured import least  # noqa: E402
+from measured import figure, least  # noqa: E402
 
 EXAMPLES = [("examples/impots", "A01", "A01", 20_000), ("examples/impot2023", "1AJ", "1AJ", 20_000)]
 LARGE = [(1_000, 20_000), (10_000, 20_000), (100_000, 20_000)]
 SHOWS = 200_000
+NODE_BYTES = 48
 
 
 def example(name, folder):
@@ -38,13 +40,26 @@ def large(n, folder, wanted=True):
     return ["list.txt", "-", "requests.txt" if wanted else "nothing.txt", "household.csv"], place
 
 
+def few_inputs(n, folder):
+    """The words of a session over n rules that read ten inputs by turns, so that what is held grows with the nodes alone."""
+    place = os.path.join(folder, f"few{n}")
+    os.makedirs(place)
+    rules = [f'R{k} : saisie revenu classe = 0 alias C{k} : "r" ;\n' for k in range(10)]
+    rules += [f'T{k} : calculee{" restituee" if k == n - 1 else ""} : "t" ;\n' for k in range(n)]
+    rules += [f"regle {k + 1} : application : iliad ;\nT{k} = max(0, R{k % 10} - {1000 + k}){f' + T{k - 1}' if k else ''} ;\n" for k in range(n)]
+    for name, lines in (("list.txt", ["iliad\nlarge.m\n"]), ("large.m", rules), ("household.csv", ["code,amount\n"])):
+        with open(os.path.join(place, name), "w", encoding="ascii") as out:
+            out.writelines(lines)
+    return ["list.txt", "-", "-", "household.csv"], place
+
+
 def typed(code, amounts, count):
     """So many edits of a code and shows, to and fro between two amounts."""
     return "".join(f"set {code} {amounts[k % 2]}\nshow\n" for k in range(count)).encode()
 
 
 def answers(text):
-    """The shown answers, each without its `.`, behind replies that are `ok`."""
+    """The shown answers, each without its `.`, after replies that are `ok`."""
     found, shown = [], []
     for line in text.decode("latin-1").split("\n")[:-1]:
         if line == ".":
@@ -64,31 +79,79 @@ def session(program, words, place, code, amounts, count):
     return seconds, peak
 
 
-def row(program, name, words, place, code, amounts, count):
+def live(program, words, place, room, typed_lines):
+    """The bytes that the heap holds when a session waits for its last line."""
+    log = os.path.join(room, "live.txt")
+    with open(log, "wb"):
+        pass
+    env = {**os.environ, "LD_PRELOAD": os.path.join(room, "live.so"), "LIVE_FILE": log}
+    subprocess.run([program, "serve", *words], cwd=place, env=env, input=typed_lines, stdout=subprocess.DEVNULL, check=True)
+    with open(log, encoding="ascii") as lines:
+        return int(lines.read().split()[-1])
+
+
+def nodes_of(program, words, place):
+    """How many nodes the program of a source has: each is an instruction of its code."""
+    text = subprocess.run([program, "compile", *words], cwd=place, stdout=subprocess.PIPE, check=True).stdout
+    return sum(line.startswith((b"in ", b"lit ", b"do ")) for line in text.split(b"\n"))
+
+
+def row(program, name, words, place, code, amounts, count, room):
     none, _, status, text = least([program, "serve", *words], place)
     if status or text:
         sys.exit(f"{name}: status {status}, {text[:200]}")
     one, _ = session(program, words, place, code, amounts, 1)
     all_, peak = session(program, words, place, code, amounts, count)
     each = (all_ - one) / (count - 1)
-    print(f"| {name} | {count:,} | {none:.3f} | {(one - none) * 1e3:.2f} | {each * 1e6:.2f} | {1 / each:,.0f} | {peak / 1e6:.0f} |", flush=True)
-    return each
+    nodes = nodes_of(program, words[:3], place)
+    held = live(program, words, place, room, typed(code, amounts, 1))
+    print(f"| {name} | {nodes:,} | {count:,} | {none:.3f} | {(one - none) * 1e3:.2f} | {each * 1e6:.2f} | {1 / each:,.0f} | {peak / 1e6:.0f} | {held / 1e6:.1f} |", flush=True)
+    return each, nodes, held
+
+
+def same_as_run(program, words, place, code, amount, room):
+    """What a show says after an edit is what `run` says of the household with that amount."""
+    path = os.path.join(room, "edited.csv")
+    with open(os.path.join(place, words[3]), encoding="latin-1") as source:
+        lines = [line for line in source.read().split("\n") if line and line.split(",")[0] != code]
+    with open(path, "w", encoding="latin-1") as out:
+        out.write("\n".join([*lines, f"{code},{amount}", ""]))
+    alone = least([program, "run", *words[:3], path], place)[3]
+    shown = least([program, "serve", *words], place, f"set {code} {amount}\nshow\n".encode())[3]
+    if shown != b"ok\n" + alone + b".\n":
+        sys.exit(f"{words}: a show says {shown[:200]}, and run says {alone[:200]}")
 
 
 def main():
     program, room = os.path.abspath(sys.argv[1]), sys.argv[2]
-    print("| Base | edits and shows | seconds to begin | first show, ms | a later show with its edit, microseconds | shows a second | peak, MB |")
-    print("|---|---:|---:|---:|---:|---:|---:|")
+    subprocess.run(["cc", "-O1", "-shared", "-fPIC", "-o", os.path.join(room, "live.so"), os.path.join(os.path.dirname(HERE), "live.c")], check=True)
+    print("| Base | nodes | edits and shows | seconds to begin | first show, ms | a later show with its edit, microseconds | shows a second | peak, MB | held after the first show, MB |")
+    print("|---|---:|---:|---:|---:|---:|---:|---:|---:|")
+    each = {}
     for name, code, _, count in EXAMPLES:
         words, place = example(name, room)
-        row(program, name, words, place, code, (30_000, 30_001), count)
-    each = {}
+        same_as_run(program, words, place, code, 30_001, room)
+        each[name] = row(program, name, words, place, code, (30_000, 30_001), count, room)
     for n, count in LARGE:
         words, place = large(n, room)
-        each[n] = row(program, f"`large {n}`", words, place, f"C{n - 1}", (2000, 3000), count)
+        same_as_run(program, words, place, f"C{n - 1}", 3000, room)
+        each[n] = row(program, f"`large {n}`", words, place, f"C{n - 1}", (2000, 3000), count, room)
     words, place = large(50_000, room, wanted=False)
-    row(program, "`large 50000`, nothing asked for", words, place, "C49999", (2000, 3000), SHOWS)
-    print(f"\nA show of `large 100000` takes {each[100_000] / each[1_000]:.2f} of one of `large 1000`.")
+    nothing = row(program, "`large 50000`, nothing asked for", words, place, "C49999", (2000, 3000), SHOWS, room)
+    # Two sizes of one base: what each node more holds, so that what a session holds without nodes is left out.
+    held = []
+    for n in (10_000, 100_000):
+        words, place = few_inputs(n, room)
+        held.append((nodes_of(program, words[:3], place), live(program, words, place, room, typed("C3", (2000, 3000), 1))))
+    (few, little), (many, much) = held
+    a_node = (much - little) / (many - few)
+    ratio = each[100_000][0] / each[1_000][0]
+    print(f"\nA show of `large 100000` takes {ratio:.2f} of one of `large 1000`. {a_node:.0f} bytes are held for each node more, {NODE_BYTES} of them by the program.\n")
+    for name, key in (("impots", EXAMPLES[0][0]), ("impot2023", EXAMPLES[1][0]), ("large_100000", 100_000)):
+        figure(f"session.{name}_shows_a_second", 1 / each[key][0])
+    figure("session.large_100000_to_large_1000", ratio, "<=1.2")
+    figure("session.bytes_a_node_above_the_program", a_node - NODE_BYTES, "<=64")
+    figure("session.200000_shows_s", nothing[0] * SHOWS, "<=3")
 
 
 main()

@@ -23,7 +23,7 @@ cp "$root/HANDLES" "$work/repository/"
 driver=$work/repository/crates/bench_terms
 mkdir -p "$driver/src"
 cp "$here/main.rt.txt" "$driver/src/main.rt"
-(cd "$driver" && rt run >"$work/rt.log" 2>&1) || { cat "$work/rt.log" >&2; exit 1; }
+(cd "$driver" && sh "$root/bench/built.sh" >"$work/rt.log" 2>&1) || { cat "$work/rt.log" >&2; exit 1; }
 program=$driver/out/bench_terms
 
 # Millions of instructions of the program with one file.
@@ -52,6 +52,7 @@ for kind in dense base nests; do
             { tokens += $1; terms = $2; lex += $3; reading += $4 }
             END {
                 printf "| %s | %.1f | %d | %d | %.2f s | %.2f s | %d | %d | %.1f |\n", kind, 3 * size / 1e6, tokens, terms, lex / 1e6, reading / 1e6, lexed, read - lexed, (most - least) * 1024 / (3 * size)
+                printf "figure terms.%s_of_%d_MB_reading_to_lex %.3g <=3\n", kind, 3 * size / 1e6, (read - lexed) / lexed
             }' "$work/read.lines"
     done
 done

@@ -126,3 +126,20 @@ rm -r parts && "$scale" cut table.csv parts && "$scale" run parts endless.list -
 "$scale" run parts a.list - - && "$scale" join parts | head -n 0
 "$scale" join parts >/dev/full
 echo "status $?"
+echo "-- as many batches at once as the memory has room for"
+cat >odd <<'END2'
+#!/bin/sh
+here=$(dirname "$0")
+: >"$here/runs.$$"
+ls "$here" | grep -c '^runs\.' >>"$here/at_once"
+sleep 0.5
+rm "$here/runs.$$"
+sed -n '2s/\(.*\),.*/household \1\nIRN = 1/p' "$5"
+END2
+printf 'name,1AJ\na,1\nb,2\nc,3\nd,4\ne,5\nf,6\n' >six.csv
+for memory in 1 256 600 100000; do
+    rm -r parts && "$scale" cut six.csv parts --rows 1 >/dev/null
+    M_TAX=$PWD/odd "$scale" run parts a.list - - --memory $memory
+    echo "$memory MB: $(sort -n at_once | tail -n 1) at once, $("$scale" join parts | grep -c household) households"
+    rm at_once
+done
