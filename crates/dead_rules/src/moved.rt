@@ -1,5 +1,5 @@
 //! Nodes, checks and outputs under other numbers.
-ghost use Rattle.std.specs.Prelude.{◌≡◌, ◌<◌, ◌∷◌, [], ◌++◌, length, map, IfOk, OnOk, OnErr};
+ghost use Rattle.std.specs.Prelude.{◌≡◌, ◌<◌, length, map, IfOk};
 ghost use Rattle.std.specs.List.{AllByRecursion};
 ghost use Rattle.flat_code.specs.Runs.{IsCheck};
 ghost use Rattle.flat_code.specs.inner.Renumber.{renamed, moved};
@@ -7,15 +7,6 @@ ghost use Rattle.dead_rules.specs.inner.Steps.{ReadsBelow, look};
 
 use flat_code::{Check, Flat, Node};
 use std::alloc::{AllocError, Global};
-
-/// Adds a value at the end.
-pub fn append<T: Copy>(list: &mut Vec<T>, value: &T) -> Result<(), AllocError>
-    ensures ok { OnOk result (list.new.items ≡ list.old.items ++ value.now ∷ []) }
-    ensures err { OnErr result (list.new.items ≡ list.old.items) }
-{
-    list.push(*value)?;
-    Ok(())
-}
 
 /// The node with its arguments under other numbers.
 pub fn renamed(numbers: &[u32], node: Node) -> Node
