@@ -62,6 +62,13 @@ class Answer:
         made._lines, made._read = lines, None
         return made
 
+    @classmethod
+    def of_part(cls, part: str) -> Answer:
+        """The same, with a first line that is no part of the answer."""
+        made = cls.__new__(cls)
+        made._lines, made._read = part[part.find("\n") + 1 or len(part) :], None
+        return made
+
     @property
     def values(self) -> dict[str, Value]:
         return self._all()[0]
@@ -76,12 +83,15 @@ class Answer:
 
     def __getitem__(self, name: str) -> Value:
         if self._read is None:
-            lines = "\n" + self._lines
-            begin = after_notes(lines, 1)
-            at = 0 if lines.startswith(LABELS, begin) else lines.find(f"\n{name} ", begin - 1) + 1
-            match = VALUE.match(lines, at) if at else None
-            if match and match[1] == name and lines[match.end() : match.end() + 1] in ("", "\n"):
-                return value_of(match)
+            lines, key = self._lines, f"{name} = "
+            begin = after_notes(lines, 0) if lines.startswith("noted ") else 0
+            if not lines.startswith(LABELS, begin):
+                at = lines.find("\n" + key, begin - 1 if begin else 0) + 1
+                if at or lines.startswith(key):
+                    end = lines.find("\n", at)
+                    text = lines[at + len(key) : end if end >= 0 else len(lines)]
+                    if NUMBER.fullmatch(text):
+                        return Decimal(text)
         return self.values[name]
 
     def __eq__(self, other: object) -> bool:
@@ -102,6 +112,7 @@ class Answer:
 LABELS = ("failed ", "noted ", "over ")
 LABELLED = re.compile(r"(failed|noted) ([0-9]+) ([^ ]+) (anomalie|discordance|informative)")
 OVER_LINE = re.compile(r"over (?:verification ([0-9]+) ([^ ]+)|driver line ([0-9]+))")
+NUMBER = re.compile(r"-?[0-9]+(?:\.[0-9]+)?")
 VALUE = re.compile(r"([^ \n]+)(?: = (-?[0-9]+(?:\.[0-9]+)?)|( undefined)|( over))")
 
 

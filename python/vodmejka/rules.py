@@ -16,7 +16,7 @@ from .errors import Broken, NotFound, Refused
 from .program import ENCODING, Amount, digest_of, household_bytes, program_path, run, spelled
 from .session import Session
 
-ROWS, MOST_ROWS = 20_000, 100_000
+ROWS, MOST_ROWS = 50_000, 100_000
 TABLE_BYTES = 16_777_216
 VALUES = 4_000_000
 Household = Mapping[str, Amount]
@@ -187,18 +187,16 @@ def table_bytes(households: list[Household]) -> bytes:
     """Households as a table, labelled h0, h1 and so on.
 
     What csv writes of whole numbers, texts and None is an amount as it stands; where all amounts are of these types, or decimals none of which is written with an
-    exponent or is no number, nothing is looked at one by one.
+    exponent or is no number, nothing is looked at one by one. Columns are put together by what runs without the interpreter.
     """
-    codes: dict[str, object] = {}
-    types: set[type] = set()
-    for household in households:
-        codes.update(household)
-        types.update(map(type, household.values()))
-    rows = ((f"h{k}", *map(household.get, codes)) for k, household in enumerate(households))
-    text = csv_text(["name", *codes], rows) if types <= PLAIN else None
+    codes = list(dict.fromkeys(itertools.chain.from_iterable(households)))
+    columns = [[household.get(code) for household in households] for code in codes]
+    types = set(itertools.chain.from_iterable(map(set, (map(type, column) for column in columns))))
+    labels = list(map("h{}".format, range(len(households))))
+    text = csv_text(["name", *codes], zip(labels, *columns)) if types <= PLAIN else None
     if text is None or Decimal in types and WORDS.search(text, text.index("\n")):
-        rows = ((f"h{k}", *(None if amount is None else spelled(code, amount) for code, amount in zip(codes, map(household.get, codes)))) for k, household in enumerate(households))
-        text = csv_text(["name", *codes], rows)
+        exact_columns = [[None if amount is None else spelled(code, amount) for amount in column] for code, column in zip(codes, columns)]
+        text = csv_text(["name", *codes], zip(labels, *exact_columns))
     return text.encode(ENCODING)
 
 
@@ -228,7 +226,7 @@ def parted(text: str, count: int) -> Iterator[Answer]:
         parts = parted_by_line(text)
         if [part.partition("\n")[0] for part in parts] != ["", *map(str, range(count))]:
             raise Broken(f"{len(parts) - 1} answers for {count} households")
-    return (Answer.of_lines(part.partition("\n")[2]) for part in parts[1:])
+    return map(Answer.of_part, parts[1:])
 
 
 def parted_by_line(text: str) -> list[str]:
