@@ -8,18 +8,22 @@ import time
 RUNS = 3
 
 
-def timed(command, folder, typed=b"", out=None):
-    """Seconds of the processor (user and system), peak bytes of resident memory, the status, what was printed, and seconds by the clock, of one run."""
-    with tempfile.TemporaryFile() as printed, tempfile.TemporaryFile() as given:
+def timed(command, folder, typed=b""):
+    """Seconds of the processor (user and system), peak bytes of resident memory, the status, what was printed, and seconds by the clock, of one run.
+
+    The peak is told by GNU time: that of a child of Python isn't less than Python's own.
+    """
+    with tempfile.TemporaryFile() as printed, tempfile.TemporaryFile() as given, tempfile.NamedTemporaryFile() as told:
         given.write(typed)
         given.seek(0)
         begin = time.monotonic()
-        child = subprocess.Popen(command, cwd=folder, stdout=out or printed, stdin=given)
+        child = subprocess.Popen(["/usr/bin/time", "-f", "%M", "-o", told.name, *command], cwd=folder, stdout=printed, stdin=given)
         _, status, usage = os.wait4(child.pid, 0)
         elapsed = time.monotonic() - begin
         child.returncode = os.waitstatus_to_exitcode(status)
         printed.seek(0)
-        return usage.ru_utime + usage.ru_stime, usage.ru_maxrss * 1024, child.returncode, printed.read(), elapsed
+        peak = int(told.read().split()[-1]) * 1024
+        return usage.ru_utime + usage.ru_stime, peak, child.returncode, printed.read(), elapsed
 
 
 def used(command, folder, typed=b""):

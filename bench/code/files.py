@@ -10,11 +10,12 @@ disk, so its time has the start of the program, the reading of the code file and
 import os
 import subprocess
 import sys
+import time
 
 HERE = os.path.dirname(os.path.abspath(__file__))
 ROOT = os.path.dirname(os.path.dirname(HERE))
 sys.path.insert(0, os.path.dirname(HERE))
-from measured import figure, least, timed  # noqa: E402
+from measured import figure, least  # noqa: E402
 
 EXAMPLES = ("examples/impots", "examples/impot2023")
 LARGE = (10_000, 100_000)
@@ -74,12 +75,19 @@ def row(program, name, words, household, place, folder, smallest):
         f" | {(empty_peak - smallest[1]) / instructions:.0f} |",
         flush=True,
     )
-    return done, run, len(text) / 1e6 / reading, (empty_peak - smallest[1]) / instructions
+    return done, run, len(text) / 1e6 / reading, (empty_peak - smallest[1]) / instructions, len(text) / instructions
 
 
 def started(code, household, program, place):
-    """Milliseconds by the clock from the start of `exec` to its end, the least of twenty."""
-    return min(timed([program, "exec", code, household], place)[4] for _ in range(20)) * 1e3
+    """Milliseconds by the clock from the start of `exec` to its end, the least of fifty."""
+    found = []
+    with open(os.devnull, "wb") as nothing:
+        for _ in range(50):
+            begin = time.perf_counter()
+            child = os.posix_spawn(program, [program, "exec", code, household], os.environ, file_actions=[(os.POSIX_SPAWN_DUP2, nothing.fileno(), 1)])
+            os.waitpid(child, 0)
+            found.append(time.perf_counter() - begin)
+    return min(found) * 1e3
 
 
 def main():
@@ -95,12 +103,13 @@ def main():
     for name in EXAMPLES:
         words, household, place = example(name, folder)
         row(program, name, words, household, place, folder, smallest)
-        figure(f"code.exec_{name.split('/')[1]}_ms", started(code_path(name, folder), household, program, place), "<=3")
+        figure(f"code.exec_{name.split('/')[1]}_ms", started(code_path(name, folder), os.path.join(place, household), program, place), "<=3")
     for n in LARGE:
-        done, run, speed, memory = row(program, f"`large {n}`", *large(n, folder), folder, smallest)
+        done, run, speed, memory, own = row(program, f"`large {n}`", *large(n, folder), folder, smallest)
     figure("code.exec_to_run_of_large_100000", done / run, "<=0.2")
     figure("code.read_MB_a_second", speed, ">=60")
-    figure("code.read_bytes_an_instruction", memory, "<=40")
+    figure("code.read_bytes_an_instruction_with_the_file", memory, "<=40")
+    figure("code.read_bytes_an_instruction_above_the_file", memory - own)
 
 
 main()

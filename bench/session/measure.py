@@ -3,19 +3,20 @@
 
     measure.py PROGRAM FOLDER
 
-Each line is a base, an edit that is made to and fro, and so many edits and shows. A show's time is the difference of a session with all of them and of one
-with a single show, over their number; the first show's is that of a session with one show, less that of one without lines. Each reply is compared: an
-edit says `ok`, and each second show of the same edit says the same. What the last show says is what `run` says of the household with that edit. The
-memory is what the heap holds while the session waits after its first show (live.c, by LD_PRELOAD), less the 48 bytes a node of the program's own list.
+Each line is a base, an edit that is made to and fro, and so many edits and shows. What a session took is read off its clock of the processor (user and system)
+while it waits: after its first edit, after its first show, and after all others. Each reply is compared: an edit says `ok`, and each second show of the same
+edit says the same. What a show says after an edit is what `run` says of the household with that edit. The memory is what the heap holds while the session waits after its first show (live.c, by LD_PRELOAD), less the 48 bytes a node of the program's own list.
 """
 import os
 import subprocess
 import sys
+import threading
+import time
 
 HERE = os.path.dirname(os.path.abspath(__file__))
 ROOT = os.path.dirname(os.path.dirname(HERE))
 sys.path.insert(0, os.path.dirname(HERE))
-from measured import figure, least  # noqa: E402
+from measured import RUNS, figure, least, used  # noqa: E402
 
 EXAMPLES = [("examples/impots", "A01", "A01", 20_000), ("examples/impot2023", "1AJ", "1AJ", 20_000)]
 LARGE = [(1_000, 20_000), (10_000, 20_000), (100_000, 20_000)]
@@ -70,13 +71,46 @@ def answers(text):
     return found
 
 
+class Talk:
+    """A session that goes on while it is asked."""
+
+    def __init__(self, program, words, place):
+        self.child = subprocess.Popen([program, "serve", *words], cwd=place, stdin=subprocess.PIPE, stdout=subprocess.PIPE)
+        self.said, self.come = bytearray(), threading.Condition()
+        threading.Thread(target=self.listen, daemon=True).start()
+
+    def listen(self):
+        while piece := os.read(self.child.stdout.fileno(), 1 << 16):
+            with self.come:
+                self.said += piece
+                self.come.notify()
+
+    def ask(self, lines, ending, count):
+        """Sends lines and waits until so many replies of this form came since; the seconds of the processor since the session began, and the replies."""
+        begin = len(self.said)
+        self.child.stdin.write(lines)
+        self.child.stdin.flush()
+        with self.come:
+            self.come.wait_for(lambda: self.said.endswith(ending) and self.said.count(ending, begin) >= count, timeout=120)
+        return time.clock_gettime((~self.child.pid << 3) | 2), bytes(self.said[begin:])
+
+    def end(self):
+        self.child.stdin.close()
+        if self.child.wait() != 0:
+            sys.exit(f"a session ended with status {self.child.returncode}")
+
+
 def session(program, words, place, code, amounts, count):
-    """Seconds of a session with so many edits and shows, and its peak."""
-    seconds, peak, status, text = least([program, "serve", *words], place, typed(code, amounts, count))
+    """Seconds of a session to begin, of its first show, and of so many edits and shows after it."""
+    talk = Talk(program, words, place)
+    begun, _ = talk.ask(f"set {code} {amounts[1]}\n".encode(), b"ok\n", 1)
+    first, _ = talk.ask(b"show\n", b".\n", 1)
+    last, text = talk.ask(typed(code, amounts, count), b".\n", count)
+    talk.end()
     shown = answers(text)
-    if status != 0 or len(shown) != count or text.count(b"ok\n") != count or len(set(shown[0::2])) > 1 or len(set(shown[1::2])) > 1:
-        sys.exit(f"{words}: status {status}, {len(shown)} shows: {text[-300:]}")
-    return seconds, peak
+    if len(shown) != count or text.count(b"ok\n") != count or len(set(shown[0::2])) > 1 or len(set(shown[1::2])) > 1:
+        sys.exit(f"{words}: {len(shown)} shows: {text[-300:]}")
+    return begun, first - begun, last - first
 
 
 def live(program, words, place, room, typed_lines):
@@ -97,15 +131,15 @@ def nodes_of(program, words, place):
 
 
 def row(program, name, words, place, code, amounts, count, room):
-    none, _, status, text = least([program, "serve", *words], place)
+    _, peak, status, text = used([program, "serve", *words], place)
     if status or text:
         sys.exit(f"{name}: status {status}, {text[:200]}")
-    one, _ = session(program, words, place, code, amounts, 1)
-    all_, peak = session(program, words, place, code, amounts, count)
-    each = (all_ - one) / (count - 1)
+    runs = [session(program, words, place, code, amounts, count) for _ in range(RUNS)]
+    begun, first, others = (min(run[k] for run in runs) for k in range(3))
     nodes = nodes_of(program, words[:3], place)
     held = live(program, words, place, room, typed(code, amounts, 1))
-    print(f"| {name} | {nodes:,} | {count:,} | {none:.3f} | {(one - none) * 1e3:.2f} | {each * 1e6:.2f} | {1 / each:,.0f} | {peak / 1e6:.0f} | {held / 1e6:.1f} |", flush=True)
+    each = others / count
+    print(f"| {name} | {nodes:,} | {count:,} | {begun:.3f} | {first * 1e3:.2f} | {each * 1e6:.2f} | {1 / each:,.0f} | {peak / 1e6:.0f} | {held / 1e6:.1f} |", flush=True)
     return each, nodes, held
 
 
