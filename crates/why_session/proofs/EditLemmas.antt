@@ -1,0 +1,70 @@
+-- What a line does to the values of the inputs, put into a list that has them too.
+use Rattle.std.proofs.Common.{◌≡◌, ℕ, ℤ, ◌+◌, ◌<◌, zero, suc, List, [], ◌∷◌, length, take, set, get_or, Bool, true, false, cond, Option, None, Some, Result, Ok, Err, refl, sym, ap, ◌∙◌, subst, arith}
+use Rattle.m_fixed.specs.declared.amount.Value.{Value}
+use Rattle.m_fixed.specs.declared.amount.Value.TheVariants.{Undef, Num}
+use Rattle.m_fixed.specs.declared.read.AmountFault.{AmountFault}
+use Rattle.m_fixed.specs.Text.{text_value, amount_read}
+use Rattle.observables.specs.declared.inputs.Coded.{Coded}
+use Rattle.flat_code.specs.Runs.{value_at}
+use Rattle.household.specs.Household.{is_fitting}
+use Rattle.household_session.specs.declared.fault.EditFault.TheVariants.{NotOfType}
+use Rattle.household_session.specs.Commands.{SessionCommand, no_words, sets, clears, shows, too_long, bad}
+use Rattle.household_session.specs.Replies.{command_values, input_named}
+use Rattle.household_session.specs.Sessions.{Showing, clear_said, set_said, values_edited}
+
+-- what stands at a place is put there once more
+set_same : (l : List Value) (n : ℕ) → set l n (value_at l n) ≡ l
+set_same [] n = refl
+set_same (x ∷ l) zero = refl
+set_same (x ∷ l) (suc n) = ap (λ rest. x ∷ rest) (set_same l n)
+
+-- and what was put there before
+set_put : (l : List Value) (n : ℕ) (v : Value) → set l n (value_at (set l n v) n) ≡ set l n v
+set_put [] n v = refl
+set_put (x ∷ l) zero v = refl
+set_put (x ∷ l) (suc n) v = ap (λ rest. x ∷ rest) (set_put l n v)
+
+set_kept : (inputs : List Coded) (values : List Value) (input : ℕ) (read : Result ℤ AmountFault)
+    → set values input (value_at (values_edited values (set_said inputs (Some input) read)) input) ≡ values_edited values (set_said inputs (Some input) read)
+set_kept inputs values input (Err why) = set_same values input
+set_kept inputs values input (Ok z) = by (is_fitting inputs (input, z))
+  where
+    by : (b : Bool) → set values input (value_at (values_edited values (cond b (Ok (input, Num z)) (Err NotOfType))) input) ≡ values_edited values (cond b (Ok (input, Num z)) (Err NotOfType))
+    by true = set_put values input (Num z)
+    by false = set_same values input
+
+-- the input that a line names gets its value, and no other changes
+pub named_edit : (showing : Showing) (values : List Value) (command : SessionCommand) (input : ℕ) → input_named showing.inputs command ≡ Some input
+    → set values input (value_at (command_values showing values command) input) ≡ command_values showing values command
+named_edit showing values no_words input is = absurd (cc is)
+named_edit showing values (sets code amount) input is =
+    subst (λ (found : Option ℕ). set values input (value_at (values_edited values (set_said showing.inputs found (amount_read (text_value amount)))) input)
+        ≡ values_edited values (set_said showing.inputs found (amount_read (text_value amount)))) (sym is)
+    (set_kept showing.inputs values input (amount_read (text_value amount)))
+named_edit showing values (clears code) input is =
+    subst (λ (found : Option ℕ). set values input (value_at (values_edited values (clear_said found)) input) ≡ values_edited values (clear_said found)) (sym is)
+    (set_put values input Undef)
+named_edit showing values shows input is = absurd (cc is)
+named_edit showing values too_long input is = absurd (cc is)
+named_edit showing values bad input is = absurd (cc is)
+
+-- a line that names no input changes none
+pub named_none : (showing : Showing) (values : List Value) (command : SessionCommand) → input_named showing.inputs command ≡ None → command_values showing values command ≡ values
+named_none showing values no_words is = refl
+named_none showing values (sets code amount) is =
+    subst (λ (found : Option ℕ). values_edited values (set_said showing.inputs found (amount_read (text_value amount))) ≡ values) (sym is) refl
+named_none showing values (clears code) is = subst (λ (found : Option ℕ). values_edited values (clear_said found) ≡ values) (sym is) refl
+named_none showing values shows is = refl
+named_none showing values too_long is = refl
+named_none showing values bad is = refl
+
+-- ---- values that are put one after another
+
+pub put_next : (l values : List Value) (n : ℕ) → n < length l → length l ≡ length values → take n l ≡ take n values → take (n + 1) (set l n (value_at values n)) ≡ take (n + 1) values
+put_next [] values n few same is = absurd (omega arith)
+put_next (x ∷ l) [] n few same is = absurd (omega arith)
+put_next (x ∷ l) (y ∷ values) zero few same is = refl
+put_next (x ∷ l) (y ∷ values) (suc n) few same is =
+    let head : x ≡ y = cc is in
+    let tail : take n l ≡ take n values = cc is in
+    λ i. head i ∷ put_next l values n (omega arith) (omega arith) tail i
