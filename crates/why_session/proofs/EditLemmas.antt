@@ -5,6 +5,7 @@ use Rattle.m_fixed.specs.declared.amount.Value.TheVariants.{Undef, Num}
 use Rattle.m_fixed.specs.declared.read.AmountFault.{AmountFault}
 use Rattle.m_fixed.specs.Text.{text_value, amount_read}
 use Rattle.observables.specs.declared.inputs.Coded.{Coded}
+use Rattle.observables.specs.Inputs.{AreValuesOf}
 use Rattle.flat_code.specs.Runs.{value_at}
 use Rattle.household.specs.Household.{is_fitting}
 use Rattle.household_session.specs.declared.fault.EditFault.TheVariants.{NotOfType}
@@ -68,3 +69,10 @@ put_next (x ∷ l) (y ∷ values) (suc n) few same is =
     let head : x ≡ y = cc is in
     let tail : take n l ≡ take n values = cc is in
     λ i. head i ∷ put_next l values n (omega arith) (omega arith) tail i
+
+-- there is a value for each input
+pub as_many : (inputs : List Coded) (values : List Value) → AreValuesOf inputs values → length inputs ≡ length values
+as_many [] [] all = refl
+as_many [] (v ∷ values) all = absurd all
+as_many (input ∷ inputs) [] all = absurd all
+as_many (input ∷ inputs) (v ∷ values) all = ap (λ n. suc n) (as_many inputs values all.1)

@@ -7,7 +7,6 @@ ghost use Rattle.m_requests.specs.Placed.{IsPlaced};
 ghost use Rattle.micro_m.specs.Bases.{IsValidBase};
 ghost use Rattle.rule_order.specs.Orders.{IsOrder};
 ghost use Rattle.household_session.specs.Replies.{reply_of};
-ghost use Rattle.why_report.specs.Reports.{report_text};
 ghost use Rattle.why_report.specs.Starts.{IsStart};
 ghost use Rattle.why_session.specs.Explains.{name_asked, told_lines_of};
 ghost use Rattle.why_session.specs.Joined.{explains_in, joined_replies};
