@@ -8,6 +8,7 @@ use Rattle.observables.specs.declared.inputs.Coded.{Coded}
 use Rattle.observables.specs.Inputs.{AreValuesOf}
 use Rattle.flat_code.specs.Runs.{value_at}
 use Rattle.household.specs.Household.{is_fitting}
+use Rattle.household.proofs.InputLemmas.{code_known}
 use Rattle.household_session.specs.declared.fault.EditFault.TheVariants.{NotOfType}
 use Rattle.household_session.specs.Commands.{SessionCommand, no_words, sets, clears, shows, too_long, bad}
 use Rattle.household_session.specs.Replies.{command_values, input_named}
@@ -76,3 +77,12 @@ as_many [] [] all = refl
 as_many [] (v ∷ values) all = absurd all
 as_many (input ∷ inputs) [] all = absurd all
 as_many (input ∷ inputs) (v ∷ values) all = ap (λ n. suc n) (as_many inputs values all.1)
+
+-- the input that a line names is there
+pub named_within : (inputs : List Coded) (command : SessionCommand) (input : ℕ) → input_named inputs command ≡ Some input → input < length inputs
+named_within inputs no_words input is = absurd (cc is)
+named_within inputs (sets code amount) input is = code_known inputs code input is
+named_within inputs (clears code) input is = code_known inputs code input is
+named_within inputs shows input is = absurd (cc is)
+named_within inputs too_long input is = absurd (cc is)
+named_within inputs bad input is = absurd (cc is)
