@@ -1,5 +1,7 @@
 -- What a line does to the values of the inputs, put into a list that has them too.
-use Rattle.std.proofs.Common.{◌≡◌, ℕ, ℤ, ◌+◌, ◌<◌, zero, suc, List, [], ◌∷◌, length, take, set, get_or, Bool, true, false, cond, Option, None, Some, Result, Ok, Err, refl, sym, ap, ◌∙◌, subst, arith}
+use Rattle.std.proofs.Common.{◌≡◌, ℕ, ℤ, ◌+◌, ◌<◌, zero, suc, List, [], ◌∷◌, ◌++◌, length, take, set, get_or, Bool, true, false, cond, Option, None, Some, Result, Ok, Err, refl, sym, ap, ◌∙◌, subst, arith}
+use Rattle.std.proofs.lemmas.Grind.{take-set_at}
+use Rattle.std.proofs.lemmas.List.{take_more}
 use Rattle.m_fixed.specs.declared.amount.Value.{Value}
 use Rattle.m_fixed.specs.declared.amount.Value.TheVariants.{Undef, Num}
 use Rattle.m_fixed.specs.declared.read.AmountFault.{AmountFault}
@@ -63,13 +65,8 @@ named_none showing values bad is = refl
 -- ---- values that are put one after another
 
 pub put_next : (l values : List Value) (n : ℕ) → n < length l → length l ≡ length values → take n l ≡ take n values → take (n + 1) (set l n (value_at values n)) ≡ take (n + 1) values
-put_next [] values n few same is = absurd (omega arith)
-put_next (x ∷ l) [] n few same is = absurd (omega arith)
-put_next (x ∷ l) (y ∷ values) zero few same is = refl
-put_next (x ∷ l) (y ∷ values) (suc n) few same is =
-    let head : x ≡ y = cc is in
-    let tail : take n l ≡ take n values = cc is in
-    λ i. head i ∷ put_next l values n (omega arith) (omega arith) tail i
+put_next l values n few same is =
+    take-set_at l n (n + 1) (value_at values n) refl few ∙ ap (λ front. front ++ value_at values n ∷ []) is ∙ sym (take_more values n Undef (omega (arith, few, same)))
 
 -- there is a value for each input
 pub as_many : (inputs : List Coded) (values : List Value) → AreValuesOf inputs values → length inputs ≡ length values

@@ -103,8 +103,9 @@ impl Explainer {
     {
         let named = self.session.input_named(line);
         let replied = self.session.command(line, out, steps);
-        if let Some(input) = named {
-            self.reporter.put(input, self.session.input_value(input));
+        match named {
+            Some(input) => self.reporter.put(input, self.session.input_value(input)),
+            None => {}
         }
         replied
     }

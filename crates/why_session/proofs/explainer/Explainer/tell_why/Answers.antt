@@ -15,10 +15,10 @@ pub why-requires : goal.why-requires
 why-requires g c = omega (arith, c.self.invariant.cells, c.in-Some.ensures.known)
 
 pub print_lines-requires : goal.print_lines-requires
-print_lines-requires g c = rw (c.lines.ensures, c.self.invariant.cells) c.why.ensures.known
+print_lines-requires g c = rw c.lines.ensures (λ k d low. let known = c.why.ensures.known k d low in omega (arith, known, c.self.invariant.cells))
 
-pub invariant_of-self-in-Some : goal.invariant_of-self-in-Some
-invariant_of-self-in-Some g c = found_stays c.self.inside.session c.self.inside.reporter c.why.new.self c.self.inside.symbols _ c.self.invariant c.why.ensures.lines (c.why.ensures.start c.self.inside.symbols c.self.invariant.start)
+pub invariant_of-self : goal.invariant_of-self
+invariant_of-self g c = found_stays c.self.inside.session c.self.inside.reporter c.why.new.self c.self.inside.symbols _ c.self.invariant c.why.ensures.lines (c.why.ensures.start c.self.inside.symbols c.self.invariant.start)
 
 pub returns-in-Some-clause-gives : goal.returns-in-Some-clause-gives
 returns-in-Some-clause-gives g c =

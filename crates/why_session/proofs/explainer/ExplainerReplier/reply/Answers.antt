@@ -15,8 +15,8 @@ returns-in-Some g c = record {
   goes_on = why_goes_on c.args.self.now c.tell_why.new.self c.args.line.now c.in-Some.name.now (sym c.name_asked.ensures ∙ ap option_copied c.in-Some.is) c.tell_why.ensures.stays;
 }
 
-pub returns : goal.returns
-returns g c = record {
+pub returns-in-None : goal.returns-in-None
+returns-in-None g c = record {
   text = reply_of c.args.self.now.seated.sitting c.args.line.now;
   gives = c.do_line.ensures.gives;
   goes_on = c.do_line.ensures.goes_on;
