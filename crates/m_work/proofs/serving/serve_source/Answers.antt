@@ -11,3 +11,6 @@ returns-in-Err g c =
     serve_refused c.args.source.now c.args.household.now _ _ _ _
     (rules_told c.args.source.now (λ inputs. household_of inputs c.args.household.now) c.in-Err.fault _ _ _ (rw (c.as_slice.ensures, c.bytes.ensures) at c.in-Err.ensures.outcome)
     (rw c.as_slice-in-Err.ensures at (rw c.told_fault.ensures at c.tell_refusal.ensures)))
+
+pub serve_over-requires-clause-order : goal.serve_over-requires-clause-order
+serve_over-requires-clause-order g c = c.in-Ok.ensures.outcome.1
