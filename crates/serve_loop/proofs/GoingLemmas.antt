@@ -6,7 +6,7 @@ use Rattle.m_text.specs.Bytes.{line_feed}
 use Rattle.m_ports.specs.Counts.{Rose}
 use Rattle.m_ports.specs.Sink.{AppendsPrefix}
 use Rattle.m_ports.proofs.SinkLemmas.{append_known-append, AppendsPrefix-after}
-use Rattle.household_session.specs.Replies.{IsUnended, ended_lines, input_lines}
+use Rattle.household_session.specs.Replies.{IsUnended}
 use Rattle.serve_loop.specs.Repliers.{AreLongAlike, Telling, ended_of, whole_of}
 use Rattle.serve_loop.proofs.LineLemmas.{ended-line, ended-long, ended-none, whole-line, whole-long}
 use Rattle.serve_loop.specs.inner.Going.{Goes, BreaksOff}

@@ -1,5 +1,5 @@
 -- What replies to lines, whatever they say.
-use Rattle.std.specs.Prelude.{◌≡◌, ℕ, ◌<◌, List, [], ◌∷◌, ◌++◌, length, Option, Result}
+use Rattle.std.specs.Prelude.{◌≡◌, ℕ, ◌<◌, List, ◌∷◌, ◌++◌, length, Option, Result}
 use Rattle.m_places.specs.declared.limits.TheConstants.{SESSION_LINE_BYTES}
 use Rattle.text_pieces.specs.Giving.{Gives}
 use Rattle.household_session.specs.Replies.{ended_lines, input_lines}

@@ -1,5 +1,5 @@
 -- What a line does to the values of the inputs, put into a list that has them too.
-use Rattle.std.proofs.Common.{◌≡◌, ℕ, ℤ, ◌+◌, ◌<◌, zero, suc, List, [], ◌∷◌, ◌++◌, length, take, set, get_or, Bool, true, false, cond, Option, None, Some, Result, Ok, Err, refl, sym, ap, ◌∙◌, subst, arith}
+use Rattle.std.proofs.Common.{◌≡◌, ℕ, ℤ, ◌+◌, ◌<◌, zero, suc, List, [], ◌∷◌, ◌++◌, length, take, set, Bool, true, false, cond, Option, Some, Result, Ok, Err, refl, sym, ap, ◌∙◌, subst, arith}
 use Rattle.std.proofs.lemmas.Grind.{take-set_at}
 use Rattle.std.proofs.lemmas.List.{take_more}
 use Rattle.m_fixed.specs.declared.amount.Value.{Value}
@@ -43,7 +43,7 @@ pub named_edit : (showing : Showing) (values : List Value) (command : SessionCom
 named_edit showing values no_words input is = absurd (cc is)
 named_edit showing values (sets code amount) input is =
     subst (λ (found : Option ℕ). set values input (value_at (values_edited values (set_said showing.inputs found (amount_read (text_value amount)))) input)
-        ≡ values_edited values (set_said showing.inputs found (amount_read (text_value amount)))) (sym is)
+    ≡ values_edited values (set_said showing.inputs found (amount_read (text_value amount)))) (sym is)
     (set_kept showing.inputs values input (amount_read (text_value amount)))
 named_edit showing values (clears code) input is =
     subst (λ (found : Option ℕ). set values input (value_at (values_edited values (clear_said found)) input) ≡ values_edited values (clear_said found)) (sym is)
@@ -51,16 +51,6 @@ named_edit showing values (clears code) input is =
 named_edit showing values shows input is = absurd (cc is)
 named_edit showing values too_long input is = absurd (cc is)
 named_edit showing values bad input is = absurd (cc is)
-
--- a line that names no input changes none
-pub named_none : (showing : Showing) (values : List Value) (command : SessionCommand) → input_named showing.inputs command ≡ None → command_values showing values command ≡ values
-named_none showing values no_words is = refl
-named_none showing values (sets code amount) is =
-    subst (λ (found : Option ℕ). values_edited values (set_said showing.inputs found (amount_read (text_value amount))) ≡ values) (sym is) refl
-named_none showing values (clears code) is = subst (λ (found : Option ℕ). values_edited values (clear_said found) ≡ values) (sym is) refl
-named_none showing values shows is = refl
-named_none showing values too_long is = refl
-named_none showing values bad is = refl
 
 -- ---- values that are put one after another
 

@@ -1,5 +1,5 @@
 -- What a session that is joined to a reporter tells and keeps.
-use Rattle.std.proofs.Common.{◌≡◌, ℕ, ◌<◌, length, set, List, ◌∷◌, ◌++◌, Option, None, Some, refl, sym, ap, ◌∙◌, subst}
+use Rattle.std.proofs.Common.{◌≡◌, ℕ, set, List, ◌∷◌, ◌++◌, None, Some, sym, ap, ◌∙◌, subst}
 use Rattle.std.specs.Option.{option_map_or}
 use Rattle.std.specs.Prelude.{codes}
 use Rattle.m_fixed.specs.declared.amount.Value.{Value}
@@ -9,18 +9,18 @@ use Rattle.m_symbols.specs.Declarations.{Declared}
 use Rattle.m_requests.specs.Cells.{request_cell}
 use Rattle.micro_m.specs.Values.{environment}
 use Rattle.household_session.specs.Commands.{session_command}
-use Rattle.household_session.specs.Replies.{after_line, command_values, input_named, reply_of}
+use Rattle.household_session.specs.Replies.{after_line, input_named, reply_of}
 use Rattle.household_session.specs.Seats.{Seated}
 use Rattle.household_session.specs.Sessions.{Sitting, line, showing_of}
 use Rattle.household_session.proofs.TypeLemmas.{command_keeps}
 use Rattle.why_report.specs.Reasons.{why_lines}
 use Rattle.why_report.specs.Starts.{IsStart, Reporting, start_env, with_input, with_lines}
 use Rattle.why_report.specs.declared.line.ReportLine.{ReportLine}
-use Rattle.why_session.specs.Explains.{explained_replies, explanation, name_asked, told_lines_of}
+use Rattle.why_session.specs.Explains.{explained_replies, name_asked, told_lines_of}
 use Rattle.why_session.specs.Joined.{Joined, explains_by, explains_in, joined_replies}
 use Rattle.why_session.specs.inner.Parts.{AreJoined}
 use Rattle.why_session.proofs.LineLemmas.{line_then, why_then}
-use Rattle.why_session.proofs.EditLemmas.{named_edit, named_none}
+use Rattle.why_session.proofs.EditLemmas.{named_edit}
 
 -- ---- a reason
 
@@ -66,16 +66,6 @@ line_put seated later reporting new declared bytes input parts after named put s
       ∙ sym (ap (λ (s : Sitting). s.values) after);
   values = subst (λ (s : Sitting). AreValuesOf s.face.inputs s.values) (sym after) (command_keeps (showing_of seated.sitting) seated.sitting.values (session_command bytes) parts.values);
   cells = ap (λ (r : Reporting). r.ordered.base.cells) put ∙ parts.cells;
-}
-
--- nothing is put where no input is named
-pub line_stays : (seated later : Seated) (reporting : Reporting) (declared : Declared) (bytes : List ℕ) → AreJoined seated reporting declared
-    → later.sitting ≡ after_line seated.sitting bytes → input_named seated.sitting.face.inputs (session_command bytes) ≡ None → AreJoined later reporting declared
-line_stays seated later reporting declared bytes parts after named = record {
-  start = parts.start;
-  same = parts.same ∙ sym (named_none (showing_of seated.sitting) seated.sitting.values (session_command bytes) named) ∙ sym (ap (λ (s : Sitting). s.values) after);
-  values = subst (λ (s : Sitting). AreValuesOf s.face.inputs s.values) (sym after) (command_keeps (showing_of seated.sitting) seated.sitting.values (session_command bytes) parts.values);
-  cells = parts.cells;
 }
 
 -- the replies go on from the session after a line

@@ -1,6 +1,5 @@
 -- A session that is joined to a reporter, as contracts see it.
 use Rattle.std.specs.Prelude.{ℕ, List}
-use Rattle.m_fixed.specs.declared.amount.Value.{Value}
 use Rattle.household_session.specs.Seats.{Seated}
 use Rattle.household_session.specs.Sessions.{showing_of}
 use Rattle.m_symbols.specs.Declarations.{Declared}

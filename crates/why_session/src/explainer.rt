@@ -151,11 +151,7 @@ fn put_inputs(reporter: &mut Reporter, session: &Session)
 }
 
 // Writes the lines of a reason, and then a line with a point.
-fn print_lines<K: Sink>(
-    symbols: &Symbols,
-    lines: &[ReportLine],
-    out: &mut K,
-) -> Result<(), Failed>
+fn print_lines<K: Sink>(symbols: &Symbols, lines: &[ReportLine], out: &mut K) -> Result<(), Failed>
     requires { All (λ line. line.cell < length (owners_from 0 symbols.now.variables)) lines.now }
     ensures { Gives K.written K.faults out.old out.new result (told_lines_of symbols.now lines.now) }
 {

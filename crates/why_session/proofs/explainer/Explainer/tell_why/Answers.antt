@@ -1,9 +1,6 @@
-use Rattle.std.proofs.Common.{◌≡◌, ◌<◌, List, ℕ, length, ap, sym, ◌∙◌, subst, arith}
-use Rattle.std.specs.List.{All}
+use Rattle.std.proofs.Common.{List, ℕ, ap, sym, ◌∙◌, subst, arith}
 use Rattle.text_pieces.specs.Giving.{Gives}
-use Rattle.m_symbols.specs.Declarations.{owners_from}
 use Rattle.why_report.specs.Starts.{Reporting}
-use Rattle.why_report.specs.declared.line.ReportLine.{ReportLine}
 use Rattle.why_session.specs.Joined.{Joined, explains_in, joined_replies}
 use Rattle.why_session.proofs.ReasonLemmas.{found_stays, replies_stay, told_unknown, told_why}
 use Rattle.why_session.proofs.explainer.Explainer.tell_why.Goals as goal
