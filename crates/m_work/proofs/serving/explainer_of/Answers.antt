@@ -14,8 +14,8 @@ new-requires-clause-values c =
 pub new-requires-clause-many : goal.new-requires-clause-many
 new-requires-clause-many c = ap (λ (s : Sitting). length s.face.inputs) c.in_ok-session.ensures.outcome.begins ∙ c.requires.many
 
-pub returns-in_ok-new : goal.returns-in_ok-new
-returns-in_ok-new c = record {
+pub returns : goal.returns
+returns c = record {
   session = subst (λ (s : Seated). IsBegun c.args.program c.args.household.now s.sitting) (sym c.in_ok-new.ensures.session) c.in_ok-session.ensures.outcome;
   declares = c.in_ok-new.ensures.declared;
   orders = c.in_ok-new.ensures.ordered;
