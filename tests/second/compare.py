@@ -4,8 +4,8 @@
     python3 compare.py PROGRAM [COUNT [SEED]]    these, and so many changed rows by the program and by the reading
 
 A program is the path of one that takes the words of `m_tax`, as `out/m_tax` does. Its text and its status must be those
-of the reading, byte by byte; of several cycles or recursions it may show another true one, and `compile` may print any code
-file of the source. Each row in which they differ is kept in a folder of its own, in the form of crates/rows/data, with what the
+of the reading, byte by byte; of several cycles or recursions it may show another true one, `compile` may print any code
+file of the source, and the lines of a reason may stand in any order in which each stands after those that it reads. Each row in which they differ is kept in a folder of its own, in the form of crates/rows/data, with what the
 reading says; the program's answer stands in `program_text` and `program_status`. The status is 0 where nothing differs.
 """
 
@@ -86,7 +86,7 @@ def compare_rows(rows):
     different = 0
     for name, (row, text, status, _) in rows.items():
         said = output(row.words, row.files, row.typed)
-        several = said.compiled is not None or said.findings is not None
+        several = said.compiled is not None or said.findings is not None or said.replies is not None
         same = said.is_one_with(text, status) if several else (said.text, said.status) == (text, status)
         if not same:
             different += 1

@@ -1,9 +1,12 @@
 -- What a session replies to lines, and what becomes of it.
-use Rattle.std.specs.Prelude.{◌≢◌, ℕ, ◌==◌, List, [], ◌∷◌, ◌++◌, codes, Result, Ok, Err, if◌then◌else◌}
+use Rattle.std.specs.Prelude.{◌≢◌, ℕ, ◌==◌, List, [], ◌∷◌, ◌++◌, codes, Option, None, Result, Ok, Err, if◌then◌else◌}
 use Rattle.std.specs.List.{AllByRecursion}
 use Rattle.m_text.specs.Bytes.{line_feed}
 use Rattle.m_text.specs.Lines.{onto_first}
 use Rattle.m_fixed.specs.declared.amount.Value.{Value}
+use Rattle.m_names.specs.Names.{index_of}
+use Rattle.observables.specs.declared.inputs.Coded.{Coded}
+use Rattle.observables.specs.Inputs.{codes_of}
 use Rattle.household_session.specs.declared.fault.EditFault.{EditFault}
 use Rattle.household_session.specs.declared.fault.EditFault.TheVariants.{UnknownCode, BadAmount, NotOfType}
 use Rattle.household_session.specs.Sessions.{Showing, Sitting, answered, clear_of, line, set_of, showing_of, shown, values_edited}
@@ -35,6 +38,16 @@ command_values showing values (clears code) = values_edited values (clear_of sho
 command_values showing values shows = values
 command_values showing values too_long = values
 command_values showing values bad = values
+
+-- The number of the input that a command names to set or clear it, if it does and there is one: also where the edit is refused. No other input's value is
+-- another one after it.
+abbrev pub input_named : List Coded → SessionCommand → Option ℕ
+input_named inputs no_words = None
+input_named inputs (sets code amount) = index_of code (codes_of inputs)
+input_named inputs (clears code) = index_of code (codes_of inputs)
+input_named inputs shows = None
+input_named inputs too_long = None
+input_named inputs bad = None
 
 -- The reply to a line, given without its line feed: to `set 1AJ 5` the line `ok` where `1AJ` is a code.
 abbrev pub reply_of : Sitting → List ℕ → List ℕ

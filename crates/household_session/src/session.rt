@@ -1,5 +1,5 @@
 //! A session, its edits and its shows.
-ghost use Rattle.std.specs.Prelude.{◌≡◌, ◌+◌, ◌*◌, ◌<◌, IfOk, length};
+ghost use Rattle.std.specs.Prelude.{◌≡◌, ◌+◌, ◌*◌, ◌<◌, IfOk, IfSome, length};
 ghost use Rattle.std.specs.List.{AllByRecursion};
 ghost use Rattle.text_pieces.specs.Giving.{Gives};
 ghost use Rattle.observables.specs.Inputs.{AreValuesOf};
@@ -7,7 +7,8 @@ ghost use Rattle.flat_code.specs.Faces.{IsFaceOf};
 ghost use Rattle.flat_code.specs.Runs.{value_at};
 ghost use Rattle.household.specs.Household.{AreOfTypes, inputs_of};
 ghost use Rattle.household_session.specs.Sessions.{answered, begun, clear_of, edited, set_of, showing_of, shown};
-ghost use Rattle.household_session.specs.Replies.{after_line, answer_reply, reply_of};
+ghost use Rattle.household_session.specs.Commands.{session_command};
+ghost use Rattle.household_session.specs.Replies.{after_line, answer_reply, input_named, reply_of};
 ghost use Rattle.household_session.specs.Seats.{line_cost, noted, show_cost, since_begun, since_line, since_shown};
 
 use crate::EditFault;
@@ -104,6 +105,29 @@ impl Session {
         };
         self.sheet.put(input, Value::Undef);
         Ok(())
+    }
+
+    /// How many inputs there are. It takes no memory.
+    pub fn count(&self) -> u32
+        ensures inputs { result ≡ length self.now.sitting.face.inputs }
+        ensures flat { result ≡ self.now.sitting.flat.inputs }
+    {
+        self.codes.len()
+    }
+
+    /// The number of the input that a line names to set or clear it, also where that is refused. It takes no memory.
+    pub fn input_named(&self, line: &[u8]) -> Option<u32>
+        ensures named { result ≡ input_named self.now.sitting.face.inputs (session_command line.now) }
+        ensures known { IfSome result (λ input. input < self.now.sitting.flat.inputs) }
+    {
+        match asked_by(line) {
+            Asked::Nothing => None,
+            Asked::Set(code, _) => self.codes.find(code),
+            Asked::Clear(code) => self.codes.find(code),
+            Asked::Show => None,
+            Asked::TooLong => None,
+            Asked::Bad => None,
+        }
     }
 
     /// The value of the input with this number, as it is now. It takes no memory.

@@ -12,6 +12,8 @@ use Rattle.m_places.specs.declared.limits.TheConstants.{INPUT_BYTES}
 use Rattle.m_plan.specs.Plan.{end_of, gathered, refused}
 use Rattle.m_plan.specs.Views.{Disk}
 use Rattle.m_plan.specs.declared.status.Status.{Status}
+use Rattle.m_plan.specs.declared.status.Status.TheVariants.{Done, Refused}
+use Rattle.why_session.specs.Explains.{Explaining}
 use Rattle.tax_print.specs.Lines.{told_lines}
 use Rattle.m_work.specs.Batches as batch
 use Rattle.m_work.specs.Households.{told_status}
@@ -26,7 +28,7 @@ use Rattle.m_work.specs.Sources.{IsScheme}
 use Rattle.m_work.specs.Tables.{rows_lines}
 use Rattle.m_commands.specs.Answer.{Replies}
 use Rattle.m_commands.specs.Command.{plan_of}
-use Rattle.m_commands.specs.Output.{Output, usage, refuses, answers, AreOneOutput, the_same}
+use Rattle.m_commands.specs.Output.{Output, usage, refuses, answers, AreOneOutput, both_served, both_too_long, the_same}
 use Rattle.m_commands.specs.declared.command.Command.{Command}
 use Rattle.m_commands.specs.declared.work.Work.{Work}
 use Rattle.m_commands.specs.declared.work.Work.TheVariants.{Run, Serve, Batch, Large, Compile, Exec, Check, Lint, Cases}
@@ -86,23 +88,31 @@ not_both_lengths typed taken rest few e full = omega (arith, few, ap length e, l
 one_front : (one other rest left : List ℕ) → one ++ rest ≡ other ++ left → length one ≡ length other → one ≡ other
 one_front one other rest left e same = sym (take-append-le (length one) one rest (omega arith) ∙ take_all (length one) one (omega arith)) ∙ ap (take (length one)) e ∙ ap (λ n. take n (other ++ left)) same ∙ take-append-le (length other) other left (omega arith) ∙ take_all (length other) other (omega arith)
 
+-- the same session, which may tell other reasons
+same_session : (source : Source) (rows : List ℕ) (one other : Scheme) (explains reasons : Explaining) (pairs given : List (ℕ × ℤ)) → IsSession source rows one explains pairs → IsSession source rows other reasons given
+    → (one ≡ other) × (pairs ≡ given)
+same_session source rows one other explains reasons pairs given v w =
+    (one_scheme source one other v.valid w.valid, one_pairs source rows one other pairs given v.valid w.valid v.given w.given)
+
 one_serve : (source : Source) (rows typed t u : List ℕ) (s r : Status) → serve.ServeReplies source rows typed t s → serve.ServeReplies source rows typed u r → AreOneOutput t s u r
 one_serve source rows typed t u s r (serve.is_refused a) (serve.is_refused b) = one_refusal source (λ inputs. household_of inputs rows) t u a b
-one_serve source rows typed t u s r (serve.is_refused a) (serve.is_served scheme pairs v few) = absurd (not_refused source (λ inputs. household_of inputs rows) t scheme pairs v.valid v.given a)
-one_serve source rows typed t u s r (serve.is_refused a) (serve.is_too_long scheme pairs taken rest v e full) = absurd (not_refused source (λ inputs. household_of inputs rows) t scheme pairs v.valid v.given a)
-one_serve source rows typed t u s r (serve.is_served scheme pairs v few) (serve.is_refused b) = absurd (not_refused source (λ inputs. household_of inputs rows) u scheme pairs v.valid v.given b)
-one_serve source rows typed t u s r (serve.is_served one pairs v few) (serve.is_served other given w also) =
-    let e = one_scheme source one other v.valid w.valid in
-    let p = one_pairs source rows one other pairs given v.valid w.valid v.given w.given in
-    the_same (λ i. session_replies (e i) (p i) typed) refl
-one_serve source rows typed t u s r (serve.is_served one pairs v few) (serve.is_too_long other given taken rest w e full) = absurd (not_both_lengths typed taken rest few e full)
-one_serve source rows typed t u s r (serve.is_too_long scheme pairs taken rest v e full) (serve.is_refused b) = absurd (not_refused source (λ inputs. household_of inputs rows) u scheme pairs v.valid v.given b)
-one_serve source rows typed t u s r (serve.is_too_long one pairs taken rest v e full) (serve.is_served other given w few) = absurd (not_both_lengths typed taken rest few e full)
-one_serve source rows typed t u s r (serve.is_too_long one pairs taken rest v e full) (serve.is_too_long other given also left w f most) =
-    let a = one_scheme source one other v.valid w.valid in
-    let p = one_pairs source rows one other pairs given v.valid w.valid v.given w.given in
+one_serve source rows typed t u s r (serve.is_refused a) (serve.is_served scheme explains pairs v few) = absurd (not_refused source (λ inputs. household_of inputs rows) t scheme pairs v.valid v.given a)
+one_serve source rows typed t u s r (serve.is_refused a) (serve.is_too_long scheme explains pairs taken rest v e full) = absurd (not_refused source (λ inputs. household_of inputs rows) t scheme pairs v.valid v.given a)
+one_serve source rows typed t u s r (serve.is_served scheme explains pairs v few) (serve.is_refused b) = absurd (not_refused source (λ inputs. household_of inputs rows) u scheme pairs v.valid v.given b)
+one_serve source rows typed t u s r (serve.is_served one explains pairs v few) (serve.is_served other reasons given w also) =
+    let same = same_session source rows one other explains reasons pairs given v w in
+    let text : session_replies other reasons given typed ≡ session_replies one reasons pairs typed = sym (λ i. session_replies (same.0 i) reasons (same.1 i) typed) in
+    subst (λ (x : List ℕ). AreOneOutput (session_replies one explains pairs typed) Done x Done) (sym text) (both_served source one explains reasons pairs typed v.valid v.explained w.explained)
+one_serve source rows typed t u s r (serve.is_served one explains pairs v few) (serve.is_too_long other reasons given taken rest w e full) = absurd (not_both_lengths typed taken rest few e full)
+one_serve source rows typed t u s r (serve.is_too_long scheme explains pairs taken rest v e full) (serve.is_refused b) = absurd (not_refused source (λ inputs. household_of inputs rows) u scheme pairs v.valid v.given b)
+one_serve source rows typed t u s r (serve.is_too_long one explains pairs taken rest v e full) (serve.is_served other reasons given w few) = absurd (not_both_lengths typed taken rest few e full)
+one_serve source rows typed t u s r (serve.is_too_long one explains pairs taken rest v e full) (serve.is_too_long other reasons given also left w f most) =
+    let same = same_session source rows one other explains reasons pairs given v w in
     let q = one_front taken also rest left (sym e ∙ f) (full ∙ sym most) in
-    the_same (λ i. ended_replies (a i) (p i) (q i) ++ input_too_long_line) refl
+    let text : ended_replies other reasons given also ++ input_too_long_line ≡ ended_replies one reasons pairs taken ++ input_too_long_line =
+    sym (λ i. ended_replies (same.0 i) reasons (same.1 i) (q i) ++ input_too_long_line) in
+    subst (λ (x : List ℕ). AreOneOutput (ended_replies one explains pairs taken ++ input_too_long_line) Refused x Refused) (sym text)
+    (both_too_long source one explains reasons pairs taken v.valid v.explained w.explained)
 
 -- a command answers what it gathered in one way
 one_reply : (work : Work) (typed t u : List ℕ) (s r : Status) → Replies work typed t s → Replies work typed u r → AreOneOutput t s u r

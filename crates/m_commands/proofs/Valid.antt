@@ -59,8 +59,8 @@ replies_complete : (work : Work) (text : List ℕ) (status : Status) → HasAnsw
 replies_complete (Run source rows) text status h (run.is_refused {line = line} r) = absurd (refusal_none source (λ inputs. household_of inputs rows) line h.scheme h.pairs h.valid h.given r)
 replies_complete (Run source rows) text status h (run.is_told scheme pairs v g) = told_complete (told_to scheme pairs)
 replies_complete (Serve source rows) text status h (serve.is_refused {line = line} r) = absurd (refusal_none source (λ inputs. household_of inputs rows) line h.scheme h.pairs h.valid h.given r)
-replies_complete (Serve source rows) text status h (serve.is_served scheme pairs s few) = tt
-replies_complete (Serve source rows) text status h (serve.is_too_long scheme pairs taken rest s e full) = absurd (nothing_full taken rest e full)
+replies_complete (Serve source rows) text status h (serve.is_served scheme explains pairs s few) = tt
+replies_complete (Serve source rows) text status h (serve.is_too_long scheme explains pairs taken rest s e full) = absurd (nothing_full taken rest e full)
 replies_complete (Batch source table) text status h (batch.is_refused {line = line} r) = absurd (refusal_none source (λ inputs. table_of inputs table) line h.scheme h.rows h.valid h.given r)
 replies_complete (Batch source table) text status h (batch.is_told scheme rows v g) = tt
 replies_complete (Large n) text status h (large.is_refused {line = line} r) = absurd (refusal_none (large_source n) (λ inputs. household_of inputs (household_text n)) line h.scheme h.pairs h.valid h.given r)

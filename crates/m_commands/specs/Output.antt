@@ -1,7 +1,7 @@
 -- What is fetched and what is printed for these words, files and input.
-use Rattle.std.specs.Prelude.{◌≡◌, ℕ, List, [], Some, None}
+use Rattle.std.specs.Prelude.{◌≡◌, ℕ, ℤ, List, [], ◌++◌, Some, None}
 use Rattle.std.specs.Option.{option_map_or}
-use Rattle.fault_lines.specs.Lines.{usage_line, cycle_line, recursion_line}
+use Rattle.fault_lines.specs.Lines.{usage_line, cycle_line, input_too_long_line, recursion_line}
 use Rattle.rule_text.specs.declared.Source.{Source}
 use Rattle.code_file.specs.Loading.{text_with}
 use Rattle.code_file.specs.declared.loaded.Loaded.{Loaded}
@@ -10,8 +10,13 @@ use Rattle.micro_m.specs.declared.base.Base.{Base}
 use Rattle.m_compile.specs.Compiled.{IsCompiled}
 use Rattle.m_compile.specs.Sources.{HasRules}
 use Rattle.m_compile.specs.declared.compiling.Compiled.{Compiled}
+use Rattle.why_session.specs.Explains.{Explaining}
+use Rattle.m_work.specs.Explained.{IsExplained}
 use Rattle.m_work.specs.Lints.{lint_text}
 use Rattle.m_work.specs.Prepared.{IsPreparedCode}
+use Rattle.m_work.specs.Schemes.{Scheme}
+use Rattle.m_work.specs.Sessions.{ended_replies, session_replies}
+use Rattle.m_work.specs.Sources.{IsScheme}
 use Rattle.m_plan.specs.Plan.{end_of, gathered, refused, names_fetched}
 use Rattle.m_plan.specs.Views.{Disk}
 use Rattle.m_plan.specs.declared.status.Status.{Status}
@@ -44,7 +49,7 @@ pub record IsValidCommand (words : List (List ℕ)) (disk : Disk) : Type 0 where
 
 -- Two outputs are one: they have the same text and the same status; or they refuse rule files that have several cycles, or a driver that has
 -- several recursions, and show one of them each; or they are the code files of code that one source is compiled to, or what is found of one base and of
--- what its source is compiled to.
+-- what its source is compiled to; or they are the replies to one input, and tell reasons of the values of one source's variables where they are asked for.
 pub data AreOneOutput : List ℕ → Status → List ℕ → Status → Type 0 where
   the_same : {text other : List ℕ} {status outcome : Status} → text ≡ other → status ≡ outcome → AreOneOutput text status other outcome
   both_cycles : (names others : List (List ℕ)) → AreOneOutput (cycle_line names) Refused (cycle_line others) Refused
@@ -52,3 +57,7 @@ pub data AreOneOutput : List ℕ → Status → List ℕ → Status → Type 0 w
   both_compiled : (source : Source) (one other : Loaded) → IsPreparedCode source one → IsPreparedCode source other → AreOneOutput (text_with one.code one.face) Done (text_with other.code other.face) Done
   both_linted : (source : Source) (declared : Declared) (base : Base) (one other : Compiled) → HasRules source declared base → IsCompiled source one → IsCompiled source other
       → AreOneOutput (lint_text declared base one) Done (lint_text declared base other) Done
+  both_served : (source : Source) (scheme : Scheme) (one other : Explaining) (pairs : List (ℕ × ℤ)) (typed : List ℕ) → IsScheme source scheme → IsExplained source one → IsExplained source other
+      → AreOneOutput (session_replies scheme one pairs typed) Done (session_replies scheme other pairs typed) Done
+  both_too_long : (source : Source) (scheme : Scheme) (one other : Explaining) (pairs : List (ℕ × ℤ)) (taken : List ℕ) → IsScheme source scheme → IsExplained source one → IsExplained source other
+      → AreOneOutput (ended_replies scheme one pairs taken ++ input_too_long_line) Refused (ended_replies scheme other pairs taken ++ input_too_long_line) Refused

@@ -11,4 +11,5 @@ pub mod ExecLemmas
 pub mod CheckLemmas
 pub mod StartLemmas
 pub mod LintLemmas
+pub mod ExplainedLemmas
 pub mod CaseLemmas

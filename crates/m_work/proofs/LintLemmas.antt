@@ -52,7 +52,7 @@ labels_first source declared base compiled rules is =
     subst (λ (b : Base). take (length b.labels) compiled.face.labels ≡ map Verif b.labels) same is.first_labels
 
 -- there is an input for each that is declared
-many_inputs : (declared : Declared) → length (inputs_said declared) ≡ length (inputs_from 0 declared.variables)
+pub many_inputs : (declared : Declared) → length (inputs_said declared) ≡ length (inputs_from 0 declared.variables)
 many_inputs declared = sym (length-map (inputs_said declared) (λ (input : Coded). input.code)) ∙ ap length (codes_said declared) ∙ as_many_codes 0 declared.variables
 
 pub inputs_counted : (source : Source) (declared : Declared) (base : Base) (compiled : Compiled) → HasRules source declared base → IsCompiled source compiled

@@ -16,6 +16,7 @@ use Rattle.m_compile.specs.Faults.{IsBaseFault, IsSourceFault}
 use Rattle.m_compile.specs.Lines.{source_line}
 use Rattle.m_compile.specs.declared.fault.SourceFault.{SourceFault}
 use Rattle.m_compile.specs.declared.fault.SourceFault.TheVariants as source
+use Rattle.m_compile.proofs.OneLaws.{base_fault_of_source}
 use Rattle.m_plan.specs.Printing.{Prints}
 use Rattle.m_plan.specs.Views.{OutputView}
 use Rattle.m_plan.specs.declared.status.Status.{Status}
@@ -41,6 +42,11 @@ told_by_line s said fault (Some line) old new status h is told =
 pub source_told : (s : Source) {Given : Type 0} (said : List Coded → Result Given HouseholdFault) (fault : SourceFault) (old new : OutputView) (status : Status)
     → (fault ≢ source.Memory → IsSourceFault s fault) → TellsLine (source_line s.texts fault) old new status → TellsRefusal (Refuses s said) old new status
 source_told s said fault old new status h told = told_by_line s said fault (source_line s.texts fault) old new status h refl told
+
+-- its rules were refused
+pub rules_told : (s : Source) {Given : Type 0} (said : List Coded → Result Given HouseholdFault) (fault : SourceFault) (old new : OutputView) (status : Status)
+    → (fault ≢ source.Memory → IsBaseFault s.texts s.application fault) → TellsLine (source_line s.texts fault) old new status → TellsRefusal (Refuses s said) old new status
+rules_told s said fault old new status h told = source_told s said fault old new status (λ other. base_fault_of_source s fault (h other)) told
 
 told_either : {IsFault IsMemory : Type 0} (whole found : Option (List ℕ)) (old new : OutputView) (status : Status) → whole ≡ found → ((IsMemory → ⊥) → IsFault) → (IsMemory → whole ≡ None)
     → TellsLine found old new status → TellsRefusal (λ line. IsFault × (whole ≡ Some line)) old new status

@@ -1,13 +1,15 @@
 -- A session of a program replies as its scheme says.
-use Rattle.std.proofs.Common.{◌≡◌, ℕ, List, [], ◌∷◌, ◌++◌, refl, ◌∙◌, ap}
+use Rattle.std.proofs.Common.{◌≡◌, ℕ, List, [], ◌∷◌, ◌++◌, Option, Some, None, refl, ◌∙◌, ap}
 use Rattle.std.specs.Prelude.{codes}
 use Rattle.m_fixed.specs.declared.amount.Value.{Value}
 use Rattle.observables.specs.declared.inputs.Coded.{Coded}
 use Rattle.observables.specs.Inputs.{AreValuesOf}
 use Rattle.household_session.specs.Commands.{SessionCommand, no_words, sets, clears, shows, too_long, bad, session_command}
-use Rattle.household_session.specs.Replies.{command_reply, command_values, lines_replies}
+use Rattle.household_session.specs.Replies.{command_reply, command_values}
 use Rattle.household_session.specs.Sessions.{Showing, line}
 use Rattle.household_session.proofs.TypeLemmas.{command_keeps}
+use Rattle.why_session.specs.Explains.{Explaining, explained_replies, name_asked}
+use Rattle.why_session.proofs.LineLemmas.{asked_replies}
 
 -- ---- two sessions with the same inputs, whose texts are the same for such values
 
@@ -32,17 +34,28 @@ same_values inputs one other values shows = refl
 same_values inputs one other values too_long = refl
 same_values inputs one other values bad = refl
 
-same_lines : (inputs : List Coded) (one other : List Value → List ℕ) → ((values : List Value) → AreValuesOf inputs values → one values ≡ other values)
-    → (lines : List (List ℕ)) (values : List Value) → AreValuesOf inputs values → lines_replies (with_text inputs one) values lines ≡ lines_replies (with_text inputs other) values lines
-same_lines inputs one other same [] values all = refl
-same_lines inputs one other same (first ∷ lines) values all =
-    ap (λ reply. reply ++ lines_replies (with_text inputs one) (command_values (with_text inputs one) values (session_command first)) lines) (same_reply inputs one other values (session_command first) (same values all))
-    ∙ ap (λ rest. command_reply (with_text inputs other) values (session_command first) ++ rest)
-    (same_lines inputs one other same lines (command_values (with_text inputs one) values (session_command first)) (command_keeps (with_text inputs one) values (session_command first) all)
-    ∙ ap (λ vs. lines_replies (with_text inputs other) vs lines) (same_values inputs one other values (session_command first)))
+-- one line more, where the replies to further lines are the same
+same_turn : (inputs : List Coded) (one other : List Value → List ℕ) (explains : Explaining) (first : List ℕ) (lines : List (List ℕ))
+    → ((values : List Value) → AreValuesOf inputs values → one values ≡ other values)
+    → ((values : List Value) → AreValuesOf inputs values → explained_replies (with_text inputs one) explains values lines ≡ explained_replies (with_text inputs other) explains values lines)
+    → (values : List Value) → AreValuesOf inputs values → (asked : Option (List ℕ))
+    → asked_replies (with_text inputs one) explains values first lines asked ≡ asked_replies (with_text inputs other) explains values first lines asked
+same_turn inputs one other explains first lines same rest values all (Some name) = ap (λ text. explains values name ++ text) (rest values all)
+same_turn inputs one other explains first lines same rest values all None =
+    ap (λ reply. reply ++ explained_replies (with_text inputs one) explains (command_values (with_text inputs one) values (session_command first)) lines) (same_reply inputs one other values (session_command first) (same values all))
+    ∙ ap (λ text. command_reply (with_text inputs other) values (session_command first) ++ text)
+    (rest (command_values (with_text inputs one) values (session_command first)) (command_keeps (with_text inputs one) values (session_command first) all)
+    ∙ ap (λ vs. explained_replies (with_text inputs other) explains vs lines) (same_values inputs one other values (session_command first)))
+
+same_lines : (inputs : List Coded) (one other : List Value → List ℕ) (explains : Explaining) → ((values : List Value) → AreValuesOf inputs values → one values ≡ other values)
+    → (lines : List (List ℕ)) (values : List Value) → AreValuesOf inputs values
+    → explained_replies (with_text inputs one) explains values lines ≡ explained_replies (with_text inputs other) explains values lines
+same_lines inputs one other explains same [] values all = refl
+same_lines inputs one other explains same (first ∷ lines) values all =
+    same_turn inputs one other explains first lines same (λ vs h. same_lines inputs one other explains same lines vs h) values all (name_asked first)
 
 -- the replies to lines
-pub replies_are : (one other : Showing) → one.inputs ≡ other.inputs → ((values : List Value) → AreValuesOf other.inputs values → one.text values ≡ other.text values)
-    → (lines : List (List ℕ)) (values : List Value) → AreValuesOf other.inputs values → lines_replies one values lines ≡ lines_replies other values lines
-replies_are one other known same lines values all =
-    ap (λ inputs. lines_replies (with_text inputs one.text) values lines) known ∙ same_lines other.inputs one.text other.text same lines values all
+pub replies_are : (one other : Showing) (explains : Explaining) → one.inputs ≡ other.inputs → ((values : List Value) → AreValuesOf other.inputs values → one.text values ≡ other.text values)
+    → (lines : List (List ℕ)) (values : List Value) → AreValuesOf other.inputs values → explained_replies one explains values lines ≡ explained_replies other explains values lines
+replies_are one other explains known same lines values all =
+    ap (λ inputs. explained_replies (with_text inputs one.text) explains values lines) known ∙ same_lines other.inputs one.text other.text explains same lines values all

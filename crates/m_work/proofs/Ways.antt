@@ -22,9 +22,14 @@ use Rattle.household.specs.Household.{household_of, values_of}
 use Rattle.household.specs.Table.{table_of}
 use Rattle.household.specs.declared.fault.HouseholdFault.{HouseholdFault}
 use Rattle.household.proofs.GivenLemmas.{household_gives}
-use Rattle.household_session.specs.Replies.{ended_lines, input_lines, replies_of, replies_to}
+use Rattle.household_session.specs.Replies.{ended_lines, input_lines}
 use Rattle.household_session.specs.Sessions.{Sitting, begun, showing_of}
 use Rattle.m_large.specs.Large.{household_text}
+use Rattle.m_symbols.specs.Declarations.{Declared}
+use Rattle.rule_order.specs.declared.ordered.Ordered.{Ordered}
+use Rattle.serve_loop.specs.Repliers.{ended_of, whole_of}
+use Rattle.why_session.specs.Explains.{Explaining, explained_replies}
+use Rattle.why_session.specs.Joined.{Joined, explains_by, joined_replies}
 use Rattle.tax_print.specs.Lines.{answer_lines, told_lines}
 use Rattle.m_compile.specs.Compiled.{IsCompiled, IsRunnable}
 use Rattle.m_compile.specs.Faults.{IsSourceFault}
@@ -50,6 +55,7 @@ use Rattle.m_work.specs.Prepared.{HouseholdReplies, IsPrepared, IsPreparedCode, 
 use Rattle.m_work.specs.Prepared as prepared
 use Rattle.m_work.specs.Runs.{RunReplies}
 use Rattle.m_work.specs.Runs as run
+use Rattle.m_work.specs.Explained.{IsExplained}
 use Rattle.m_work.specs.Schemes.{Scheme, told_to}
 use Rattle.m_work.specs.Serves.{IsServed}
 use Rattle.m_work.specs.Serves as serve
@@ -59,7 +65,7 @@ use Rattle.m_work.specs.Sources.{IsScheme, Refuses, households_are_refused, sche
 use Rattle.m_work.specs.declared.groups.GroupFault.{GroupFault}
 use Rattle.m_work.specs.declared.groups.GroupFault.TheVariants as group
 use Rattle.m_work.specs.declared.program.Program.{Program}
-use Rattle.m_work.specs.inner.Answers.{IsAnswerOf, IsBegun, IsFileOf, is_file}
+use Rattle.m_work.specs.inner.Answers.{IsAnswerOf, IsBegun, IsExplainerOf, IsFileOf, is_file}
 use Rattle.m_work.specs.inner.Groups.{WritesGroups, group_status}
 use Rattle.m_work.proofs.CodeLemmas.{spells_whole}
 use Rattle.m_work.proofs.Refusals.{TellsRefusal}
@@ -168,18 +174,18 @@ pub serve_refused : (source : Source) (rows : List ℕ) (heard : InputView) (old
 serve_refused source rows heard old new status (inl (line, refused, shown)) = serve.refused line refused refl shown
 serve_refused source rows heard old new status (inr (same, memory)) = serve.no_memory refl same memory
 
-pub session_refused : (scheme : Scheme) (face : Face) (runs : List Value → Answer) (rows : List ℕ) (fault : HouseholdFault) (heard : InputView) (old new : OutputView) (status : Status) → Shows scheme face runs
+pub session_refused : (scheme : Scheme) (explains : Explaining) (face : Face) (runs : List Value → Answer) (rows : List ℕ) (fault : HouseholdFault) (heard : InputView) (old new : OutputView) (status : Status) → Shows scheme face runs
     → TellsRefusal (λ line. (household_of face.inputs rows ≡ Err fault) × (household_fault_line fault ≡ Some line)) old new status
-    → IsServedBy scheme rows heard heard old new status
-session_refused scheme face runs rows fault heard old new status shown (inl (line, refused, p)) =
+    → IsServedBy scheme explains rows heard heard old new status
+session_refused scheme explains face runs rows fault heard old new status shown (inl (line, refused, p)) =
     prepared.refused line fault (subst (λ inputs. household_of inputs rows ≡ Err fault) shown.inputs refused.0) refused.1 refl p
-session_refused scheme face runs rows fault heard old new status shown (inr (same, memory)) = prepared.no_memory refl same memory
+session_refused scheme explains face runs rows fault heard old new status shown (inr (same, memory)) = prepared.no_memory refl same memory
 
-pub serve_answered : (source : Source) (program : Program) (rows : List ℕ) (heard told : InputView) (old new : OutputView) (status : Status) → (is : IsPrepared source program)
-    → IsServedBy is.scheme rows heard told old new status → IsServed source rows heard told old new status
-serve_answered source program rows heard told old new status is (prepared.refused line fault faulty said same p) = serve.refused line (households_are_refused is.scheme fault is.valid faulty said) same p
-serve_answered source program rows heard told old new status is (prepared.no_memory same none memory) = serve.no_memory same none memory
-serve_answered source program rows heard told old new status is (prepared.served pairs given s) = serve.served is.scheme pairs (record { valid = is.valid; given = given }) s
+pub serve_answered : (source : Source) (program : Program) (rows : List ℕ) (heard told : InputView) (old new : OutputView) (status : Status) (explains : Explaining) → (is : IsPrepared source program) → IsExplained source explains
+    → IsServedBy is.scheme explains rows heard told old new status → IsServed source rows heard told old new status
+serve_answered source program rows heard told old new status explains is reasons (prepared.refused line fault faulty said same p) = serve.refused line (households_are_refused is.scheme fault is.valid faulty said) same p
+serve_answered source program rows heard told old new status explains is reasons (prepared.no_memory same none memory) = serve.no_memory same none memory
+serve_answered source program rows heard told old new status explains is reasons (prepared.served pairs given s) = serve.served is.scheme explains pairs (record { valid = is.valid; explained = reasons; given = given }) s
 
 -- the same replies
 served_as : (one ended other also : List ℕ → List ℕ) (heard told : InputView) (old new : OutputView) (status : Status) → ((bytes : List ℕ) → one bytes ≡ other bytes) → ((bytes : List ℕ) → ended bytes ≡ also bytes)
@@ -193,22 +199,34 @@ served_as one ended other also heard told old new status w e (too_long taken mov
 served_as one ended other also heard told old new status w e (unwritten taken rest moved left calm breaks is) =
     unwritten taken rest moved left calm (subst (λ text. Breaks text old new) (w (taken ++ rest)) breaks) is
 
-same_replies : (scheme : Scheme) (program : Program) (rows : List ℕ) (session : Sitting) → IsRunnable program.face program.tidy → Shows scheme program.face (flat_run program.tidy) → (of : IsBegun program rows session)
-    → household_of scheme.inputs rows ≡ Ok of.pairs → (lines : List (List ℕ)) → replies_to session lines ≡ replies_by scheme of.pairs lines
-same_replies scheme program rows session runs shown of given lines =
-    ap (λ sitting. replies_to sitting lines) of.begins
-    ∙ ap (λ n. replies_to (record { flat = program.tidy; face = program.face; values = values_of of.pairs n }) lines) (sym runs.shown.inputs ∙ as_many scheme program.face (flat_run program.tidy) shown)
-    ∙ replies_are (showing_of (begun program.tidy program.face of.pairs)) (scheme_showing scheme) shown.inputs (λ vs all. lines_told scheme program.face (flat_run program.tidy) vs shown all)
+-- what a session of a program replies is what its scheme says
+same_replies : (scheme : Scheme) (program : Program) (rows : List ℕ) (session : Sitting) (explains : Explaining) → IsRunnable program.face program.tidy → Shows scheme program.face (flat_run program.tidy)
+    → (of : IsBegun program rows session) → household_of scheme.inputs rows ≡ Ok of.pairs → (lines : List (List ℕ))
+    → explained_replies (showing_of session) explains session.values lines ≡ replies_by scheme explains of.pairs lines
+same_replies scheme program rows session explains runs shown of given lines =
+    ap (λ (sitting : Sitting). explained_replies (showing_of sitting) explains sitting.values lines) of.begins
+    ∙ ap (λ n. explained_replies (showing_of (begun program.tidy program.face of.pairs)) explains (values_of of.pairs n) lines) (sym runs.shown.inputs ∙ as_many scheme program.face (flat_run program.tidy) shown)
+    ∙ replies_are (showing_of (begun program.tidy program.face of.pairs)) (scheme_showing scheme) explains shown.inputs (λ vs all. lines_told scheme program.face (flat_run program.tidy) vs shown all)
     lines (values_of of.pairs (length scheme.inputs)) (household_gives scheme.inputs rows of.pairs given)
 
-pub session_served : (scheme : Scheme) (program : Program) (rows : List ℕ) (session : Sitting) → IsRunnable program.face program.tidy → Shows scheme program.face (flat_run program.tidy) → (of : IsBegun program rows session)
+joined_same : (scheme : Scheme) (program : Program) (declared : Declared) (ordered : Ordered) (rows : List ℕ) (joined : Joined) → IsRunnable program.face program.tidy
+    → Shows scheme program.face (flat_run program.tidy) → (of : IsExplainerOf program declared ordered rows joined) → household_of scheme.inputs rows ≡ Ok of.session.pairs → (lines : List (List ℕ))
+    → joined_replies joined lines ≡ replies_by scheme (explains_by declared ordered) of.session.pairs lines
+joined_same scheme program declared ordered rows joined runs shown of given lines =
+    (λ i. explained_replies (showing_of joined.seated.sitting) (explains_by (of.declares i) (of.orders i)) joined.seated.sitting.values lines)
+    ∙ same_replies scheme program rows joined.seated.sitting (explains_by declared ordered) runs shown of.session given lines
+
+pub session_served : (scheme : Scheme) (program : Program) (declared : Declared) (ordered : Ordered) (rows : List ℕ) (joined : Joined) → IsRunnable program.face program.tidy
+    → Shows scheme program.face (flat_run program.tidy) → (of : IsExplainerOf program declared ordered rows joined)
     → (heard told : InputView) (old new : OutputView) (status : Status)
-    → Served (replies_of session) (λ taken. replies_to session (ended_lines taken)) heard told old new status → IsServedBy scheme rows heard told old new status
-session_served scheme program rows session runs shown of heard told old new status done =
-    let given : household_of scheme.inputs rows ≡ Ok of.pairs = subst (λ inputs. household_of inputs rows ≡ Ok of.pairs) shown.inputs of.given in
-    prepared.served of.pairs given
-    (served_as (replies_of session) (λ taken. replies_to session (ended_lines taken)) (session_replies scheme of.pairs) (ended_replies scheme of.pairs)
-    heard told old new status (λ bytes. same_replies scheme program rows session runs shown of given (input_lines bytes)) (λ bytes. same_replies scheme program rows session runs shown of given (ended_lines bytes)) done)
+    → Served (whole_of (joined_replies joined)) (ended_of (joined_replies joined)) heard told old new status → IsServedBy scheme (explains_by declared ordered) rows heard told old new status
+session_served scheme program declared ordered rows joined runs shown of heard told old new status done =
+    let given : household_of scheme.inputs rows ≡ Ok of.session.pairs = subst (λ inputs. household_of inputs rows ≡ Ok of.session.pairs) shown.inputs of.session.given in
+    prepared.served of.session.pairs given
+    (served_as (whole_of (joined_replies joined)) (ended_of (joined_replies joined)) (session_replies scheme (explains_by declared ordered) of.session.pairs)
+    (ended_replies scheme (explains_by declared ordered) of.session.pairs)
+    heard told old new status (λ bytes. joined_same scheme program declared ordered rows joined runs shown of given (input_lines bytes))
+    (λ bytes. joined_same scheme program declared ordered rows joined runs shown of given (ended_lines bytes)) done)
 
 -- ---- preparing
 

@@ -6,6 +6,7 @@ pub mod Tables
 pub mod Batches
 pub mod Sessions
 pub mod Serving
+pub mod Explained
 pub mod Serves
 pub mod Larges
 pub mod LargeAnswers

@@ -29,6 +29,7 @@ use Rattle.m_work.specs.Serving.{Served}
 use Rattle.m_work.specs.Sessions.{ended_replies, session_replies}
 use Rattle.m_work.specs.Sources.{IsScheme}
 use Rattle.m_work.specs.Tables.{rows_lines}
+use Rattle.why_session.specs.Explains.{Explaining}
 use Rattle.m_work.specs.declared.program.Program.{Program}
 
 -- A program, in whatever form, is to households what a scheme is: its face has the same inputs, it gives what is asked for the same names, and what it
@@ -75,11 +76,11 @@ pub data TableReplies (scheme : Scheme) (table : List ℕ) : List ℕ → Status
       → TableReplies scheme table line Refused
   rows_are_told : (rows : List Row) → table_of scheme.inputs table ≡ Ok rows → TableReplies scheme table (rows_lines scheme rows) Done
 
--- A session over an input ended: with an error of the household or for lack of memory before anything was taken from the input, or it began and had
--- its lines.
-pub data IsServedBy (scheme : Scheme) (rows : List ℕ) (heard told : InputView) (old new : OutputView) (status : Status) : Type 0 where
+-- A session over an input, which tells this of names that it is asked about, ended: with an error of the household or for lack of memory before anything was
+-- taken from the input, or it began and had its lines.
+pub data IsServedBy (scheme : Scheme) (explains : Explaining) (rows : List ℕ) (heard told : InputView) (old new : OutputView) (status : Status) : Type 0 where
   refused : (line : List ℕ) (fault : HouseholdFault) → household_of scheme.inputs rows ≡ Err fault → household_fault_line fault ≡ Some line → told ≡ heard
-      → Prints line Refused old new status → IsServedBy scheme rows heard told old new status
-  no_memory : told ≡ heard → new ≡ old → status ≡ Memory → IsServedBy scheme rows heard told old new status
+      → Prints line Refused old new status → IsServedBy scheme explains rows heard told old new status
+  no_memory : told ≡ heard → new ≡ old → status ≡ Memory → IsServedBy scheme explains rows heard told old new status
   served : (pairs : List (ℕ × ℤ)) → household_of scheme.inputs rows ≡ Ok pairs
-      → Served (session_replies scheme pairs) (ended_replies scheme pairs) heard told old new status → IsServedBy scheme rows heard told old new status
+      → Served (session_replies scheme explains pairs) (ended_replies scheme explains pairs) heard told old new status → IsServedBy scheme explains rows heard told old new status

@@ -4,8 +4,8 @@ use Rattle.std.specs.Io.KnownBytes.{prepend_known, IsAtEnd}
 use Rattle.std.proofs.lemmas.Bool.{cases_lt}
 use Rattle.std.proofs.lemmas.List.{take_all}
 use Rattle.m_places.specs.declared.limits.TheConstants.{INPUT_BYTES}
-use Rattle.household_session.specs.Sessions.{Sitting}
 use Rattle.household_session.specs.Replies.{IsUnended}
+use Rattle.serve_loop.specs.Repliers.{AreLongAlike, Telling}
 use Rattle.serve_loop.specs.Serving.{Counts, Ends, IsLeft}
 use Rattle.serve_loop.specs.inner.Going.{BreaksOff, Finished, Goes, Stopped, Took}
 use Rattle.serve_loop.specs.declared.turns.ServeEnd.{ServeEnd}
@@ -40,7 +40,7 @@ none_is_left (Some bytes) end = end
 
 -- the last line, after the end of the input
 pub stopped_at_end : {S K : Type 0} (left : S → Option (List ℕ)) (source_faults : S → ℕ) (written : K → Option (List ℕ)) (faults : K → ℕ)
-    (source_old source_now : S) (old now : K) (start : Sitting) (held : List ℕ) (end : ServeEnd) → left source_old ≡ prepend_known [] (left source_now)
+    (source_old source_now : S) (old now : K) (start : Telling) (held : List ℕ) (end : ServeEnd) → left source_old ≡ prepend_known [] (left source_now)
     → IsAtEnd (left source_old) → source_faults source_now ≡ source_faults source_old → Finished written faults old now start held end
     → Stopped left source_faults written faults source_old source_now old now start held end
 stopped_at_end left source_faults written faults source_old source_now old now start held Done moved none calm done =
@@ -61,14 +61,14 @@ stopped_at_end left source_faults written faults source_old source_now old now s
 stopped_at_end left source_faults written faults source_old source_now old now start held TooLong moved none calm never = absurd never
 
 -- what is kept of the bytes that are left is enough of them
-pub goes_kept : {K : Type 0} (written : K → Option (List ℕ)) (faults : K → ℕ) (old now : K) (start sitting : Sitting) (before left kept : List ℕ) (count : ℕ)
-    → IsUnended left → count ≡ min (length left) 4097 → kept ≡ take count left → Goes written faults old now start sitting before left
-    → Goes written faults old now start sitting before kept
-goes_kept written faults old now start sitting before left kept count free is same goes =
+pub goes_kept : {K : Type 0} (written : K → Option (List ℕ)) (faults : K → ℕ) (old now : K) (start telling : Telling) (before left kept : List ℕ) (count : ℕ)
+    → AreLongAlike telling → IsUnended left → count ≡ min (length left) 4097 → kept ≡ take count left → Goes written faults old now start telling before left
+    → Goes written faults old now start telling before kept
+goes_kept written faults old now start telling before left kept count alike free is same goes =
     elim (cases_lt (length left) 4098) [
-      | inl few ↦ subst (λ (l : List ℕ). Goes written faults old now start sitting before l) (sym (same ∙ take_all count left (omega arith))) goes
-      | inr many ↦ subst (λ (l : List ℕ). Goes written faults old now start sitting before l) (sym same)
-          (goes_cut written faults old now start sitting before left (take count left) free (unended_take count left free) (omega arith)
+      | inl few ↦ subst (λ (l : List ℕ). Goes written faults old now start telling before l) (sym (same ∙ take_all count left (omega arith))) goes
+      | inr many ↦ subst (λ (l : List ℕ). Goes written faults old now start telling before l) (sym same)
+          (goes_cut written faults old now start telling before left (take count left) alike free (unended_take count left free) (omega arith)
           (omega (arith, length-take count left)) goes)
     ]
 
@@ -76,16 +76,16 @@ goes_kept written faults old now start sitting before left kept count free is sa
 
 -- So far these bytes were taken, and the lines that they end have their replies.
 pub record Standing {S K : Type 0} (left : S → Option (List ℕ)) (source_faults : S → ℕ) (written : K → Option (List ℕ)) (faults : K → ℕ)
-    (source_old source_now : S) (old now : K) (start sitting : Sitting) (held : List ℕ) (count : ℕ) : Type 0 where
+    (source_old source_now : S) (old now : K) (start telling : Telling) (held : List ℕ) (count : ℕ) : Type 0 where
   pub bytes : List ℕ
   pub counted : length bytes ≡ count
   pub moved : left source_old ≡ prepend_known bytes (left source_now)
   pub calm : source_faults source_now ≡ source_faults source_old
-  pub goes : Goes written faults old now start sitting bytes held
+  pub goes : Goes written faults old now start telling bytes held
   pub unended : IsUnended held
 
 pub standing_none : {S K : Type 0} (left : S → Option (List ℕ)) (source_faults : S → ℕ) (written : K → Option (List ℕ)) (faults : K → ℕ)
-    (source : S) (out : K) (start : Sitting) → Standing left source_faults written faults source source out out start start [] 0
+    (source : S) (out : K) (start : Telling) → Standing left source_faults written faults source source out out start start [] 0
 standing_none left source_faults written faults source out start = record {
   bytes = [];
   counted = refl;
@@ -96,69 +96,69 @@ standing_none left source_faults written faults source out start = record {
 }
 
 pub standing_turn : {S K : Type 0} (left : S → Option (List ℕ)) (source_faults : S → ℕ) (written : K → Option (List ℕ)) (faults : K → ℕ)
-    (source_old source_now source_new : S) (old now new : K) (start sitting later : Sitting) (held kept : List ℕ) (count most n total : ℕ)
-    → Standing left source_faults written faults source_old source_now old now start sitting held count
-    → Took left source_faults written faults source_now source_new now new sitting later held kept most n → total ≡ count + n
+    (source_old source_now source_new : S) (old now new : K) (start telling later : Telling) (held kept : List ℕ) (count most n total : ℕ)
+    → Standing left source_faults written faults source_old source_now old now start telling held count
+    → Took left source_faults written faults source_now source_new now new telling later held kept most n → total ≡ count + n
     → Standing left source_faults written faults source_old source_new old new start later kept total
-standing_turn left source_faults written faults source_old source_now source_new old now new start sitting later held kept count most n total standing took all = record {
+standing_turn left source_faults written faults source_old source_now source_new old now new start telling later held kept count most n total standing took all = record {
   bytes = standing.bytes ++ took.piece;
   counted = length-append standing.bytes took.piece ∙ ap (λ (k : ℕ). k + length took.piece) standing.counted ∙ ap (λ (k : ℕ). count + k) took.counted ∙ sym all;
   moved = standing.moved ∙ ap (prepend_known standing.bytes) took.moved ∙ prepend_more (left source_new) standing.bytes took.piece;
   calm = took.calm ∙ standing.calm;
-  goes = goes_then written faults old now new start sitting later (standing.bytes ++ took.piece) (held ++ took.piece) kept
-      (goes_taken written faults old now start sitting standing.bytes held took.piece standing.goes) took.goes;
+  goes = goes_then written faults old now new start telling later (standing.bytes ++ took.piece) (held ++ took.piece) kept
+      (goes_taken written faults old now start telling standing.bytes held took.piece standing.goes) took.goes;
   unended = took.unended;
 }
 
 -- the turn that ends the loop
 pub standing_stopped : {S K : Type 0} (left : S → Option (List ℕ)) (source_faults : S → ℕ) (written : K → Option (List ℕ)) (faults : K → ℕ)
-    (source_old source_now source_new : S) (old now new : K) (start sitting : Sitting) (held : List ℕ) (count : ℕ) (end : ServeEnd)
-    → Standing left source_faults written faults source_old source_now old now start sitting held count
-    → Stopped left source_faults written faults source_now source_new now new sitting held end → count < INPUT_BYTES
+    (source_old source_now source_new : S) (old now new : K) (start telling : Telling) (held : List ℕ) (count : ℕ) (end : ServeEnd)
+    → telling [] ≡ [] → Standing left source_faults written faults source_old source_now old now start telling held count
+    → Stopped left source_faults written faults source_now source_new now new telling held end → count < INPUT_BYTES
     → Ends (left source_old) (left source_new) (written old) (written new) start end × Counts (source_faults source_old) (source_faults source_new) (faults old) (faults new) end
-standing_stopped left source_faults written faults source_old source_now source_new old now new start sitting held count Done standing (same, none, calm, done) few = (
+standing_stopped left source_faults written faults source_old source_now source_new old now new start telling held count Done nothing standing (same, none, calm, done) few = (
   (
     (
       standing.bytes,
       omega (arith, standing.counted, few),
       record {
         moved = standing.moved ∙ ap (prepend_known standing.bytes) (sym same);
-        appended = goes_whole written faults old now new start sitting standing.bytes held standing.goes done.0;
+        appended = goes_whole written faults old now new start telling standing.bytes held standing.goes done.0;
       },
     ),
     none,
   ),
   (calm ∙ standing.calm, done.1 ∙ standing.goes.faultless),
 )
-standing_stopped left source_faults written faults source_old source_now source_new old now new start sitting held count ReadFault standing (same, rose, text, none) few = (
+standing_stopped left source_faults written faults source_old source_now source_new old now new start telling held count ReadFault nothing standing (same, rose, text, none) few = (
   (
     standing.bytes,
     record {
       moved = standing.moved ∙ ap (prepend_known standing.bytes) (sym same);
-      appended = text ∙ goes_ended written faults old now start sitting standing.bytes held standing.goes standing.unended;
+      appended = text ∙ goes_ended written faults old now start telling standing.bytes held nothing standing.goes standing.unended;
     },
   ),
   (rose_from source_faults source_old source_now source_new standing.calm rose, none ∙ standing.goes.faultless),
 )
-standing_stopped left source_faults written faults source_old source_now source_new old now new start sitting held count WriteFault standing (calm, (piece, rest, moved, is, broken)) few =
-    let whole = breaks_then written faults old now new start sitting standing.bytes held piece rest standing.goes broken in (
+standing_stopped left source_faults written faults source_old source_now source_new old now new start telling held count WriteFault nothing standing (calm, (piece, rest, moved, is, broken)) few =
+    let whole = breaks_then written faults old now new start telling standing.bytes held piece rest standing.goes broken in (
       (standing.bytes ++ piece, rest, standing.moved ∙ ap (prepend_known standing.bytes) moved ∙ prepend_more (left source_new) standing.bytes piece, is, whole.1),
       (calm ∙ standing.calm, whole.0),
     )
-standing_stopped left source_faults written faults source_old source_now source_new old now new start sitting held count TooLong standing never few = absurd never
+standing_stopped left source_faults written faults source_old source_now source_new old now new start telling held count TooLong nothing standing never few = absurd never
 
 -- the loop has taken as much as it takes
 pub standing_full : {S K : Type 0} (left : S → Option (List ℕ)) (source_faults : S → ℕ) (written : K → Option (List ℕ)) (faults : K → ℕ)
-    (source_old source_now : S) (old now : K) (start sitting : Sitting) (held : List ℕ) (count : ℕ)
-    → Standing left source_faults written faults source_old source_now old now start sitting held count → count ≡ INPUT_BYTES
+    (source_old source_now : S) (old now : K) (start telling : Telling) (held : List ℕ) (count : ℕ)
+    → telling [] ≡ [] → Standing left source_faults written faults source_old source_now old now start telling held count → count ≡ INPUT_BYTES
     → Ends (left source_old) (left source_now) (written old) (written now) start TooLong × Counts (source_faults source_old) (source_faults source_now) (faults old) (faults now) TooLong
-standing_full left source_faults written faults source_old source_now old now start sitting held count standing full = (
+standing_full left source_faults written faults source_old source_now old now start telling held count nothing standing full = (
   (
     standing.bytes,
     standing.counted ∙ full,
     record {
       moved = standing.moved;
-      appended = goes_ended written faults old now start sitting standing.bytes held standing.goes standing.unended;
+      appended = goes_ended written faults old now start telling standing.bytes held nothing standing.goes standing.unended;
     },
   ),
   (standing.calm, standing.goes.faultless),

@@ -1,2 +1,3 @@
+pub mod Repliers
 pub mod Serving
 pub mod inner

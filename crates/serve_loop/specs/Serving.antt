@@ -4,8 +4,7 @@ use Rattle.std.specs.Io.KnownBytes.{prepend_known, append_known, IsAtEnd}
 use Rattle.m_places.specs.declared.limits.TheConstants.{INPUT_BYTES}
 use Rattle.m_ports.specs.Counts.{Rose}
 use Rattle.m_ports.specs.Sink.{AppendsPrefix}
-use Rattle.household_session.specs.Sessions.{Sitting}
-use Rattle.household_session.specs.Replies.{ended_lines, replies_to, replies_of}
+use Rattle.serve_loop.specs.Repliers.{Telling, ended_of, whole_of}
 use Rattle.serve_loop.specs.declared.turns.ServeEnd.{ServeEnd}
 use Rattle.serve_loop.specs.declared.turns.ServeEnd.TheVariants.{Done, ReadFault, WriteFault, TooLong}
 
@@ -22,16 +21,16 @@ IsLeft (Some bytes) rest = bytes ≡ rest
 -- What was taken of an input and what was written, by the session as the loop began and by how it ended: all lines of a whole
 -- input, which has fewer bytes than are taken of one, or the lines that had their line feed when a read failed or too much was
 -- taken, or a prefix of the replies to the whole input.
-abbrev pub Ends : (left_old left_new written_old written_new : Option (List ℕ)) → Sitting → ServeEnd → Type 0
-Ends left_old left_new written_old written_new sitting Done =
-    ((taken : List ℕ) × (length taken < INPUT_BYTES) × Takes left_old left_new written_old written_new taken (replies_of sitting taken)) × IsAtEnd left_new
-Ends left_old left_new written_old written_new sitting ReadFault =
-    (taken : List ℕ) × Takes left_old left_new written_old written_new taken (replies_to sitting (ended_lines taken))
-Ends left_old left_new written_old written_new sitting WriteFault =
+abbrev pub Ends : (left_old left_new written_old written_new : Option (List ℕ)) → Telling → ServeEnd → Type 0
+Ends left_old left_new written_old written_new telling Done =
+    ((taken : List ℕ) × (length taken < INPUT_BYTES) × Takes left_old left_new written_old written_new taken (whole_of telling taken)) × IsAtEnd left_new
+Ends left_old left_new written_old written_new telling ReadFault =
+    (taken : List ℕ) × Takes left_old left_new written_old written_new taken (ended_of telling taken)
+Ends left_old left_new written_old written_new telling WriteFault =
     (taken rest : List ℕ) × (left_old ≡ prepend_known taken left_new) × IsLeft left_new rest
-    × AppendsPrefix written_old written_new (replies_of sitting (taken ++ rest))
-Ends left_old left_new written_old written_new sitting TooLong =
-    (taken : List ℕ) × (length taken ≡ INPUT_BYTES) × Takes left_old left_new written_old written_new taken (replies_to sitting (ended_lines taken))
+    × AppendsPrefix written_old written_new (whole_of telling (taken ++ rest))
+Ends left_old left_new written_old written_new telling TooLong =
+    (taken : List ℕ) × (length taken ≡ INPUT_BYTES) × Takes left_old left_new written_old written_new taken (ended_of telling taken)
 
 -- The counts of faults: that of the input rose where a read failed, that of the output where a write did, and no count changed
 -- but that one.

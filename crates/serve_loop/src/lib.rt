@@ -5,6 +5,8 @@
 
 mod lines;
 mod pieces;
+mod replier;
 mod turns;
 
+pub use replier::Replier;
 pub use turns::{ServeEnd, serve};

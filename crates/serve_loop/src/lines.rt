@@ -2,10 +2,11 @@
 ghost use Rattle.std.specs.Prelude.{◌≤◌, ◌++◌, List, ℕ, length, take, drop, IfOk, OnErr};
 ghost use Rattle.m_ports.specs.Counts.{Rose};
 ghost use Rattle.m_ports.specs.Sink.{AppendsPrefix};
-ghost use Rattle.household_session.specs.Replies.{IsUnended, replies_of};
+ghost use Rattle.household_session.specs.Replies.{IsUnended};
+ghost use Rattle.serve_loop.specs.Repliers.{whole_of};
 ghost use Rattle.serve_loop.specs.inner.Going.{Goes};
 
-use household_session::Session;
+use crate::Replier;
 use m_ports::{Failed, Sink};
 use m_text::line_end;
 use std::sync::ledger::Ledger;
@@ -13,8 +14,8 @@ use steps::Steps;
 
 /// Does each line that has its line feed among the bytes, of which the first `held` have none, and answers where the bytes
 /// after the last one begin.
-pub(crate) fn do_ended<K: Sink, L: Ledger>(
-    session: &mut Session,
+pub(crate) fn do_ended<R: Replier, K: Sink, L: Ledger>(
+    replier: &mut R,
     bytes: &[u8],
     held: usize,
     out: &mut K,
@@ -22,15 +23,15 @@ pub(crate) fn do_ended<K: Sink, L: Ledger>(
 ) -> Result<usize, Failed>
     requires within { held ≤ length bytes.now }
     requires unended { IsUnended (take held bytes.now) }
-    ensures goes { IfOk result (λ from. Goes K.written K.faults out.old out.new session.old.sitting session.new.sitting bytes.now (drop from bytes.now)) }
+    ensures goes { IfOk result (λ from. Goes K.written K.faults out.old out.new (R.replies replier.old) (R.replies replier.new) bytes.now (drop from bytes.now)) }
     ensures place { IfOk result (λ from. (from ≤ length bytes.now) × IsUnended (drop from bytes.now)) }
     ensures failed { OnErr result (Rose (K.faults out.old) (K.faults out.new)) }
-    ensures prefix { OnErr result ((rest : List ℕ) → AppendsPrefix (K.written out.old) (K.written out.new) (replies_of session.old.sitting (bytes.now ++ rest))) }
+    ensures prefix { OnErr result ((rest : List ℕ) → AppendsPrefix (K.written out.old) (K.written out.new) (whole_of (R.replies replier.old) (bytes.now ++ rest))) }
 {
     let mut from = 0;
     let mut end = line_end(bytes, held);
     while end < bytes.len() {
-        session.command(&bytes[from..end], out, steps)?;
+        replier.reply(&bytes[from..end], out, steps)?;
         from = end + 1;
         end = line_end(bytes, from);
     }

@@ -4,9 +4,9 @@ ghost use Rattle.household_session.specs.Replies.{IsUnended};
 ghost use Rattle.serve_loop.specs.Serving.{Counts, Ends};
 ghost use Rattle.serve_loop.specs.inner.Going.{Finished, Turned};
 
+use crate::Replier;
 use crate::lines::do_ended;
 use crate::pieces::{MOST_HELD, keep, take_piece};
-use household_session::Session;
 use m_places::limits::INPUT_BYTES;
 use m_ports::{Failed, Sink, Source};
 use std::sync::ledger::Ledger;
@@ -30,38 +30,38 @@ pub enum ServeEnd {
 // them.
 const ROOM: usize = 8_193;
 
-/// Does the lines of an input one after another, each as `Session::command` does, until the input ends, a read or a write
+/// Does the lines of an input one after another, each as `Replier::reply` does, until the input ends, a read or a write
 /// fails, or `INPUT_BYTES` bytes were taken. Of a line that is too long no more than its first bytes are held. A last line may
 /// lack its line feed. It takes no memory.
-pub fn serve<S: Source, K: Sink, L: Ledger>(
-    session: &mut Session,
+pub fn serve<R: Replier, S: Source, K: Sink, L: Ledger>(
+    replier: &mut R,
     input: &mut S,
     out: &mut K,
     steps: &mut Steps<L>,
 ) -> ServeEnd
-    ensures end { Ends (S.left input.old) (S.left input.new) (K.written out.old) (K.written out.new) session.old.sitting result }
+    ensures end { Ends (S.left input.old) (S.left input.new) (K.written out.old) (K.written out.new) (R.replies replier.old) result }
     ensures counts { Counts (S.faults input.old) (S.faults input.new) (K.faults out.old) (K.faults out.new) result }
 {
     let mut room = [0; ROOM];
-    serve_in(session, input, out, &mut room, steps)
+    serve_in(replier, input, out, &mut room, steps)
 }
 
 // The same with this room.
-fn serve_in<S: Source, K: Sink, L: Ledger>(
-    session: &mut Session,
+fn serve_in<R: Replier, S: Source, K: Sink, L: Ledger>(
+    replier: &mut R,
     input: &mut S,
     out: &mut K,
     room: &mut [u8],
     steps: &mut Steps<L>,
 ) -> ServeEnd
     requires { length room.old ≡ ROOM }
-    ensures end { Ends (S.left input.old) (S.left input.new) (K.written out.old) (K.written out.new) session.old.sitting result }
+    ensures end { Ends (S.left input.old) (S.left input.new) (K.written out.old) (K.written out.new) (R.replies replier.old) result }
     ensures counts { Counts (S.faults input.old) (S.faults input.new) (K.faults out.old) (K.faults out.new) result }
 {
     let mut taken = 0;
     let mut held = 0;
     while taken < INPUT_BYTES {
-        match turn(session, input, out, room, held, INPUT_BYTES - taken, steps) {
+        match turn(replier, input, out, room, held, INPUT_BYTES - taken, steps) {
             Ok((left, count)) => {
                 held = left;
                 taken += count as u64;
@@ -74,8 +74,8 @@ fn serve_in<S: Source, K: Sink, L: Ledger>(
 
 // Takes a piece of at most so many bytes after those that are held, and does the lines that it ends. Answers how many bytes
 // are held then, and how many were taken.
-fn turn<S: Source, K: Sink, L: Ledger>(
-    session: &mut Session,
+fn turn<R: Replier, S: Source, K: Sink, L: Ledger>(
+    replier: &mut R,
     input: &mut S,
     out: &mut K,
     room: &mut [u8],
@@ -87,34 +87,34 @@ fn turn<S: Source, K: Sink, L: Ledger>(
     requires some { 0 < most }
     requires few { held ≤ MOST_HELD }
     requires unended { IsUnended (take held room.old) }
-    ensures { Turned S.left S.faults K.written K.faults input.old input.new out.old out.new session.old.sitting session.new.sitting
+    ensures { Turned S.left S.faults K.written K.faults input.old input.new out.old out.new (R.replies replier.old) (R.replies replier.new)
         (take held room.old) room.new most result }
 {
     let count = match take_piece(input, room, held, most) {
         Err(Failed) => return Err(ServeEnd::ReadFault),
-        Ok(0) => return Err(finish(session, &room[..held], out, steps)),
+        Ok(0) => return Err(finish(replier, &room[..held], out, steps)),
         Ok(count) => count,
     };
-    match do_ended(session, &room[..held + count], held, out, steps) {
+    match do_ended(replier, &room[..held + count], held, out, steps) {
         Err(Failed) => Err(ServeEnd::WriteFault),
         Ok(from) => Ok((keep(room, from, held + count), count)),
     }
 }
 
 // Does the last line, which lacks its line feed, if there is one.
-fn finish<K: Sink, L: Ledger>(
-    session: &mut Session,
+fn finish<R: Replier, K: Sink, L: Ledger>(
+    replier: &mut R,
     held: &[u8],
     out: &mut K,
     steps: &mut Steps<L>,
 ) -> ServeEnd
     requires { IsUnended held.now }
-    ensures { Finished K.written K.faults out.old out.new session.old.sitting held.now result }
+    ensures { Finished K.written K.faults out.old out.new (R.replies replier.old) held.now result }
 {
     if held.is_empty() {
         return ServeEnd::Done;
     }
-    match session.command(held, out, steps) {
+    match replier.reply(held, out, steps) {
         Ok(()) => ServeEnd::Done,
         Err(Failed) => ServeEnd::WriteFault,
     }

@@ -106,7 +106,7 @@ def new_session(random, names):
         code = some(random, names.codes, b"1AJ") if chance(random, 95) else b"9ZZ"
         amount = random.choice(AMOUNTS if chance(random, 90) else SPOILT_AMOUNTS)
         edits = [b"set %s  %s" % (code, amount), b"clear %s" % code]
-        lines.append(random.choice([b"show", b" show ", *edits]))
+        lines.append(random.choice([b"show", b" show ", b"why %s" % some(random, names.all, b"IRN"), *edits]))
     if chance(random, 15):
         lines.insert(random.randrange(len(lines)), random.choice(SPOILT_COMMANDS))
     return b"\n".join(lines) + random.choice([b"", b"\n", b"\r\n"])

@@ -8,9 +8,9 @@ from .cases import last_line, mismatches, read_cases
 from .code_files import read_code, why_not_of
 from .faults import Refused, RingRefused, Unreadable
 from .findings import Findings
-from .files import is_of_type, read_household, read_list, read_table
+from .files import cell_named, is_of_type, read_household, read_list, read_table
 from .generated import large_household, large_source
-from .reports import first_unsound, read_report
+from .reports import Reason, first_unsound, read_report
 from .sources import Compiled, Rules, Source
 from .texts import decimal, is_utf8
 
@@ -28,13 +28,15 @@ MOST_GENERATED = 100_000
 
 class Output(NamedTuple):
     """What is printed, and the number that the program ends with; `ring` where a cycle or a recursion is shown, `compiled`
-    where a code file of a source is due, which has several, and `findings` where those of a source are due."""
+    where a code file of a source is due, which has several, `findings` where those of a source are due, and `replies` where a session
+    is asked why, whose reasons may stand in several orders."""
 
     text: bytes
     status: int
     ring: Optional[RingRefused] = None
     compiled: Optional[Compiled] = None
     findings: Optional[Findings] = None
+    replies: Optional[list] = None
 
     def is_one_with(self, text, status):
         """Whether this text and this status are the same output. A ring that is shown may be another true one, and a code file
@@ -45,6 +47,8 @@ class Output(NamedTuple):
             return self.ring.shows_one(text[:-1])
         if self.findings is not None:
             return status == self.status and self.findings.are(text)
+        if self.replies is not None:
+            return status == self.status and are_replies(self.replies, text)
         return (text, status) == (self.text, self.status)
 
 
@@ -170,7 +174,21 @@ def answer_serve(compiled, household, typed):
     lines = typed.split(b"\n")
     if lines[-1] == b"":
         lines.pop()
-    return b"".join(reply(line, amounts, compiled) for line in lines), DONE
+    replies = [reply(line, amounts, compiled) for line in lines]
+    text = b"".join(part.text() if isinstance(part, Reason) else part for part in replies)
+    return text, DONE, None, None, None, replies
+
+
+def are_replies(replies, text):
+    """Whether a text is these replies, in whatever orders the lines of reasons are."""
+    for part in replies:
+        if isinstance(part, Reason):
+            text = part.rest_of(text)
+        else:
+            text = text[len(part):] if text.startswith(part) else None
+        if text is None:
+            return False
+    return text == b""
 
 
 ANSWERS = {b"run": answer_run, b"batch": answer_batch, b"serve": answer_serve, b"cases": answer_cases}
@@ -187,6 +205,11 @@ def reply(line, amounts, compiled):
         return b""
     if words == [b"show"]:
         return compiled.told(amounts.items())[0] + b".\n"
+    if words[0] == b"why" and len(words) == 2:
+        cell = cell_named(words[1], compiled.declared)
+        if cell is None:
+            return b"refused unknown variable\n"
+        return Reason(compiled, compiled.start(amounts.items()), cell)
     if (words[0], len(words)) not in ((b"set", 3), (b"clear", 2)):
         return b"refused bad command\n"
     cell = compiled.declared.inputs.get(words[1])

@@ -44,14 +44,22 @@ def read_requests(text, declared):
 
 
 def requested_cell(number, line, declared):
-    """The cell that a line names: a variable that is no table, or a table with the number of a cell."""
-    match = re.fullmatch(rb"([^\[]*)(?:\[(0|[1-9][0-9]{0,3})\])?", line, re.DOTALL)
+    """The cell that a line names."""
+    cell = cell_named(line, declared)
+    if cell is None:
+        raise Refused(b"refused requests line " + decimal(number))
+    return cell
+
+
+def cell_named(name, declared):
+    """The cell of a name: a variable that is no table, or a table with the number of a cell; None where there is no such one."""
+    match = re.fullmatch(rb"([^\[]*)(?:\[(0|[1-9][0-9]{0,3})\])?", name, re.DOTALL)
     variable = declared.by_name.get(match.group(1)) if match else None
     if variable is None or (match.group(2) is None) != (variable.size is None):
-        raise Refused(b"refused requests line " + decimal(number))
+        return None
     index = int(match.group(2) or b"0")
     if index >= len(declared.cells_named(variable.name)):
-        raise Refused(b"refused requests line " + decimal(number))
+        return None
     return declared.first_cells[variable.name] + index
 
 

@@ -66,3 +66,52 @@ def first_unsound(base, environment, lines):
             return number
         values[cell] = value
     return None
+
+
+# ---- why a cell has its value
+
+
+class Reason:
+    """The reason of a cell's value for a household: the lines of the cells that it needs, of which each stands after those that it
+    reads. Where that leaves several orders, each is one."""
+
+    def __init__(self, rules, environment, cell):
+        self.rules, self.environment, self.cell = rules, environment, cell
+
+    def lines(self):
+        """The lines in one of the orders."""
+        base, values = self.rules.base, {}
+        waiting = [self.cell]
+        while waiting:
+            cell = waiting[-1]
+            missing = [] if cell in values else sorted(cells_read(base, cell) - values.keys())
+            if missing:
+                waiting.append(missing[0])
+                continue
+            waiting.pop()
+            if cell not in values:
+                values[cell] = self.value(cell, values)
+        return [ReportLine(*line) for line in values.items()]
+
+    def value(self, cell, values):
+        """The value of a cell, by those of the cells that it reads."""
+        if cell not in self.rules.base.terms:
+            return self.environment[cell]
+        known = [values.get(other, UNDEFINED) for other in range(self.rules.declared.cells)]
+        return value_of(self.rules.base.terms[cell], known)
+
+    def text(self):
+        """The lines, and then one with a point."""
+        names = self.rules.declared.printed_names()
+        return b"".join(value_line(names[line.cell], line.value) for line in self.lines()) + b".\n"
+
+    def rest_of(self, text):
+        """What stands after the reason at the start of a text, in whatever order its lines are; None where none stands there."""
+        report, point, rest = text.partition(b"\n.\n")
+        try:
+            said = read_report(report + b"\n", self.rules.declared)
+        except Refused:
+            return None
+        known = said and said[-1].cell == self.cell and sorted(said, key=lambda line: line.cell) == sorted(self.lines(), key=lambda line: line.cell)
+        sound = first_unsound(self.rules.base, self.environment, said) is None
+        return rest if point and known and sound else None

@@ -8,6 +8,9 @@ use Rattle.household.specs.Household.{household_of, values_of}
 use Rattle.household_session.specs.Sessions.{Sitting, begun}
 use Rattle.m_plan.specs.declared.status.Status.{Status}
 use Rattle.m_plan.specs.declared.status.Status.TheVariants.{Done}
+use Rattle.m_symbols.specs.Declarations.{Declared}
+use Rattle.rule_order.specs.declared.ordered.Ordered.{Ordered}
+use Rattle.why_session.specs.Joined.{Joined}
 use Rattle.m_work.specs.declared.program.Program.{Program}
 
 -- the household of these bytes has no fault, and the code answers this to it
@@ -25,3 +28,9 @@ pub record IsBegun (program : Program) (rows : List ℕ) (session : Sitting) : T
   pub pairs : List (ℕ × ℤ)
   pub given : household_of program.face.inputs rows ≡ Ok pairs
   pub begins : session ≡ begun program.tidy program.face pairs
+
+-- the session begins with the household of these bytes, and its reasons are those of this ordered base
+pub record IsExplainerOf (program : Program) (declared : Declared) (ordered : Ordered) (rows : List ℕ) (joined : Joined) : Type 0 where
+  pub session : IsBegun program rows joined.seated.sitting
+  pub declares : joined.declared ≡ declared
+  pub orders : joined.reporting.ordered ≡ ordered

@@ -3,8 +3,8 @@ use Rattle.std.specs.Prelude.{◌≡◌, ℕ, ◌<◌, ◌≤◌, List, ◌++◌
 use Rattle.std.specs.Io.KnownBytes.{prepend_known, append_known, IsAtEnd}
 use Rattle.m_ports.specs.Counts.{Rose}
 use Rattle.m_ports.specs.Sink.{AppendsPrefix}
-use Rattle.household_session.specs.Sessions.{Sitting}
-use Rattle.household_session.specs.Replies.{IsUnended, ended_lines, replies_to, replies_of}
+use Rattle.household_session.specs.Replies.{IsUnended}
+use Rattle.serve_loop.specs.Repliers.{Telling, ended_of, whole_of}
 use Rattle.serve_loop.specs.Serving.{IsLeft}
 use Rattle.serve_loop.specs.declared.pieces.TheConstants.{MOST_HELD}
 use Rattle.serve_loop.specs.declared.turns.ServeEnd.{ServeEnd}
@@ -12,40 +12,40 @@ use Rattle.serve_loop.specs.declared.turns.ServeEnd.TheVariants.{Done, ReadFault
 
 -- Some text was written, and no fault was counted. Whatever comes after, the session as it was replies to the bytes before as
 -- this text and as the session as it is replies to the bytes that are left; and so with the lines that have their line feed.
-pub record Goes {K : Type 0} (written : K → Option (List ℕ)) (faults : K → ℕ) (old now : K) (start sitting : Sitting) (before left : List ℕ) : Type 0 where
+pub record Goes {K : Type 0} (written : K → Option (List ℕ)) (faults : K → ℕ) (old now : K) (start telling : Telling) (before left : List ℕ) : Type 0 where
   pub text : List ℕ
-  pub whole : (rest : List ℕ) → replies_of start (before ++ rest) ≡ text ++ replies_of sitting (left ++ rest)
-  pub ended : (rest : List ℕ) → replies_to start (ended_lines (before ++ rest)) ≡ text ++ replies_to sitting (ended_lines (left ++ rest))
+  pub whole : (rest : List ℕ) → whole_of start (before ++ rest) ≡ text ++ whole_of telling (left ++ rest)
+  pub ended : (rest : List ℕ) → ended_of start (before ++ rest) ≡ text ++ ended_of telling (left ++ rest)
   pub appended : written now ≡ append_known (written old) text
   pub faultless : faults now ≡ faults old
 
 -- A write failed: what was written is a prefix of the replies to these bytes.
-pub record BreaksOff {K : Type 0} (written : K → Option (List ℕ)) (faults : K → ℕ) (old now : K) (start : Sitting) (bytes : List ℕ) : Type 0 where
+pub record BreaksOff {K : Type 0} (written : K → Option (List ℕ)) (faults : K → ℕ) (old now : K) (start : Telling) (bytes : List ℕ) : Type 0 where
   pub rose : Rose (faults old) (faults now)
-  pub prefix : AppendsPrefix (written old) (written now) (replies_of start bytes)
+  pub prefix : AppendsPrefix (written old) (written now) (whole_of start bytes)
 
 -- the last line, without its line feed, has its reply, or its write failed
-abbrev pub Finished : {K : Type 0} (written : K → Option (List ℕ)) (faults : K → ℕ) (old now : K) (start : Sitting) (held : List ℕ) → ServeEnd → Type 0
-Finished written faults old now start held Done = (written now ≡ append_known (written old) (replies_of start held)) × (faults now ≡ faults old)
+abbrev pub Finished : {K : Type 0} (written : K → Option (List ℕ)) (faults : K → ℕ) (old now : K) (start : Telling) (held : List ℕ) → ServeEnd → Type 0
+Finished written faults old now start held Done = (written now ≡ append_known (written old) (whole_of start held)) × (faults now ≡ faults old)
 Finished written faults old now start held WriteFault = BreaksOff written faults old now start held
 Finished written faults old now start held ReadFault = ⊥
 Finished written faults old now start held TooLong = ⊥
 
 -- A piece was taken, and the lines that it ends have their replies.
 pub record Took {S K : Type 0} (left : S → Option (List ℕ)) (source_faults : S → ℕ) (written : K → Option (List ℕ)) (faults : K → ℕ)
-    (source_old source_now : S) (old now : K) (start sitting : Sitting) (held kept : List ℕ) (most count : ℕ) : Type 0 where
+    (source_old source_now : S) (old now : K) (start telling : Telling) (held kept : List ℕ) (most count : ℕ) : Type 0 where
   pub piece : List ℕ
   pub counted : length piece ≡ count
   pub some : 0 < count
   pub few : count ≤ most
   pub moved : left source_old ≡ prepend_known piece (left source_now)
   pub calm : source_faults source_now ≡ source_faults source_old
-  pub goes : Goes written faults old now start sitting (held ++ piece) kept
+  pub goes : Goes written faults old now start telling (held ++ piece) kept
   pub unended : IsUnended kept
 
 -- A turn that ended the loop: the input ended, a read failed, or a write failed.
 abbrev pub Stopped : {S K : Type 0} (left : S → Option (List ℕ)) (source_faults : S → ℕ) (written : K → Option (List ℕ)) (faults : K → ℕ)
-    (source_old source_now : S) (old now : K) (start : Sitting) (held : List ℕ) → ServeEnd → Type 0
+    (source_old source_now : S) (old now : K) (start : Telling) (held : List ℕ) → ServeEnd → Type 0
 Stopped left source_faults written faults source_old source_now old now start held Done =
     (left source_now ≡ left source_old) × IsAtEnd (left source_now) × (source_faults source_now ≡ source_faults source_old) × Finished written faults old now start held Done
 Stopped left source_faults written faults source_old source_now old now start held ReadFault =
@@ -58,8 +58,8 @@ Stopped left source_faults written faults source_old source_now old now start he
 
 -- what a turn did, where the room is this then
 abbrev pub Turned : {S K : Type 0} (left : S → Option (List ℕ)) (source_faults : S → ℕ) (written : K → Option (List ℕ)) (faults : K → ℕ)
-    (source_old source_now : S) (old now : K) (start sitting : Sitting) (held room : List ℕ) (most : ℕ) → Result (ℕ × ℕ) ServeEnd → Type 0
-Turned left source_faults written faults source_old source_now old now start sitting held room most (Ok r) =
-    (r.0 ≤ MOST_HELD) × Took left source_faults written faults source_old source_now old now start sitting held (take r.0 room) most r.1
-Turned left source_faults written faults source_old source_now old now start sitting held room most (Err end) =
+    (source_old source_now : S) (old now : K) (start telling : Telling) (held room : List ℕ) (most : ℕ) → Result (ℕ × ℕ) ServeEnd → Type 0
+Turned left source_faults written faults source_old source_now old now start telling held room most (Ok r) =
+    (r.0 ≤ MOST_HELD) × Took left source_faults written faults source_old source_now old now start telling held (take r.0 room) most r.1
+Turned left source_faults written faults source_old source_now old now start telling held room most (Err end) =
     Stopped left source_faults written faults source_old source_now old now start held end

@@ -1,6 +1,6 @@
 use Rattle.std.proofs.Common.{refl}
 use Rattle.fault_lines.specs.Lines.{input_too_long_line, unreadable_input_line}
-use Rattle.household_session.specs.Replies.{ended_lines, replies_to}
+use Rattle.serve_loop.specs.Repliers.{ended_of}
 use Rattle.m_plan.specs.Views.{output_view}
 use Rattle.m_plan.specs.declared.status.Status.TheVariants.{ReadFault, Refused}
 use Rattle.m_work.specs.Serving.{to_its_end, unread, too_long, unwritten}
@@ -17,7 +17,7 @@ returns-in-ReadFault g c =
     let end = c.in-ReadFault.ensures.end in
     unread end.0 end.1.moved c.in-ReadFault.ensures.counts.0
     (prints_behind (output_view g.K.Sink.written g.K.Sink.faults c.args.out.now) (output_view g.K.Sink.written g.K.Sink.faults c.serve.new.out)
-    (output_view g.K.Sink.written g.K.Sink.faults c.print_fault.new.out) (replies_to c.args.session.now.sitting (ended_lines end.0)) unreadable_input_line ReadFault c.print_fault.result
+    (output_view g.K.Sink.written g.K.Sink.faults c.print_fault.new.out) (ended_of (g.R.Replier.replies c.args.replier.now) end.0) unreadable_input_line ReadFault c.print_fault.result
     end.1.appended c.in-ReadFault.ensures.counts.1 c.print_fault.ensures)
 
 pub returns-in-WriteFault : goal.returns-in-WriteFault
@@ -30,5 +30,5 @@ returns g c =
     let end = c.in-TooLong.ensures.end in
     too_long end.0 end.2.moved end.1 c.in-TooLong.ensures.counts.0
     (prints_behind (output_view g.K.Sink.written g.K.Sink.faults c.args.out.now) (output_view g.K.Sink.written g.K.Sink.faults c.serve.new.out)
-    (output_view g.K.Sink.written g.K.Sink.faults c.print_fault-in-TooLong.new.out) (replies_to c.args.session.now.sitting (ended_lines end.0)) input_too_long_line Refused
+    (output_view g.K.Sink.written g.K.Sink.faults c.print_fault-in-TooLong.new.out) (ended_of (g.R.Replier.replies c.args.replier.now) end.0) input_too_long_line Refused
     c.print_fault-in-TooLong.result end.2.appended c.in-TooLong.ensures.counts.1 c.print_fault-in-TooLong.ensures)

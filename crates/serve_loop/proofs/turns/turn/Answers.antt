@@ -9,7 +9,7 @@ use Rattle.serve_loop.proofs.turns.turn.Goals as goal
 pub returns-in-Ok-eq0 : goal.returns-in-Ok-eq0
 returns-in-Ok-eq0 g c =
     let none = c.in-Ok-eq0.field-0-test in
-    stopped_at_end g.S.Source.left g.S.Source.faults g.K.Sink.written g.K.Sink.faults c.args.input.now c.take_piece.new.input c.args.out.now c.finish.new.out c.args.session.now.sitting
+    stopped_at_end g.S.Source.left g.S.Source.faults g.K.Sink.written g.K.Sink.faults c.args.input.now c.take_piece.new.input c.args.out.now c.finish.new.out (g.R.Replier.replies c.args.replier.now)
     (take c.args.held c.args.room.now) c.finish.result (rw none at c.in-Ok-eq0.ensures.moved) (c.in-Ok-eq0.ensures.end none) c.in-Ok-eq0.ensures.faultless
     (rw c.take_piece.ensures.kept at c.finish.ensures)
 
@@ -54,9 +54,9 @@ returns-in-Ok-do_ended g c =
         few = c.in-Ok.ensures.within.1;
         moved = c.in-Ok.ensures.moved;
         calm = c.in-Ok.ensures.faultless;
-        goes = subst (λ (before : List ℕ). Goes g.K.Sink.written g.K.Sink.faults c.args.out.now c.do_ended.new.out c.args.session.now.sitting c.do_ended.new.session.sitting before
+        goes = subst (λ (before : List ℕ). Goes g.K.Sink.written g.K.Sink.faults c.args.out.now c.do_ended.new.out (g.R.Replier.replies c.args.replier.now) (g.R.Replier.replies c.do_ended.new.replier) before
             (take c.keep.result c.keep.new.room)) whole
-            (goes_kept _ _ _ _ _ _ _ _ _ c.keep.result free size c.keep.ensures.front c.in-Ok-do_ended.ensures.goes);
+            (goes_kept _ _ _ _ _ _ _ _ _ c.keep.result (g.met.R.Replier.long c.do_ended.new.replier) free size c.keep.ensures.front c.in-Ok-do_ended.ensures.goes);
         unended = subst (λ (bytes : List ℕ). IsUnended bytes) (sym c.keep.ensures.front) (unended_take c.keep.result _ free);
       },
     )

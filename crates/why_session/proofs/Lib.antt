@@ -1,0 +1,3 @@
+pub mod LineLemmas
+pub mod EditLemmas
+pub mod ReasonLemmas

@@ -1,0 +1,83 @@
+-- What a session that is joined to a reporter tells and keeps.
+use Rattle.std.proofs.Common.{◌≡◌, ℕ, set, List, ◌∷◌, ◌++◌, None, Some, sym, ap, ◌∙◌, subst}
+use Rattle.std.specs.Option.{option_map_or}
+use Rattle.std.specs.Prelude.{codes}
+use Rattle.m_fixed.specs.declared.amount.Value.{Value}
+use Rattle.observables.specs.Inputs.{AreValuesOf}
+use Rattle.flat_code.specs.Runs.{value_at}
+use Rattle.m_symbols.specs.Declarations.{Declared}
+use Rattle.m_requests.specs.Cells.{request_cell}
+use Rattle.micro_m.specs.Values.{environment}
+use Rattle.household_session.specs.Commands.{session_command}
+use Rattle.household_session.specs.Replies.{after_line, input_named, reply_of}
+use Rattle.household_session.specs.Seats.{Seated}
+use Rattle.household_session.specs.Sessions.{Sitting, line, showing_of}
+use Rattle.household_session.proofs.TypeLemmas.{command_keeps}
+use Rattle.why_report.specs.Reasons.{why_lines}
+use Rattle.why_report.specs.Starts.{IsStart, Reporting, start_env, with_input, with_lines}
+use Rattle.why_report.specs.declared.line.ReportLine.{ReportLine}
+use Rattle.why_session.specs.Explains.{explained_replies, name_asked, told_lines_of}
+use Rattle.why_session.specs.Joined.{Joined, explains_by, explains_in, joined_replies}
+use Rattle.why_session.specs.inner.Parts.{AreJoined}
+use Rattle.why_session.proofs.LineLemmas.{line_then, why_then}
+use Rattle.why_session.proofs.EditLemmas.{named_edit}
+
+-- ---- a reason
+
+-- the lines that the reporter finds are what is told of the name
+pub told_why : (joined : Joined) (name : List ℕ) (c : ℕ) (lines : List ReportLine) → AreJoined joined.seated joined.reporting joined.declared → request_cell joined.declared name ≡ Some c
+    → lines ≡ why_lines joined.reporting.ordered (environment joined.reporting.env) c → explains_in joined name ≡ told_lines_of joined.declared lines
+told_why joined name c lines parts is found =
+    ap (λ o. option_map_or (λ d. told_lines_of joined.declared (why_lines joined.reporting.ordered (environment (start_env joined.declared joined.seated.sitting.values)) d)) o (line (codes "refused unknown variable"))) is
+    ∙ ap (λ (env : List Value). told_lines_of joined.declared (why_lines joined.reporting.ordered (environment env) c)) (sym (parts.start.env ∙ ap (start_env joined.declared) parts.same))
+    ∙ ap (told_lines_of joined.declared) (sym found)
+
+-- of a name that no cell has
+pub told_unknown : (joined : Joined) (name : List ℕ) → request_cell joined.declared name ≡ None → explains_in joined name ≡ line (codes "refused unknown variable")
+told_unknown joined name is =
+    ap (λ o. option_map_or (λ d. told_lines_of joined.declared (why_lines joined.reporting.ordered (environment (start_env joined.declared joined.seated.sitting.values)) d)) o (line (codes "refused unknown variable"))) is
+
+-- lines that were found leave all else
+pub found_stays : (seated : Seated) (reporting new : Reporting) (declared : Declared) (lines : List ReportLine) → AreJoined seated reporting declared → new ≡ with_lines reporting lines
+    → IsStart declared new → AreJoined seated new declared
+found_stays seated reporting new declared lines parts is start = record {
+  start = start;
+  same = ap (λ (r : Reporting). r.inputs) is ∙ parts.same;
+  values = parts.values;
+  cells = ap (λ (r : Reporting). r.ordered.base.cells) is ∙ parts.cells;
+}
+
+pub replies_stay : (seated : Seated) (reporting new : Reporting) (declared : Declared) (lines : List ReportLine) → new ≡ with_lines reporting lines
+    → joined_replies (record { seated = seated; reporting = new; declared = declared }) ≡ joined_replies (record { seated = seated; reporting = reporting; declared = declared })
+replies_stay seated reporting new declared lines is =
+    ap (λ (r : Reporting). joined_replies (record { seated = seated; reporting = r; declared = declared })) is
+
+-- ---- a line
+
+-- what a line edits is put
+pub line_put : (seated later : Seated) (reporting new : Reporting) (declared : Declared) (bytes : List ℕ) (input : ℕ) → AreJoined seated reporting declared
+    → later.sitting ≡ after_line seated.sitting bytes → input_named seated.sitting.face.inputs (session_command bytes) ≡ Some input
+    → new ≡ with_input reporting input (value_at later.sitting.values input) → IsStart declared new → AreJoined later new declared
+line_put seated later reporting new declared bytes input parts after named put start = record {
+  start = start;
+  same = ap (λ (r : Reporting). r.inputs) put ∙ ap (λ (vs : List Value). set vs input (value_at later.sitting.values input)) parts.same
+      ∙ ap (λ (s : Sitting). set seated.sitting.values input (value_at s.values input)) after
+      ∙ named_edit (showing_of seated.sitting) seated.sitting.values (session_command bytes) input named
+      ∙ sym (ap (λ (s : Sitting). s.values) after);
+  values = subst (λ (s : Sitting). AreValuesOf s.face.inputs s.values) (sym after) (command_keeps (showing_of seated.sitting) seated.sitting.values (session_command bytes) parts.values);
+  cells = ap (λ (r : Reporting). r.ordered.base.cells) put ∙ parts.cells;
+}
+
+-- the replies go on from the session after a line
+pub line_goes_on : (joined later : Joined) (bytes : List ℕ) → name_asked bytes ≡ None → later.seated.sitting ≡ after_line joined.seated.sitting bytes → later.declared ≡ joined.declared
+    → later.reporting.ordered ≡ joined.reporting.ordered → (lines : List (List ℕ))
+    → joined_replies joined (bytes ∷ lines) ≡ reply_of joined.seated.sitting bytes ++ joined_replies later lines
+line_goes_on joined later bytes none after declared ordered lines =
+    line_then (showing_of joined.seated.sitting) (explains_by joined.declared joined.reporting.ordered) joined.seated.sitting.values bytes lines none
+    ∙ sym (λ i. reply_of joined.seated.sitting bytes ++ explained_replies (showing_of (after i)) (explains_by (declared i) (ordered i)) (after i).values lines)
+
+pub why_goes_on : (joined later : Joined) (bytes name : List ℕ) → name_asked bytes ≡ Some name → joined_replies later ≡ joined_replies joined → (lines : List (List ℕ))
+    → joined_replies joined (bytes ∷ lines) ≡ explains_in joined name ++ joined_replies later lines
+why_goes_on joined later bytes name is same lines =
+    why_then (showing_of joined.seated.sitting) (explains_by joined.declared joined.reporting.ordered) joined.seated.sitting.values bytes name lines is
+    ∙ sym (ap (λ (tell : List (List ℕ) → List ℕ). explains_in joined name ++ tell lines) same)

@@ -1,0 +1,28 @@
+-- A session that is joined to a reporter, as contracts see it.
+use Rattle.std.specs.Prelude.{ℕ, List}
+use Rattle.household_session.specs.Seats.{Seated}
+use Rattle.household_session.specs.Sessions.{showing_of}
+use Rattle.m_symbols.specs.Declarations.{Declared}
+use Rattle.micro_m.specs.Values.{environment}
+use Rattle.rule_order.specs.declared.ordered.Ordered.{Ordered}
+use Rattle.why_report.specs.Reasons.{why_lines}
+use Rattle.why_report.specs.Starts.{Reporting, start_env}
+use Rattle.why_session.specs.Explains.{Explaining, explained_replies, explanation}
+
+-- A session, a reporter, and what is declared.
+pub record Joined : Type 0 where
+  pub seated : Seated
+  pub reporting : Reporting
+  pub declared : Declared
+
+-- what is told of a name by an ordered base: of its cell the reason that goes along the order
+abbrev pub explains_by : Declared → Ordered → Explaining
+explains_by declared ordered values name = explanation declared (λ c. why_lines ordered (environment (start_env declared values)) c) name
+
+-- what is told of a name
+abbrev pub explains_in : Joined → List ℕ → List ℕ
+explains_in joined name = explains_by joined.declared joined.reporting.ordered joined.seated.sitting.values name
+
+-- The replies to lines.
+abbrev pub joined_replies : Joined → List (List ℕ) → List ℕ
+joined_replies joined lines = explained_replies (showing_of joined.seated.sitting) (explains_by joined.declared joined.reporting.ordered) joined.seated.sitting.values lines

@@ -1,0 +1,160 @@
+//! A session with reasons.
+ghost use Rattle.std.specs.Prelude.{◌≡◌, ◌∷◌, ◌++◌, ◌<◌, List, ℕ, All, None, IfOk, length};
+ghost use Rattle.text_pieces.specs.Giving.{Gives};
+ghost use Rattle.observables.specs.Inputs.{AreValuesOf};
+ghost use Rattle.m_symbols.specs.Declarations.{Declared, inputs_from, owners_from};
+ghost use Rattle.m_requests.specs.Placed.{IsPlaced};
+ghost use Rattle.micro_m.specs.Bases.{IsValidBase};
+ghost use Rattle.rule_order.specs.Orders.{IsOrder};
+ghost use Rattle.household_session.specs.Replies.{reply_of};
+ghost use Rattle.why_report.specs.Starts.{IsStart};
+ghost use Rattle.why_session.specs.Explains.{name_asked, told_lines_of};
+ghost use Rattle.why_session.specs.Joined.{explains_in, joined_replies};
+
+use crate::asked::name_asked;
+use household_session::Session;
+use m_ports::{Failed, Sink};
+use m_requests::find_request;
+use m_symbols::Symbols;
+use rule_order::Ordered;
+use serve_loop::Replier;
+use std::alloc::{AllocError, Global};
+use std::marker::Model;
+use std::sync::ledger::Ledger;
+use steps::Steps;
+use text_pieces::give_pieces;
+use why_report::{ReportLine, Reporter, print_report};
+
+/// A session, and a reporter over what its inputs are as they are now. Contracts see both, and what is declared.
+#[derive(Drop)]
+pub struct Explainer {
+    session: Session,
+    reporter: Reporter,
+    symbols: Symbols,
+}
+
+impl Model for Explainer {
+    ghost use Rattle.std.specs.Coded.{codes};
+    ghost use Rattle.micro_m.specs.inner.Coding.{coded_tree};
+    ghost use Rattle.why_session.specs.Joined.{Joined};
+    ghost use Rattle.why_session.specs.inner.Parts.{AreJoined};
+
+    ghost Value = { Joined };
+
+    ghost coded = { Prim.hlevel (codes, coded_tree) };
+
+    ghost view = { λ e. record { seated = e.session; reporting = e.reporter; declared = e.symbols } };
+
+    ghost invariant = { λ e. AreJoined e.session e.reporter e.symbols };
+}
+
+impl Explainer {
+    /// Joins a session to a reporter of a base, whose inputs are the session's and have its values. Its only error is running out of
+    /// memory, and no later call takes memory.
+    pub fn new(
+        alloc: Global,
+        session: Session,
+        ordered: Ordered,
+        symbols: Symbols,
+    ) -> Result<Explainer, AllocError>
+        requires valid { IsValidBase ordered.base }
+        requires order { IsOrder ordered.base ordered.sequence }
+        requires placed { IsPlaced symbols }
+        requires cells { ordered.base.cells ≡ length (owners_from 0 symbols.variables) }
+        requires values { AreValuesOf session.sitting.face.inputs session.sitting.values }
+        requires many { length session.sitting.face.inputs ≡ length (inputs_from 0 symbols.variables) }
+        ensures session { IfOk result (λ joined. joined.seated ≡ session) }
+        ensures declared { IfOk result (λ joined. joined.declared ≡ symbols) }
+        ensures ordered { IfOk result (λ joined. joined.reporting.ordered ≡ ordered) }
+    {
+        let mut reporter = Reporter::new(alloc, ordered, &symbols)?;
+        put_inputs(&mut reporter, &session);
+        Ok(Explainer {
+            session,
+            reporter,
+            symbols,
+        })
+    }
+
+    // Tells why the variable of a name has its value.
+    fn tell_why<K: Sink>(&mut self, name: &[u8], out: &mut K) -> Result<(), Failed>
+        ensures gives { Gives K.written K.faults out.old out.new result (explains_in self.old name.now) }
+        ensures stays { joined_replies self.new ≡ joined_replies self.old }
+    {
+        match find_request(&self.symbols, name) {
+            Some(cell) => {
+                self.reporter.why(cell);
+                print_lines(&self.symbols, self.reporter.lines(), out)
+            }
+            None => give_pieces(out, &[b"refused unknown variable\n"]),
+        }
+    }
+
+    // Does a line that doesn't ask why. What it edits is put into the reporter too.
+    fn do_line<K: Sink, L: Ledger>(
+        &mut self,
+        line: &[u8],
+        out: &mut K,
+        steps: &mut Steps<L>,
+    ) -> Result<(), Failed>
+        requires { name_asked line.now ≡ None }
+        ensures gives { Gives K.written K.faults out.old out.new result (reply_of self.old.seated.sitting line.now) }
+        ensures goes_on { (lines : List (List ℕ)) → joined_replies self.old (line.now ∷ lines) ≡ reply_of self.old.seated.sitting line.now ++ joined_replies self.new lines }
+    {
+        let named = self.session.input_named(line);
+        let replied = self.session.command(line, out, steps);
+        match named {
+            Some(input) => self.reporter.put(input, self.session.input_value(input)),
+            None => {}
+        }
+        replied
+    }
+}
+
+impl Replier for Explainer {
+    ghost use Rattle.std.specs.Prelude.{refl};
+    ghost use Rattle.why_session.specs.inner.Parts.{long_alike};
+
+    ghost replies = { joined_replies };
+
+    fn reply<K: Sink, L: Ledger>(
+        &mut self,
+        line: &[u8],
+        out: &mut K,
+        steps: &mut Steps<L>,
+    ) -> Result<(), Failed> {
+        match name_asked(line) {
+            Some(name) => self.tell_why(name, out),
+            None => self.do_line(line, out, steps),
+        }
+    }
+
+    ghost nothing = { λ e. refl };
+
+    ghost long = { λ e one other lines a b. long_alike e one other lines a b };
+}
+
+// Puts the values of a session's inputs into a reporter that has as many.
+fn put_inputs(reporter: &mut Reporter, session: &Session)
+    requires values { AreValuesOf session.now.sitting.face.inputs session.now.sitting.values }
+    requires many { length session.now.sitting.face.inputs ≡ length reporter.old.inputs }
+    ensures inputs { reporter.new.inputs ≡ session.now.sitting.values }
+    ensures ordered { reporter.new.ordered ≡ reporter.old.ordered }
+    ensures start { (declared : Declared) → IsStart declared reporter.old → IsStart declared reporter.new }
+{
+    let mut input = 0;
+    let count = session.count();
+    while input < count {
+        reporter.put(input, session.input_value(input));
+        input += 1;
+    }
+}
+
+// Writes the lines of a reason, and then a line with a point.
+fn print_lines<K: Sink>(symbols: &Symbols, lines: &[ReportLine], out: &mut K) -> Result<(), Failed>
+    requires { All (λ line. line.cell < length (owners_from 0 symbols.now.variables)) lines.now }
+    ensures { Gives K.written K.faults out.old out.new result (told_lines_of symbols.now lines.now) }
+{
+    print_report(symbols, lines, out)?;
+    give_pieces(out, &[b".\n"])
+}

@@ -1,0 +1,12 @@
+//! A session that also tells why a variable has its value.
+//!
+//! This crate joins a session and a reporter over the same values of the inputs. It knows nothing of files, and nothing of how an
+//! input is cut into lines. Nothing but the start takes memory.
+#![tactic(auto)]
+
+mod asked;
+mod explainer;
+mod laws;
+
+pub use explainer::Explainer;
+pub use laws::replies_without_why;
