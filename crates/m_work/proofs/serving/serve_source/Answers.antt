@@ -4,7 +4,7 @@ use Rattle.m_work.proofs.Ways.{serve_refused}
 use Rattle.m_work.proofs.serving.serve_source.Goals as goal
 
 pub serve_over-requires-clause-rules : goal.serve_over-requires-clause-rules
-serve_over-requires-clause-rules g c = record { made = rw (c.as_slice.ensures, c.bytes.ensures) at c.in-Ok.ensures.outcome.0; no_cycle = c.in-Ok.ensures.no_cycle }
+serve_over-requires-clause-rules g c = λ κs held. record { made = rw (c.as_slice.ensures, c.bytes.ensures) at c.in-Ok.ensures.outcome.0; no_cycle = c.in-Ok.ensures.no_cycle }
 
 pub returns-in-Err : goal.returns-in-Err
 returns-in-Err g c =
@@ -13,4 +13,4 @@ returns-in-Err g c =
     (rw c.as_slice-in-Err.ensures at (rw c.told_fault.ensures at c.tell_refusal.ensures)))
 
 pub serve_over-requires-clause-order : goal.serve_over-requires-clause-order
-serve_over-requires-clause-order g c = c.in-Ok.ensures.outcome.1
+serve_over-requires-clause-order g c = λ κs held. c.in-Ok.ensures.outcome.1
