@@ -119,10 +119,9 @@ def watch(parent):
 
 
 def begin_worker(parent):
-    """A worker leaves an interrupt to its parent."""
-    signal.signal(signal.SIGINT, signal.SIG_IGN)
-    for number in (signal.SIGHUP, signal.SIGTERM):
-        signal.signal(number, signal.SIG_DFL)
+    """A worker leaves signals to its parent, and ends with it."""
+    for number in (signal.SIGINT, signal.SIGHUP, signal.SIGTERM):
+        signal.signal(number, signal.SIG_IGN)
     threading.Thread(target=watch, args=(parent,), daemon=True).start()
 
 
@@ -131,7 +130,11 @@ def workers():
     """Processes for pieces of work, as many as there are processors. They are started here, before any thread."""
     with concurrent.futures.ProcessPoolExecutor(os.cpu_count(), initializer=begin_worker, initargs=(os.getpid(),)) as pool:
         pool.submit(os.getpid).result()
-        yield pool
+        try:
+            yield pool
+        except BaseException:
+            pool.shutdown(wait=False, cancel_futures=True)
+            raise
 
 
 # ---- the source

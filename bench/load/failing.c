@@ -1,10 +1,11 @@
 /* Lets one call of the C library fail: the call number FAIL_AT, from 1, of the kind FAIL_KIND (memory, open, read, write).
-   Where that call comes, the file FAIL_MARK is made. Loaded before the program by LD_PRELOAD; failing.py builds it. */
+   Where that call comes, the file FAIL_MARK is made; of an open or a read it has the file's name. Loaded before the program by LD_PRELOAD; failing.py builds it. */
 #define _GNU_SOURCE
 #include <dlfcn.h>
 #include <errno.h>
 #include <fcntl.h>
 #include <stdarg.h>
+#include <stdio.h>
 #include <stdlib.h>
 #include <string.h>
 #include <sys/syscall.h>
@@ -49,13 +50,28 @@ int posix_memalign(void **out, size_t align, size_t size) {
 }
 
 static long io_fault(void) { errno = EIO; return -1; }
-ssize_t read(int file, void *room, size_t size) { return fails("read") ? io_fault() : syscall(SYS_read, file, room, size); }
+
+static void tell(const char *name) {
+    const char *mark = getenv("FAIL_MARK");
+    long file = mark ? syscall(SYS_open, mark, O_WRONLY, 0600) : -1;
+    if (file >= 0) { syscall(SYS_write, file, name, strlen(name)); syscall(SYS_close, file); }
+}
+
+ssize_t read(int file, void *room, size_t size) {
+    if (!fails("read")) return syscall(SYS_read, file, room, size);
+    char place[32], name[4096] = "";
+    snprintf(place, sizeof place, "/proc/self/fd/%d", file);
+    if (readlink(place, name, sizeof name - 1) > 0) tell(name);
+    return io_fault();
+}
 ssize_t write(int file, const void *bytes, size_t size) { return fails("write") ? io_fault() : syscall(SYS_write, file, bytes, size); }
 int open(const char *name, int flags, ...) {
     va_list rest;
     va_start(rest, flags);
     mode_t mode = (flags & O_CREAT) ? va_arg(rest, mode_t) : 0;
     va_end(rest);
-    return fails("open") ? (int)io_fault() : (int)syscall(SYS_openat, AT_FDCWD, name, flags, mode);
+    if (!fails("open")) return (int)syscall(SYS_openat, AT_FDCWD, name, flags, mode);
+    tell(name);
+    return (int)io_fault();
 }
 int open64(const char *name, int flags, ...) __attribute__((alias("open")));

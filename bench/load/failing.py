@@ -1,15 +1,15 @@
 #!/usr/bin/env python3
 """Runs the program with each of its calls for memory, and each open, read and write, failing in turn.
 
-    failing.py PROGRAM FOLDER
+    failing.py PROGRAM FOLDER [COMMAND..]
 
 Each command of COMMANDS is run as it is, and then once for each call of a kind, in which that one call fails (failing.c, by
 LD_PRELOAD). What must come of it stands in docs/FORMATS.md:
 
-- no memory: status 5 with nothing on the standard output, but that of a table, of which a prefix of the answer may stand; or the same as
+- no memory: status 5 with nothing on the standard output, but of `batch` and `cases`, of which a prefix of the answer may stand; or the same as
   without it, where the call only asked for room that isn't needed (a sort's, say);
-- an open or a read that fails: status 3 and the line `unreadable NAME`, of a file that the command names; in a session that has
-  begun, the replies to the lines so far and the line `unreadable input`;
+- an open or a read that fails: status 3 and the line `unreadable NAME`, of a file that the command names; the same as without it, where the
+  machine's own list of processors (below /sys) can't be opened or read; in a session that has begun, the replies to the lines so far and the line `unreadable input`;
 - a write that fails: status 4, and a prefix of the answer.
 
 Prints a line for each run that ends in another way, and a table of the counts. The status is 1 where there was one.
@@ -76,20 +76,30 @@ def files(program, folder):
 
 
 def done(program, folder, shim, words, typed, kind="", number=0):
-    """Whether the call came, the status and what was printed."""
+    """What is known of the call that failed (None where it never came), the status and what was printed."""
     mark = os.path.join(folder, "mark")
     if os.path.exists(mark):
         os.remove(mark)
     env = {"LD_PRELOAD": shim, "FAIL_KIND": kind, "FAIL_AT": str(number), "FAIL_MARK": mark}
     run = subprocess.run([program, *words], cwd=folder, env=env, input=typed, stdout=subprocess.PIPE, stderr=subprocess.PIPE, timeout=60, check=False)
-    return os.path.exists(mark), run.returncode, run.stdout
+    if not os.path.exists(mark):
+        return None, run.returncode, run.stdout
+    with open(mark, encoding="utf-8", errors="replace") as text:
+        return text.read(), run.returncode, run.stdout
 
 
-def is_right(command, kind, whole, status, printed):
+def is_in_parts(command):
+    """Whether a command may have printed a part of its answer when memory ends (`writes_in_parts` of m_commands)."""
+    return COMMANDS[command][0][0] in ("batch", "cases")
+
+
+def is_right(command, kind, name, whole, status, printed):
     """Whether a run in which one call of this kind failed ended as it must, where an unfailed one has this status and text."""
     text = whole[1]
+    if kind in ("open", "read") and name.startswith("/sys/"):
+        return (status, printed) == whole
     if kind == "memory":
-        return (status, printed) == whole or status == 5 and (printed == b"" or command == "batch" and text.startswith(printed))
+        return (status, printed) == whole or status == 5 and (printed == b"" or is_in_parts(command) and text.startswith(printed))
     if kind == "write":
         return status == 4 and text.startswith(printed)
     if status == 3 and UNREADABLE.fullmatch(printed):
@@ -104,22 +114,23 @@ def main():
     subprocess.run(["cc", "-O1", "-shared", "-fPIC", "-o", shim, os.path.join(HERE, "failing.c")], check=True)
     files(program, folder)
     counts, wrong = Counter(), 0
-    for command, (words, typed) in COMMANDS.items():
+    chosen = {command: COMMANDS[command] for command in sys.argv[3:] or COMMANDS}
+    for command, (words, typed) in chosen.items():
         _, *unfailed = done(program, folder, shim, words, typed)
         counts[command, "as it is"] = unfailed[0]
         for kind in ("memory", "open", "read", "write"):
             number = 1
             while True:
                 came, ended, printed = done(program, folder, shim, words, typed, kind, number)
-                if not came:
+                if came is None:
                     break
-                if not is_right(command, kind, tuple(unfailed), ended, printed):
+                if not is_right(command, kind, came, tuple(unfailed), ended, printed):
                     wrong += 1
                     print(f"{command}: {kind} {number} failing: status {ended}, {printed[-80:]!r}")
                 counts[command, kind] = number
                 number += 1
     print("| Command | status | calls for memory | opens | reads | writes |\n|---|---:|---:|---:|---:|---:|")
-    for command in COMMANDS:
+    for command in chosen:
         print(f"| {command} |", " | ".join(str(counts[command, it]) for it in ("as it is", "memory", "open", "read", "write")), "|")
     print(f"{sum(n for (_, it), n in counts.items() if it != 'as it is')} runs with a failing call, {wrong} ended wrongly")
     figure("load.failing_calls_that_end_wrongly", wrong, "<=0")
