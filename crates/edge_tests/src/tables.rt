@@ -57,7 +57,7 @@ const TABLES: [(&[u8], &[u8]); 16] = [
 fn tables(rt: HostRuntime) -> Result<(), Fail> {
     let codes = three_codes(rt.alloc())?;
     for (bytes, wanted) in TABLES {
-        let rows = read_table(rt.alloc(), bytes, &codes)?;
+        let rows = read_table(&rt, rt.alloc(), bytes, &codes)?;
         let shown = shown_rows(rt.alloc(), rows.as_slice())?;
         assert!(rt; shown.as_slice() == wanted, "{bytes:?}");
     }
@@ -105,7 +105,7 @@ const REFUSED: [(&[u8], HouseholdFault); 32] = [
 fn refused_tables(rt: HostRuntime) -> Result<(), Fail> {
     let codes = three_codes(rt.alloc())?;
     for (bytes, wanted) in REFUSED {
-        let fault = read_table(rt.alloc(), bytes, &codes).err();
+        let fault = read_table(&rt, rt.alloc(), bytes, &codes).err();
         assert_eq!(rt; fault, Some(wanted), "{bytes:?}");
     }
     Ok(())
@@ -118,10 +118,89 @@ fn as_many_rows_as_a_table_may_have(rt: HostRuntime) -> Result<(), Fail> {
     for k in 0..100_000 {
         text.push_str(&format!(in rt.alloc(); "h{k},{k}\n")?)?;
     }
-    let rows = read_table(rt.alloc(), text.as_bytes(), &codes)?;
+    let rows = read_table(&rt, rt.alloc(), text.as_bytes(), &codes)?;
     assert_eq!(rt; rows.as_slice().len(), 100_000);
     text.push_str("last")?;
-    let fault = read_table(rt.alloc(), text.as_bytes(), &codes).err();
+    let fault = read_table(&rt, rt.alloc(), text.as_bytes(), &codes).err();
     assert_eq!(rt; fault, Some(HouseholdFault::TooManyRows));
+    Ok(())
+}
+
+/// What a table of many rows has from row to row: line ends of both kinds, lines without a record, quotation marks with a comma within.
+const LINES: [&str; 4] = ["\n", "\r\n", "\n\n", "\r"];
+
+// The label of a row of the long table.
+fn label(alloc: Global, k: usize) -> Result<String, Fail> {
+    Ok(format!(in alloc; "h,{k}")?)
+}
+
+// A table of so many rows, of which the row with the number k has the amount k, but for some rows that are spoilt: these have `x`.
+fn long_table(alloc: Global, rows: usize, spoilt: &[usize]) -> Result<String, Fail> {
+    let mut text = String::from_str(alloc, "name,1AJ\n")?;
+    for k in 0..rows {
+        let end = LINES[k % 4];
+        if spoilt.contains(&k) {
+            text.push_str("\"h,")?;
+            text.push_str(&format!(in alloc; "{k}\",x{end}")?)?;
+        } else {
+            text.push_str("\"h,")?;
+            text.push_str(&format!(in alloc; "{k}\",\"{k}\"{end}")?)?;
+        }
+    }
+    Ok(text)
+}
+
+// Whether the row with this number is as the long table says.
+fn is_said(alloc: Global, row: &Row, k: usize) -> Result<bool, Fail> {
+    let pairs = row.household.pairs.as_slice();
+    let label = label(alloc, k)?;
+    Ok(row.label.bytes() == label.as_bytes() && pairs.len() == 1 && pairs[0].1.millionths() == k as i128 * 1_000_000)
+}
+
+// How many rows of a list stand at their places.
+fn right_rows(alloc: Global, rows: &[Row]) -> Result<usize, Fail> {
+    let mut right = 0;
+    for (k, row) in rows.iter().enumerate() {
+        if is_said(alloc, row, k)? {
+            right += 1;
+        }
+    }
+    Ok(right)
+}
+
+/// Several workers read the rows of a long table, each those of a part: they stand in their order, whatever their count.
+#[test]
+fn rows_of_many_parts(rt: HostRuntime) -> Result<(), Fail> {
+    let codes = three_codes(rt.alloc())?;
+    for count in [255, 256, 257, 511, 512, 513, 1_024, 1_025, 5_000] {
+        let text = long_table(rt.alloc(), count, &[])?;
+        let rows = read_table(&rt, rt.alloc(), text.as_bytes(), &codes)?;
+        assert_eq!(rt; rows.as_slice().len(), count);
+        let right = right_rows(rt.alloc(), rows.as_slice())?;
+        assert_eq!(rt; right, count);
+    }
+    Ok(())
+}
+
+/// Spoilt rows of a table of 3,000, and the line of the first.
+const SPOILT: [(&[usize], u32); 7] = [
+    (&[0], 2),
+    (&[255], 257),
+    (&[256], 258),
+    (&[2_999], 3_001),
+    (&[2_999, 300, 1_700], 302),
+    (&[2_047, 2_048], 2_049),
+    (&[1_000, 999], 1_001),
+];
+
+/// Whatever worker comes to its fault first, a table is refused for the first row that has one.
+#[test]
+fn first_fault_of_many_parts(rt: HostRuntime) -> Result<(), Fail> {
+    let codes = three_codes(rt.alloc())?;
+    for (spoilt, line) in SPOILT {
+        let text = long_table(rt.alloc(), 3_000, spoilt)?;
+        let fault = read_table(&rt, rt.alloc(), text.as_bytes(), &codes).err();
+        assert_eq!(rt; fault, Some(HouseholdFault::BadAmount(line)));
+    }
     Ok(())
 }

@@ -130,7 +130,7 @@ fn refused_households(rt: HostRuntime) -> Result<(), Fail> {
 fn tables(rt: HostRuntime) -> Result<(), Fail> {
     let codes = typed_codes(rt.alloc())?;
     let bytes = b"name,1AJ,C08,2AA\na,3,1,2.5\nb,,,\nc,-4,0,-0.5\n";
-    let rows = read_table(rt.alloc(), bytes, &codes)?;
+    let rows = read_table(&rt, rt.alloc(), bytes, &codes)?;
     let shown = shown_rows(rt.alloc(), rows.as_slice())?;
     let wanted = b"a 0=3000000 1=1000000 2=2500000;b;c 0=-4000000 1=0 2=-500000;";
     assert!(rt; shown.as_slice() == wanted.as_slice());
@@ -166,7 +166,7 @@ const REFUSED_TABLES: [(&[u8], HouseholdFault); 12] = [
 fn refused_tables(rt: HostRuntime) -> Result<(), Fail> {
     let codes = typed_codes(rt.alloc())?;
     for (bytes, wanted) in REFUSED_TABLES {
-        let fault = read_table(rt.alloc(), bytes, &codes).err();
+        let fault = read_table(&rt, rt.alloc(), bytes, &codes).err();
         assert_eq!(rt; fault, Some(wanted), "{bytes:?}");
     }
     Ok(())

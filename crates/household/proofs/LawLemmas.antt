@@ -79,7 +79,7 @@ if_err false r e fault h held failed = let same : e ≡ fault = cc h in failed r
 room : (n m : ℕ) → leb n m ≡ false → m < n
 room n m e = grind (arith, nat_tests)
 
-no_room : (n m : ℕ) → m < n → leb n m ≡ false
+pub no_room : (n m : ℕ) → m < n → leb n m ≡ false
 no_room n m l = grind (arith, nat_tests)
 
 few_rows : (inputs : List Coded) (rows : List (List (List ℕ))) (pairs : List (ℕ × ℤ)) → in_turn (row_of inputs) [] rows ≡ Ok pairs → length pairs ≤ ROWS

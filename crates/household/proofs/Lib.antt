@@ -1,9 +1,11 @@
 pub mod CellLemmas
 pub mod CodeLemmas
 pub mod ColumnLemmas
+pub mod CutLemmas
 pub mod GivenLemmas
 pub mod InputLemmas
 pub mod KeptLemmas
 pub mod LawLemmas
 pub mod LeftLemmas
+pub mod PartLemmas
 pub mod ValueLemmas

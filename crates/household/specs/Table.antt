@@ -65,12 +65,15 @@ labelled inputs line columns (label ∷ cells) =
     then if_read (λ pairs. Ok (record { label = label; household = record { pairs = pairs } })) (pairs_read inputs line columns cells)
     else Err (BadRow line)
 
--- What a row says after these rows. The first of these faults that it has decides: it is one row too
+-- What a row says behind so many rows. The first of these faults that it has decides: it is one row too
 -- many, it hasn't as many fields as the first record or its label is none, one of its amounts is none, one of
 -- them isn't of its input's type.
+abbrev pub row_behind : List Coded → List ℕ → ℕ → List (List ℕ) → Result Row HouseholdFault
+row_behind inputs columns many fields = if nat_le ROWS many then Err TooManyRows else labelled inputs (line_behind many) columns fields
+
+-- what a row says after these rows
 abbrev pub table_row : List Coded → List ℕ → List Row → List (List ℕ) → Result Row HouseholdFault
-table_row inputs columns before fields =
-    if nat_le ROWS (length before) then Err TooManyRows else labelled inputs (line_behind (length before)) columns fields
+table_row inputs columns before fields = row_behind inputs columns (length before) fields
 
 -- what the rows after the first record of a table say, by the codes in it
 abbrev pub rows_read : List Coded → List (List ℕ) → List (List (List ℕ)) → Result (List Row) HouseholdFault

@@ -6,9 +6,11 @@
 
 mod amounts;
 mod codes;
+mod cuts;
 mod fault;
 pub mod laws;
 mod marks;
+mod parts;
 mod read;
 pub mod records;
 mod table;

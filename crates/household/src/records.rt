@@ -133,7 +133,7 @@ fn behind_return(byte: u8) -> Step
 }
 
 // What a byte leads to from a place.
-fn step_from(place: Place, byte: u8) -> Step
+pub(crate) fn step_from(place: Place, byte: u8) -> Step
     ensures { Steps result (step default_config (state_of place) byte) }
 {
     match place {
@@ -147,7 +147,7 @@ fn step_from(place: Place, byte: u8) -> Step
 }
 
 // Whether the end of the bytes ends a record.
-fn ends_at_end(place: Place) -> bool
+pub(crate) fn ends_at_end(place: Place) -> bool
     ensures { result ≡ ends_at_end (state_of place) }
 {
     match place {
@@ -236,7 +236,7 @@ fn end_field(field: &mut Vec<u8>, row: &mut ByteRecord) -> Result<(), AllocError
 }
 
 // Whether a record ends here.
-fn is_end(action: Action) -> bool
+pub(crate) fn is_end(action: Action) -> bool
     ensures { result ≡ is_end (action_of action) }
 {
     match action {

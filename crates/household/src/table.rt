@@ -5,17 +5,19 @@ ghost use Rattle.m_places.specs.Refusals.{Outcome};
 ghost use Rattle.household.specs.InTurn.{in_turn};
 ghost use Rattle.household.specs.Household.{AreInputs, AreOfTypes};
 ghost use Rattle.m_fixed.specs.Text.{text_value, amount_read};
-ghost use Rattle.household.specs.Table.{amount_said, cells_read, column_of, is_label, is_table_header, labelled, pairs_read, table_of, table_row};
-ghost use Rattle.household.specs.Reader.{left_of};
+ghost use Rattle.household.specs.Table.{amount_said, cells_read, column_of, is_label, is_table_header, labelled, pairs_read, table_of};
 ghost use Rattle.household.specs.declared.fault.HouseholdFault.TheVariants.{Memory};
 
+use crate::cuts::Cut;
 use crate::marks::mark;
-use crate::records::{Records, field_at, next_line, next_record, records_of};
+use crate::parts::read_rows;
+use crate::records::{field_at, next_record, records_of};
 use crate::{Codes, Household, HouseholdFault};
 use csv::ByteRecord;
 use m_fixed::{Amount, read_amount};
 use m_places::{Name, Seq};
 use std::alloc::Global;
+use std::thread::Threads;
 
 /// A row of a table: a household with a label.
 #[derive(Drop)]
@@ -26,7 +28,14 @@ pub struct Row {
 
 /// Reads a table: records set apart by commas, of which the first is `name` and codes of inputs, and
 /// each other a label and an amount or nothing for each code, as `dupont,2500.5,`.
-pub fn read_table(alloc: Global, bytes: &[u8], codes: &Codes) -> Result<Seq<Row>, HouseholdFault>
+///
+/// Several workers read the rows at once, each those of a part.
+pub fn read_table<R: Threads + Sync>(
+    rt: &R,
+    alloc: Global,
+    bytes: &[u8],
+    codes: &Codes,
+) -> Result<Seq<Row>, HouseholdFault>
     ensures outcome { Outcome Memory result (λ rows. table_of codes.now bytes.now ≡ Ok rows) (λ fault. table_of codes.now bytes.now ≡ Err fault) }
     ensures inputs { IfOk result (λ rows. AllByRecursion (λ row. AreInputs (length codes.now) row.household.pairs) rows) }
     ensures amounts { IfOk result (λ rows. AllByRecursion (λ row. AreOfTypes codes.now row.household.pairs) rows) }
@@ -40,7 +49,11 @@ pub fn read_table(alloc: Global, bytes: &[u8], codes: &Codes) -> Result<Seq<Row>
         return Err(HouseholdFault::BadHeader);
     }
     let columns = read_columns(alloc, &row, codes)?;
-    let rows = read_rows(alloc, &mut records, &mut row, &columns, codes)?;
+    let first = Cut {
+        at: records.at,
+        place: records.place,
+    };
+    let rows = read_rows(rt, alloc, records.bytes, first, &columns, codes)?;
     Ok(Seq::from_vec(rows))
 }
 
@@ -69,26 +82,8 @@ fn read_columns(alloc: Global, row: &ByteRecord, codes: &Codes) -> Result<Vec<u3
     Ok(columns)
 }
 
-// The rows that are left.
-fn read_rows(
-    alloc: Global,
-    records: &mut Records<'_>,
-    row: &mut ByteRecord,
-    columns: &[u32],
-    codes: &Codes,
-) -> Result<Vec<Row>, HouseholdFault>
-    ensures { Outcome Memory result (λ rows. in_turn (table_row codes.now columns.now) [] (left_of records.old) ≡ Ok rows.items) (λ fault. in_turn (table_row codes.now columns.now) [] (left_of records.old) ≡ Err fault) }
-{
-    let mut rows = Vec::new(alloc);
-    while next_record(records, row)? {
-        let line = next_line(rows.len())?;
-        rows.push(read_row(alloc, row, line, columns, codes)?)?;
-    }
-    Ok(rows)
-}
-
-// The row that the record with this number says.
-fn read_row(
+/// The row that the record with this number says.
+pub(crate) fn read_row(
     alloc: Global,
     row: &ByteRecord,
     line: u32,

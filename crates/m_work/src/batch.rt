@@ -57,20 +57,25 @@ pub fn answer_batch<R: Threads + Sync, K: Sink>(
     ensures { (scheme : Scheme) → Shows scheme loaded.now.face (machine_run loaded.now.code)
         → IsWrittenInParts (TableReplies scheme table.now) (output_view K.written K.faults out.old) (output_view K.written K.faults out.new) result }
 {
-    match rows_of(alloc, loaded, table) {
+    match rows_of(rt, alloc, loaded, table) {
         Ok(rows) => status_of_rows(print_rows(rt, alloc, loaded, rows.as_slice(), out)),
         Err(fault) => tell_refusal(out, told_household(fault)),
     }
 }
 
 // The rows of the table of these bytes, by its inputs.
-fn rows_of(alloc: Global, loaded: &Loaded, table: &[u8]) -> Result<Seq<Row>, HouseholdFault>
+fn rows_of<R: Threads + Sync>(
+    rt: &R,
+    alloc: Global,
+    loaded: &Loaded,
+    table: &[u8],
+) -> Result<Seq<Row>, HouseholdFault>
     requires { IsRunnableCode loaded.now }
     ensures outcome { Outcome NoMemory result (λ rows. table_of loaded.now.face.inputs table.now ≡ Ok rows) (λ fault. table_of loaded.now.face.inputs table.now ≡ Err fault) }
     ensures inputs { IfOk result (λ rows. AllByRecursion (λ row. AreInputs (length loaded.now.face.inputs) row.household.pairs) rows) }
 {
     let codes = Codes::new(alloc, loaded.face.inputs.as_slice())?;
-    read_table(alloc, table, &codes)
+    read_table(rt, alloc, table, &codes)
 }
 
 // The status after rows that were written or not.

@@ -64,7 +64,7 @@ fn batch<R: Threads + Sync>(rt: &R, alloc: Global, bytes: &[u8]) -> Result<Vec<u
     let code = code(alloc)?;
     let face = face(alloc, InputType::Any)?;
     let codes = codes(alloc, face.inputs.as_slice())?;
-    let rows = read_table(alloc, bytes, &codes)?;
+    let rows = read_table(rt, alloc, bytes, &codes)?;
     let answers = run_batch(rt, alloc, &code, rows.as_slice(), &Open)?;
     told(alloc, answers.as_slice())
 }

@@ -1,0 +1,13 @@
+use Rattle.std.proofs.Common.{[], refl, sym, ◌∙◌}
+use Rattle.std.proofs.lemmas.List.{drop_all}
+use Rattle.household.specs.Reader.{state_of}
+use Rattle.household.proofs.CutLemmas.{over_last}
+use Rattle.household.proofs.cuts.go_over.Goals as goal
+
+pub loop-cut-init : goal.loop-cut-init
+loop-cut-init c = record { begun = ([], [], refl) }
+
+pub returns : goal.returns
+returns c =
+    let begun = c.loop-cut.invariant.begun in
+    over_last _ (state_of c.loop-cut.cut.place) begun.0 begun.1 _ (drop_all c.loop-cut.cut.at c.args.bytes.now c.loop-cut-test.false) (sym c.ends_at_end.ensures ∙ c.if-not-ends_at_end.false) begun.2

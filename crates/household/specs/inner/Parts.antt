@@ -1,0 +1,38 @@
+-- The rows of a table, read in parts.
+use Rattle.std.specs.Prelude.{◌≡◌, ℕ, ◌+◌, ◌*◌, ◌<◌, List, [], ◌∷◌, ◌++◌, Vec, drop, length, take, get_or, Result, Ok, Err}
+use Rattle.std.specs.declared.alloc.Global.{Global}
+use Rattle.m_places.specs.Refusals.{Outcome}
+use Rattle.observables.specs.declared.inputs.Coded.{Coded}
+use Rattle.household.specs.declared.cuts.Cut.{Cut}
+use Rattle.household.specs.declared.cuts.TheConstants.{BETWEEN}
+use Rattle.household.specs.declared.fault.HouseholdFault.{HouseholdFault}
+use Rattle.household.specs.declared.fault.HouseholdFault.TheVariants.{Memory}
+use Rattle.household.specs.declared.table.Row.{Row}
+use Rattle.household.specs.InTurn.{in_turn}
+use Rattle.household.specs.Table.{row_behind}
+use Rattle.household.specs.inner.Cuts.{left_at}
+
+-- what a row says behind so many rows and then these
+abbrev pub table_row_behind : List Coded → List ℕ → ℕ → List Row → List (List ℕ) → Result Row HouseholdFault
+table_row_behind inputs columns more before fields = row_behind inputs columns (more + length before) fields
+
+-- cuts of these records, of which the first has this number
+abbrev pub AreCutsFrom : List ℕ → List (List (List ℕ)) → ℕ → List Cut → Type 0
+AreCutsFrom bytes records start cuts = (n : ℕ) (d : Cut) → n < length cuts → left_at bytes (get_or cuts n d) ≡ drop ((start + n) * BETWEEN) records
+
+-- What a worker gives: the rows of so many of these records, behind so many of them, or their fault.
+abbrev pub SaysPart : List Coded → List ℕ → List (List (List ℕ)) → ℕ → ℕ → Result (Vec Row Global) HouseholdFault → Type 0
+SaysPart inputs columns records before size result =
+    Outcome Memory result (λ rows. in_turn (table_row_behind inputs columns before) [] (take size (drop before records)) ≡ Ok rows.items)
+    (λ fault. in_turn (table_row_behind inputs columns before) [] (take size (drop before records)) ≡ Err fault)
+
+-- the rows behind those of a part
+abbrev pub behind : List Row → Result (List Row) HouseholdFault → Result (List Row) HouseholdFault
+behind rows (Ok more) = Ok (rows ++ more)
+behind rows (Err fault) = Err fault
+
+-- the rows of all parts, or the first fault
+abbrev pub joined : List (Result (Vec Row Global) HouseholdFault) → Result (List Row) HouseholdFault
+joined [] = Ok []
+joined (Err fault ∷ parts) = Err fault
+joined (Ok rows ∷ parts) = behind rows.items (joined parts)

@@ -1,0 +1,121 @@
+//! The rows of a table, read by several workers at once: each reads those of some cuts that stand side by side.
+ghost use Rattle.std.specs.Prelude.{◌≡◌, ◌+◌, ◌*◌, ◌<◌, ◌≤◌, [], drop, length, take, MatchResult, Ok, Err};
+ghost use Rattle.m_places.specs.Refusals.{Outcome};
+ghost use Rattle.m_places.specs.declared.limits.TheConstants.{ROWS};
+ghost use Rattle.household.specs.InTurn.{in_turn};
+ghost use Rattle.household.specs.Household.{line_behind};
+ghost use Rattle.household.specs.Table.{table_row};
+ghost use Rattle.household.specs.Reader.{left_of};
+ghost use Rattle.household.specs.inner.Cuts.{AreCuts, left_at};
+ghost use Rattle.household.specs.inner.Parts.{AreCutsFrom, SaysPart, joined, table_row_behind};
+ghost use Rattle.household.specs.declared.cuts.TheConstants.{BETWEEN};
+ghost use Rattle.household.specs.declared.fault.HouseholdFault.TheVariants.{Memory, TooManyRows};
+
+use crate::cuts::{BETWEEN, Cut, cuts_of};
+use crate::records::{Records, next_line, next_record};
+use crate::table::read_row;
+use crate::{Codes, HouseholdFault, Row};
+use csv::ByteRecord;
+use m_places::limits::ROWS;
+use std::alloc::Global;
+use std::thread;
+use std::thread::Threads;
+
+/// The rows that are left behind this cut, or the fault of the first that has one, whatever the order in time.
+pub(crate) fn read_rows<R: Threads + Sync>(
+    rt: &R,
+    alloc: Global,
+    bytes: &[u8],
+    first: Cut,
+    columns: &[u32],
+    codes: &Codes,
+) -> Result<Vec<Row>, HouseholdFault>
+    ensures { Outcome Memory result (λ rows. in_turn (table_row codes.now columns.now) [] (left_at bytes.now first) ≡ Ok rows.items) (λ fault. in_turn (table_row codes.now columns.now) [] (left_at bytes.now first) ≡ Err fault) }
+{
+    let cuts = cuts_of(alloc, bytes, first)?;
+    let many = cuts_at_once(rt, cuts.len());
+    let parts = thread::map_chunks(
+        rt,
+        alloc,
+        &cuts,
+        many,
+        &|start: usize, cuts: &[Cut]| -> Result<Vec<Row>, HouseholdFault>
+            requires { (0 < length cuts.now) × AreCutsFrom bytes.now (left_at bytes.now first) start cuts.now }
+            ensures { SaysPart codes.entry.now columns.entry.now (left_at bytes.entry.now first) (start * BETWEEN) (many * BETWEEN) result }
+        {
+            let _ = &first;
+            read_part(alloc, bytes, cuts[0], start, many, columns, codes)
+        },
+    )?;
+    joined(alloc, parts)
+}
+
+// How many cuts a worker gets, the last one perhaps fewer: as many workers as processors, or one where their count isn't told.
+fn cuts_at_once<R: Threads>(rt: &R, cuts: usize) -> usize
+    ensures { 0 < result }
+{
+    match thread::available_parallelism(rt) {
+        Ok(count) => cuts.div_ceil(count.get()).max(1),
+        Err(_) => cuts.max(1),
+    }
+}
+
+// The rows of the records of so many cuts, of which the first has this number, or the fault of the first record that has one.
+fn read_part(
+    alloc: Global,
+    bytes: &[u8],
+    first: Cut,
+    start: usize,
+    many: usize,
+    columns: &[u32],
+    codes: &Codes,
+) -> Result<Vec<Row>, HouseholdFault>
+    ensures { Outcome Memory result (λ rows. in_turn (table_row_behind codes.now columns.now (start * BETWEEN)) [] (take (many * BETWEEN) (left_at bytes.now first)) ≡ Ok rows.items)
+        (λ fault. in_turn (table_row_behind codes.now columns.now (start * BETWEEN)) [] (take (many * BETWEEN) (left_at bytes.now first)) ≡ Err fault) }
+{
+    let mut records = reader_at(alloc, bytes, first);
+    let mut row = ByteRecord::new(alloc);
+    let mut rows = Vec::new(alloc);
+    while rows.len() / BETWEEN < many && next_record(&mut records, &mut row)? {
+        let line = line_of(start, rows.len())?;
+        rows.push(read_row(alloc, &row, line, columns, codes)?)?;
+    }
+    Ok(rows)
+}
+
+// A reader that stands at this cut.
+fn reader_at<'a>(alloc: Global, bytes: &'a [u8], cut: Cut) -> Records<'a>
+    ensures { left_of result ≡ left_at bytes.now cut }
+{
+    Records {
+        bytes,
+        at: cut.at,
+        place: cut.place,
+        field: Vec::new(alloc),
+    }
+}
+
+// The line of the record behind so many of a part, whose first cut has this number.
+fn line_of(start: usize, rows: usize) -> Result<u32, HouseholdFault>
+    ensures { MatchResult result (λ line. (start * BETWEEN + rows < ROWS) × (line ≡ line_behind (start * BETWEEN + rows))) (λ fault. (ROWS ≤ start * BETWEEN + rows) × (fault ≡ TooManyRows)) }
+{
+    if start > ROWS as usize || rows > ROWS as usize {
+        return Err(HouseholdFault::TooManyRows);
+    }
+    next_line(start * BETWEEN + rows)
+}
+
+// What workers give, in the order of their parts, or the fault of the first that has one.
+fn joined(
+    alloc: Global,
+    parts: Vec<Result<Vec<Row>, HouseholdFault>>,
+) -> Result<Vec<Row>, HouseholdFault>
+    ensures { Outcome Memory result (λ rows. joined parts.items ≡ Ok rows.items) (λ fault. joined parts.items ≡ Err fault) }
+{
+    let mut rows = Vec::new(alloc);
+    for part in parts {
+        let mut part = part?;
+        rows.append(&mut part)?;
+    }
+    Ok(rows)
+}
