@@ -24,9 +24,11 @@ fn removed(alloc: Global, flat: Flat) -> Result<Flat, AllocError>
     let kept = compacted(alloc, flat.inputs, flat.nodes.into_vec(), &live)?;
     let checks = moved_checks(alloc, &kept.numbers, flat.checks.as_slice())?;
     let outputs = moved_outputs(alloc, &kept.numbers, flat.outputs.as_slice())?;
+    let mut nodes = kept.nodes;
+    nodes.shrink_to_fit();
     Ok(Flat {
         inputs: flat.inputs,
-        nodes: Seq::from_vec(kept.nodes),
+        nodes: Seq::from_vec(nodes),
         checks: Seq::from_vec(checks),
         outputs: Seq::from_vec(outputs),
     })

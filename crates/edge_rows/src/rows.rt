@@ -54,6 +54,7 @@ impl Rows {
             )?;
             offsets.push(targets.len() as u32)?;
         }
+        targets.shrink_to_fit();
         Ok(Rows { offsets, targets })
     }
 

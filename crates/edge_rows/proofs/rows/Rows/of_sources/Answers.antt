@@ -21,5 +21,6 @@ loop-source-preserved c =
 pub returns : goal.returns
 returns c =
     let all : c.loop-source.source ≡ c.args.count = omega (arith, c.loop-source-test.false, c.loop-source.auto.source-end) in
-    filled_all c.args.per c.args.sources.now c.args.count c.loop-source.offsets.items c.loop-source.targets.items
-    (subst (λ n. IsFilled c.args.per c.args.sources.now n c.loop-source.offsets.items c.loop-source.targets.items) all c.loop-source.invariant)
+    rw c.shrink_to_fit.ensures.items
+    (filled_all c.args.per c.args.sources.now c.args.count c.loop-source.offsets.items c.loop-source.targets.items
+    (subst (λ n. IsFilled c.args.per c.args.sources.now n c.loop-source.offsets.items c.loop-source.targets.items) all c.loop-source.invariant))
