@@ -1,3 +1,4 @@
+pub mod Bounds
 pub mod Cases
 pub mod Checks
 pub mod Clauses

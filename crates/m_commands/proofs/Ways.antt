@@ -58,11 +58,11 @@ way_of (Serve source rows) heard told old new status (serve.refused line r same 
 way_of (Serve source rows) heard told old new status (serve.no_memory same n m) = lacks_memory same n m
 way_of (Serve source rows) heard told old new status (serve.served scheme explains pairs s (to_its_end taken moved few none calm appends is)) =
     serves_all taken (session_replies scheme explains pairs taken) refl moved none calm (serve.is_served scheme explains pairs s few) appends is
-way_of (Serve source rows) heard told old new status (serve.served scheme explains pairs s (unread taken moved rose p)) =
-    serves_part taken (ended_replies scheme explains pairs taken ++ unreadable_input_line) refl moved rose (serve.is_cut_off scheme explains pairs s) p
+way_of (Serve source rows) heard told old new status (serve.served scheme explains pairs s (unread taken moved few rose p)) =
+    serves_part taken (ended_replies scheme explains pairs taken ++ unreadable_input_line) refl moved rose (serve.is_cut_off scheme explains pairs s few) p
 way_of (Serve source rows) heard told old new status (serve.served scheme explains pairs s (too_long taken moved full calm p)) =
     serves_most taken (ended_replies scheme explains pairs taken ++ input_too_long_line) refl moved full calm (λ rest. serve.is_too_long scheme explains pairs taken rest s refl full) p
-way_of (Serve source rows) heard told old new status (serve.served scheme explains pairs s (unwritten taken rest moved left calm breaks is)) =
+way_of (Serve source rows) heard told old new status (serve.served scheme explains pairs s (unwritten taken rest moved within left calm breaks is)) =
     serves_front taken rest (session_replies scheme explains pairs (taken ++ rest)) refl moved left calm (serve.is_in_full scheme explains pairs s) breaks is
 way_of (Batch source table) heard told old new status (same, batch.printed text own r o p) = tells text own (λ typed. r) o same p
 way_of (Batch source table) heard told old new status (same, batch.no_memory n m) = lacks_memory same n m

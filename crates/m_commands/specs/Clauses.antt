@@ -1,5 +1,5 @@
 -- What a call of the program has read and written, clause by clause, from the views before and after it.
-use Rattle.std.specs.Prelude.{◌≡◌, ◌⊎◌, ℕ, ◌<◌, true, List, ◌++◌, length, Some, None}
+use Rattle.std.specs.Prelude.{◌≡◌, ◌⊎◌, ℕ, ◌<◌, ◌≤◌, true, List, ◌++◌, length, Some, None}
 use Rattle.std.specs.Io.KnownBytes.{append_known, prepend_known}
 use Rattle.m_places.specs.declared.limits.TheConstants.{INPUT_BYTES}
 use Rattle.code_file.specs.Loading.{text_with}
@@ -15,7 +15,7 @@ use Rattle.m_plan.specs.Plan.{end_of, gathered}
 use Rattle.m_plan.specs.Status.{IsFaultless, IsComplete}
 use Rattle.m_plan.specs.Views.{Disk, FilesView, InputView, OutputView}
 use Rattle.m_plan.specs.declared.status.Status.{Status}
-use Rattle.m_plan.specs.declared.status.Status.TheVariants.{Done, Usage, ReadFault, WriteFault, Memory}
+use Rattle.m_plan.specs.declared.status.Status.TheVariants.{Done, Refused, Usage, ReadFault, WriteFault, Memory}
 use Rattle.m_source.specs.Source.{source_plan}
 use Rattle.m_source.specs.declared.source.SourceNames.{SourceNames}
 use Rattle.m_work.specs.Prepared.{IsPreparedCode}
@@ -46,6 +46,13 @@ abbrev pub TellsOfInput : List (List ℕ) → FilesView → InputView → InputV
 TellsOfInput words before heard told old new =
     (disk : Disk) (typed : List ℕ) → before.told ≡ Some disk → heard.left ≡ Some typed
     → (taken text : List ℕ) × (heard.left ≡ prepend_known taken told.left) × (new.written ≡ append_known old.written text) × IsCutOff words disk taken text
+
+-- Of the input no more was taken than a session takes of one, and as much only at the status of an input that is too long, or of a failed write. So a
+-- session that came to the input's end has taken less, and one whose read failed.
+abbrev pub KeepsInputLimit : (heard told : InputView) → Status → Type 0
+KeepsInputLimit heard told status =
+    (taken : List ℕ) × (heard.left ≡ prepend_known taken told.left) × (length taken ≤ INPUT_BYTES)
+    × (length taken ≡ INPUT_BYTES → (status ≡ Refused) ⊎ (status ≡ WriteFault))
 
 -- The attempts that a call made. Where the files are told, their names are fetched in the order of
 -- `fetches_of`. At most the last of them failed, and then the status says so, or that writing did.

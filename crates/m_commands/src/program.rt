@@ -5,7 +5,7 @@ ghost use Rattle.m_plan.specs.Attempts.{TakesWithin};
 ghost use Rattle.m_plan.specs.Views.{Disk, files_view, input_view, output_view};
 ghost use Rattle.m_plan.specs.declared.status.Status.{Status};
 ghost use Rattle.m_commands.specs.Command.{limit_of, reads_input, writes_early};
-ghost use Rattle.m_commands.specs.Clauses.{PrintsOutput, WritesCode, ReadsInOrder, WritesFront, StopsInFront, AnswersValid, IsToldUsage};
+ghost use Rattle.m_commands.specs.Clauses.{PrintsOutput, WritesCode, KeepsInputLimit, ReadsInOrder, WritesFront, StopsInFront, AnswersValid, IsToldUsage};
 ghost use Rattle.m_commands.specs.Output.{Output, AreOneOutput};
 ghost use Rattle.m_commands.specs.inner.Courses.{Course};
 
@@ -73,6 +73,9 @@ pub fn m_tax<R: Threads + Sync, F: Files, S: Source, K: Sink>(
         (files_view F.told F.attempts F.taken files.new) result }
     ensures input_left { reads_input words.now ≡ false → S.left input.new ≡ S.left input.old }
     ensures input_faults { reads_input words.now ≡ false → S.faults input.new ≡ S.faults input.old }
+
+    // However a session ends, it has taken no more of the input than may be taken.
+    ensures input_taken { KeepsInputLimit (input_view S.left S.faults input.old) (input_view S.left S.faults input.new) result }
 
     // A read of the input that failed is told, but where a write failed too.
     ensures read_told { S.faults input.old < S.faults input.new → (result ≡ Status.ReadFault) ⊎ (result ≡ Status.WriteFault) }

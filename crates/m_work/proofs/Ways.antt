@@ -192,12 +192,12 @@ served_as : (one ended other also : List ℕ → List ℕ) (heard told : InputVi
     → Served one ended heard told old new status → Served other also heard told old new status
 served_as one ended other also heard told old new status w e (to_its_end taken moved few none calm appends is) =
     to_its_end taken moved few none calm (subst (λ text. Appends text old new) (w taken) appends) is
-served_as one ended other also heard told old new status w e (unread taken moved rose shown) =
-    unread taken moved rose (subst (λ text. Prints (text ++ unreadable_input_line) ReadFault old new status) (e taken) shown)
+served_as one ended other also heard told old new status w e (unread taken moved few rose shown) =
+    unread taken moved few rose (subst (λ text. Prints (text ++ unreadable_input_line) ReadFault old new status) (e taken) shown)
 served_as one ended other also heard told old new status w e (too_long taken moved full calm shown) =
     too_long taken moved full calm (subst (λ text. Prints (text ++ input_too_long_line) Refused old new status) (e taken) shown)
-served_as one ended other also heard told old new status w e (unwritten taken rest moved left calm breaks is) =
-    unwritten taken rest moved left calm (subst (λ text. Breaks text old new) (w (taken ++ rest)) breaks) is
+served_as one ended other also heard told old new status w e (unwritten taken rest moved within left calm breaks is) =
+    unwritten taken rest moved within left calm (subst (λ text. Breaks text old new) (w (taken ++ rest)) breaks) is
 
 -- what a session of a program replies is what its scheme says
 same_replies : (scheme : Scheme) (program : Program) (rows : List ℕ) (session : Sitting) (explains : Explaining) → IsRunnable program.face program.tidy → Shows scheme program.face (flat_run program.tidy)

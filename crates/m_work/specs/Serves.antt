@@ -30,10 +30,11 @@ pub data ServeReplies (source : Source) (rows typed : List ℕ) : List ℕ → S
   is_too_long : (scheme : Scheme) (explains : Explaining) (pairs : List (ℕ × ℤ)) (taken rest : List ℕ) → IsSession source rows scheme explains pairs → typed ≡ taken ++ rest → length taken ≡ INPUT_BYTES
       → ServeReplies source rows typed (ended_replies scheme explains pairs taken ++ input_too_long_line) Refused
 
--- What is written where a read failed after these bytes of the input: the replies to the lines that have their line feed among them, and then a line
--- that says so.
+-- What is written where a read failed after these bytes of the input, which are fewer than are taken of one: the replies to the lines that have their
+-- line feed among them, and then a line that says so.
 pub data ServeCutOff (source : Source) (rows taken : List ℕ) : List ℕ → Type 0 where
-  is_cut_off : (scheme : Scheme) (explains : Explaining) (pairs : List (ℕ × ℤ)) → IsSession source rows scheme explains pairs → ServeCutOff source rows taken (ended_replies scheme explains pairs taken ++ unreadable_input_line)
+  is_cut_off : (scheme : Scheme) (explains : Explaining) (pairs : List (ℕ × ℤ)) → IsSession source rows scheme explains pairs → length taken < INPUT_BYTES
+      → ServeCutOff source rows taken (ended_replies scheme explains pairs taken ++ unreadable_input_line)
 
 -- The replies to all lines of what is typed, also where that is more than is taken of an input.
 pub data ServeInFull (source : Source) (rows typed : List ℕ) : List ℕ → Type 0 where

@@ -40,25 +40,26 @@ none_is_left (Some bytes) end = end
 
 -- the last line, after the end of the input
 pub stopped_at_end : {S K : Type 0} (left : S → Option (List ℕ)) (source_faults : S → ℕ) (written : K → Option (List ℕ)) (faults : K → ℕ)
-    (source_old source_now : S) (old now : K) (start : Telling) (held : List ℕ) (end : ServeEnd) → left source_old ≡ prepend_known [] (left source_now)
+    (source_old source_now : S) (old now : K) (start : Telling) (held : List ℕ) (most : ℕ) (end : ServeEnd) → left source_old ≡ prepend_known [] (left source_now)
     → IsAtEnd (left source_old) → source_faults source_now ≡ source_faults source_old → Finished written faults old now start held end
-    → Stopped left source_faults written faults source_old source_now old now start held end
-stopped_at_end left source_faults written faults source_old source_now old now start held Done moved none calm done =
+    → Stopped left source_faults written faults source_old source_now old now start held most end
+stopped_at_end left source_faults written faults source_old source_now old now start held most Done moved none calm done =
     let same : left source_now ≡ left source_old = sym (moved ∙ prepend_none (left source_now)) in
     (same, subst (λ (known : Option (List ℕ)). IsAtEnd known) (sym same) none, calm, done)
-stopped_at_end left source_faults written faults source_old source_now old now start held WriteFault moved none calm broken =
+stopped_at_end left source_faults written faults source_old source_now old now start held most WriteFault moved none calm broken =
     let same : left source_now ≡ left source_old = sym (moved ∙ prepend_none (left source_now)) in (
       calm,
       (
         [],
         [],
+        omega arith,
         moved,
         none_is_left (left source_now) (subst (λ (known : Option (List ℕ)). IsAtEnd known) (sym same) none),
         subst (λ (bytes : List ℕ). BreaksOff written faults old now start bytes) (sym (append-nil (held ++ []) ∙ append-nil held)) broken,
       ),
     )
-stopped_at_end left source_faults written faults source_old source_now old now start held ReadFault moved none calm never = absurd never
-stopped_at_end left source_faults written faults source_old source_now old now start held TooLong moved none calm never = absurd never
+stopped_at_end left source_faults written faults source_old source_now old now start held most ReadFault moved none calm never = absurd never
+stopped_at_end left source_faults written faults source_old source_now old now start held most TooLong moved none calm never = absurd never
 
 -- what is kept of the bytes that are left is enough of them
 pub goes_kept : {K : Type 0} (written : K → Option (List ℕ)) (faults : K → ℕ) (old now : K) (start telling : Telling) (before left kept : List ℕ) (count : ℕ)
@@ -112,11 +113,11 @@ standing_turn left source_faults written faults source_old source_now source_new
 
 -- the turn that ends the loop
 pub standing_stopped : {S K : Type 0} (left : S → Option (List ℕ)) (source_faults : S → ℕ) (written : K → Option (List ℕ)) (faults : K → ℕ)
-    (source_old source_now source_new : S) (old now new : K) (start telling : Telling) (held : List ℕ) (count : ℕ) (end : ServeEnd)
+    (source_old source_now source_new : S) (old now new : K) (start telling : Telling) (held : List ℕ) (count most : ℕ) (end : ServeEnd)
     → telling [] ≡ [] → Standing left source_faults written faults source_old source_now old now start telling held count
-    → Stopped left source_faults written faults source_now source_new now new telling held end → count < INPUT_BYTES
+    → Stopped left source_faults written faults source_now source_new now new telling held most end → count < INPUT_BYTES → count + most ≡ INPUT_BYTES
     → Ends (left source_old) (left source_new) (written old) (written new) start end × Counts (source_faults source_old) (source_faults source_new) (faults old) (faults new) end
-standing_stopped left source_faults written faults source_old source_now source_new old now new start telling held count Done nothing standing (same, none, calm, done) few = (
+standing_stopped left source_faults written faults source_old source_now source_new old now new start telling held count most Done nothing standing (same, none, calm, done) few room = (
   (
     (
       standing.bytes,
@@ -130,9 +131,10 @@ standing_stopped left source_faults written faults source_old source_now source_
   ),
   (calm ∙ standing.calm, done.1 ∙ standing.goes.faultless),
 )
-standing_stopped left source_faults written faults source_old source_now source_new old now new start telling held count ReadFault nothing standing (same, rose, text, none) few = (
+standing_stopped left source_faults written faults source_old source_now source_new old now new start telling held count most ReadFault nothing standing (same, rose, text, none) few room = (
   (
     standing.bytes,
+    omega (arith, standing.counted, few),
     record {
       moved = standing.moved ∙ ap (prepend_known standing.bytes) (sym same);
       appended = text ∙ goes_ended written faults old now start telling standing.bytes held nothing standing.goes standing.unended;
@@ -140,12 +142,19 @@ standing_stopped left source_faults written faults source_old source_now source_
   ),
   (rose_from source_faults source_old source_now source_new standing.calm rose, none ∙ standing.goes.faultless),
 )
-standing_stopped left source_faults written faults source_old source_now source_new old now new start telling held count WriteFault nothing standing (calm, (piece, rest, moved, is, broken)) few =
+standing_stopped left source_faults written faults source_old source_now source_new old now new start telling held count most WriteFault nothing standing (calm, (piece, rest, short, moved, is, broken)) few room =
     let whole = breaks_then written faults old now new start telling standing.bytes held piece rest standing.goes broken in (
-      (standing.bytes ++ piece, rest, standing.moved ∙ ap (prepend_known standing.bytes) moved ∙ prepend_more (left source_new) standing.bytes piece, is, whole.1),
+      (
+        standing.bytes ++ piece,
+        rest,
+        omega (arith, length-append standing.bytes piece, standing.counted, short, room),
+        standing.moved ∙ ap (prepend_known standing.bytes) moved ∙ prepend_more (left source_new) standing.bytes piece,
+        is,
+        whole.1,
+      ),
       (calm ∙ standing.calm, whole.0),
     )
-standing_stopped left source_faults written faults source_old source_now source_new old now new start telling held count TooLong nothing standing never few = absurd never
+standing_stopped left source_faults written faults source_old source_now source_new old now new start telling held count most TooLong nothing standing never few room = absurd never
 
 -- the loop has taken as much as it takes
 pub standing_full : {S K : Type 0} (left : S → Option (List ℕ)) (source_faults : S → ℕ) (written : K → Option (List ℕ)) (faults : K → ℕ)

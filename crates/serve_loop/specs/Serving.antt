@@ -1,5 +1,5 @@
 -- What a session's loop has done, by how it ended.
-use Rattle.std.specs.Prelude.{◌≡◌, ℕ, ◌<◌, List, ◌++◌, length, Option, None, Some}
+use Rattle.std.specs.Prelude.{◌≡◌, ℕ, ◌<◌, ◌≤◌, List, ◌++◌, length, Option, None, Some}
 use Rattle.std.specs.Io.KnownBytes.{prepend_known, append_known, IsAtEnd}
 use Rattle.m_places.specs.declared.limits.TheConstants.{INPUT_BYTES}
 use Rattle.m_ports.specs.Counts.{Rose}
@@ -19,15 +19,15 @@ IsLeft None rest = Unit {0}
 IsLeft (Some bytes) rest = bytes ≡ rest
 
 -- What was taken of an input and what was written, by the session as the loop began and by how it ended: all lines of a whole
--- input, which has fewer bytes than are taken of one, or the lines that had their line feed when a read failed or too much was
--- taken, or a prefix of the replies to the whole input.
+-- input, which has fewer bytes than are taken of one; or the lines that had their line feed when a read failed, before so many
+-- bytes were taken, or when exactly so many were; or a prefix of the replies to the whole input, of which no more were taken.
 abbrev pub Ends : (left_old left_new written_old written_new : Option (List ℕ)) → Telling → ServeEnd → Type 0
 Ends left_old left_new written_old written_new telling Done =
     ((taken : List ℕ) × (length taken < INPUT_BYTES) × Takes left_old left_new written_old written_new taken (whole_of telling taken)) × IsAtEnd left_new
 Ends left_old left_new written_old written_new telling ReadFault =
-    (taken : List ℕ) × Takes left_old left_new written_old written_new taken (ended_of telling taken)
+    (taken : List ℕ) × (length taken < INPUT_BYTES) × Takes left_old left_new written_old written_new taken (ended_of telling taken)
 Ends left_old left_new written_old written_new telling WriteFault =
-    (taken rest : List ℕ) × (left_old ≡ prepend_known taken left_new) × IsLeft left_new rest
+    (taken rest : List ℕ) × (length taken ≤ INPUT_BYTES) × (left_old ≡ prepend_known taken left_new) × IsLeft left_new rest
     × AppendsPrefix written_old written_new (whole_of telling (taken ++ rest))
 Ends left_old left_new written_old written_new telling TooLong =
     (taken : List ℕ) × (length taken ≡ INPUT_BYTES) × Takes left_old left_new written_old written_new taken (ended_of telling taken)

@@ -43,18 +43,18 @@ pub record Took {S K : Type 0} (left : S → Option (List ℕ)) (source_faults :
   pub goes : Goes written faults old now start telling (held ++ piece) kept
   pub unended : IsUnended kept
 
--- A turn that ended the loop: the input ended, a read failed, or a write failed.
+-- A turn that ended the loop: the input ended or a read failed, and nothing was taken; or a write failed, and at most so many bytes were.
 abbrev pub Stopped : {S K : Type 0} (left : S → Option (List ℕ)) (source_faults : S → ℕ) (written : K → Option (List ℕ)) (faults : K → ℕ)
-    (source_old source_now : S) (old now : K) (start : Telling) (held : List ℕ) → ServeEnd → Type 0
-Stopped left source_faults written faults source_old source_now old now start held Done =
+    (source_old source_now : S) (old now : K) (start : Telling) (held : List ℕ) (most : ℕ) → ServeEnd → Type 0
+Stopped left source_faults written faults source_old source_now old now start held most Done =
     (left source_now ≡ left source_old) × IsAtEnd (left source_now) × (source_faults source_now ≡ source_faults source_old) × Finished written faults old now start held Done
-Stopped left source_faults written faults source_old source_now old now start held ReadFault =
+Stopped left source_faults written faults source_old source_now old now start held most ReadFault =
     (left source_now ≡ left source_old) × Rose (source_faults source_old) (source_faults source_now) × (written now ≡ written old) × (faults now ≡ faults old)
-Stopped left source_faults written faults source_old source_now old now start held WriteFault =
+Stopped left source_faults written faults source_old source_now old now start held most WriteFault =
     (source_faults source_now ≡ source_faults source_old)
-    × ((piece rest : List ℕ) × (left source_old ≡ prepend_known piece (left source_now)) × IsLeft (left source_now) rest
+    × ((piece rest : List ℕ) × (length piece ≤ most) × (left source_old ≡ prepend_known piece (left source_now)) × IsLeft (left source_now) rest
     × BreaksOff written faults old now start ((held ++ piece) ++ rest))
-Stopped left source_faults written faults source_old source_now old now start held TooLong = ⊥
+Stopped left source_faults written faults source_old source_now old now start held most TooLong = ⊥
 
 -- what a turn did, where the room is this then
 abbrev pub Turned : {S K : Type 0} (left : S → Option (List ℕ)) (source_faults : S → ℕ) (written : K → Option (List ℕ)) (faults : K → ℕ)
@@ -62,4 +62,4 @@ abbrev pub Turned : {S K : Type 0} (left : S → Option (List ℕ)) (source_faul
 Turned left source_faults written faults source_old source_now old now start telling held room most (Ok r) =
     (r.0 ≤ MOST_HELD) × Took left source_faults written faults source_old source_now old now start telling held (take r.0 room) most r.1
 Turned left source_faults written faults source_old source_now old now start telling held room most (Err end) =
-    Stopped left source_faults written faults source_old source_now old now start held end
+    Stopped left source_faults written faults source_old source_now old now start held most end

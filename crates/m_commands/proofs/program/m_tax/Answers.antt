@@ -1,5 +1,6 @@
 use Rattle.std.proofs.Common.{ap}
 use Rattle.m_plan.specs.Views.{InputView}
+use Rattle.m_commands.proofs.Bounds.{bounded_of}
 use Rattle.m_commands.proofs.Clauses.{text_of, writing_of, stopping_of}
 use Rattle.m_commands.proofs.Compiling.{writes_of}
 use Rattle.m_commands.proofs.Faults.{counted_of, memory_of, quiet_of, left_of, told_of, usage_of}
@@ -25,6 +26,9 @@ returns-clause-input_left g c = λ unread. ap (λ (v : InputView). v.left) (left
 
 pub returns-clause-input_faults : goal.returns-clause-input_faults
 returns-clause-input_faults g c = λ unread. ap (λ (v : InputView). v.faults) (left_of _ _ _ _ _ _ _ _ c.perform.ensures unread)
+
+pub returns-clause-input_taken : goal.returns-clause-input_taken
+returns-clause-input_taken g c = bounded_of _ _ _ _ _ _ _ _ c.perform.ensures
 
 pub returns-clause-read_told : goal.returns-clause-read_told
 returns-clause-read_told g c = told_of _ _ _ _ _ _ _ _ c.perform.ensures

@@ -15,15 +15,15 @@ returns-in-Done g c =
 pub returns-in-ReadFault : goal.returns-in-ReadFault
 returns-in-ReadFault g c =
     let end = c.in-ReadFault.ensures.end in
-    unread end.0 end.1.moved c.in-ReadFault.ensures.counts.0
+    unread end.0 end.2.moved end.1 c.in-ReadFault.ensures.counts.0
     (prints_behind (output_view g.K.Sink.written g.K.Sink.faults c.args.out.now) (output_view g.K.Sink.written g.K.Sink.faults c.serve.new.out)
     (output_view g.K.Sink.written g.K.Sink.faults c.print_fault.new.out) (ended_of (g.R.Replier.replies c.args.replier.now) end.0) unreadable_input_line ReadFault c.print_fault.result
-    end.1.appended c.in-ReadFault.ensures.counts.1 c.print_fault.ensures)
+    end.2.appended c.in-ReadFault.ensures.counts.1 c.print_fault.ensures)
 
 pub returns-in-WriteFault : goal.returns-in-WriteFault
 returns-in-WriteFault g c =
     let end = c.in-WriteFault.ensures.end in
-    unwritten end.0 end.1 end.2 end.3 c.in-WriteFault.ensures.counts.0 (end.4, c.in-WriteFault.ensures.counts.1) refl
+    unwritten end.0 end.1 end.3 end.2 end.4 c.in-WriteFault.ensures.counts.0 (end.5, c.in-WriteFault.ensures.counts.1) refl
 
 pub returns : goal.returns
 returns g c =

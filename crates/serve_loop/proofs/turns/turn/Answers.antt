@@ -10,7 +10,7 @@ pub returns-in-Ok-eq0 : goal.returns-in-Ok-eq0
 returns-in-Ok-eq0 g c =
     let none = c.in-Ok-eq0.field-0-test in
     stopped_at_end g.S.Source.left g.S.Source.faults g.K.Sink.written g.K.Sink.faults c.args.input.now c.take_piece.new.input c.args.out.now c.finish.new.out (g.R.Replier.replies c.args.replier.now)
-    (take c.args.held c.args.room.now) c.finish.result (rw none at c.in-Ok-eq0.ensures.moved) (c.in-Ok-eq0.ensures.end none) c.in-Ok-eq0.ensures.faultless
+    (take c.args.held c.args.room.now) c.args.most c.finish.result (rw none at c.in-Ok-eq0.ensures.moved) (c.in-Ok-eq0.ensures.end none) c.in-Ok-eq0.ensures.faultless
     (rw c.take_piece.ensures.kept at c.finish.ensures)
 
 pub returns-in-Err-do_ended : goal.returns-in-Err-do_ended
@@ -23,6 +23,7 @@ returns-in-Err-do_ended g c =
       (
         piece,
         told_rest (g.S.Source.left c.take_piece.new.input),
+        omega (arith, c.in-Ok.ensures.within.1, length-take c.in-Ok.count (drop c.args.held c.take_piece.new.room)),
         c.in-Ok.ensures.moved,
         told_is_left (g.S.Source.left c.take_piece.new.input),
         record {

@@ -1,0 +1,60 @@
+-- The clause on what is taken of the input.
+use Rattle.std.proofs.Common.{◌≡◌, ◌⊎◌, ℕ, ◌<◌, List, [], length, Option, None, Some, refl, sym, ap, ◌∙◌, inl, inr, arith}
+use Rattle.std.specs.Io.KnownBytes.{prepend_known}
+use Rattle.m_places.specs.declared.limits.TheConstants.{INPUT_BYTES}
+use Rattle.m_plan.specs.Printing.{Prints}
+use Rattle.m_plan.specs.Views.{FilesView, InputView, OutputView}
+use Rattle.m_plan.specs.declared.status.Status.{Status}
+use Rattle.m_plan.specs.declared.status.Status.TheVariants.{Refused, WriteFault}
+use Rattle.m_work.specs.Serves as serve
+use Rattle.m_work.specs.Serving.{Served, to_its_end, unread, too_long, unwritten}
+use Rattle.m_commands.specs.Clauses.{KeepsInputLimit}
+use Rattle.m_commands.specs.declared.work.Work.{Work}
+use Rattle.m_commands.specs.declared.work.Work.TheVariants.{Run, Serve, Batch, Large, Compile, Exec, Check, Lint, Cases}
+use Rattle.m_commands.specs.inner.Courses.{Course, WorkIsAnswered, is_no_command, has_no_memory, ended, answered}
+
+nothing : (known : Option (List ℕ)) → prepend_known [] known ≡ known
+nothing None = refl
+nothing (Some bytes) = refl
+
+-- nothing was taken
+untouched : (heard told : InputView) (status : Status) → told ≡ heard → KeepsInputLimit heard told status
+untouched heard told status same = ([], ap (λ (v : InputView). v.left) (sym same) ∙ sym (nothing told.left), omega arith, λ full. absurd (omega (arith, full)))
+
+-- less was taken than may be
+less : (heard told : InputView) (status : Status) (taken : List ℕ) → heard.left ≡ prepend_known taken told.left → length taken < INPUT_BYTES
+    → KeepsInputLimit heard told status
+less heard told status taken moved few = (taken, moved, omega (arith, few), λ full. absurd (omega (arith, few, full)))
+
+-- the line that says why was printed, or its write failed
+said : (text : List ℕ) (old new : OutputView) (status : Status) → Prints text Refused old new status → (status ≡ Refused) ⊎ (status ≡ WriteFault)
+said text old new status (inl p) = inl p.1
+said text old new status (inr p) = inr p.1
+
+session_bounded : (whole each : List ℕ → List ℕ) (heard told : InputView) (old new : OutputView) (status : Status)
+    → Served whole each heard told old new status → KeepsInputLimit heard told status
+session_bounded whole each heard told old new status (to_its_end taken moved few none calm appends is) = less heard told status taken moved few
+session_bounded whole each heard told old new status (unread taken moved few rose p) = less heard told status taken moved few
+session_bounded whole each heard told old new status (too_long taken moved full calm p) = (taken, moved, omega (arith, full), λ e. said _ old new status p)
+session_bounded whole each heard told old new status (unwritten taken rest moved within left calm breaks is) = (taken, moved, within, λ full. inr is)
+
+work_bounded : (work : Work) (heard told : InputView) (old new : OutputView) (status : Status)
+    → WorkIsAnswered work heard told old new status → KeepsInputLimit heard told status
+work_bounded (Run source rows) heard told old new status a = untouched heard told status a.0
+work_bounded (Serve source rows) heard told old new status (serve.refused line r same p) = untouched heard told status same
+work_bounded (Serve source rows) heard told old new status (serve.no_memory same n m) = untouched heard told status same
+work_bounded (Serve source rows) heard told old new status (serve.served scheme explains pairs s done) = session_bounded _ _ heard told old new status done
+work_bounded (Batch source table) heard told old new status a = untouched heard told status a.0
+work_bounded (Large n) heard told old new status a = untouched heard told status a.0
+work_bounded (Compile source) heard told old new status a = untouched heard told status a.0
+work_bounded (Exec code rows) heard told old new status a = untouched heard told status a.0
+work_bounded (Check source rows report) heard told old new status a = untouched heard told status a.0
+work_bounded (Lint source) heard told old new status a = untouched heard told status a.0
+work_bounded (Cases source table) heard told old new status a = untouched heard told status a.0
+
+pub bounded_of : (words : List (List ℕ)) (before after : FilesView) (heard told : InputView) (old new : OutputView) (status : Status)
+    → Course words before after heard told old new status → KeepsInputLimit heard told status
+bounded_of words before after heard told old new status (is_no_command n s h p) = untouched heard told status h
+bounded_of words before after heard told old new status (has_no_memory s h o e) = untouched heard told status h
+bounded_of words before after heard told old new status (ended command ending c g h p) = untouched heard told status h
+bounded_of words before after heard told old new status (answered command work c g k a) = work_bounded work heard told old new status a
