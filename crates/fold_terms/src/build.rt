@@ -4,7 +4,7 @@ ghost use Rattle.std.specs.List.{AllByRecursion};
 ghost use Rattle.definedness.specs.Facts.{IsFact, one_value, fact_of_value};
 ghost use Rattle.flat_code.specs.Runs.{IsNode, IsCheck, IsFlat};
 ghost use Rattle.flat_code.specs.Tidy.{IsFolded};
-ghost use Rattle.fold_terms.specs.Drafts.{Draft, Grows, StandsFor};
+ghost use Rattle.fold_terms.specs.Drafts.{Draft, Grows, AddsAnswer, StandsFor};
 ghost use Rattle.fold_terms.specs.inner.Built.{IsBuilt, Longer};
 
 use crate::known::KnownFacts;
@@ -43,6 +43,7 @@ impl Parts {
         ensures inputs { self.new.inputs ≡ self.old.inputs }
         ensures built { IsBuilt self.old.inputs self.new.nodes self.new.facts }
         ensures grows { Longer self.old.nodes self.new.nodes }
+        ensures asked { IfOk result (AddsAnswer self.old.nodes self.new.nodes) }
         ensures err { OnErr result (self.new.nodes ≡ self.old.nodes) }
         ensures stands { IfOk result (StandsFor self.new.nodes node) }
     {
@@ -122,6 +123,7 @@ impl Builder {
         requires room { length self.old.nodes < 4_294_967_295 }
         ensures stands { IfOk result (StandsFor self.new.nodes node) }
         ensures grows { Grows self.old self.new }
+        ensures asked { IfOk result (AddsAnswer self.old.nodes self.new.nodes) }
         ensures err { OnErr result (self.new ≡ self.old) }
         ensures folded { IsFolded self.new.nodes }
     {
