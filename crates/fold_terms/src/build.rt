@@ -117,7 +117,8 @@ impl Builder {
     }
 
     /// The number of a node with the value of this one, for each list of values that programs are asked
-    /// for. At most one node is added, and the nodes that were there stay. Its only error is running out of memory.
+    /// for. At most one node is added, and then it is the one that is answered; the nodes that were there stay. Its only error is
+    /// running out of memory.
     pub fn push(&mut self, node: Node) -> Result<u32, AllocError>
         requires node { IsNode self.old.inputs (length self.old.nodes) node }
         requires room { length self.old.nodes < 4_294_967_295 }
