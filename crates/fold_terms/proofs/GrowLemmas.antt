@@ -14,6 +14,7 @@ use Rattle.flat_code.specs.Tidy.{IsNormal, IsOpen, form, has_form}
 use Rattle.flat_code.specs.inner.Renumber.{AreValid}
 use Rattle.flat_code.proofs.ReadLemmas.{entries-length, entries-push, at-push, at-last, node-push, node-last}
 use Rattle.common_terms.specs.Numbers.{IsEntered, IsAbsent}
+use Rattle.fold_terms.specs.Drafts.{AddsAnswer}
 use Rattle.fold_terms.specs.inner.Built.{IsBuilt, Longer, Extends}
 
 pub err-then : {X E : Type 0} (r : Result X E) {P Q : Type 0} → (P → Q) → OnErr r P → OnErr r Q
@@ -139,3 +140,18 @@ cut-either (Ok k) count nodes nodes' nodes'' known known' known'' node fact buil
     entered.adds
 cut-either (Err e) count nodes nodes' nodes'' known known' known'' node fact built kept more all entered same cut add =
     cut-same count nodes nodes' nodes'' known known' known'' fact built same kept more cut
+
+-- a node that wasn't there and is now is the last one
+last-number : (old new : List Node) (node : Node) (k : ℕ) → new ≡ old ++ node ∷ [] → IsAbsent old node → k < length new → node_at new k ≡ node → k ≡ length old
+last-number old new node k added absent within is = ⊎_elim
+    (λ l. absurd (absent k l (sym (node-push old node k l) ∙ ap (λ nodes. node_at nodes k) (sym added) ∙ is)))
+    (λ e. e)
+    (push-cases old node k (subst (λ nodes. k < length nodes) added within))
+
+-- what the table adds is its answer
+pub asked-entered : {E : Type 0} (r : Result ℕ E) (old noted new : List Node) (node : Node) → new ≡ noted → IfOk r (IsEntered old noted node) → IfOk r (AddsAnswer old new)
+asked-entered (Ok k) old noted new node kept entered = ⊎_elim
+    (λ e. inl (kept ∙ e))
+    (λ a. inr (last-number old noted node k a.0 a.1 entered.within entered.is))
+    entered.adds
+asked-entered (Err e) old noted new node kept entered = tt

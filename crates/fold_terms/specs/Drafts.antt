@@ -15,6 +15,10 @@ pub record Draft : Type 0 where
 abbrev pub Grows : Draft → Draft → Type 0
 Grows old new = (new ≡ old) ⊎ ((node : Node) × (new ≡ record old { nodes = old.nodes ++ node ∷ [] }))
 
+-- Nothing is added, or the node that is has number k.
+abbrev pub AddsAnswer : List Node → List Node → ℕ → Type 0
+AddsAnswer old new k = (new ≡ old) ⊎ (k ≡ length old)
+
 -- Node k is there, and has the value of this node over these nodes, for each list of values that programs are asked for.
 pub record StandsFor (nodes : List Node) (node : Node) (k : ℕ) : Type 0 where
   pub within : k < length nodes

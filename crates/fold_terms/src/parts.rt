@@ -6,6 +6,7 @@ ghost use Rattle.flat_code.specs.Entries.{node_at, entry_at};
 ghost use Rattle.flat_code.specs.Facts.{facts};
 ghost use Rattle.flat_code.specs.Tidy.{IsNormal, IsOpen, has_form};
 ghost use Rattle.common_terms.specs.Numbers.{IsEntered};
+ghost use Rattle.fold_terms.specs.Drafts.{AddsAnswer};
 ghost use Rattle.fold_terms.specs.inner.Built.{IsBuilt, Longer, Extends};
 
 use crate::known::KnownFacts;
@@ -102,6 +103,7 @@ impl Parts {
         ensures inputs { self.new.inputs ≡ self.old.inputs }
         ensures built { IsBuilt self.old.inputs self.new.nodes self.new.facts }
         ensures grows { Longer self.old.nodes self.new.nodes }
+        ensures asked { IfOk result (AddsAnswer self.old.nodes self.new.nodes) }
         ensures err { OnErr result (self.new.nodes ≡ self.old.nodes) }
         ensures within { IfOk result (λ k. k < length self.new.nodes) }
         ensures node { IfOk result (λ k. node_at self.new.nodes k ≡ node) }
