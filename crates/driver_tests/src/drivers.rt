@@ -1,8 +1,9 @@
 //! Drivers that are read, and the lines at which others are refused.
+use crate::lines::other_at;
 use m_fixed::Op;
 use mpp_lexer::DriverFault;
 use mpp_parser::{CommandNode, DNode, DTerm, Driver, Kind, parse_driver};
-use std::alloc::{AllocError, Global};
+use std::alloc::Global;
 use std::test::Fail;
 
 // Texts that are drivers, with the number of their functions.
@@ -82,78 +83,110 @@ const FAULTS: [(&[u8], DriverFault); 30] = [
     (b"f():\n  A <- g(B)", DriverFault::DriverSyntax(1)),
 ];
 
+// The tables, out of reach of the proofs of what goes over them.
+
+fn all_drivers() -> &'static [(&'static [u8], usize)] {
+    &DRIVERS
+}
+
+fn all_faults() -> &'static [(&'static [u8], DriverFault)] {
+    &FAULTS
+}
+
+// Whether a text is a driver with so many functions.
+fn is_driver(alloc: Global, text: &[u8], functions: usize) -> bool {
+    if text.len() > 65_536 {
+        return false;
+    }
+    match parse_driver(alloc, text) {
+        Ok(driver) => driver.functions.as_slice().len() == functions,
+        Err(_) => false,
+    }
+}
+
+// Whether a text is none, by this fault.
+fn is_fault(alloc: Global, text: &[u8], wanted: DriverFault) -> bool {
+    if text.len() > 65_536 {
+        return false;
+    }
+    match parse_driver(alloc, text) {
+        Ok(_) => false,
+        Err(fault) => fault == wanted,
+    }
+}
+
 #[test]
 fn drivers(rt: HostRuntime) -> Result<(), Fail> {
-    for (text, functions) in DRIVERS {
-        assert!(rt; text.len() < 4_096);
-        let driver = parse_driver(rt.alloc(), text)?;
-        assert_eq!(rt; driver.functions.as_slice().len(), functions, "in {text:?}");
+    for (text, functions) in all_drivers() {
+        if !is_driver(rt.alloc(), text, *functions) {
+            return Err(other_at(rt.alloc(), text));
+        }
     }
     Ok(())
 }
 
 #[test]
-fn faults(rt: HostRuntime) {
-    for (text, fault) in FAULTS {
-        assert!(rt; text.len() < 4_096);
-        assert_eq!(rt;
-            parse_driver(rt.alloc(), text).err(),
-            Some(fault),
-            "in {text:?}"
-        );
+fn faults(rt: HostRuntime) -> Result<(), Fail> {
+    for (text, fault) in all_faults() {
+        if !is_fault(rt.alloc(), text, *fault) {
+            return Err(other_at(rt.alloc(), text));
+        }
+    }
+    Ok(())
+}
+
+// Adds a word so many times. Where there is no memory the text stays short, so it isn't what was wanted.
+fn add(text: &mut Vec<u8>, word: &[u8], count: usize) {
+    for _ in 0..count {
+        let _added = text.extend_from_slice(word);
     }
 }
 
 // A function of so many conditions, each in the block of the one before, and a command in the last.
-fn nested(alloc: Global, conditions: usize) -> Result<Vec<u8>, AllocError> {
-    let mut text = Vec::from_slice(alloc, b"f():\n")?;
+fn nested(alloc: Global, conditions: usize) -> Vec<u8> {
+    let mut text = Vec::new(alloc);
+    add(&mut text, b"f():\n", 1);
     for level in 0..conditions {
-        for _ in 0..level {
-            text.push(b' ')?;
-        }
-        text.extend_from_slice(b" if A:\n")?;
+        add(&mut text, b" ", level);
+        add(&mut text, b" if A:\n", 1);
     }
-    for _ in 0..conditions {
-        text.push(b' ')?;
-    }
-    text.extend_from_slice(b" A = 1\n")?;
-    Ok(text)
+    add(&mut text, b" ", conditions);
+    add(&mut text, b" A = 1\n", 1);
+    text
 }
 
 // A command whose term stands in so many brackets.
-fn in_brackets(alloc: Global, brackets: usize) -> Result<Vec<u8>, AllocError> {
-    let mut text = Vec::from_slice(alloc, b"f():\n A = ")?;
-    for _ in 0..brackets {
-        text.push(b'(')?;
-    }
-    text.push(b'1')?;
-    for _ in 0..brackets {
-        text.push(b')')?;
-    }
-    Ok(text)
+fn in_brackets(alloc: Global, brackets: usize) -> Vec<u8> {
+    let mut text = Vec::new(alloc);
+    add(&mut text, b"f():\n A = ", 1);
+    add(&mut text, b"(", brackets);
+    add(&mut text, b"1", 1);
+    add(&mut text, b")", brackets);
+    text
 }
 
 #[test]
-fn depths(rt: HostRuntime) -> Result<(), Fail> {
-    let text = nested(rt.alloc(), 63)?;
-    assert!(rt; text.len() < 65_536);
-    assert!(rt; parse_driver(rt.alloc(), &text).is_ok());
-    let text = nested(rt.alloc(), 64)?;
-    assert!(rt; text.len() < 65_536);
-    assert_eq!(rt;
-        parse_driver(rt.alloc(), &text).err(),
-        Some(DriverFault::DriverTooDeep(66))
+fn depths_of_blocks(rt: HostRuntime) {
+    assert!(rt; is_driver(rt.alloc(), &nested(rt.alloc(), 63), 1));
+    assert!(rt;
+        is_fault(
+            rt.alloc(),
+            &nested(rt.alloc(), 64),
+            DriverFault::DriverTooDeep(66)
+        )
     );
-    let text = in_brackets(rt.alloc(), 256)?;
-    assert!(rt; text.len() < 65_536);
-    assert!(rt; parse_driver(rt.alloc(), &text).is_ok());
-    let text = in_brackets(rt.alloc(), 257)?;
-    assert!(rt; text.len() < 65_536);
-    assert_eq!(rt;
-        parse_driver(rt.alloc(), &text).err(),
-        Some(DriverFault::DriverTooDeep(2))
+}
+
+#[test]
+fn depths_of_terms(rt: HostRuntime) {
+    assert!(rt; is_driver(rt.alloc(), &in_brackets(rt.alloc(), 256), 1));
+    assert!(rt;
+        is_fault(
+            rt.alloc(),
+            &in_brackets(rt.alloc(), 257),
+            DriverFault::DriverTooDeep(2)
+        )
     );
-    Ok(())
 }
 
 fn first_command(driver: &Driver) -> Option<&CommandNode> {
@@ -182,26 +215,62 @@ fn is_negated_equation(term: &DTerm) -> bool {
     }
 }
 
+// Whether a command sets the cell of line 2 to such a term.
+fn is_set(command: &CommandNode) -> bool {
+    match command {
+        CommandNode::Set(2, _, term) => is_negated_equation(term),
+        _ => false,
+    }
+}
+
+// Whether a command is a partition of line 3 with the two values of `taxbenefit`, and one command in its block.
+fn is_partition(command: &CommandNode) -> bool {
+    let CommandNode::Partition(3, Kind::Attribute(name, values), block) = command else {
+        return false;
+    };
+    name.bytes() == b"avfisc".as_slice() && values.as_slice().len() == 2 && block.len() == 1
+}
+
+// Whether a command is a condition of line 2 with one command in its first block and two in its second.
+fn is_choice(command: &CommandNode) -> bool {
+    match command {
+        CommandNode::If(2, _, block, other) => block.len() == 1 && other.len() == 2,
+        _ => false,
+    }
+}
+
+// The text of each tree: the `else` of the last belongs to the `if` at its own indentation.
+fn text_of(tree: u32) -> &'static [u8] {
+    match tree {
+        0 => b"f():\n  A = not B == C - D - 1",
+        1 => b"f():\n\n  partition with taxbenefit:\n    del A",
+        _ => b"f():\n if A:\n  if B:\n   del A\n else:\n  del B\n  del C",
+    }
+}
+
+fn is_tree(driver: &Driver, tree: u32) -> bool {
+    match (first_command(driver), tree) {
+        (Some(command), 0) => is_set(command),
+        (Some(command), 1) => is_partition(command),
+        (Some(command), _) => is_choice(command),
+        (None, _) => false,
+    }
+}
+
+fn is_read(alloc: Global, tree: u32) -> bool {
+    let text = text_of(tree);
+    if text.len() > 65_536 {
+        return false;
+    }
+    match parse_driver(alloc, text) {
+        Ok(driver) => is_tree(&driver, tree),
+        Err(_) => false,
+    }
+}
+
 #[test]
-fn trees(rt: HostRuntime) -> Result<(), Fail> {
-    let driver = parse_driver(rt.alloc(), b"f():\n  A = not B == C - D - 1")?;
-    assert!(rt;
-        matches!(first_command(&driver), Some(CommandNode::Set(2, _, term)) if is_negated_equation(term))
-    );
-    let driver = parse_driver(
-        rt.alloc(),
-        b"f():\n\n  partition with taxbenefit:\n    del A",
-    )?;
-    assert!(rt;
-        matches!(first_command(&driver), Some(CommandNode::Partition(3, Kind::Attribute(name, values), block)) if name.bytes() == b"avfisc".as_slice() && values.as_slice().len() == 2 && block.len() == 1)
-    );
-    // The `else` belongs to the `if` at its own indentation.
-    let driver = parse_driver(
-        rt.alloc(),
-        b"f():\n if A:\n  if B:\n   del A\n else:\n  del B\n  del C",
-    )?;
-    assert!(rt;
-        matches!(first_command(&driver), Some(CommandNode::If(2, _, block, other)) if block.len() == 1 && other.len() == 2)
-    );
-    Ok(())
+fn trees(rt: HostRuntime) {
+    for tree in 0..3 {
+        assert!(rt; is_read(rt.alloc(), tree), "tree {tree}");
+    }
 }

@@ -1,5 +1,6 @@
 //! Lines of drivers, their tokens, and the first line without them.
 use mpp_lexer::{DriverFault, DriverPiece, DriverSign, Line, lex_driver};
+use std::alloc::Global;
 use std::test::Fail;
 
 #[derive(Clone, Copy)]
@@ -10,7 +11,7 @@ enum Want {
 }
 
 // Texts that have lines: of each line its number, its indentation and its tokens.
-const LINES: [(&[u8], &[(u32, u32, &[Want])]); 9] = [
+static LINES: [(&[u8], &[(u32, u32, &[Want])]); 9] = [
     (b"", &[]),
     (b"\n   \r\n# a tab\t and \xE9\n  # more\n", &[]),
     (
@@ -155,37 +156,89 @@ fn is_line(line: &Line, want: (u32, u32, &[Want])) -> bool {
             .all(|(token, wanted)| is_token(token, *wanted))
 }
 
+// The tables, out of reach of the proofs of what goes over them.
+
+fn all_lines() -> &'static [(&'static [u8], &'static [(u32, u32, &'static [Want])])] {
+    &LINES
+}
+
+fn all_faults() -> &'static [(&'static [u8], u32)] {
+    &FAULTS
+}
+
+fn are_lines(lines: &[Line], wanted: &[(u32, u32, &[Want])]) -> bool {
+    lines.len() == wanted.len()
+        && lines
+            .iter()
+            .zip(wanted)
+            .all(|(line, want)| is_line(line, *want))
+}
+
+// Whether a text has these lines.
+fn has_lines(alloc: Global, text: &[u8], wanted: &[(u32, u32, &[Want])]) -> bool {
+    if text.len() > 65_536 {
+        return false;
+    }
+    match lex_driver(alloc, text) {
+        Ok(lines) => are_lines(&lines, wanted),
+        Err(_) => false,
+    }
+}
+
+// Whether a text has none, by a bad token in this line.
+fn is_fault(alloc: Global, text: &[u8], line: u32) -> bool {
+    if text.len() > 65_536 {
+        return false;
+    }
+    match lex_driver(alloc, text) {
+        Ok(_) => false,
+        Err(fault) => fault == DriverFault::DriverToken(line),
+    }
+}
+
+// Fails at this text.
+pub fn other_at(alloc: Global, text: &[u8]) -> Fail {
+    match format!(in alloc; "another answer at {text:?}") {
+        Ok(told) => Fail::from(told),
+        Err(_) => Fail::from("another answer"),
+    }
+}
+
 #[test]
 fn lines_with_tokens(rt: HostRuntime) -> Result<(), Fail> {
-    for (text, wanted) in LINES {
-        assert!(rt; text.len() < 4_096);
-        let lines = lex_driver(rt.alloc(), text)?;
-        assert_eq!(rt; lines.len(), wanted.len(), "in {text:?}");
-        for (line, want) in lines.iter().zip(wanted) {
-            assert!(rt; is_line(line, *want), "in {text:?}");
+    for (text, wanted) in all_lines() {
+        if !has_lines(rt.alloc(), text, wanted) {
+            return Err(other_at(rt.alloc(), text));
         }
     }
     Ok(())
 }
 
 #[test]
-fn first_lines_without(rt: HostRuntime) {
-    for (text, line) in FAULTS {
-        assert!(rt; text.len() < 4_096);
-        assert_eq!(rt;
-            lex_driver(rt.alloc(), text).err(),
-            Some(DriverFault::DriverToken(line)),
-            "in {text:?}"
-        );
+fn first_lines_without(rt: HostRuntime) -> Result<(), Fail> {
+    for (text, line) in all_faults() {
+        if !is_fault(rt.alloc(), text, *line) {
+            return Err(other_at(rt.alloc(), text));
+        }
+    }
+    Ok(())
+}
+
+// Whether the one line of a text is the last of so many.
+fn is_last(alloc: Global, text: &[u8], number: u32) -> bool {
+    if text.len() > 1_048_576 {
+        return false;
+    }
+    match lex_driver(alloc, text) {
+        Ok(lines) => lines.len() == 1 && lines[0].number == number,
+        Err(_) => false,
     }
 }
 
 #[test]
 fn many_lines(rt: HostRuntime) -> Result<(), Fail> {
     let mut text = vec![in rt.alloc(); b'\n'; 1_000_000]?;
-    text.push(b'A')?;
-    let lines = lex_driver(rt.alloc(), &text)?;
-    assert_eq!(rt; lines.len(), 1);
-    assert_eq!(rt; lines[0].number, 1_000_001);
+    let _added = text.push(b'A');
+    assert!(rt; is_last(rt.alloc(), &text, 1_000_001));
     Ok(())
 }

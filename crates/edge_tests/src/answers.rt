@@ -1,4 +1,5 @@
 //! The lines of answers, as they are printed.
+use crate::rows::other_at;
 use m_fixed::{Amount, Value};
 use m_places::{ErrorKind, Label, Name, Seq, SharedName};
 use m_ports::{MemSink, Sink};
@@ -6,15 +7,6 @@ use observables::{Face, FaceLabel, Stop, named_face};
 use std::alloc::Global;
 use std::test::Fail;
 use tax_print::{print_stop, print_values};
-
-/// Fails, naming what was wanted, where anything else was printed.
-fn check(alloc: Global, given: bool, out: &MemSink, lines: &str) -> Result<(), Fail> {
-    if given && out.written() == lines.as_bytes() {
-        return Ok(());
-    }
-    let text = str::from_utf8(out.written()).unwrap_or("no text");
-    Err(Fail::from(format!(in alloc; "{lines} is printed as {text}")?))
-}
 
 fn shared(alloc: Global, bytes: &[u8]) -> Result<SharedName, Fail> {
     Ok(SharedName::new(alloc, Name::new(alloc, bytes)?)?)
@@ -39,7 +31,7 @@ fn label(
 }
 
 /// Three verifications: each with its error, its kind and its text.
-const VERIFICATIONS: [(&[u8], &[u8], ErrorKind, &[u8]); 3] = [
+static VERIFICATIONS: [(&[u8], &[u8], ErrorKind, &[u8]); 3] = [
     (
         b"2000",
         b"A20",
@@ -50,11 +42,15 @@ const VERIFICATIONS: [(&[u8], &[u8], ErrorKind, &[u8]); 3] = [
     (b"7", b"I7", ErrorKind::Informative, b"I:7:\xE9"),
 ];
 
+fn verifications() -> &'static [(&'static [u8], &'static [u8], ErrorKind, &'static [u8])] {
+    &VERIFICATIONS
+}
+
 /// These and a line of the driver.
 fn labels(alloc: Global) -> Result<Seq<FaceLabel>, Fail> {
     let mut labels = Vec::new(alloc);
-    for (verif, error, kind, text) in VERIFICATIONS {
-        labels.push(label(alloc, verif, error, kind, text)?)?;
+    for (verif, error, kind, text) in verifications() {
+        labels.push(label(alloc, verif, error, *kind, text)?)?;
     }
     labels.push(FaceLabel::DriverLine(2))?;
     Ok(Seq::from_vec(labels))
@@ -78,7 +74,7 @@ fn number(millionths: i128) -> Value {
 }
 
 /// The number of an output, the millionths of its value, and its line.
-const AMOUNTS: [(u32, i128, &str); 6] = [
+static AMOUNTS: [(u32, i128, &str); 6] = [
     (0, 1_500_500_000, "IRN = 1500.5\n"),
     (0, 0, "IRN = 0\n"),
     (1, 10_000_000, "T[1] = 10\n"),
@@ -87,43 +83,78 @@ const AMOUNTS: [(u32, i128, &str); 6] = [
     (2, 10_000_000_000_000_000_000, "MARG = 10000000000000\n"),
 ];
 
-/// The number of an output, a value that is no amount, and its line.
-const NO_AMOUNTS: [(u32, Value, &str); 3] = [
-    (0, Value::Undef, "IRN undefined\n"),
-    (0, Value::Over, "IRN over\n"),
-    (1, Value::Undef, "T[1] undefined\n"),
+/// The number of an output, whether its value is over, else it is undefined, and its line.
+static NO_AMOUNTS: [(u32, bool, &str); 3] = [
+    (0, false, "IRN undefined\n"),
+    (0, true, "IRN over\n"),
+    (1, false, "T[1] undefined\n"),
 ];
 
-/// Fails, naming the line, where the value of an output is printed as anything else.
-fn check_value(alloc: Global, face: &Face, k: u32, value: Value, line: &str) -> Result<(), Fail> {
+// The tables, out of reach of the proofs of what goes over them.
+
+fn amounts() -> &'static [(u32, i128, &'static str)] {
+    &AMOUNTS
+}
+
+fn no_amounts() -> &'static [(u32, bool, &'static str)] {
+    &NO_AMOUNTS
+}
+
+fn stops() -> &'static [(Stop, &'static str)] {
+    &STOPS
+}
+
+/// An output that fails nowhere.
+fn sink(alloc: Global) -> Option<MemSink> {
+    MemSink::new(alloc, 5, Vec::new(alloc)).ok()
+}
+
+/// Whether the value of an output is printed as this line.
+fn is_value_line(alloc: Global, face: &Face, k: u32, value: Value, line: &str) -> bool {
     if face.outputs.as_slice().len() != 3 || k >= 3 {
-        return Err(Fail::from("one of three outputs"));
+        return false;
     }
-    let mut out = MemSink::new(alloc, 5, Vec::new(alloc))?;
-    let given = print_values(face, k, value, &mut out).is_ok();
-    check(alloc, given, &out, line)
+    match sink(alloc) {
+        Some(mut out) => {
+            print_values(face, k, value, &mut out).is_ok() && out.written() == line.as_bytes()
+        }
+        None => false,
+    }
+}
+
+fn check_amounts(alloc: Global, face: &Face) -> Result<(), Fail> {
+    for (k, millionths, line) in amounts() {
+        if !is_value_line(alloc, face, *k, number(*millionths), line) {
+            return Err(other_at(alloc, line.as_bytes()));
+        }
+    }
+    Ok(())
+}
+
+fn check_no_amounts(alloc: Global, face: &Face) -> Result<(), Fail> {
+    for (k, is_over, line) in no_amounts() {
+        let value = if *is_over { Value::Over } else { Value::Undef };
+        if !is_value_line(alloc, face, *k, value, line) {
+            return Err(other_at(alloc, line.as_bytes()));
+        }
+    }
+    Ok(())
 }
 
 #[test]
 fn lines_of_amounts(rt: HostRuntime) -> Result<(), Fail> {
     let face = face(rt.alloc())?;
-    for (k, millionths, line) in AMOUNTS {
-        check_value(rt.alloc(), &face, k, number(millionths), line)?;
-    }
-    Ok(())
+    check_amounts(rt.alloc(), &face)
 }
 
 #[test]
 fn lines_of_no_amounts(rt: HostRuntime) -> Result<(), Fail> {
     let face = face(rt.alloc())?;
-    for (k, value, line) in NO_AMOUNTS {
-        check_value(rt.alloc(), &face, k, value, line)?;
-    }
-    Ok(())
+    check_no_amounts(rt.alloc(), &face)
 }
 
 /// Stops, and their lines.
-const STOPS: [(Stop, &str); 6] = [
+static STOPS: [(Stop, &str); 6] = [
     (
         Stop::Failed(0),
         "failed 2000 A20 anomalie\nA:20:00:revenu nul:N\n",
@@ -146,28 +177,34 @@ fn is_printed(face: &Face, stop: Stop, out: &mut MemSink) -> bool {
     }
 }
 
-/// Fails, naming the lines, where a stop is printed as anything else.
-fn check_stop(alloc: Global, face: &Face, stop: Stop, lines: &str) -> Result<(), Fail> {
-    let mut out = MemSink::new(alloc, 5, Vec::new(alloc))?;
-    let given = is_printed(face, stop, &mut out);
-    check(alloc, given, &out, lines)
+/// Whether a stop is printed as these lines.
+fn is_stop_line(alloc: Global, face: &Face, stop: Stop, lines: &[u8]) -> bool {
+    match sink(alloc) {
+        Some(mut out) => is_printed(face, stop, &mut out) && out.written() == lines,
+        None => false,
+    }
+}
+
+fn check_stops(alloc: Global, face: &Face) -> Result<(), Fail> {
+    for (stop, lines) in stops() {
+        if !is_stop_line(alloc, face, *stop, lines.as_bytes()) {
+            return Err(other_at(alloc, lines.as_bytes()));
+        }
+    }
+    Ok(())
 }
 
 #[test]
 fn lines_of_stops(rt: HostRuntime) -> Result<(), Fail> {
     let face = face(rt.alloc())?;
-    for (stop, lines) in STOPS {
-        check_stop(rt.alloc(), &face, stop, lines)?;
-    }
-    Ok(())
+    check_stops(rt.alloc(), &face)
 }
 
 /// The text of an error is given as its bytes are, and these are no text of UTF-8.
 #[test]
 fn text_of_any_bytes(rt: HostRuntime) -> Result<(), Fail> {
     let face = face(rt.alloc())?;
-    let mut out = MemSink::new(rt.alloc(), 5, Vec::new(rt.alloc()))?;
-    assert!(rt; is_printed(&face, Stop::Failed(2), &mut out));
-    assert!(rt; out.written() == b"failed 7 I7 informative\nI:7:\xE9\n".as_slice());
+    let lines = b"failed 7 I7 informative\nI:7:\xE9\n";
+    assert!(rt; is_stop_line(rt.alloc(), &face, Stop::Failed(2), lines));
     Ok(())
 }

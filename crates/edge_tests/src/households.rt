@@ -2,8 +2,9 @@
 ghost use Rattle.std.specs.Prelude.{◌≡◌, IfOk};
 ghost use Rattle.observables.specs.Inputs.{codes_of};
 
+use crate::rows::other_at;
 use household::{Codes, HouseholdFault, read_household, values, values_into};
-use m_fixed::Value;
+use m_fixed::{Amount, Value};
 use m_names::Names;
 use m_places::Name;
 use observables::{Coded, InputType};
@@ -54,18 +55,31 @@ pub fn three_codes(alloc: Global) -> Result<Codes, Fail> {
     three_typed(alloc, &[])
 }
 
-#[test]
-fn codes(rt: HostRuntime) -> Result<(), Fail> {
-    let codes = three_codes(rt.alloc())?;
-    assert_eq!(rt; codes.len(), 3);
-    assert_eq!(rt; codes.find(b"1AJ"), Some(0));
-    assert_eq!(rt; codes.find(b"2AA"), Some(2));
-    assert_eq!(rt; codes.find(b"2AA "), None);
+/// Codes that are looked for, and their inputs.
+static FOUND: [(&[u8], Option<u32>); 3] = [(b"1AJ", Some(0)), (b"2AA", Some(2)), (b"2AA ", None)];
+
+fn found() -> &'static [(&'static [u8], Option<u32>)] {
+    &FOUND
+}
+
+fn check_found(alloc: Global, codes: &Codes) -> Result<(), Fail> {
+    for (code, input) in found() {
+        if codes.find(code) != *input {
+            return Err(other_at(alloc, code));
+        }
+    }
     Ok(())
 }
 
+#[test]
+fn codes(rt: HostRuntime) -> Result<(), Fail> {
+    let codes = three_codes(rt.alloc())?;
+    assert!(rt; codes.len() == 3);
+    check_found(rt.alloc(), &codes)
+}
+
 /// Households, and the inputs and millionths of their pairs.
-const HOUSEHOLDS: [(&[u8], &[(u32, i128)]); 14] = [
+static HOUSEHOLDS: [(&[u8], &[(u32, i128)]); 14] = [
     (b"code,amount\n1AJ,2500.5\n", &[(0, 2_500_500_000)]),
     (b"code,amount", &[]),
     (b"code,amount\n", &[]),
@@ -91,23 +105,79 @@ const HOUSEHOLDS: [(&[u8], &[(u32, i128)]); 14] = [
     ),
 ];
 
-#[test]
-fn households(rt: HostRuntime) -> Result<(), Fail> {
-    let codes = three_codes(rt.alloc())?;
-    for (bytes, pairs) in HOUSEHOLDS {
-        let household = read_household(rt.alloc(), bytes, &codes)?;
-        let read = household.pairs.as_slice();
-        assert_eq!(rt; read.len(), pairs.len(), "{bytes:?}");
-        for (pair, (input, millionths)) in read.iter().zip(pairs) {
-            assert_eq!(rt; pair.0, *input, "{bytes:?}");
-            assert_eq!(rt; pair.1.millionths(), *millionths, "{bytes:?}");
+// The tables, out of reach of the proofs of what goes over them.
+
+fn all_households() -> &'static [(&'static [u8], &'static [(u32, i128)])] {
+    &HOUSEHOLDS
+}
+
+fn all_refused() -> &'static [(&'static [u8], HouseholdFault)] {
+    &REFUSED
+}
+
+/// Whether these are the inputs and the millionths of the pairs.
+fn are_pairs(read: &[(u32, Amount)], pairs: &[(u32, i128)]) -> bool {
+    if read.len() != pairs.len() {
+        return false;
+    }
+    for (pair, wanted) in read.iter().zip(pairs) {
+        if pair.0 != wanted.0 || pair.1.millionths() != wanted.1 {
+            return false;
+        }
+    }
+    true
+}
+
+fn is_read_as(alloc: Global, bytes: &[u8], codes: &Codes, pairs: &[(u32, i128)]) -> bool {
+    match read_household(alloc, bytes, codes) {
+        Ok(household) => are_pairs(household.pairs.as_slice(), pairs),
+        Err(_) => false,
+    }
+}
+
+fn is_refused(alloc: Global, bytes: &[u8], codes: &Codes, wanted: HouseholdFault) -> bool {
+    match read_household(alloc, bytes, codes) {
+        Ok(_) => false,
+        Err(fault) => fault == wanted,
+    }
+}
+
+/// Fails at the first of these households that is read as anything but its pairs.
+pub fn check_read(
+    alloc: Global,
+    codes: &Codes,
+    rows: &[(&'static [u8], &'static [(u32, i128)])],
+) -> Result<(), Fail> {
+    for (bytes, pairs) in rows {
+        if !is_read_as(alloc, bytes, codes, pairs) {
+            return Err(other_at(alloc, bytes));
         }
     }
     Ok(())
 }
 
+/// Fails at the first of these households that isn't refused so.
+pub fn check_refused(
+    alloc: Global,
+    codes: &Codes,
+    rows: &[(&'static [u8], HouseholdFault)],
+) -> Result<(), Fail> {
+    for (bytes, fault) in rows {
+        if !is_refused(alloc, bytes, codes, *fault) {
+            return Err(other_at(alloc, bytes));
+        }
+    }
+    Ok(())
+}
+
+#[test]
+fn households(rt: HostRuntime) -> Result<(), Fail> {
+    let codes = three_codes(rt.alloc())?;
+    check_read(rt.alloc(), &codes, all_households())
+}
+
 /// Refused households, and the first fault of each.
-const REFUSED: [(&[u8], HouseholdFault); 40] = [
+static REFUSED: [(&[u8], HouseholdFault); 40] = [
     (b"", HouseholdFault::BadHeader),
     (b"\n\n", HouseholdFault::BadHeader),
     (b"code;amount\n1AJ,1\n", HouseholdFault::BadHeader),
@@ -176,98 +246,141 @@ const REFUSED: [(&[u8], HouseholdFault); 40] = [
 #[test]
 fn refusals(rt: HostRuntime) -> Result<(), Fail> {
     let codes = three_codes(rt.alloc())?;
-    for (bytes, wanted) in REFUSED {
-        let fault = read_household(rt.alloc(), bytes, &codes).err();
-        assert_eq!(rt; fault, Some(wanted), "{bytes:?}");
+    check_refused(rt.alloc(), &codes, all_refused())
+}
+
+/// Whether a value is so many millionths, or undefined.
+fn is_value(value: Value, millionths: Option<i128>) -> bool {
+    match value {
+        Value::Num(amount) => millionths == Some(amount.millionths()),
+        Value::Undef => millionths.is_none(),
+        Value::Over => false,
     }
-    Ok(())
+}
+
+fn are_values(values: &[Value], wanted: [Option<i128>; 3]) -> bool {
+    values.len() == 3
+        && is_value(values[0], wanted[0])
+        && is_value(values[1], wanted[1])
+        && is_value(values[2], wanted[2])
+}
+
+/// Whether the household of these bytes gives the three inputs these values.
+fn gives(alloc: Global, codes: &Codes, bytes: &[u8], wanted: [Option<i128>; 3]) -> bool {
+    match read_household(alloc, bytes, codes) {
+        Ok(household) => match values(alloc, &household, codes.len()) {
+            Ok(values) => are_values(&values, wanted),
+            Err(_) => false,
+        },
+        Err(_) => false,
+    }
 }
 
 #[test]
 fn value_of_each_input(rt: HostRuntime) -> Result<(), Fail> {
     let codes = three_codes(rt.alloc())?;
-    let household = read_household(rt.alloc(), b"code,amount\n2AA,3\nC08,-1.5\n", &codes)?;
-    let values = values(rt.alloc(), &household, codes.len())?;
-    assert_eq!(rt; values.len(), 3);
-    for (value, millionths) in values.iter().zip([None, Some(-1_500_000), Some(3_000_000)]) {
-        let read = match value {
-            Value::Num(amount) => Some(amount.millionths()),
-            Value::Undef => None,
-            Value::Over => Some(i128::MAX),
-        };
-        assert_eq!(rt; read, millionths);
-    }
+    let bytes = b"code,amount\n2AA,3\nC08,-1.5\n";
+    assert!(rt;
+        gives(
+            rt.alloc(),
+            &codes,
+            bytes,
+            [None, Some(-1_500_000), Some(3_000_000)]
+        )
+    );
     Ok(())
+}
+
+/// The same, in a list that is there.
+fn gives_into(alloc: Global, codes: &Codes, bytes: &[u8], wanted: [Option<i128>; 3]) -> bool {
+    let mut values = [Value::Over; 3];
+    if codes.len() != 3 {
+        return false;
+    }
+    match read_household(alloc, bytes, codes) {
+        Ok(household) => {
+            values_into(&household, &mut values);
+            are_values(&values, wanted)
+        }
+        Err(_) => false,
+    }
 }
 
 #[test]
 fn values_in_a_list_that_is_there(rt: HostRuntime) -> Result<(), Fail> {
     let codes = three_codes(rt.alloc())?;
-    let household = read_household(rt.alloc(), b"code,amount\n2AA,3\n", &codes)?;
-    let mut values = vec![in rt.alloc(); Value::Over; codes.len() as usize]?;
-    values_into(&household, &mut values);
-    assert_eq!(rt; values.len(), 3);
-    assert_eq!(rt; values[0], Value::Undef);
-    assert_eq!(rt; values[1], Value::Undef);
-    assert_eq!(rt; millionths_of(values[2]), Some(3_000_000));
+    let bytes = b"code,amount\n2AA,3\n";
+    assert!(rt; gives_into(rt.alloc(), &codes, bytes, [None, None, Some(3_000_000)]));
     Ok(())
 }
 
-fn millionths_of(value: Value) -> Option<i128> {
-    match value {
-        Value::Num(amount) => Some(amount.millionths()),
-        Value::Undef | Value::Over => None,
-    }
-}
-
-/// Adds the code of an input, and a row that gives it an amount.
-fn add_row(alloc: Global, k: u32, names: &mut Vec<Name>, text: &mut String) -> Result<(), Fail> {
+/// Adds the code of an input.
+fn add_code(alloc: Global, k: u32, names: &mut Vec<Name>) -> Result<(), Fail> {
     let code = format!(in alloc; "C{k}")?;
     names.push(Name::new(alloc, code.as_bytes())?)?;
-    text.push_str(&format!(in alloc; "C{k},{k}.5\n")?)?;
     Ok(())
 }
 
-/// The codes of so many inputs, and a household that gives each an amount.
-fn many_rows(alloc: Global, count: u32) -> Result<(Codes, String), Fail> {
+/// The codes of so many inputs.
+fn many_codes(alloc: Global, count: u32) -> Result<Codes, Fail> {
     let mut names = Vec::new(alloc);
-    let mut text = String::from_str(alloc, "code,amount\n")?;
     for k in 0..count {
-        add_row(alloc, k, &mut names, &mut text)?;
+        add_code(alloc, k, &mut names)?;
     }
-    Ok((codes_of(alloc, &names, &[])?, text))
+    codes_of(alloc, &names, &[])
 }
 
-/// How many rows the household of a text has.
-fn rows_of(alloc: Global, text: &str, codes: &Codes) -> Result<usize, HouseholdFault> {
-    Ok(
-        read_household(alloc, text.as_bytes(), codes)?
-            .pairs
-            .as_slice()
-            .len(),
-    )
+/// Adds a row that gives an input an amount. Where there is no memory it is no such row.
+fn add_row(alloc: Global, k: u32, text: &mut Vec<u8>) {
+    if let Ok(row) = format!(in alloc; "C{k},{k}.5\n") {
+        let _added = text.extend_from_slice(row.as_bytes());
+    }
 }
 
+/// A household that gives so many inputs an amount, and these rows after them.
+fn many_rows(alloc: Global, count: u32, last: &[u8]) -> Vec<u8> {
+    let mut text = Vec::new(alloc);
+    let _begun = text.extend_from_slice(b"code,amount\n");
+    for k in 0..count {
+        add_row(alloc, k, &mut text);
+    }
+    let _ended = text.extend_from_slice(last);
+    text
+}
+
+/// Whether a household of so many rows and these bytes after them has 100,000 pairs.
+fn is_full(alloc: Global, codes: &Codes, count: u32, last: &[u8]) -> bool {
+    match read_household(alloc, &many_rows(alloc, count, last), codes) {
+        Ok(household) => household.pairs.as_slice().len() == 100_000,
+        Err(_) => false,
+    }
+}
+
+/// Whether it is refused so.
+fn is_too_full(
+    alloc: Global,
+    codes: &Codes,
+    count: u32,
+    last: &[u8],
+    wanted: HouseholdFault,
+) -> bool {
+    is_refused(alloc, &many_rows(alloc, count, last), codes, wanted)
+}
+
+/// A row more is refused, however bad it is.
 #[test]
 fn as_many_rows_as_there_may_be(rt: HostRuntime) -> Result<(), Fail> {
-    let (codes, mut text) = many_rows(rt.alloc(), 100_000)?;
-    text.push_str("\n\n")?;
-    assert_eq!(rt; rows_of(rt.alloc(), &text, &codes), Ok(100_000));
-
-    // a row more, however bad it is
-    text.push_str("9ZZ,x\n")?;
-    assert_eq!(rt;
-        rows_of(rt.alloc(), &text, &codes),
-        Err(HouseholdFault::TooManyRows)
-    );
+    let codes = many_codes(rt.alloc(), 100_000)?;
+    assert!(rt; is_full(rt.alloc(), &codes, 100_000, b"\n\n"));
+    let fault = HouseholdFault::TooManyRows;
+    assert!(rt; is_too_full(rt.alloc(), &codes, 100_000, b"\n\n9ZZ,x\n", fault));
     Ok(())
 }
 
 #[test]
 fn a_fault_in_the_last_row_that_there_may_be(rt: HostRuntime) -> Result<(), Fail> {
-    let (codes, mut text) = many_rows(rt.alloc(), 99_999)?;
-    text.push_str("C0,1\nC0,1\n")?;
-    let fault = read_household(rt.alloc(), text.as_bytes(), &codes).err();
-    assert_eq!(rt; fault, Some(HouseholdFault::CodeTwice(100_001)));
+    let codes = many_codes(rt.alloc(), 99_999)?;
+    let fault = HouseholdFault::CodeTwice(100_001);
+    assert!(rt; is_too_full(rt.alloc(), &codes, 99_999, b"C0,1\nC0,1\n", fault));
     Ok(())
 }

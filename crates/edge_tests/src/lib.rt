@@ -12,7 +12,10 @@ mod households;
 #[cfg(test)]
 mod large;
 #[cfg(test)]
+mod parts;
 mod records;
+#[cfg(test)]
+mod rows;
 #[cfg(test)]
 mod tables;
 #[cfg(test)]

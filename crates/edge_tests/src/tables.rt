@@ -1,25 +1,38 @@
 //! Tables that are read and refused.
 use crate::households::three_codes;
-use household::{HouseholdFault, Row, read_table};
+use crate::rows::other_at;
+use household::{Codes, HouseholdFault, Row, read_table};
+use m_fixed::Amount;
 use std::alloc::Global;
 use std::test::Fail;
+use std::thread::Threads;
 
-/// The rows in one text: a label, and in brackets the numbers of inputs and their millionths.
-pub fn shown_rows(alloc: Global, rows: &[Row]) -> Result<Vec<u8>, Fail> {
+/// Adds a pair, as ` INPUT=MILLIONTHS`. Where there is no memory nothing is added, so it isn't what was wanted.
+fn add_pair(alloc: Global, pair: &(u32, Amount), text: &mut Vec<u8>) {
+    if let Ok(shown) = format!(in alloc; " {}={}", pair.0, pair.1.millionths()) {
+        let _added = text.extend_from_slice(shown.as_bytes());
+    }
+}
+
+fn add_row(alloc: Global, row: &Row, text: &mut Vec<u8>) {
+    let _label = text.extend_from_slice(row.label.bytes());
+    for pair in row.household.pairs.as_slice() {
+        add_pair(alloc, pair, text);
+    }
+    let _end = text.push(b';');
+}
+
+/// Whether these are the rows in one text: a label, and the numbers of inputs with their millionths.
+fn are_rows(alloc: Global, rows: &[Row], wanted: &[u8]) -> bool {
     let mut text = Vec::new(alloc);
     for row in rows {
-        text.extend_from_slice(row.label.bytes())?;
-        for pair in row.household.pairs.as_slice() {
-            let shown = format!(in alloc; " {}={}", pair.0, pair.1.millionths())?;
-            text.extend_from_slice(shown.as_bytes())?;
-        }
-        text.push(b';')?;
+        add_row(alloc, row, &mut text);
     }
-    Ok(text)
+    text.as_slice() == wanted
 }
 
 /// Tables, and their rows.
-const TABLES: [(&[u8], &[u8]); 16] = [
+static TABLES: [(&[u8], &[u8]); 16] = [
     (
         b"name,1AJ\ndupont,2500.5\nmartin,\n",
         b"dupont 0=2500500000;martin;",
@@ -53,19 +66,75 @@ const TABLES: [(&[u8], &[u8]); 16] = [
     (b"name,1AJ\na,1\na,1\n", b"a 0=1000000;a 0=1000000;"),
 ];
 
-#[test]
-fn tables(rt: HostRuntime) -> Result<(), Fail> {
-    let codes = three_codes(rt.alloc())?;
-    for (bytes, wanted) in TABLES {
-        let rows = read_table(&rt, rt.alloc(), bytes, &codes)?;
-        let shown = shown_rows(rt.alloc(), rows.as_slice())?;
-        assert!(rt; shown.as_slice() == wanted, "{bytes:?}");
+// The tables, out of reach of the proofs of what goes over them.
+
+fn all_tables() -> &'static [(&'static [u8], &'static [u8])] {
+    &TABLES
+}
+
+fn all_refused() -> &'static [(&'static [u8], HouseholdFault)] {
+    &REFUSED
+}
+
+/// Whether a table is read as these rows.
+pub fn is_table<R: Threads + Sync>(
+    rt: &R,
+    alloc: Global,
+    bytes: &[u8],
+    codes: &Codes,
+    wanted: &[u8],
+) -> bool {
+    match read_table(rt, alloc, bytes, codes) {
+        Ok(rows) => are_rows(alloc, rows.as_slice(), wanted),
+        Err(_) => false,
+    }
+}
+
+pub fn is_refused<R: Threads + Sync>(
+    rt: &R,
+    alloc: Global,
+    bytes: &[u8],
+    codes: &Codes,
+    wanted: HouseholdFault,
+) -> bool {
+    match read_table(rt, alloc, bytes, codes) {
+        Ok(_) => false,
+        Err(fault) => fault == wanted,
+    }
+}
+
+fn check_tables<R: Threads + Sync>(rt: &R, alloc: Global, codes: &Codes) -> Result<(), Fail> {
+    for (bytes, wanted) in all_tables() {
+        if !is_table(rt, alloc, bytes, codes, wanted) {
+            return Err(other_at(alloc, bytes));
+        }
     }
     Ok(())
 }
 
+/// Fails at the first of these tables that isn't refused so.
+pub fn check_refused<R: Threads + Sync>(
+    rt: &R,
+    alloc: Global,
+    codes: &Codes,
+    rows: &[(&'static [u8], HouseholdFault)],
+) -> Result<(), Fail> {
+    for (bytes, fault) in rows {
+        if !is_refused(rt, alloc, bytes, codes, *fault) {
+            return Err(other_at(alloc, bytes));
+        }
+    }
+    Ok(())
+}
+
+#[test]
+fn tables(rt: HostRuntime) -> Result<(), Fail> {
+    let codes = three_codes(rt.alloc())?;
+    check_tables(&rt, rt.alloc(), &codes)
+}
+
 /// Refused tables, and the first fault of each.
-const REFUSED: [(&[u8], HouseholdFault); 32] = [
+static REFUSED: [(&[u8], HouseholdFault); 32] = [
     (b"", HouseholdFault::BadHeader),
     (b"\n\r\n", HouseholdFault::BadHeader),
     (b"Name,1AJ\n", HouseholdFault::BadHeader),
@@ -104,103 +173,39 @@ const REFUSED: [(&[u8], HouseholdFault); 32] = [
 #[test]
 fn refused_tables(rt: HostRuntime) -> Result<(), Fail> {
     let codes = three_codes(rt.alloc())?;
-    for (bytes, wanted) in REFUSED {
-        let fault = read_table(&rt, rt.alloc(), bytes, &codes).err();
-        assert_eq!(rt; fault, Some(wanted), "{bytes:?}");
+    check_refused(&rt, rt.alloc(), &codes, all_refused())
+}
+
+/// Adds the row of a number. Where there is no memory the table is shorter than it is to be.
+fn add_numbered(alloc: Global, k: u32, text: &mut Vec<u8>) {
+    if let Ok(row) = format!(in alloc; "h{k},{k}\n") {
+        let _added = text.extend_from_slice(row.as_bytes());
     }
-    Ok(())
+}
+
+/// A table of 100,000 rows, and this after them.
+fn many_rows(alloc: Global, last: &[u8]) -> Vec<u8> {
+    let mut text = Vec::new(alloc);
+    let _begun = text.extend_from_slice(b"name,1AJ\n");
+    for k in 0..100_000 {
+        add_numbered(alloc, k, &mut text);
+    }
+    let _ended = text.extend_from_slice(last);
+    text
+}
+
+fn is_full<R: Threads + Sync>(rt: &R, alloc: Global, codes: &Codes) -> bool {
+    match read_table(rt, alloc, &many_rows(alloc, b""), codes) {
+        Ok(rows) => rows.as_slice().len() == 100_000,
+        Err(_) => false,
+    }
 }
 
 #[test]
 fn as_many_rows_as_a_table_may_have(rt: HostRuntime) -> Result<(), Fail> {
     let codes = three_codes(rt.alloc())?;
-    let mut text = String::from_str(rt.alloc(), "name,1AJ\n")?;
-    for k in 0..100_000 {
-        text.push_str(&format!(in rt.alloc(); "h{k},{k}\n")?)?;
-    }
-    let rows = read_table(&rt, rt.alloc(), text.as_bytes(), &codes)?;
-    assert_eq!(rt; rows.as_slice().len(), 100_000);
-    text.push_str("last")?;
-    let fault = read_table(&rt, rt.alloc(), text.as_bytes(), &codes).err();
-    assert_eq!(rt; fault, Some(HouseholdFault::TooManyRows));
-    Ok(())
-}
-
-/// What a table of many rows has from row to row: line ends of both kinds, lines without a record, quotation marks with a comma within.
-const LINES: [&str; 4] = ["\n", "\r\n", "\n\n", "\r"];
-
-// The label of a row of the long table.
-fn label(alloc: Global, k: usize) -> Result<String, Fail> {
-    Ok(format!(in alloc; "h,{k}")?)
-}
-
-// A table of so many rows, of which the row with the number k has the amount k, but for some rows that are spoilt: these have `x`.
-fn long_table(alloc: Global, rows: usize, spoilt: &[usize]) -> Result<String, Fail> {
-    let mut text = String::from_str(alloc, "name,1AJ\n")?;
-    for k in 0..rows {
-        let end = LINES[k % 4];
-        if spoilt.contains(&k) {
-            text.push_str("\"h,")?;
-            text.push_str(&format!(in alloc; "{k}\",x{end}")?)?;
-        } else {
-            text.push_str("\"h,")?;
-            text.push_str(&format!(in alloc; "{k}\",\"{k}\"{end}")?)?;
-        }
-    }
-    Ok(text)
-}
-
-// Whether the row with this number is as the long table says.
-fn is_said(alloc: Global, row: &Row, k: usize) -> Result<bool, Fail> {
-    let pairs = row.household.pairs.as_slice();
-    let label = label(alloc, k)?;
-    Ok(row.label.bytes() == label.as_bytes() && pairs.len() == 1 && pairs[0].1.millionths() == k as i128 * 1_000_000)
-}
-
-// How many rows of a list stand at their places.
-fn right_rows(alloc: Global, rows: &[Row]) -> Result<usize, Fail> {
-    let mut right = 0;
-    for (k, row) in rows.iter().enumerate() {
-        if is_said(alloc, row, k)? {
-            right += 1;
-        }
-    }
-    Ok(right)
-}
-
-/// Several workers read the rows of a long table, each those of a part: they stand in their order, whatever their count.
-#[test]
-fn rows_of_many_parts(rt: HostRuntime) -> Result<(), Fail> {
-    let codes = three_codes(rt.alloc())?;
-    for count in [255, 256, 257, 511, 512, 513, 1_024, 1_025, 5_000] {
-        let text = long_table(rt.alloc(), count, &[])?;
-        let rows = read_table(&rt, rt.alloc(), text.as_bytes(), &codes)?;
-        assert_eq!(rt; rows.as_slice().len(), count);
-        let right = right_rows(rt.alloc(), rows.as_slice())?;
-        assert_eq!(rt; right, count);
-    }
-    Ok(())
-}
-
-/// Spoilt rows of a table of 3,000, and the line of the first.
-const SPOILT: [(&[usize], u32); 7] = [
-    (&[0], 2),
-    (&[255], 257),
-    (&[256], 258),
-    (&[2_999], 3_001),
-    (&[2_999, 300, 1_700], 302),
-    (&[2_047, 2_048], 2_049),
-    (&[1_000, 999], 1_001),
-];
-
-/// Whatever worker comes to its fault first, a table is refused for the first row that has one.
-#[test]
-fn first_fault_of_many_parts(rt: HostRuntime) -> Result<(), Fail> {
-    let codes = three_codes(rt.alloc())?;
-    for (spoilt, line) in SPOILT {
-        let text = long_table(rt.alloc(), 3_000, spoilt)?;
-        let fault = read_table(&rt, rt.alloc(), text.as_bytes(), &codes).err();
-        assert_eq!(rt; fault, Some(HouseholdFault::BadAmount(line)));
-    }
+    assert!(rt; is_full(&rt, rt.alloc(), &codes));
+    let more = many_rows(rt.alloc(), b"last");
+    assert!(rt; is_refused(&rt, rt.alloc(), &more, &codes, HouseholdFault::TooManyRows));
     Ok(())
 }

@@ -1,7 +1,8 @@
 //! Households and tables whose inputs have types: `1AJ` takes whole units, `C08` takes 0 and 1, and `2AA` takes each amount.
-use crate::households::three_typed;
-use crate::tables::shown_rows;
-use household::{Codes, HouseholdFault, read_household, read_table};
+use crate::households::{check_read, check_refused, three_typed};
+use crate::tables;
+use crate::tables::is_table;
+use household::{Codes, HouseholdFault};
 use m_fixed::Amount;
 use observables::InputType;
 use std::alloc::Global;
@@ -12,7 +13,7 @@ fn typed_codes(alloc: Global) -> Result<Codes, Fail> {
 }
 
 /// Numbers of inputs and millionths, and whether the input takes them.
-const FITS: [(u32, i128, bool); 15] = [
+static FITS: [(u32, i128, bool); 15] = [
     (0, 3_000_000, true),
     (0, -3_000_000, true),
     (0, 0, true),
@@ -30,21 +31,50 @@ const FITS: [(u32, i128, bool); 15] = [
     (2, -2_500_000, true),
 ];
 
+// The tables, out of reach of the proofs of what goes over them.
+
+fn all_fits() -> &'static [(u32, i128, bool)] {
+    &FITS
+}
+
+fn all_households() -> &'static [(&'static [u8], &'static [(u32, i128)])] {
+    &HOUSEHOLDS
+}
+
+fn all_refused() -> &'static [(&'static [u8], HouseholdFault)] {
+    &REFUSED
+}
+
+fn all_refused_tables() -> &'static [(&'static [u8], HouseholdFault)] {
+    &REFUSED_TABLES
+}
+
+fn is_right(codes: &Codes, input: u32, millionths: i128, fits: bool) -> bool {
+    match Amount::new(millionths) {
+        Some(amount) => codes.fits(input, amount) == fits,
+        None => false,
+    }
+}
+
+/// The first row that is taken otherwise.
+fn first_other(codes: &Codes) -> Option<usize> {
+    for (row, (input, millionths, fits)) in all_fits().iter().enumerate() {
+        if !is_right(codes, *input, *millionths, *fits) {
+            return Some(row);
+        }
+    }
+    None
+}
+
 #[test]
 fn amounts_that_fit(rt: HostRuntime) -> Result<(), Fail> {
     let codes = typed_codes(rt.alloc())?;
-    for (input, millionths, fits) in FITS {
-        let taken = match Amount::new(millionths) {
-            Some(amount) => codes.fits(input, amount),
-            None => !fits,
-        };
-        assert_eq!(rt; taken, fits, "{input} {millionths}");
-    }
+    assert!(rt; first_other(&codes).is_none());
     Ok(())
 }
 
 /// Households, and the inputs and millionths of their pairs.
-const HOUSEHOLDS: [(&[u8], &[(u32, i128)]); 6] = [
+static HOUSEHOLDS: [(&[u8], &[(u32, i128)]); 6] = [
     (
         b"code,amount\n1AJ,3\nC08,1\n2AA,2.5\n",
         &[(0, 3_000_000), (1, 1_000_000), (2, 2_500_000)],
@@ -62,20 +92,11 @@ const HOUSEHOLDS: [(&[u8], &[(u32, i128)]); 6] = [
 #[test]
 fn households(rt: HostRuntime) -> Result<(), Fail> {
     let codes = typed_codes(rt.alloc())?;
-    for (bytes, pairs) in HOUSEHOLDS {
-        let household = read_household(rt.alloc(), bytes, &codes)?;
-        let read = household.pairs.as_slice();
-        assert_eq!(rt; read.len(), pairs.len(), "{bytes:?}");
-        for (pair, (input, millionths)) in read.iter().zip(pairs) {
-            assert_eq!(rt; pair.0, *input, "{bytes:?}");
-            assert_eq!(rt; pair.1.millionths(), *millionths, "{bytes:?}");
-        }
-    }
-    Ok(())
+    check_read(rt.alloc(), &codes, all_households())
 }
 
 /// Refused households, and the first fault of each.
-const REFUSED: [(&[u8], HouseholdFault); 17] = [
+static REFUSED: [(&[u8], HouseholdFault); 17] = [
     (b"code,amount\n1AJ,2500.5\n", HouseholdFault::NotOfType(2)),
     (
         b"code,amount\n1AJ,-0.000001\n",
@@ -119,26 +140,20 @@ const REFUSED: [(&[u8], HouseholdFault); 17] = [
 #[test]
 fn refused_households(rt: HostRuntime) -> Result<(), Fail> {
     let codes = typed_codes(rt.alloc())?;
-    for (bytes, wanted) in REFUSED {
-        let fault = read_household(rt.alloc(), bytes, &codes).err();
-        assert_eq!(rt; fault, Some(wanted), "{bytes:?}");
-    }
-    Ok(())
+    check_refused(rt.alloc(), &codes, all_refused())
 }
 
 #[test]
 fn tables(rt: HostRuntime) -> Result<(), Fail> {
     let codes = typed_codes(rt.alloc())?;
     let bytes = b"name,1AJ,C08,2AA\na,3,1,2.5\nb,,,\nc,-4,0,-0.5\n";
-    let rows = read_table(&rt, rt.alloc(), bytes, &codes)?;
-    let shown = shown_rows(rt.alloc(), rows.as_slice())?;
     let wanted = b"a 0=3000000 1=1000000 2=2500000;b;c 0=-4000000 1=0 2=-500000;";
-    assert!(rt; shown.as_slice() == wanted.as_slice());
+    assert!(rt; is_table(&rt, rt.alloc(), bytes, &codes, wanted));
     Ok(())
 }
 
 /// Refused tables, and the first fault of each.
-const REFUSED_TABLES: [(&[u8], HouseholdFault); 12] = [
+static REFUSED_TABLES: [(&[u8], HouseholdFault); 12] = [
     (b"name,1AJ\na,2.5\n", HouseholdFault::NotOfType(2)),
     (b"name,C08\na,1\nb,2\n", HouseholdFault::NotOfType(3)),
     (b"name,C08,1AJ\na,2,2.5\n", HouseholdFault::NotOfType(2)),
@@ -165,9 +180,5 @@ const REFUSED_TABLES: [(&[u8], HouseholdFault); 12] = [
 #[test]
 fn refused_tables(rt: HostRuntime) -> Result<(), Fail> {
     let codes = typed_codes(rt.alloc())?;
-    for (bytes, wanted) in REFUSED_TABLES {
-        let fault = read_table(&rt, rt.alloc(), bytes, &codes).err();
-        assert_eq!(rt; fault, Some(wanted), "{bytes:?}");
-    }
-    Ok(())
+    tables::check_refused(&rt, rt.alloc(), &codes, all_refused_tables())
 }

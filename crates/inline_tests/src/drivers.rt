@@ -1,11 +1,12 @@
 //! Drivers over the input A and the variables B and C, without rules: what their flat programs answer.
-ghost use Rattle.std.specs.Prelude.{◌≡◌, [], map, IfOk};
+ghost use Rattle.std.specs.Prelude.{◌≡◌, [], map};
 ghost use Rattle.m_symbols.specs.Declarations.{placed_from};
 ghost use Rattle.micro_m.specs.Bases.{IsValidBase};
+ghost use Rattle.flat_code.specs.Runs.{IsFlat};
 
 use driver_core::{CCommand, CCommandNode, CNode, CTerm, Core};
 use driver_weight::weight;
-use flat_code::run_flat;
+use flat_code::{Flat, run_flat};
 use input_kinds::{KindCells, KindIndex};
 use m_ast::{Item, Role, VariableItem};
 use m_fixed::{Amount, Op, Value};
@@ -29,15 +30,16 @@ pub fn units(n: i64) -> Value {
     }
 }
 
-pub fn variable(
+// A variable of this name, without words.
+fn variable(
     alloc: Global,
-    name: &[u8],
+    name: Name,
     role: Role,
     pairs: Vec<(Name, Amount)>,
     value_word: Option<Name>,
-) -> Result<Item, AllocError> {
-    Ok(Item::Variable(VariableItem {
-        name: Name::new(alloc, name)?,
+) -> Item {
+    Item::Variable(VariableItem {
+        name,
         place: Place {
             file: 0,
             byte: 0,
@@ -47,33 +49,50 @@ pub fn variable(
         words: Seq::from_vec(Vec::new(alloc)),
         pairs: Seq::from_vec(pairs),
         value_word,
-    }))
+    })
 }
 
-// The input A, whose attribute `k` is 0, and B and C.
-fn items(alloc: Global) -> Result<Vec<Item>, AllocError> {
+fn computed(alloc: Global, name: &[u8]) -> Result<Item, AllocError> {
+    let name = Name::new(alloc, name)?;
+    Ok(variable(alloc, name, Role::Computed(None), Vec::new(alloc), None))
+}
+
+// The attribute `k`, which is 0.
+fn one_pair(alloc: Global) -> Result<Vec<(Name, Amount)>, AllocError> {
     let mut pairs = Vec::new(alloc);
     pairs.push((Name::new(alloc, b"k")?, Amount::zero()))?;
+    Ok(pairs)
+}
+
+// The input A, of this type where it has one, whose attribute `k` is 0.
+fn input(alloc: Global, word: Option<Name>) -> Result<Item, AllocError> {
+    let name = Name::new(alloc, b"A")?;
+    let code = Name::new(alloc, b"1AJ")?;
+    let pairs = one_pair(alloc)?;
+    Ok(variable(alloc, name, Role::Input(code), pairs, word))
+}
+
+// The input A, and B and C.
+pub fn items(alloc: Global, word: Option<Name>) -> Result<Vec<Item>, AllocError> {
     let mut all = Vec::new(alloc);
-    all.push(variable(
-        alloc,
-        b"A",
-        Role::Input(Name::new(alloc, b"1AJ")?),
-        pairs,
-        None,
-    )?)?;
-    all.push(variable(alloc, b"B", Role::Computed(None), Vec::new(alloc), None)?)?;
-    all.push(variable(alloc, b"C", Role::Computed(None), Vec::new(alloc), None)?)?;
+    all.push(input(alloc, word)?)?;
+    all.push(computed(alloc, b"B")?)?;
+    all.push(computed(alloc, b"C")?)?;
     Ok(all)
 }
 
 // The inputs whose attribute `k` is 0.
-fn kind(alloc: Global) -> Result<KindCells, AllocError> {
-    let Ok(symbols) = declare(alloc, &items(alloc)?) else {
-        return Err(AllocError);
-    };
-    let index = Rc::new(alloc, KindIndex::of(alloc, &symbols)?)?;
+fn kind_in(alloc: Global, symbols: &Symbols) -> Result<KindCells, AllocError> {
+    let index = Rc::new(alloc, KindIndex::of(alloc, symbols)?)?;
     KindCells::new(alloc, &index, b"k", &[Amount::zero()])
+}
+
+fn kind(alloc: Global) -> Result<KindCells, AllocError> {
+    let all = items(alloc, None)?;
+    match declare(alloc, &all) {
+        Ok(symbols) => kind_in(alloc, &symbols),
+        Err(_) => Err(AllocError),
+    }
 }
 
 // A base without rules.
@@ -92,7 +111,7 @@ fn no_rules(alloc: Global, cells: u32) -> Base
 }
 
 // What a run tells: the value of C, a stop, or nothing where the call gave up.
-#[derive(Clone, Copy, Debug, PartialEq, Eq)]
+#[derive(Clone, Copy, PartialEq, Eq)]
 enum Told {
     Value(Value),
     Stopped,
@@ -109,26 +128,32 @@ fn reading(answer: &Answer) -> Told {
     }
 }
 
+// What a flat program tells of its first output for this value of A.
+fn told_of(alloc: Global, flat: &Flat, a: Value) -> Told
+    requires { IsFlat flat.now }
+{
+    if flat.inputs != 1 {
+        return Told::Nothing;
+    }
+    match run_flat(alloc, flat, &[a]) {
+        Ok(answer) => reading(&answer),
+        Err(_) => Told::Nothing,
+    }
+}
+
 // What a driver tells of C for this value of A.
-fn told_by(alloc: Global, core: &Core, symbols: &Symbols, a: Value) -> Result<Told, AllocError>
+fn told_by(alloc: Global, core: &Core, symbols: &Symbols, a: Value) -> Told
     requires { symbols.now.variables ≡ placed_from 0 (map (λ v. v.item) symbols.now.variables) }
 {
     if symbols.cells() > CELLS {
-        return Ok(Told::Nothing);
+        return Told::Nothing;
     }
-    let base = no_rules(alloc, symbols.cells());
-    let Ok(ordered) = order(alloc, base) else {
-        return Ok(Told::Nothing);
+    let Ok(ordered) = order(alloc, no_rules(alloc, symbols.cells())) else {
+        return Told::Nothing;
     };
     match inline(alloc, core, &ordered, symbols, &[2]) {
-        Ok((flat, _, _)) => {
-            if flat.inputs != 1 {
-                return Ok(Told::Nothing);
-            }
-            let answer = run_flat(alloc, &flat, &[a])?;
-            Ok(reading(&answer))
-        }
-        Err(_) => Ok(Told::Nothing),
+        Ok((flat, _, _)) => told_of(alloc, &flat, a),
+        Err(_) => Told::Nothing,
     }
 }
 
@@ -137,112 +162,149 @@ pub fn set(cell: u32, n: i64) -> CCommand {
     CCommand::new(CCommandNode::Set(1, cell, CTerm::new(CNode::Lit(units(n)))))
 }
 
-pub fn one(alloc: Global, command: CCommand) -> Result<Vec<CCommand>, AllocError> {
-    let mut block = Vec::new(alloc);
-    block.push(command)?;
-    Ok(block)
+// Adds a command. Where there is no memory it isn't there, so something else is told.
+pub fn add(block: &mut Vec<CCommand>, command: CCommand) {
+    let _added = block.push(command);
 }
 
-pub fn cells(alloc: Global, all: &[u32]) -> Result<Seq<u32>, AllocError> {
-    Ok(Seq::from_vec(Vec::from_slice(alloc, all)?))
+pub fn one(alloc: Global, command: CCommand) -> Vec<CCommand> {
+    let mut block = Vec::new(alloc);
+    add(&mut block, command);
+    block
+}
+
+pub fn cells(alloc: Global, all: &[u32]) -> Seq<u32> {
+    let mut cells = Vec::new(alloc);
+    let _added = cells.extend_from_slice(all);
+    Seq::from_vec(cells)
+}
+
+pub fn cell(number: u32) -> CTerm {
+    CTerm::new(CNode::Cell(number))
 }
 
 // A times so much, which is over where that is great.
-fn times(alloc: Global, n: i64) -> Result<CTerm, AllocError> {
+fn times(alloc: Global, n: i64) -> CTerm {
     let mut arguments = Vec::new(alloc);
-    arguments.push(CTerm::new(CNode::Cell(0)))?;
-    arguments.push(CTerm::new(CNode::Lit(units(n))))?;
-    Ok(CTerm::new(CNode::Apply(Op::Mul, arguments)))
+    let _first = arguments.push(cell(0));
+    let _second = arguments.push(CTerm::new(CNode::Lit(units(n))));
+    CTerm::new(CNode::Apply(Op::Mul, arguments))
 }
 
 // `if` this condition: C = 1, `else`: C = 2.
-fn choice(alloc: Global, condition: CTerm) -> Result<CCommand, AllocError> {
-    let first = one(alloc, set(2, 1))?;
-    let second = one(alloc, set(2, 2))?;
-    Ok(CCommand::new(CCommandNode::If(1, condition, first, second)))
+fn choice(alloc: Global, condition: CTerm) -> CCommand {
+    let first = one(alloc, set(2, 1));
+    let second = one(alloc, set(2, 2));
+    CCommand::new(CCommandNode::If(1, condition, first, second))
 }
 
 // `if A:` a condition that may be over, `else:` nothing.
-fn nested(alloc: Global) -> Result<CCommand, AllocError> {
-    let inner = one(alloc, choice(alloc, times(alloc, 9_000_000_000_000)?)?)?;
-    let none = Vec::new(alloc);
-    Ok(CCommand::new(CCommandNode::If(2, CTerm::new(CNode::Cell(0)), inner, none)))
+fn nested(alloc: Global) -> CCommand {
+    let inner = one(alloc, choice(alloc, times(alloc, 9_000_000_000_000)));
+    CCommand::new(CCommandNode::If(2, cell(0), inner, Vec::new(alloc)))
 }
 
-// `partition` with A: C is 1 where A is defined in it, and else 2.
-fn partition(alloc: Global) -> Result<CCommand, AllocError> {
-    let exists = CTerm::new(CNode::Exists(kind(alloc)?));
-    let block = one(alloc, choice(alloc, exists)?)?;
-    Ok(CCommand::new(CCommandNode::Partition(3, kind(alloc)?, block)))
-}
-
-// `.. <- call_m()`, which gives back these cells.
-pub fn rules(alloc: Global, names: u64, all: &[u32]) -> Result<CCommand, AllocError> {
-    Ok(CCommand::new(CCommandNode::Rules(1, names, cells(alloc, all)?)))
-}
-
-// C = 1, and calls of the rules between it and `if A:` a call, `else:` C = 4 and a call.
-fn rules_between(alloc: Global) -> Result<Vec<CCommand>, AllocError> {
-    let mut block = one(alloc, set(2, 1))?;
-    block.push(rules(alloc, 2, &[2, 2])?)?;
-    block.push(rules(alloc, 1, &[0])?)?;
-    let first = one(alloc, rules(alloc, 1, &[2])?)?;
-    let mut second = one(alloc, set(2, 4))?;
-    second.push(rules(alloc, 1, &[2])?)?;
-    block.push(CCommand::new(CCommandNode::If(1, CTerm::new(CNode::Cell(0)), first, second)))?;
-    Ok(block)
-}
-
-// The commands of `main`, by the number of a driver.
-fn main_of(alloc: Global, driver: u32) -> Result<Vec<CCommand>, AllocError> {
-    match driver {
-        0 => one(alloc, choice(alloc, CTerm::new(CNode::Cell(0)))?),
-        1 => one(alloc, nested(alloc)?),
-        2 => one(alloc, partition(alloc)?),
-        3 => {
-            let mut block = one(alloc, partition(alloc)?)?;
-            block.push(choice(alloc, CTerm::new(CNode::Cell(0)))?)?;
-            Ok(block)
-        }
-        4 => one(
-            alloc,
-            CCommand::new(CCommandNode::Call(1, 1, cells(alloc, &[2])?, 1)),
-        ),
-        6 => rules_between(alloc),
-        7 => one(
-            alloc,
-            CCommand::new(CCommandNode::Call(1, 3, cells(alloc, &[2, 1, 2])?, 1)),
-        ),
-        _ => one(
-            alloc,
-            CCommand::new(CCommandNode::Call(1, 1, cells(alloc, &[1])?, 1)),
-        ),
+// Whether A is defined; 1, which isn't what is wanted, where there is no memory.
+fn exists(alloc: Global) -> CTerm {
+    match kind(alloc) {
+        Ok(kind) => CTerm::new(CNode::Exists(kind)),
+        Err(_) => CTerm::new(CNode::Lit(units(1))),
     }
 }
 
-// A driver: its `main`, and the function that sets C to 7.
-fn core(alloc: Global, driver: u32) -> Result<Core, AllocError> {
-    let mut bodies = Vec::new(alloc);
-    bodies.push(Seq::from_vec(main_of(alloc, driver)?))?;
-    bodies.push(Seq::from_vec(one(alloc, set(2, 7))?))?;
-    let mut names = Vec::new(alloc);
-    names.push(Name::new(alloc, b"main")?)?;
-    names.push(Name::new(alloc, b"f")?)?;
-    Ok(Core {
-        cells: 3,
-        names: Seq::from_vec(names),
-        bodies: Seq::from_vec(bodies),
-        main: 0,
-    })
+// `partition` with A: C is 1 where A is defined in it, and else 2.
+fn partition(alloc: Global) -> CCommand {
+    match kind(alloc) {
+        Ok(kind) => {
+            let block = one(alloc, choice(alloc, exists(alloc)));
+            CCommand::new(CCommandNode::Partition(3, kind, block))
+        }
+        Err(_) => set(2, 1),
+    }
 }
 
+// `.. <- call_m()`, which gives back these cells.
+pub fn rules(alloc: Global, names: u64, all: &[u32]) -> CCommand {
+    CCommand::new(CCommandNode::Rules(1, names, cells(alloc, all)))
+}
+
+// `.. <- FUNCTION()`, which gives back these cells.
+pub fn call(alloc: Global, names: u64, all: &[u32], function: u32) -> CCommand {
+    CCommand::new(CCommandNode::Call(1, names, cells(alloc, all), function))
+}
+
+// C = 1, and calls of the rules between it and `if A:` a call, `else:` C = 4 and a call.
+fn rules_between(alloc: Global) -> Vec<CCommand> {
+    let mut block = one(alloc, set(2, 1));
+    add(&mut block, rules(alloc, 2, &[2, 2]));
+    add(&mut block, rules(alloc, 1, &[0]));
+    let first = one(alloc, rules(alloc, 1, &[2]));
+    let mut second = one(alloc, set(2, 4));
+    add(&mut second, rules(alloc, 1, &[2]));
+    add(
+        &mut block,
+        CCommand::new(CCommandNode::If(1, cell(0), first, second)),
+    );
+    block
+}
+
+fn partition_and_choice(alloc: Global) -> Vec<CCommand> {
+    let mut block = one(alloc, partition(alloc));
+    add(&mut block, choice(alloc, cell(0)));
+    block
+}
+
+// The commands of `main`, by the number of a driver.
+fn main_of(alloc: Global, driver: u32) -> Vec<CCommand> {
+    match driver {
+        0 => one(alloc, choice(alloc, cell(0))),
+        1 => one(alloc, nested(alloc)),
+        2 => one(alloc, partition(alloc)),
+        3 => partition_and_choice(alloc),
+        4 => one(alloc, call(alloc, 1, &[2], 1)),
+        6 => rules_between(alloc),
+        7 => one(alloc, call(alloc, 3, &[2, 1, 2], 1)),
+        _ => one(alloc, call(alloc, 1, &[1], 1)),
+    }
+}
+
+// A driver of three cells whose functions have these bodies.
+fn core_of(alloc: Global, bodies: Vec<Seq<CCommand>>, main: u32) -> Core {
+    Core {
+        cells: 3,
+        names: Seq::from_vec(Vec::new(alloc)),
+        bodies: Seq::from_vec(bodies),
+        main,
+    }
+}
+
+// A driver: its `main`, and this function.
+pub fn two_functions(alloc: Global, main: Vec<CCommand>, function: CCommand) -> Core {
+    let mut bodies = Vec::new(alloc);
+    let _main = bodies.push(Seq::from_vec(main));
+    let _function = bodies.push(Seq::from_vec(one(alloc, function)));
+    core_of(alloc, bodies, 0)
+}
+
+// A driver: its `main`, and the function that sets C to 7.
+fn core(alloc: Global, driver: u32) -> Core {
+    two_functions(alloc, main_of(alloc, driver), set(2, 7))
+}
+
+// What a driver tells of C over the items.
 #[tactic(auto, using(crate::proofs::Placing::placed))]
-fn found(alloc: Global, driver: u32, a: Value) -> Result<Told, AllocError> {
-    let all = items(alloc)?;
-    let Ok(symbols) = declare(alloc, &all) else {
-        return Ok(Told::Nothing);
-    };
-    told_by(alloc, &core(alloc, driver)?, &symbols, a)
+fn told_over(alloc: Global, core: &Core, all: &[Item], a: Value) -> Told {
+    match declare(alloc, all) {
+        Ok(symbols) => told_by(alloc, core, &symbols, a),
+        Err(_) => Told::Nothing,
+    }
+}
+
+fn found(alloc: Global, core: &Core, a: Value) -> Told {
+    match items(alloc, None) {
+        Ok(all) => told_over(alloc, core, &all, a),
+        Err(_) => Told::Nothing,
+    }
 }
 
 // For each driver the value of A, and what is told of C: 0 stands for undefined.
@@ -268,134 +330,107 @@ fn wanted(c: i64) -> Told {
     }
 }
 
-fn is_told(told: Told, wanted: Told) -> bool {
-    told == wanted
+// The table, out of reach of the proofs of what goes over it.
+fn all_rows() -> &'static [(u32, i64, i64)] {
+    &ROWS
+}
+
+fn is_found(alloc: Global, driver: u32, a: Value, wanted: Told) -> bool {
+    found(alloc, &core(alloc, driver), a) == wanted
 }
 
 #[test]
 fn drivers_answer(rt: HostRuntime) -> Result<(), Fail> {
-    let alloc = rt.alloc();
-    for (driver, a, c) in ROWS {
-        let told = found(alloc, driver, units(a))?;
-        assert!(rt; is_told(told, wanted(c)), "driver {driver} for {a}");
+    for (row, (driver, a, c)) in all_rows().iter().enumerate() {
+        if !is_found(rt.alloc(), *driver, units(*a), wanted(*c)) {
+            return Err(Fail::from(format!(in rt.alloc(); "row {row}")?));
+        }
     }
     Ok(())
 }
 
 // An undefined condition runs the second block; one that is over stops, but not in a branch that isn't taken.
 #[test]
-fn conditions_stop(rt: HostRuntime) -> Result<(), Fail> {
-    let alloc = rt.alloc();
-    assert!(rt;
-        is_told(found(alloc, 0, Value::Undef)?, wanted(2)),
-        "undefined"
-    );
-    assert!(rt;
-        is_told(found(alloc, 0, Value::Over)?, Told::Stopped),
-        "over"
-    );
-    assert!(rt;
-        is_told(found(alloc, 1, units(9))?, Told::Stopped),
-        "over in a branch"
-    );
-    assert!(rt;
-        is_told(found(alloc, 1, Value::Undef)?, wanted(0)),
-        "over in no branch"
-    );
-    Ok(())
+fn conditions_stop(rt: HostRuntime) {
+    assert!(rt; is_found(rt.alloc(), 0, Value::Undef, wanted(2)));
+    assert!(rt; is_found(rt.alloc(), 0, Value::Over, Told::Stopped));
+    assert!(rt; is_found(rt.alloc(), 1, units(9), Told::Stopped));
+    assert!(rt; is_found(rt.alloc(), 1, Value::Undef, wanted(0)));
 }
 
-// Functions that call each other in a ring: each level of calls costs 3, and there are as many as functions, and one more.
-#[test]
-fn a_ring_of_functions_is_weighed(rt: HostRuntime) -> Result<(), Fail> {
-    let alloc = rt.alloc();
-    let mut bodies = Vec::new(alloc);
-    for n in 0..4_u32 {
-        let next = if n == 3 { 0 } else { n + 1 };
-        let call = CCommand::new(CCommandNode::Call(1, 1, cells(alloc, &[2])?, next));
-        bodies.push(Seq::from_vec(one(alloc, call)?))?;
+fn weighs(alloc: Global, core: &Core, wanted: u64) -> bool {
+    match weight(alloc, core, &no_rules(alloc, 3)) {
+        Ok(cost) => cost == wanted,
+        Err(_) => false,
     }
-    let core = Core {
-        cells: 3,
-        names: Seq::from_vec(Vec::new(alloc)),
-        bodies: Seq::from_vec(bodies),
-        main: 0,
-    };
-    assert_eq!(rt; weight(alloc, &core, &no_rules(alloc, 3))?, 15);
-    Ok(())
 }
 
-// Calls of 300,000 functions, each by the one before, weigh 3 each and the assignment 1.
+// Adds a function. Where there is no memory it isn't there, so the driver has another weight.
+fn add_function(alloc: Global, bodies: &mut Vec<Seq<CCommand>>, command: CCommand) {
+    let _added = bodies.push(Seq::from_vec(one(alloc, command)));
+}
+
+// Four functions, of which each calls the next, and the last the first.
+fn ring(alloc: Global) -> Core {
+    let mut bodies = Vec::new(alloc);
+    for next in [1, 2, 3, 0] {
+        add_function(alloc, &mut bodies, call(alloc, 1, &[2], next));
+    }
+    core_of(alloc, bodies, 0)
+}
+
+// Each level of calls costs 3, and there are as many as functions, and one more.
 #[test]
-fn a_chain_of_functions_is_weighed(rt: HostRuntime) -> Result<(), Fail> {
-    let alloc = rt.alloc();
+fn a_ring_of_functions_is_weighed(rt: HostRuntime) {
+    assert!(rt; weighs(rt.alloc(), &ring(rt.alloc()), 15));
+}
+
+// 300,000 functions, of which each calls the next, and one that sets C.
+fn chain(alloc: Global) -> Core {
     let mut bodies = Vec::new(alloc);
     for n in 0..300_000_u32 {
-        let call = CCommand::new(CCommandNode::Call(1, 1, cells(alloc, &[2])?, n + 1));
-        bodies.push(Seq::from_vec(one(alloc, call)?))?;
+        add_function(alloc, &mut bodies, call(alloc, 1, &[2], n + 1));
     }
-    bodies.push(Seq::from_vec(one(alloc, set(2, 9))?))?;
-    let core = Core {
-        cells: 3,
-        names: Seq::from_vec(Vec::new(alloc)),
-        bodies: Seq::from_vec(bodies),
-        main: 0,
-    };
-    assert_eq!(rt; weight(alloc, &core, &no_rules(alloc, 3))?, 900_001);
-    Ok(())
+    add_function(alloc, &mut bodies, set(2, 9));
+    core_of(alloc, bodies, 0)
 }
 
-// The function of this number, of which the first has 1,000 calls of the rules, and each other one two calls of the one before.
-fn body(alloc: Global, n: u32) -> Result<Seq<CCommand>, AllocError> {
+// The calls weigh 3 each, and the assignment 1.
+#[test]
+fn a_chain_of_functions_is_weighed(rt: HostRuntime) {
+    assert!(rt; weighs(rt.alloc(), &chain(rt.alloc()), 900_001));
+}
+
+// A function of 1,000 calls of the rules.
+fn first_body(alloc: Global) -> Seq<CCommand> {
     let mut block = Vec::new(alloc);
-    if n == 0 {
-        for _ in 0..1000 {
-            block.push(rules(alloc, 1, &[2])?)?;
-        }
-        return Ok(Seq::from_vec(block));
+    for _ in 0..1000 {
+        add(&mut block, rules(alloc, 1, &[2]));
     }
-    for _ in 0..2 {
-        block.push(CCommand::new(CCommandNode::Call(1, 1, cells(alloc, &[2])?, n - 1)))?;
-    }
-    Ok(Seq::from_vec(block))
+    Seq::from_vec(block)
+}
+
+// A function of two calls of this one.
+fn doubled_body(alloc: Global, function: u32) -> Seq<CCommand> {
+    let mut block = one(alloc, call(alloc, 1, &[2], function));
+    add(&mut block, call(alloc, 1, &[2], function));
+    Seq::from_vec(block)
 }
 
 // A driver that comes to 2^18 calls of a function with 1,000 calls of the rules.
-fn many_rules(alloc: Global) -> Result<Core, AllocError> {
+fn many_rules(alloc: Global) -> Core {
     let mut bodies = Vec::new(alloc);
-    for n in 0..19 {
-        bodies.push(body(alloc, n)?)?;
+    let _first = bodies.push(first_body(alloc));
+    for n in 0..18 {
+        let _next = bodies.push(doubled_body(alloc, n));
     }
-    Ok(Core {
-        cells: 3,
-        names: Seq::from_vec(Vec::new(alloc)),
-        bodies: Seq::from_vec(bodies),
-        main: 18,
-    })
-}
-
-// What it tells of C for this value of A.
-#[tactic(auto, using(crate::proofs::Placing::placed))]
-fn many_told(alloc: Global, a: Value) -> Result<Told, AllocError> {
-    let all = items(alloc)?;
-    let Ok(symbols) = declare(alloc, &all) else {
-        return Ok(Told::Nothing);
-    };
-    told_by(alloc, &many_rules(alloc)?, &symbols, a)
-}
-
-fn many_weight(alloc: Global) -> Result<u64, AllocError> {
-    let core = many_rules(alloc)?;
-    let base = no_rules(alloc, 3);
-    weight(alloc, &core, &base)
+    core_of(alloc, bodies, 18)
 }
 
 // Over a base without rules 262,144,000 calls of the rules weigh nothing, and the 524,286 calls of functions 3 each.
 #[test]
-fn calls_of_no_rules_cost_nothing(rt: HostRuntime) -> Result<(), Fail> {
-    let alloc = rt.alloc();
-    assert_eq!(rt; many_weight(alloc)?, 1_572_858);
-    let told = many_told(alloc, units(5))?;
-    assert!(rt; is_told(told, wanted(0)), "another answer");
-    Ok(())
+fn calls_of_no_rules_cost_nothing(rt: HostRuntime) {
+    let core = many_rules(rt.alloc());
+    assert!(rt; weighs(rt.alloc(), &core, 1_572_858));
+    assert!(rt; found(rt.alloc(), &core, units(5)) == wanted(0));
 }

@@ -2,11 +2,12 @@
 ghost use Rattle.std.specs.Prelude.{◌≡◌, ℕ, ◌<◌, ◌≤◌, [], map, length, IfOk, All};
 ghost use Rattle.m_symbols.specs.Declarations.{placed_from};
 ghost use Rattle.micro_m.specs.Bases.{IsValidBase, IsWithin};
+ghost use Rattle.flat_code.specs.Runs.{IsFlat};
 
-use crate::drivers::{cells, one, rules, set, units, variable};
-use driver_core::{CCommand, CCommandNode, CNode, CTerm, Core};
-use flat_code::run_flat;
-use m_ast::{Item, Role};
+use crate::drivers::{add, call, cell, items, one, rules, set, two_functions, units};
+use driver_core::{CCommand, CCommandNode, Core};
+use flat_code::{Flat, run_flat};
+use m_ast::Item;
 use m_fixed::Value;
 use m_places::limits::CELLS;
 use m_places::{ErrorKind, Label, Name, Place, Seq, SharedName};
@@ -19,20 +20,15 @@ use std::alloc::{AllocError, Global};
 use std::process::Abort;
 use std::test::Fail;
 
-// The input A, of this type where it has one, and B and C.
-fn items(alloc: Global, word: Option<Name>) -> Result<Vec<Item>, AllocError> {
-    let mut all = Vec::new(alloc);
-    let input = Role::Input(Name::new(alloc, b"1AJ")?);
-    all.push(variable(alloc, b"A", input, Vec::new(alloc), word)?)?;
-    all.push(variable(alloc, b"B", Role::Computed(None), Vec::new(alloc), None)?)?;
-    all.push(variable(alloc, b"C", Role::Computed(None), Vec::new(alloc), None)?)?;
-    Ok(all)
+fn shared(alloc: Global, bytes: &[u8]) -> Result<SharedName, AllocError> {
+    let name = Name::new(alloc, bytes)?;
+    SharedName::new(alloc, name)
 }
 
 fn label(alloc: Global, kind: ErrorKind) -> Result<Label, AllocError> {
-    let verif = SharedName::new(alloc, Name::new(alloc, b"2000")?)?;
-    let error = SharedName::new(alloc, Name::new(alloc, b"A20")?)?;
-    let text = SharedName::new(alloc, Name::new(alloc, b"A:20:00:revenu nul:N")?)?;
+    let verif = shared(alloc, b"2000")?;
+    let error = shared(alloc, b"A20")?;
+    let text = shared(alloc, b"A:20:00:revenu nul:N")?;
     Ok(Label {
         verif,
         error,
@@ -111,6 +107,24 @@ fn digits(values: &[Value], notes: &[u32]) -> u64 {
     so_far
 }
 
+// What is told where something is amiss.
+fn nothing() -> (u64, Value) {
+    (999, Value::Undef)
+}
+
+// What a flat program tells for this value of A.
+fn told_of(alloc: Global, flat: &Flat, notes: &[u32], a: Value) -> (u64, Value)
+    requires { IsFlat flat.now }
+{
+    if flat.inputs != 1 {
+        return nothing();
+    }
+    match run_flat(alloc, flat, &[a]) {
+        Ok(answer) => told(&answer, notes),
+        Err(_) => nothing(),
+    }
+}
+
 // What a driver tells of a cell for this value of A, over a base whose verifications have errors of these kinds.
 fn told_by(
     alloc: Global,
@@ -119,88 +133,76 @@ fn told_by(
     kinds: (ErrorKind, ErrorKind),
     asked: u32,
     a: Value,
-) -> Result<(u64, Value), AllocError>
+) -> (u64, Value)
     requires { symbols.now.variables ≡ placed_from 0 (map (λ v. v.item) symbols.now.variables) }
 {
     if symbols.cells() > CELLS || symbols.cells() < 2 {
-        return Ok((999, Value::Undef));
+        return nothing();
     }
-    let base = base(alloc, symbols.cells(), kinds.0, kinds.1)?;
+    let Ok(base) = base(alloc, symbols.cells(), kinds.0, kinds.1) else {
+        return nothing();
+    };
     let Ok(ordered) = order(alloc, base) else {
-        return Ok((999, Value::Undef));
+        return nothing();
     };
     match inline(alloc, core, &ordered, symbols, &[asked]) {
-        Ok((flat, _, notes)) => {
-            if flat.inputs != 1 {
-                return Ok((999, Value::Undef));
-            }
-            let answer = run_flat(alloc, &flat, &[a])?;
-            Ok(told(&answer, notes.as_slice()))
-        }
-        Err(_) => Ok((999, Value::Undef)),
+        Ok((flat, _, notes)) => told_of(alloc, &flat, notes.as_slice(), a),
+        Err(_) => nothing(),
     }
 }
 
 // `if` this cell: a call of the rules, `else:` nothing.
-fn rules_if(alloc: Global, cell: u32) -> Result<CCommand, AllocError> {
-    let first = one(alloc, rules(alloc, 1, &[2])?)?;
-    Ok(CCommand::new(CCommandNode::If(1, CTerm::new(CNode::Cell(cell)), first, Vec::new(alloc))))
+fn rules_if(alloc: Global, number: u32) -> CCommand {
+    let first = one(alloc, rules(alloc, 1, &[2]));
+    CCommand::new(CCommandNode::If(1, cell(number), first, Vec::new(alloc)))
+}
+
+// This command, and then this one.
+fn two(alloc: Global, first: CCommand, second: CCommand) -> Vec<CCommand> {
+    let mut block = one(alloc, first);
+    add(&mut block, second);
+    block
 }
 
 // The commands of `main`, by the number of a driver: the rules once, and twice; in a branch that isn't taken, and in one that is
 // taken where A is; with B, in a partition that isn't there, and in a function.
-fn main_of(alloc: Global, driver: u32) -> Result<Vec<CCommand>, AllocError> {
+fn main_of(alloc: Global, driver: u32) -> Vec<CCommand> {
     match driver {
-        0 => one(alloc, rules(alloc, 1, &[2])?),
-        1 => {
-            let mut block = one(alloc, rules(alloc, 1, &[2])?)?;
-            block.push(rules(alloc, 1, &[2])?)?;
-            Ok(block)
-        }
-        2 => one(alloc, rules_if(alloc, 2)?),
-        3 => one(alloc, rules_if(alloc, 0)?),
-        4 => {
-            let mut block = one(alloc, set(1, 1))?;
-            block.push(rules(alloc, 1, &[2])?)?;
-            Ok(block)
-        }
-        _ => {
-            let call = CCommandNode::Call(1, 1, cells(alloc, &[1])?, 1);
-            let mut block = one(alloc, CCommand::new(call))?;
-            block.push(set(2, 7))?;
-            Ok(block)
-        }
+        0 => one(alloc, rules(alloc, 1, &[2])),
+        1 => two(alloc, rules(alloc, 1, &[2]), rules(alloc, 1, &[2])),
+        2 => one(alloc, rules_if(alloc, 2)),
+        3 => one(alloc, rules_if(alloc, 0)),
+        4 => two(alloc, set(1, 1), rules(alloc, 1, &[2])),
+        _ => two(alloc, call(alloc, 1, &[1], 1), set(2, 7)),
     }
 }
 
 // A driver: its `main`, and the function that calls the rules.
-fn core(alloc: Global, driver: u32) -> Result<Core, AllocError> {
-    let mut bodies = Vec::new(alloc);
-    bodies.push(Seq::from_vec(main_of(alloc, driver)?))?;
-    bodies.push(Seq::from_vec(one(alloc, rules(alloc, 1, &[2])?)?))?;
-    let mut names = Vec::new(alloc);
-    names.push(Name::new(alloc, b"main")?)?;
-    names.push(Name::new(alloc, b"f")?)?;
-    Ok(Core {
-        cells: 3,
-        names: Seq::from_vec(names),
-        bodies: Seq::from_vec(bodies),
-        main: 0,
-    })
+fn core(alloc: Global, driver: u32) -> Core {
+    two_functions(alloc, main_of(alloc, driver), rules(alloc, 1, &[2]))
 }
 
+// What a driver tells of a cell over the items.
 #[tactic(auto, using(crate::proofs::Placing::placed))]
-fn found(
+fn told_over(
     alloc: Global,
-    driver: u32,
+    core: &Core,
+    all: &[Item],
     kinds: (ErrorKind, ErrorKind),
+    asked: u32,
     a: Value,
-) -> Result<(u64, Value), AllocError> {
-    let all = items(alloc, None)?;
-    let Ok(symbols) = declare(alloc, &all) else {
-        return Ok((999, Value::Undef));
-    };
-    told_by(alloc, &core(alloc, driver)?, &symbols, kinds, 2, a)
+) -> (u64, Value) {
+    match declare(alloc, all) {
+        Ok(symbols) => told_by(alloc, core, &symbols, kinds, asked, a),
+        Err(_) => nothing(),
+    }
+}
+
+fn found(alloc: Global, driver: u32, kinds: (ErrorKind, ErrorKind), a: Value) -> (u64, Value) {
+    match items(alloc, None) {
+        Ok(all) => told_over(alloc, &core(alloc, driver), &all, kinds, 2, a),
+        Err(_) => nothing(),
+    }
 }
 
 const D: ErrorKind = ErrorKind::Discordance;
@@ -225,75 +227,64 @@ const ROWS: [(u32, ErrorKind, ErrorKind, i64, u64); 12] = [
     (5, F, F, 5, 100),
 ];
 
-fn is_told(told: (u64, Value), wanted: u64) -> bool {
-    told.0 == wanted
+// The table, out of reach of the proofs of what goes over it.
+fn all_rows() -> &'static [(u32, ErrorKind, ErrorKind, i64, u64)] {
+    &ROWS
+}
+
+fn is_found(
+    alloc: Global,
+    driver: u32,
+    kinds: (ErrorKind, ErrorKind),
+    a: Value,
+    wanted: u64,
+) -> bool {
+    found(alloc, driver, kinds, a).0 == wanted
 }
 
 #[test]
 fn notes_are_told(rt: HostRuntime) -> Result<(), Fail> {
-    let alloc = rt.alloc();
-    for (driver, first, second, a, wanted) in ROWS {
-        let told = found(alloc, driver, (first, second), units(a))?;
-        assert!(rt; is_told(told, wanted), "driver {driver} for {a}");
+    for (row, (driver, first, second, a, wanted)) in all_rows().iter().enumerate() {
+        if !is_found(rt.alloc(), *driver, (*first, *second), units(*a), *wanted) {
+            return Err(Fail::from(format!(in rt.alloc(); "row {row}")?));
+        }
     }
     Ok(())
 }
 
 // A condition that is over stops a run whatever the error's kind is, but not in a branch that isn't taken.
 #[test]
-fn over_stops(rt: HostRuntime) -> Result<(), Fail> {
-    let alloc = rt.alloc();
-    assert!(rt;
-        is_told(found(alloc, 0, (I, F), Value::Over)?, 200),
-        "informative"
-    );
-    assert!(rt;
-        is_told(found(alloc, 0, (F, F), Value::Over)?, 200),
-        "anomalie"
-    );
-    assert!(rt;
-        is_told(found(alloc, 2, (D, F), Value::Over)?, 0),
-        "in no branch"
-    );
-    assert!(rt;
-        is_told(found(alloc, 0, (D, F), Value::Undef)?, 0),
-        "undefined"
-    );
-    Ok(())
-}
-
-// What is told of A, of this type, over a driver that calls the rules.
-#[tactic(auto, using(crate::proofs::Placing::placed))]
-fn typed(alloc: Global, word: &[u8], a: Value) -> Result<(u64, Value), AllocError> {
-    let all = items(alloc, Some(Name::new(alloc, word)?))?;
-    let Ok(symbols) = declare(alloc, &all) else {
-        return Ok((999, Value::Undef));
-    };
-    told_by(alloc, &core(alloc, 2)?, &symbols, (F, F), 0, a)
+fn over_stops(rt: HostRuntime) {
+    assert!(rt; is_found(rt.alloc(), 0, (I, F), Value::Over, 200));
+    assert!(rt; is_found(rt.alloc(), 0, (F, F), Value::Over, 200));
+    assert!(rt; is_found(rt.alloc(), 2, (D, F), Value::Over, 0));
+    assert!(rt; is_found(rt.alloc(), 0, (D, F), Value::Undef, 0));
 }
 
 fn is_value(told: (u64, Value), wanted: Value) -> bool {
     told.0 == 0 && told.1 == wanted
 }
 
+// Whether A, of this type, is read as what is wanted, over a driver that calls the rules.
+fn is_read(alloc: Global, word: &[u8], a: Value, wanted: Value) -> bool {
+    let Ok(word) = Name::new(alloc, word) else {
+        return false;
+    };
+    match items(alloc, Some(word)) {
+        Ok(all) => is_value(
+            told_over(alloc, &core(alloc, 2), &all, (F, F), 0, a),
+            wanted,
+        ),
+        Err(_) => false,
+    }
+}
+
 // An input that is 0 or 1 is read as it is, and so is any other one of another type.
 #[test]
-fn inputs_are_read(rt: HostRuntime) -> Result<(), Fail> {
-    let alloc = rt.alloc();
-    for n in 0..2 {
-        assert!(rt;
-            is_value(typed(alloc, b"BOOLEEN", units(n))?, units(n)),
-            "truth {n}"
-        );
-    }
-    assert!(rt;
-        is_value(typed(alloc, b"BOOLEEN", Value::Undef)?, Value::Undef),
-        "undefined"
-    );
-    assert!(rt;
-        is_value(typed(alloc, b"ENTIER", units(5))?, units(5)),
-        "whole"
-    );
-    assert!(rt; is_value(typed(alloc, b"REEL", units(5))?, units(5)), "any");
-    Ok(())
+fn inputs_are_read(rt: HostRuntime) {
+    assert!(rt; is_read(rt.alloc(), b"BOOLEEN", units(0), units(0)));
+    assert!(rt; is_read(rt.alloc(), b"BOOLEEN", units(1), units(1)));
+    assert!(rt; is_read(rt.alloc(), b"BOOLEEN", Value::Undef, Value::Undef));
+    assert!(rt; is_read(rt.alloc(), b"ENTIER", units(5), units(5)));
+    assert!(rt; is_read(rt.alloc(), b"REEL", units(5), units(5)));
 }

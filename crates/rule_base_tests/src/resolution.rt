@@ -1,11 +1,11 @@
 //! Bases of rules, shown as texts, and faults of names with their places.
-use crate::source::{add_number, base_of};
+use crate::source::{add, add_number, base_of, other_at};
 use m_fixed::{Op, Value};
-use m_places::{Name, Place};
+use m_places::{Label, Name, Place};
 use m_resolve::ResolveFault;
 use micro_m::{Base, MNode, MTerm};
 use rule_base::RuleFault;
-use std::alloc::{AllocError, Global};
+use std::alloc::Global;
 use std::test::Fail;
 use std::thread::Threads;
 
@@ -15,7 +15,7 @@ const DECLARED: &[u8] =
 
 // Formulas over A (cell 0), the table T (cells 1 to 3), the constant C of 5 (cell 4) and the input E (cell 5), and the base that
 // they come to. A number is shown as `#` and its whole units, and a table read by its first cell and its size.
-const BASES: [(&[u8], &[u8]); 8] = [
+static BASES: [(&[u8], &[u8]); 8] = [
     (b"A = C - 1 ;", b"4 is #5 | 0 = (4-#1)"),
     (
         b"T[2] = 1 ; A = T[1] + T[C] ;",
@@ -39,7 +39,7 @@ const BASES: [(&[u8], &[u8]); 8] = [
 ];
 
 // The first formula begins at byte 32. Each fault is told with its word and the byte of its place.
-const FAULTS: [(&[u8], &[u8]); 15] = [
+static FAULTS: [(&[u8], &[u8]); 15] = [
     (b"A = B ;", b"unknown B 36"),
     (b"A = X ;", b"unknown X 36"),
     (b"A = C[1] ;", b"no table C 36"),
@@ -63,176 +63,187 @@ const FAULTS: [(&[u8], &[u8]); 15] = [
     ),
 ];
 
-fn add_value(alloc: Global, text: &mut Vec<u8>, value: Value) -> Result<(), AllocError> {
-    text.push(b'#')?;
+// The tables, out of reach of the proofs of what goes over them.
+
+fn all_bases() -> &'static [(&'static [u8], &'static [u8])] {
+    &BASES
+}
+
+fn all_faults() -> &'static [(&'static [u8], &'static [u8])] {
+    &FAULTS
+}
+
+fn add_value(alloc: Global, text: &mut Vec<u8>, value: Value) {
+    add(text, b"#");
     match value {
         Value::Num(amount) => add_number(alloc, text, amount.millionths() / 1_000_000),
-        _ => text.extend_from_slice(b"undefined"),
+        _ => add(text, b"undefined"),
     }
 }
 
-fn sign(op: Op) -> u8 {
+fn sign(op: Op) -> &'static [u8] {
     match op {
-        Op::Eq => b'=',
-        Op::Ge => b'g',
-        Op::Le => b'l',
-        Op::And => b'&',
-        Op::Or => b'|',
-        Op::Not => b'!',
-        Op::Neg => b'm',
-        Op::Add => b'+',
-        Op::Sub => b'-',
-        _ => b'?',
+        Op::Eq => b"=",
+        Op::Ge => b"g",
+        Op::Le => b"l",
+        Op::And => b"&",
+        Op::Or => b"|",
+        Op::Not => b"!",
+        Op::Neg => b"m",
+        Op::Add => b"+",
+        Op::Sub => b"-",
+        _ => b"?",
     }
 }
 
 #[cycle(add_tree)]
-fn add_tree(alloc: Global, text: &mut Vec<u8>, term: &MTerm) -> Result<(), AllocError> {
+fn add_tree(alloc: Global, text: &mut Vec<u8>, term: &MTerm) {
     match &term.node {
         MNode::Lit(value) => add_value(alloc, text, *value),
         MNode::Cell(cell) => add_number(alloc, text, *cell as i128),
         MNode::Pick(first, size, index) => {
-            add_number(alloc, text, *first as i128)?;
-            text.push(b'.')?;
-            add_number(alloc, text, *size as i128)?;
-            text.push(b'[')?;
-            add_tree(alloc, text, index)?;
-            text.push(b']')?;
-            Ok(())
+            add_number(alloc, text, *first as i128);
+            add(text, b".");
+            add_number(alloc, text, *size as i128);
+            add(text, b"[");
+            add_tree(alloc, text, index);
+            add(text, b"]");
         }
         MNode::Apply(op, arguments) => {
-            text.push(sign(*op))?;
-            text.push(b'(')?;
+            add(text, sign(*op));
+            add(text, b"(");
             for argument in arguments {
-                add_operand(alloc, text, argument)?;
+                add_operand(alloc, text, argument);
             }
-            text.push(b')')?;
-            Ok(())
+            add(text, b")");
         }
         MNode::Chain(first, steps) => {
-            text.push(b'(')?;
-            add_tree(alloc, text, first)?;
+            add(text, b"(");
+            add_tree(alloc, text, first);
             for step in steps {
-                text.push(sign(step.op))?;
-                add_tree(alloc, text, &step.term)?;
+                add(text, sign(step.op));
+                add_tree(alloc, text, &step.term);
             }
-            text.push(b')')?;
-            Ok(())
+            add(text, b")");
         }
     }
 }
 
 // An argument, and a comma before it where it isn't the first.
 #[cycle(add_tree)]
-fn add_operand(alloc: Global, text: &mut Vec<u8>, term: &MTerm) -> Result<(), AllocError> {
+fn add_operand(alloc: Global, text: &mut Vec<u8>, term: &MTerm) {
     if text.last() != Some(&b'(') {
-        text.push(b',')?;
+        add(text, b",");
     }
-    add_tree(alloc, text, term)
+    add_tree(alloc, text, term);
 }
 
-fn add_bar(text: &mut Vec<u8>) -> Result<(), AllocError> {
-    if text.is_empty() {
-        return Ok(());
+fn add_bar(text: &mut Vec<u8>) {
+    if !text.is_empty() {
+        add(text, b" | ");
     }
-    text.extend_from_slice(b" | ")
 }
 
-fn add_label(text: &mut Vec<u8>, base: &Base, label: u32) -> Result<(), AllocError> {
-    if let Some(label) = base.labels.as_slice().get(label as usize) {
-        text.extend_from_slice(label.verif.bytes())?;
-        text.push(b' ')?;
-        text.extend_from_slice(label.error.bytes())?;
-        text.push(b' ')?;
-        text.extend_from_slice(label.text.bytes())?;
+fn add_label(text: &mut Vec<u8>, labels: &[Label], number: u32) {
+    if let Some(label) = labels.get(number as usize) {
+        add(text, label.verif.bytes());
+        add(text, b" ");
+        add(text, label.error.bytes());
+        add(text, b" ");
+        add(text, label.text.bytes());
     }
-    Ok(())
 }
 
-fn shown(alloc: Global, base: &Base) -> Result<Vec<u8>, AllocError> {
-    let mut text = Vec::new(alloc);
+fn add_constants(alloc: Global, text: &mut Vec<u8>, base: &Base) {
     for (cell, amount) in base.constants.as_slice() {
-        add_number(alloc, &mut text, *cell as i128)?;
-        text.extend_from_slice(b" is ")?;
-        add_value(alloc, &mut text, Value::Num(*amount))?;
+        add_number(alloc, text, *cell as i128);
+        add(text, b" is ");
+        add_value(alloc, text, Value::Num(*amount));
     }
+}
+
+fn add_definitions(alloc: Global, text: &mut Vec<u8>, base: &Base) {
     for (cell, term, _) in base.definitions.as_slice() {
-        add_bar(&mut text)?;
-        add_number(alloc, &mut text, *cell as i128)?;
-        text.extend_from_slice(b" = ")?;
-        add_tree(alloc, &mut text, term)?;
+        add_bar(text);
+        add_number(alloc, text, *cell as i128);
+        add(text, b" = ");
+        add_tree(alloc, text, term);
     }
+}
+
+fn add_checks(alloc: Global, text: &mut Vec<u8>, base: &Base) {
     for (term, label, _) in base.checks.as_slice() {
-        add_bar(&mut text)?;
-        add_label(&mut text, base, *label)?;
-        text.extend_from_slice(b" : ")?;
-        add_tree(alloc, &mut text, term)?;
+        add_bar(text);
+        add_label(text, base.labels.as_slice(), *label);
+        add(text, b" : ");
+        add_tree(alloc, text, term);
     }
-    Ok(text)
 }
 
-fn line(alloc: Global, words: &[u8], name: Name, place: Place) -> Result<Vec<u8>, AllocError> {
-    let mut text = Vec::from_slice(alloc, words)?;
-    text.push(b' ')?;
-    text.extend_from_slice(name.bytes())?;
-    text.push(b' ')?;
-    add_number(alloc, &mut text, place.byte as i128)?;
-    Ok(text)
+fn is_shown(alloc: Global, base: &Base, wanted: &[u8]) -> bool {
+    let mut text = Vec::new(alloc);
+    add_constants(alloc, &mut text, base);
+    add_definitions(alloc, &mut text, base);
+    add_checks(alloc, &mut text, base);
+    text.as_slice() == wanted
 }
 
-fn told(alloc: Global, fault: ResolveFault) -> Result<Vec<u8>, AllocError> {
+fn is_line(alloc: Global, words: &[u8], name: &Name, place: Place, wanted: &[u8]) -> bool {
+    let mut text = Vec::new(alloc);
+    add(&mut text, words);
+    add(&mut text, b" ");
+    add(&mut text, name.bytes());
+    add(&mut text, b" ");
+    add_number(alloc, &mut text, place.byte as i128);
+    text.as_slice() == wanted
+}
+
+fn is_told(alloc: Global, fault: &ResolveFault, wanted: &[u8]) -> bool {
     match fault {
-        ResolveFault::UnknownName(name, place) => line(alloc, b"unknown", name, place),
-        ResolveFault::NotATable(name, place) => line(alloc, b"no table", name, place),
-        ResolveFault::IsATable(name, place) => line(alloc, b"table", name, place),
-        ResolveFault::BadTarget(name, place) => line(alloc, b"bad target", name, place),
-        ResolveFault::DefinedTwice(name, place) => line(alloc, b"twice", name, place),
-        ResolveFault::UnknownError(name, place) => line(alloc, b"no error", name, place),
-        ResolveFault::Memory => Vec::from_slice(alloc, b"memory"),
-    }
-}
-
-fn answer<R: Threads + Sync>(
-    rt: &R,
-    alloc: Global,
-    formulas: &[u8],
-) -> Result<Vec<u8>, AllocError> {
-    match base_of(rt, alloc, formulas, DECLARED) {
-        Ok(made) => shown(alloc, &made.ordered.base),
-        Err(RuleFault::Resolve(fault)) => told(alloc, fault),
-        Err(_) => Vec::from_slice(alloc, b"refused"),
+        ResolveFault::UnknownName(name, place) => is_line(alloc, b"unknown", name, *place, wanted),
+        ResolveFault::NotATable(name, place) => is_line(alloc, b"no table", name, *place, wanted),
+        ResolveFault::IsATable(name, place) => is_line(alloc, b"table", name, *place, wanted),
+        ResolveFault::BadTarget(name, place) => is_line(alloc, b"bad target", name, *place, wanted),
+        ResolveFault::DefinedTwice(name, place) => is_line(alloc, b"twice", name, *place, wanted),
+        ResolveFault::UnknownError(name, place) => is_line(
+            alloc,
+            b"no error",
+            name,
+            *place,
+            wanted,
+        ),
+        ResolveFault::Memory => false,
     }
 }
 
 // Whether these formulas give this.
-fn gives<R: Threads + Sync>(
+fn gives<R: Threads + Sync>(rt: &R, alloc: Global, formulas: &[u8], wanted: &[u8]) -> bool {
+    match base_of(rt, alloc, formulas, DECLARED) {
+        Ok(made) => is_shown(alloc, &made.ordered.base, wanted),
+        Err(RuleFault::Resolve(fault)) => is_told(alloc, &fault, wanted),
+        Err(_) => false,
+    }
+}
+
+fn check_all<R: Threads + Sync>(
     rt: &R,
     alloc: Global,
-    formulas: &[u8],
-    wanted: &[u8],
-) -> Result<bool, AllocError> {
-    let answer = answer(rt, alloc, formulas)?;
-    Ok(answer.as_slice() == wanted)
+    rows: &[(&'static [u8], &'static [u8])],
+) -> Result<(), Fail> {
+    for (formulas, wanted) in rows {
+        if !gives(rt, alloc, formulas, wanted) {
+            return Err(other_at(alloc, formulas));
+        }
+    }
+    Ok(())
 }
 
 #[test]
 fn names_become_cells(rt: HostRuntime) -> Result<(), Fail> {
-    for (formulas, wanted) in BASES {
-        assert!(rt;
-            gives(&rt, rt.alloc(), formulas, wanted)?,
-            "in {formulas:?}"
-        );
-    }
-    Ok(())
+    check_all(&rt, rt.alloc(), all_bases())
 }
 
 #[test]
 fn faults_of_names(rt: HostRuntime) -> Result<(), Fail> {
-    for (formulas, wanted) in FAULTS {
-        assert!(rt;
-            gives(&rt, rt.alloc(), formulas, wanted)?,
-            "in {formulas:?}"
-        );
-    }
-    Ok(())
+    check_all(&rt, rt.alloc(), all_faults())
 }

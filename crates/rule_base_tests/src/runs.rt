@@ -3,7 +3,7 @@ ghost use Rattle.std.specs.Prelude.{◌≡◌, IfOk, length};
 ghost use Rattle.micro_m.specs.Bases.{IsValidBase};
 ghost use Rattle.rule_order.specs.Orders.{IsOrder};
 
-use crate::source::{CELLS, add_number, add_space, base_of};
+use crate::source::{CELLS, add, add_number, add_space, base_of, other_at};
 use m_fixed::{Amount, Value};
 use micro_m::{Base, Failure, slow_value};
 use rule_order::{Ordered, fill_values, first_failure};
@@ -21,7 +21,7 @@ const GIVEN: usize = 7;
 const GREATEST: i128 = 10_000_000_000_000_000_000;
 
 // Formulas, E in millionths, and the whole units of A to D with the number of the label that stops.
-const RUNS: [(&[u8], Option<i128>, &[u8]); 20] = [
+static RUNS: [(&[u8], Option<i128>, &[u8]); 20] = [
     (b"B = A - 1 ; A = E + E ;", Some(3_000_000), b"6 5 ? ?"),
     (b"B = A - 1 ; A = E + E ;", None, b"? -1 ? ?"),
     (
@@ -97,7 +97,7 @@ const RUNS: [(&[u8], Option<i128>, &[u8]); 20] = [
 ];
 
 // Turns, and the value of B with so many, where E is 3. Without turns a cell is undefined, E too, and what is undefined less 1 is -1.
-const BY_TURNS: [(u32, &[u8]); 5] = [(0, b"?"), (1, b"0"), (2, b"0"), (3, b"2"), (ENOUGH, b"2")];
+static BY_TURNS: [(u32, &[u8]); 5] = [(0, b"?"), (1, b"0"), (2, b"0"), (3, b"2"), (ENOUGH, b"2")];
 
 fn amount(millionths: i128) -> Value {
     match Amount::new(millionths) {
@@ -119,22 +119,36 @@ fn environment(alloc: Global, cells: u32, given: Option<i128>) -> Result<Vec<Val
     Ok(values)
 }
 
-fn add_value(alloc: Global, text: &mut Vec<u8>, value: Value) -> Result<(), AllocError> {
-    add_space(text)?;
+// The tables, out of reach of the proofs of what goes over them.
+
+fn all_runs() -> &'static [(&'static [u8], Option<i128>, &'static [u8])] {
+    &RUNS
+}
+
+fn all_turns() -> &'static [(u32, &'static [u8])] {
+    &BY_TURNS
+}
+
+fn add_value(alloc: Global, text: &mut Vec<u8>, value: Value) {
+    add_space(text);
     match value {
         Value::Num(amount) => add_number(alloc, text, amount.millionths() / 1_000_000),
-        Value::Undef => text.extend_from_slice(b"?"),
-        Value::Over => text.extend_from_slice(b"over"),
+        Value::Undef => add(text, b"?"),
+        Value::Over => add(text, b"over"),
     }
 }
 
-fn add_failure(alloc: Global, text: &mut Vec<u8>, failure: Failure) -> Result<(), AllocError> {
-    let (words, label): (&[u8], u32) = match failure {
-        Failure::Failed(label) => (b" failed ", label),
-        Failure::Over(label) => (b" over ", label),
-    };
-    text.extend_from_slice(words)?;
-    add_number(alloc, text, label as i128)
+fn add_failure(alloc: Global, text: &mut Vec<u8>, failure: Failure) {
+    match failure {
+        Failure::Failed(label) => {
+            add(text, b" failed ");
+            add_number(alloc, text, label as i128);
+        }
+        Failure::Over(label) => {
+            add(text, b" over ");
+            add_number(alloc, text, label as i128);
+        }
+    }
 }
 
 // Whether the values of all cells are those of the definition.
@@ -148,40 +162,31 @@ fn are_defined(base: &Base, given: &[Value], values: &[Value]) -> bool {
     true
 }
 
-fn shown(alloc: Global, ordered: &Ordered, values: &[Value]) -> Result<Vec<u8>, AllocError> {
+fn are_shown(alloc: Global, ordered: &Ordered, values: &[Value], wanted: &[u8]) -> bool {
     let mut text = Vec::new(alloc);
     for value in values.iter().take(4) {
-        add_value(alloc, &mut text, *value)?;
+        add_value(alloc, &mut text, *value);
     }
     if let Some(failure) = first_failure(ordered, values) {
-        add_failure(alloc, &mut text, failure)?;
+        add_failure(alloc, &mut text, failure);
     }
-    Ok(text)
+    text.as_slice() == wanted
 }
 
-fn run(alloc: Global, ordered: &Ordered, given: Option<i128>) -> Result<Vec<u8>, AllocError>
+// Whether a run gives this, and the values of all cells are those of the definition.
+fn runs(
+    alloc: Global,
+    ordered: &Ordered,
+    given: Option<i128>,
+    wanted: &[u8],
+) -> Result<bool, AllocError>
     requires valid { IsValidBase ordered.now.base }
     requires order { IsOrder ordered.now.base ordered.now.sequence }
 {
     let given = environment(alloc, ordered.base.cells, given)?;
     let mut values = given.clone()?;
     fill_values(ordered, &mut values);
-    if !are_defined(&ordered.base, &given, &values) {
-        return Vec::from_slice(alloc, b"not as defined");
-    }
-    shown(alloc, ordered, &values)
-}
-
-fn answer<R: Threads + Sync>(
-    rt: &R,
-    alloc: Global,
-    formulas: &[u8],
-    given: Option<i128>,
-) -> Result<Vec<u8>, AllocError> {
-    match base_of(rt, alloc, formulas, CELLS) {
-        Ok(made) => run(alloc, &made.ordered, given),
-        Err(_) => Vec::from_slice(alloc, b"refused"),
-    }
+    Ok(are_defined(&ordered.base, &given, &values) && are_shown(alloc, ordered, &values, wanted))
 }
 
 fn gives<R: Threads + Sync>(
@@ -190,48 +195,48 @@ fn gives<R: Threads + Sync>(
     formulas: &[u8],
     given: Option<i128>,
     wanted: &[u8],
-) -> Result<bool, AllocError> {
-    let answer = answer(rt, alloc, formulas, given)?;
-    Ok(answer.as_slice() == wanted)
+) -> bool {
+    match base_of(rt, alloc, formulas, CELLS) {
+        Ok(made) => runs(alloc, &made.ordered, given, wanted).unwrap_or(false),
+        Err(_) => false,
+    }
 }
 
 #[test]
 fn values_and_verifications(rt: HostRuntime) -> Result<(), Fail> {
-    for (formulas, given, wanted) in RUNS {
-        assert!(rt;
-            gives(&rt, rt.alloc(), formulas, given, wanted)?,
-            "in {formulas:?} at {given:?}"
-        );
+    for (formulas, given, wanted) in all_runs() {
+        if !gives(&rt, rt.alloc(), formulas, *given, wanted) {
+            return Err(other_at(rt.alloc(), formulas));
+        }
     }
     Ok(())
 }
 
-fn worth(alloc: Global, base: &Base, turns: u32) -> Result<Vec<u8>, AllocError> {
-    let given = environment(alloc, base.cells, Some(3_000_000))?;
-    let mut text = Vec::new(alloc);
-    add_value(alloc, &mut text, slow_value(base, &given, 1, turns))?;
-    Ok(text)
+// Whether B is worth this with so many turns.
+fn is_worth(alloc: Global, base: &Base, turns: u32, wanted: &[u8]) -> bool {
+    match environment(alloc, base.cells, Some(3_000_000)) {
+        Ok(given) => {
+            let mut text = Vec::new(alloc);
+            add_value(alloc, &mut text, slow_value(base, &given, 1, turns));
+            text.as_slice() == wanted
+        }
+        Err(_) => false,
+    }
 }
 
-fn has_with_turns<R: Threads + Sync>(
-    rt: &R,
-    alloc: Global,
-    turns: u32,
-    wanted: &[u8],
-) -> Result<bool, AllocError> {
-    match base_of(rt, alloc, b"B = max(0, A - 1) ; A = E ;", CELLS) {
-        Ok(made) => Ok(worth(alloc, &made.ordered.base, turns)?.as_slice() == wanted),
-        Err(_) => Ok(false),
+fn check_turns(alloc: Global, base: &Base) -> Result<(), Fail> {
+    for (turns, wanted) in all_turns() {
+        if !is_worth(alloc, base, *turns, wanted) {
+            return Err(other_at(alloc, wanted));
+        }
     }
+    Ok(())
 }
 
 #[test]
 fn values_by_turns(rt: HostRuntime) -> Result<(), Fail> {
-    for (turns, wanted) in BY_TURNS {
-        assert!(rt;
-            has_with_turns(&rt, rt.alloc(), turns, wanted)?,
-            "with {turns} turns"
-        );
+    match base_of(&rt, rt.alloc(), b"B = max(0, A - 1) ; A = E ;", CELLS) {
+        Ok(made) => check_turns(rt.alloc(), &made.ordered.base),
+        Err(_) => Err(Fail::from("refused rules")),
     }
-    Ok(())
 }

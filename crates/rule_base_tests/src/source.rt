@@ -6,7 +6,8 @@ ghost use Rattle.rule_order.specs.Orders.{IsOrder};
 use m_places::{Name, Seq};
 use rule_base::{RuleBase, RuleFault, rule_base};
 use rule_text::Text;
-use std::alloc::{AllocError, Global};
+use std::alloc::Global;
+use std::test::Fail;
 use std::thread::Threads;
 
 /// Declarations in which A to D are the cells 0 to 3, T is the cells 4 to 6, and E is the cell 7.
@@ -23,18 +24,19 @@ pub fn base_of<R: Threads + Sync>(
     ensures valid { IfOk result (λ made. IsValidBase made.ordered.base) }
     ensures order { IfOk result (λ made. IsOrder made.ordered.base made.ordered.sequence) }
 {
-    let bytes = source(alloc, formulas, declared)?;
+    let bytes = source(alloc, formulas, declared);
     if bytes.len() > 4_096 {
         return Err(RuleFault::Memory);
     }
     base_over(rt, alloc, bytes)
 }
 
-fn source(alloc: Global, formulas: &[u8], declared: &[u8]) -> Result<Vec<u8>, AllocError> {
-    let mut text = Vec::from_slice(alloc, b"regle 1 : application : iliad ; ")?;
-    text.extend_from_slice(formulas)?;
-    text.extend_from_slice(declared)?;
-    Ok(text)
+fn source(alloc: Global, formulas: &[u8], declared: &[u8]) -> Vec<u8> {
+    let mut text = Vec::new(alloc);
+    add(&mut text, b"regle 1 : application : iliad ; ");
+    add(&mut text, formulas);
+    add(&mut text, declared);
+    text
 }
 
 fn base_over<R: Threads + Sync>(
@@ -53,16 +55,29 @@ fn base_over<R: Threads + Sync>(
     rule_base(rt, alloc, &[text], b"iliad")
 }
 
-/// Appends a number in decimal.
-pub fn add_number(alloc: Global, text: &mut Vec<u8>, number: i128) -> Result<(), AllocError> {
-    let digits = format!(in alloc; "{number}")?;
-    text.extend_from_slice(digits.as_bytes())
+/// Adds bytes. Where there is no memory the text stays as it is, so it isn't what was wanted.
+pub fn add(text: &mut Vec<u8>, bytes: &[u8]) {
+    let _added = text.extend_from_slice(bytes);
 }
 
-/// Appends a space, unless nothing stands there yet.
-pub fn add_space(text: &mut Vec<u8>) -> Result<(), AllocError> {
-    if !text.is_empty() {
-        text.push(b' ')?;
+/// Adds a number in decimal.
+pub fn add_number(alloc: Global, text: &mut Vec<u8>, number: i128) {
+    if let Ok(digits) = format!(in alloc; "{number}") {
+        add(text, digits.as_bytes());
     }
-    Ok(())
+}
+
+/// Adds a space, unless nothing stands there yet.
+pub fn add_space(text: &mut Vec<u8>) {
+    if !text.is_empty() {
+        add(text, b" ");
+    }
+}
+
+/// Fails at these formulas.
+pub fn other_at(alloc: Global, formulas: &[u8]) -> Fail {
+    match format!(in alloc; "another answer at {formulas:?}") {
+        Ok(told) => Fail::from(told),
+        Err(_) => Fail::from("another answer"),
+    }
 }

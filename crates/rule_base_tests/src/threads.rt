@@ -9,6 +9,7 @@ use rule_text::Text;
 use std::alloc::{AllocError, Global};
 use std::sync::atomic::{AtomicU64, Ordering};
 use std::test::Fail;
+use std::thread::Threads;
 
 // The texts' rules: a constant, an input, what is computed, and a rule.
 const RULES: &[u8] =
@@ -112,20 +113,37 @@ fn wrong(files: &[Seq<Item>]) -> usize {
     count
 }
 
+// Whether so many files are read, each as those rules.
+fn are_read<R: Threads + Sync>(rt: &R, alloc: Global, texts: &[Text], gate: &Both) -> bool
+    requires { TextsAreWithin texts.now }
+{
+    match read_all(rt, alloc, texts, gate) {
+        Ok(files) => files.as_slice().len() == FILES && wrong(files.as_slice()) == 0,
+        Err(_) => false,
+    }
+}
+
+fn have_met(gate: &Both) -> bool {
+    gate.first_saw.load(Ordering::SeqCst) == 1 && gate.last_saw.load(Ordering::SeqCst) == 1
+}
+
 #[test]
 fn two_workers_meet(rt: HostRuntime) -> Result<(), Fail> {
     let gate = new_gate();
     let texts = texts_of(rt.alloc(), RULES, FILES)?;
-    match read_all(&rt, rt.alloc(), &texts, &gate) {
-        Ok(files) => {
-            assert_eq!(rt; files.as_slice().len(), FILES);
-            assert_eq!(rt; wrong(files.as_slice()), 0);
-        }
-        Err(_) => return Err(Fail::from("refused rules")),
-    }
-    assert_eq!(rt; gate.first_saw.load(Ordering::SeqCst), 1);
-    assert_eq!(rt; gate.last_saw.load(Ordering::SeqCst), 1);
+    assert!(rt; are_read(&rt, rt.alloc(), &texts, &gate));
+    assert!(rt; have_met(&gate));
     Ok(())
+}
+
+// Whether the fault that is told is an open string of the first file.
+fn is_first_open<R: Threads + Sync>(rt: &R, alloc: Global, texts: &[Text]) -> bool
+    requires { TextsAreWithin texts.now }
+{
+    match read_all(rt, alloc, texts, &Open) {
+        Err(ReadFault::Lex(m_lexer::LexFault::OpenString(place))) => place.file == 0,
+        _ => false,
+    }
 }
 
 // The fault of the first file is told, whichever worker has a fault first.
@@ -134,12 +152,6 @@ fn the_first_fault_is_told(rt: HostRuntime) -> Result<(), Fail> {
     let alloc = rt.alloc();
     let open = text_of(alloc, b"A : const = \"")?;
     let bad = text_of(alloc, b"\xff")?;
-    match read_all(&rt, alloc, &[open, bad], &Open) {
-        Err(ReadFault::Lex(m_lexer::LexFault::OpenString(place))) => {
-            assert_eq!(rt; place.file, 0);
-            Ok(())
-        }
-        Err(_) => Err(Fail::from("another fault")),
-        Ok(_) => Err(Fail::from("no fault")),
-    }
+    assert!(rt; is_first_open(&rt, alloc, &[open, bad]));
+    Ok(())
 }

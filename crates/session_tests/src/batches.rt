@@ -1,15 +1,15 @@
 //! Batches of several households, and one alone, over code written by hand: REV less 1000, which is over in line 2 of the
 //! driver where the square of REV is.
-ghost use Rattle.std.specs.Prelude.{◌≡◌, ◌<◌, IfOk};
+ghost use Rattle.std.specs.Prelude.{◌≡◌, ◌<◌, IfOk, length};
 ghost use Rattle.std.specs.List.{AllByRecursion};
 ghost use Rattle.household.specs.Household.{inputs_of};
 
-use crate::sessions::{codes, face, number};
-use household::{Household, read_table};
+use crate::sessions::{codes, number, one_input};
+use household::{Codes, Household, read_table};
 use m_batch::{run_batch, run_household};
 use m_fixed::{Amount, Op, Value};
 use m_places::{Open, Seq};
-use observables::{Answer, InputType, Stop};
+use observables::{Answer, Stop};
 use reg_machine::{Code, Instr, make_code};
 use std::alloc::{AllocError, Global};
 use std::test::Fail;
@@ -42,46 +42,81 @@ fn millionths(value: Value) -> i128 {
     }
 }
 
-// The answers in one text: the millionths of each value, or what ended the run.
-fn told(alloc: Global, answers: &[Answer]) -> Result<Vec<u8>, Fail> {
-    let mut text = Vec::new(alloc);
-    for answer in answers {
-        match answer {
-            Answer::Values(values) => {
-                for value in values.as_slice() {
-                    let shown = format!(in alloc; "{};", millionths(*value))?;
-                    text.extend_from_slice(shown.as_bytes())?;
-                }
-            }
-            Answer::Stopped(Stop::Over(0)) => text.extend_from_slice(b"over;")?,
-            Answer::Stopped(_) => text.extend_from_slice(b"stopped;")?,
-        }
-    }
-    Ok(text)
+// Adds bytes. Where there is no memory nothing is added, so it isn't what was wanted.
+fn add(text: &mut Vec<u8>, bytes: &[u8]) {
+    let _added = text.extend_from_slice(bytes);
 }
 
-fn batch<R: Threads + Sync>(rt: &R, alloc: Global, bytes: &[u8]) -> Result<Vec<u8>, Fail> {
-    let code = code(alloc)?;
-    let face = face(alloc, InputType::Any)?;
-    let codes = codes(alloc, face.inputs.as_slice())?;
-    let rows = read_table(rt, alloc, bytes, &codes)?;
-    let answers = run_batch(rt, alloc, &code, rows.as_slice(), &Open)?;
-    told(alloc, answers.as_slice())
+fn add_values(alloc: Global, text: &mut Vec<u8>, values: &[Value]) {
+    for value in values {
+        if let Ok(shown) = format!(in alloc; "{};", millionths(*value)) {
+            add(text, shown.as_bytes());
+        }
+    }
 }
+
+// Adds the millionths of each value, or what ended the run.
+fn add_answer(alloc: Global, text: &mut Vec<u8>, answer: &Answer) {
+    match answer {
+        Answer::Values(values) => add_values(alloc, text, values.as_slice()),
+        Answer::Stopped(Stop::Over(0)) => add(text, b"over;"),
+        Answer::Stopped(_) => add(text, b"stopped;"),
+    }
+}
+
+fn are_told(alloc: Global, answers: &[Answer], wanted: &[u8]) -> bool {
+    let mut text = Vec::new(alloc);
+    for answer in answers {
+        add_answer(alloc, &mut text, answer);
+    }
+    text.as_slice() == wanted
+}
+
+fn is_told(alloc: Global, answer: &Answer, wanted: &[u8]) -> bool {
+    let mut text = Vec::new(alloc);
+    add_answer(alloc, &mut text, answer);
+    text.as_slice() == wanted
+}
+
+// The code of the one input.
+fn one_code(alloc: Global) -> Result<Codes, AllocError>
+    ensures { IfOk result (λ codes. length codes ≡ 1) }
+{
+    let inputs = one_input(alloc)?;
+    codes(alloc, inputs.as_slice())
+}
+
+// Whether this is told of the households of a table.
+fn is_batch<R: Threads + Sync>(
+    rt: &R,
+    alloc: Global,
+    code: &Code,
+    codes: &Codes,
+    bytes: &[u8],
+    wanted: &[u8],
+) -> bool
+    requires code { code.now.counts.inputs ≡ 1 }
+    requires codes { length codes.now ≡ 1 }
+{
+    match read_table(rt, alloc, bytes, codes) {
+        Ok(rows) => match run_batch(rt, alloc, code, rows.as_slice(), &Open) {
+            Ok(answers) => are_told(alloc, answers.as_slice(), wanted),
+            Err(_) => false,
+        },
+        Err(_) => false,
+    }
+}
+
+const TABLE: &[u8] = b"name,1AJ\na,2500.5\nb,10000000000000\nc,\nd,-7\n";
+
+const TOLD: &[u8] = b"1500500000;over;-1000000000;-1007000000;";
 
 #[test]
 fn batches(rt: HostRuntime) -> Result<(), Fail> {
-    let text = batch(
-        &rt,
-        rt.alloc(),
-        b"name,1AJ\na,2500.5\nb,10000000000000\nc,\nd,-7\n",
-    )?;
-    assert_eq!(rt;
-        text.as_slice(),
-        b"1500500000;over;-1000000000;-1007000000;".as_slice()
-    );
-    let text = batch(&rt, rt.alloc(), b"name,1AJ\n")?;
-    assert!(rt; text.is_empty());
+    let code = code(rt.alloc())?;
+    let codes = one_code(rt.alloc())?;
+    assert!(rt; is_batch(&rt, rt.alloc(), &code, &codes, TABLE, TOLD));
+    assert!(rt; is_batch(&rt, rt.alloc(), &code, &codes, b"name,1AJ\n", b""));
     Ok(())
 }
 
@@ -95,20 +130,23 @@ fn household(alloc: Global, amount: Amount) -> Result<Household, AllocError>
     })
 }
 
-fn alone(alloc: Global, amount: Amount) -> Result<Vec<u8>, Fail> {
-    let code = code(alloc)?;
-    let household = household(alloc, amount)?;
-    let answer = run_household(alloc, &code, &household)?;
-    told(alloc, &[answer])
+// Whether this is told of a household alone.
+fn is_alone(alloc: Global, code: &Code, amount: Amount, wanted: &[u8]) -> bool
+    requires { code.now.counts.inputs ≡ 1 }
+{
+    match household(alloc, amount) {
+        Ok(household) => match run_household(alloc, code, &household) {
+            Ok(answer) => is_told(alloc, &answer, wanted),
+            Err(_) => false,
+        },
+        Err(_) => false,
+    }
 }
 
 #[test]
 fn a_household_alone(rt: HostRuntime) -> Result<(), Fail> {
-    let amount = match Amount::new(2_500_500_000) {
-        Some(amount) => amount,
-        None => return Err(Fail::from("no amount")),
-    };
-    let text = alone(rt.alloc(), amount)?;
-    assert_eq!(rt; text.as_slice(), b"1500500000;".as_slice());
+    let code = code(rt.alloc())?;
+    let amount = Amount::new(2_500_500_000).unwrap_or(Amount::zero());
+    assert!(rt; is_alone(rt.alloc(), &code, amount, b"1500500000;"));
     Ok(())
 }

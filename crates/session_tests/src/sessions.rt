@@ -76,14 +76,14 @@ fn one_name(alloc: Global) -> Result<Seq<Name>, AllocError>
     Ok(Seq::from_vec(names))
 }
 
-// The list of the input 1AJ, with amounts of this type.
-fn one_input(alloc: Global, kind: InputType) -> Result<Seq<Coded>, AllocError>
+// The list of the input 1AJ, which takes each amount.
+pub(crate) fn one_input(alloc: Global) -> Result<Seq<Coded>, AllocError>
     ensures { IfOk result (λ inputs. length inputs ≡ 1) }
 {
     let mut inputs = Vec::new(alloc);
     inputs.push(Coded {
         code: Name::new(alloc, b"1AJ")?,
-        kind,
+        kind: InputType::Any,
     })?;
     Ok(Seq::from_vec(inputs))
 }
@@ -96,10 +96,10 @@ fn one_label(alloc: Global) -> Result<Seq<FaceLabel>, AllocError>
     Ok(Seq::from_vec(labels))
 }
 
-pub(crate) fn face(alloc: Global, kind: InputType) -> Result<Face, AllocError>
+fn face(alloc: Global) -> Result<Face, AllocError>
     ensures { IfOk result (λ face. (length face.inputs ≡ 1) × (length face.labels ≡ 1) × (length face.outputs ≡ 1)) }
 {
-    let inputs = one_input(alloc, kind)?;
+    let inputs = one_input(alloc)?;
     let labels = one_label(alloc)?;
     let names = one_name(alloc)?;
     named_face(alloc, inputs, labels, names)
@@ -112,173 +112,15 @@ pub(crate) fn codes(alloc: Global, inputs: &[Coded]) -> Result<Codes, AllocError
     Codes::new(alloc, inputs)
 }
 
-// A session of the program without amounts, whose input takes each amount.
-fn started(alloc: Global) -> Result<Session, Fail> {
-    started_with(alloc, InputType::Any)
-}
-
-// The same, where the amounts are of this type.
-fn started_with(alloc: Global, kind: InputType) -> Result<Session, Fail> {
+// A session of the program without amounts.
+fn started(alloc: Global) -> Result<Session, AllocError> {
     let household = Household {
         pairs: Seq::from_vec(Vec::new(alloc)),
     };
     let tidy = tidied(alloc)?;
-    let face = face(alloc, kind)?;
+    let face = face(alloc)?;
     let codes = codes(alloc, face.inputs.as_slice())?;
-    Ok(Session::start(alloc, tidy, face, codes, &household)?)
-}
-
-// Fails, naming the line, where anything but its reply is written.
-fn check_line<L: Ledger>(
-    alloc: Global,
-    session: &mut Session,
-    line: &[u8],
-    reply: &[u8],
-    steps: &mut Steps<L>,
-) -> Result<(), Fail> {
-    let mut out = MemSink::new(alloc, 7, Vec::new(alloc))?;
-    let given = session.command(line, &mut out, steps).is_ok();
-    if given && out.written() == reply {
-        return Ok(());
-    }
-    let text = str::from_utf8(line).unwrap_or("no text");
-    Err(Fail::from(format!(in alloc; "another reply to {text}")?))
-}
-
-/// Lines of one session in order, each with its reply.
-const LINES: [(&[u8], &[u8]); 30] = [
-    (b"show", b"IRN = -1000\n.\n"),
-    (b"set 1AJ 2500.5", b"ok\n"),
-    (b"show", b"IRN = 1500.5\n.\n"),
-    (b"  set   1AJ  2500.5 ", b"ok\n"),
-    (b"show\r", b"IRN = 1500.5\n.\n"),
-    (b"set 1AJ x", b"refused bad amount\n"),
-    (b"set 9ZZ 1", b"refused unknown code\n"),
-    (b"set 9ZZ x", b"refused unknown code\n"),
-    (b"clear 9ZZ", b"refused unknown code\n"),
-    (b"show", b"IRN = 1500.5\n.\n"),
-    (b"list", b"refused bad command\n"),
-    (b"set", b"refused bad command\n"),
-    (b"set 1AJ", b"refused bad command\n"),
-    (b"set 1AJ 1 2", b"refused bad command\n"),
-    (b"clear", b"refused bad command\n"),
-    (b"clear 1AJ 1", b"refused bad command\n"),
-    (b"show 1AJ", b"refused bad command\n"),
-    (b"SHOW", b"refused bad command\n"),
-    (b"set\t1AJ 1", b"refused bad command\n"),
-    (b"show\r\r", b"refused bad command\n"),
-    (b"", b""),
-    (b"   ", b""),
-    (b" \r", b""),
-    (b"clear 1AJ\r", b"ok\n"),
-    (b"show", b"IRN = -1000\n.\n"),
-    (b"clear 1AJ", b"ok\n"),
-    (b"set 1AJ 10000000000000", b"ok\n"),
-    (b"show", b"over driver line 2\n.\n"),
-    (b"set 1AJ -0.5", b"ok\n"),
-    (b"show", b"IRN = -1000.5\n.\n"),
-];
-
-/// Lines of a session whose input takes whole units alone, each with its reply.
-const WHOLE: [(&[u8], &[u8]); 12] = [
-    (b"set 1AJ 2.5", b"refused not of its type\n"),
-    (b"show", b"IRN = -1000\n.\n"),
-    (b"set 1AJ 3", b"ok\n"),
-    (b"set 1AJ -0.000001", b"refused not of its type\n"),
-    (b"set 1AJ x", b"refused bad amount\n"),
-    (b"set 9ZZ 2.5", b"refused unknown code\n"),
-    (b"show", b"IRN = -997\n.\n"),
-    (b"set 1AJ -2.0000004", b"ok\n"),
-    (b"show", b"IRN = -1002\n.\n"),
-    (b"set 1AJ 10000000000000", b"ok\n"),
-    (b"clear 1AJ", b"ok\n"),
-    (b"show", b"IRN = -1000\n.\n"),
-];
-
-/// Lines of a session whose input takes 0 and 1 alone, each with its reply.
-const TRUTH: [(&[u8], &[u8]); 10] = [
-    (b"set 1AJ 2", b"refused not of its type\n"),
-    (b"set 1AJ -1", b"refused not of its type\n"),
-    (b"set 1AJ 0.5", b"refused not of its type\n"),
-    (b"show", b"IRN = -1000\n.\n"),
-    (b"set 1AJ 1", b"ok\n"),
-    (b"set 1AJ 1.000001", b"refused not of its type\n"),
-    (b"show", b"IRN = -999\n.\n"),
-    (b"set 1AJ 0", b"ok\n"),
-    (b"set 1AJ -0", b"ok\n"),
-    (b"show", b"IRN = -1000\n.\n"),
-];
-
-// The tables, out of reach of the proof of what goes over them.
-fn rows(kind: InputType) -> &'static [(&'static [u8], &'static [u8])] {
-    match kind {
-        InputType::Any => &LINES,
-        InputType::Whole => &WHOLE,
-        InputType::Truth => &TRUTH,
-    }
-}
-
-// The lines of a table, one after another.
-fn check_lines<L: Ledger>(alloc: Global, kind: InputType, blank: Blank) -> Result<(), Fail>
-    requires name { blank.name ≡ L.name }
-    requires parts { blank.parts ≡ L.parts }
-    requires some { 0 < L.parts }
-{
-    let mut session = started_with(alloc, kind)?;
-    let mut steps = Steps::<L>::begin(blank);
-    for (line, reply) in rows(kind) {
-        check_line(alloc, &mut session, line, reply, &mut steps)?;
-    }
-    Ok(())
-}
-
-#[test]
-fn lines(rt: HostRuntime) -> Result<(), Fail> {
-    check_lines::<Brand>(rt.alloc(), InputType::Any, Blank::new(1))
-}
-
-#[test]
-fn lines_of_whole_units(rt: HostRuntime) -> Result<(), Fail> {
-    check_lines::<Brand>(rt.alloc(), InputType::Whole, Blank::new(1))
-}
-
-#[test]
-fn lines_of_truths(rt: HostRuntime) -> Result<(), Fail> {
-    check_lines::<Brand>(rt.alloc(), InputType::Truth, Blank::new(1))
-}
-
-// A line of this byte, with a carriage return at its end.
-fn long_line(alloc: Global, byte: u8, bytes: usize) -> Result<Vec<u8>, AllocError> {
-    let mut line = vec![in alloc; byte; bytes]?;
-    line.push(b'\r')?;
-    Ok(line)
-}
-
-/// Lines by their byte and how often it stands before the carriage return, and their replies.
-const LONG: [(u8, usize, &[u8]); 4] = [
-    (b'a', 4_095, b"refused bad command\n"),
-    (b'a', 4_096, b"refused line too long\n"),
-    (b' ', 4_095, b""),
-    (b' ', 4_096, b"refused line too long\n"),
-];
-
-fn check_long_lines<L: Ledger>(alloc: Global, blank: Blank) -> Result<(), Fail>
-    requires name { blank.name ≡ L.name }
-    requires parts { blank.parts ≡ L.parts }
-    requires some { 0 < L.parts }
-{
-    let mut session = started(alloc)?;
-    let mut steps = Steps::<L>::begin(blank);
-    for (byte, bytes, reply) in LONG {
-        let line = long_line(alloc, byte, bytes)?;
-        check_line(alloc, &mut session, &line, reply, &mut steps)?;
-    }
-    Ok(())
-}
-
-#[test]
-fn long_lines(rt: HostRuntime) -> Result<(), Fail> {
-    check_long_lines::<Brand>(rt.alloc(), Blank::new(1))
+    Session::start(alloc, tidy, face, codes, &household)
 }
 
 // Whether an edit whose reply fails is done, and the show after it is written.
@@ -297,20 +139,25 @@ fn goes_on<L: Ledger>(session: &mut Session, out: &mut MemSink, blank: Blank) ->
 #[test]
 fn failed_writes(rt: HostRuntime) -> Result<(), Fail> {
     let mut session = started(rt.alloc())?;
-    let failing = vec![in rt.alloc(); 2]?;
-    let mut out = MemSink::new(rt.alloc(), 1, failing)?;
+    let mut out = output(rt.alloc(), 2)?;
     assert!(rt; goes_on::<Brand>(&mut session, &mut out, Blank::new(1)));
     Ok(())
 }
 
+// Adds bytes so many times. Where there is no memory nothing is added, so the replies aren't what was wanted.
+fn add(text: &mut Vec<u8>, bytes: &[u8], times: u32) {
+    for _ in 0..times {
+        let _added = text.extend_from_slice(bytes);
+    }
+}
+
 // Two lines, one of 5,000 letters, an empty one, one that ends in a carriage return, and a last one without its line feed.
-fn typed(alloc: Global) -> Result<Vec<u8>, AllocError> {
+fn typed(alloc: Global) -> Vec<u8> {
     let mut bytes = Vec::new(alloc);
-    bytes.extend_from_slice(b"set 1AJ 2500.5\nshow\n")?;
-    let letters = vec![in alloc; b'a'; 5_000]?;
-    bytes.extend_from_slice(&letters)?;
-    bytes.extend_from_slice(b"\n\nclear 1AJ\r\nshow")?;
-    Ok(bytes)
+    add(&mut bytes, b"set 1AJ 2500.5\nshow\n", 1);
+    add(&mut bytes, b"a", 5_000);
+    add(&mut bytes, b"\n\nclear 1AJ\r\nshow", 1);
+    bytes
 }
 
 /// What is written where nothing fails.
@@ -335,9 +182,15 @@ fn runs() -> &'static [(usize, u64, u64, ServeEnd, usize)] {
 }
 
 // An input in pieces of so many bytes, of which one call fails.
-fn input(alloc: Global, piece: usize, read: u64) -> Result<MemSource, Fail> {
+fn input(alloc: Global, piece: usize, read: u64) -> Result<MemSource, AllocError> {
     let failing = vec![in alloc; read]?;
-    Ok(MemSource::new(typed(alloc)?, piece.max(1), failing))
+    Ok(MemSource::new(typed(alloc), piece.max(1), failing))
+}
+
+// An output that takes a byte at a time, of which one call fails.
+fn output(alloc: Global, write: u64) -> Result<MemSink, AllocError> {
+    let failing = vec![in alloc; write]?;
+    MemSink::new(alloc, 1, failing)
 }
 
 // Whether the loop ends so, and writes so many bytes.
@@ -360,33 +213,25 @@ fn ends<L: Ledger>(
 }
 
 // The same, where a call of the input and one of the output fail.
-fn serves(
-    alloc: Global,
-    piece: usize,
-    read: u64,
-    write: u64,
-    end: ServeEnd,
-    written: usize,
-) -> Result<bool, Fail> {
-    let failing = vec![in alloc; write]?;
-    let mut out = MemSink::new(alloc, 1, failing)?;
-    let mut input = input(alloc, piece, read)?;
+fn serves(alloc: Global, row: &(usize, u64, u64, ServeEnd, usize)) -> Result<bool, AllocError> {
     let mut session = started(alloc)?;
+    let mut input = input(alloc, row.0, row.1)?;
+    let mut out = output(alloc, row.2)?;
     Ok(ends::<Brand>(
         &mut session,
         &mut input,
         &mut out,
-        end,
-        written,
+        row.3,
+        row.4,
         Blank::new(1),
     ))
 }
 
 #[test]
 fn served(rt: HostRuntime) -> Result<(), Fail> {
-    for (piece, read, write, end, written) in runs() {
-        if !serves(rt.alloc(), *piece, *read, *write, *end, *written)? {
-            return Err(Fail::from(format!(in rt.alloc(); "pieces of {piece}")?));
+    for (row, wanted) in runs().iter().enumerate() {
+        if !serves(rt.alloc(), wanted)? {
+            return Err(Fail::from(format!(in rt.alloc(); "row {row}")?));
         }
     }
     Ok(())

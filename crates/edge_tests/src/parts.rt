@@ -1,0 +1,123 @@
+//! Tables of many rows, which several workers read, each those of a part.
+use crate::households::three_codes;
+use crate::tables::is_refused;
+use household::{Codes, HouseholdFault, Row, read_table};
+use std::alloc::Global;
+use std::test::Fail;
+use std::thread::Threads;
+
+/// What ends a row, by turns: line ends of both kinds and an old one, and a line without a record.
+static ENDS: [&[u8]; 4] = [b"\n", b"\r\n", b"\n\n", b"\r"];
+
+/// Counts of rows round those at which a part ends.
+static COUNTS: [u32; 9] = [255, 256, 257, 511, 512, 513, 1_024, 1_025, 5_000];
+
+/// Spoilt rows of a table of 3,000, and the line of the first.
+static SPOILT: [(&[u32], u32); 7] = [
+    (&[0], 2),
+    (&[255], 257),
+    (&[256], 258),
+    (&[2_999], 3_001),
+    (&[2_999, 300, 1_700], 302),
+    (&[2_047, 2_048], 2_049),
+    (&[1_000, 999], 1_001),
+];
+
+// The tables, out of reach of the proofs of what goes over them.
+
+fn end_of(k: u32) -> &'static [u8] {
+    ENDS[(k % 4) as usize]
+}
+
+fn all_counts() -> &'static [u32] {
+    &COUNTS
+}
+
+fn all_spoilt() -> &'static [(&'static [u32], u32)] {
+    &SPOILT
+}
+
+/// Adds the row of a number: a label with a comma within quotation marks, and the number, or `x` where it is spoilt. Where there is no memory the table is
+/// shorter than it is to be.
+fn add_row(alloc: Global, k: u32, is_spoilt: bool, text: &mut Vec<u8>) {
+    let _begun = text.extend_from_slice(b"\"h,");
+    let row = if is_spoilt {
+        format!(in alloc; "{k}\",x")
+    } else {
+        format!(in alloc; "{k}\",\"{k}\"")
+    };
+    if let Ok(row) = row {
+        let _added = text.extend_from_slice(row.as_bytes());
+    }
+    let _ended = text.extend_from_slice(end_of(k));
+}
+
+/// A table of so many rows, of which these are spoilt.
+fn long_table(alloc: Global, count: u32, spoilt: &[u32]) -> Vec<u8> {
+    let mut text = Vec::new(alloc);
+    let _begun = text.extend_from_slice(b"name,1AJ\n");
+    for k in 0..count {
+        add_row(alloc, k, spoilt.contains(&k), &mut text);
+    }
+    text
+}
+
+/// Whether a row is that of a number.
+fn is_row(alloc: Global, k: u32, row: &Row) -> bool {
+    let Ok(label) = format!(in alloc; "h,{k}") else {
+        return false;
+    };
+    row.label.bytes() == label.as_bytes()
+        && match row.household.pairs.as_slice() {
+            [pair] => pair.1.millionths() == i128::from(k) * 1_000_000,
+            _ => false,
+        }
+}
+
+/// Whether these are the rows of a long table, in their order.
+fn are_rows(alloc: Global, count: u32, rows: &[Row]) -> bool {
+    let mut k = 0;
+    for row in rows {
+        if k == count || !is_row(alloc, k, row) {
+            return false;
+        }
+        k += 1;
+    }
+    k == count
+}
+
+fn is_read<R: Threads + Sync>(rt: &R, alloc: Global, codes: &Codes, count: u32) -> bool {
+    match read_table(rt, alloc, &long_table(alloc, count, &[]), codes) {
+        Ok(rows) => are_rows(alloc, count, rows.as_slice()),
+        Err(_) => false,
+    }
+}
+
+#[test]
+fn rows_of_many_parts(rt: HostRuntime) -> Result<(), Fail> {
+    let codes = three_codes(rt.alloc())?;
+    for count in all_counts() {
+        assert!(rt; is_read(&rt, rt.alloc(), &codes, *count), "{count}");
+    }
+    Ok(())
+}
+
+/// Whatever worker comes to its fault first, a table is refused for the first row that has one.
+#[test]
+fn first_fault_of_many_parts(rt: HostRuntime) -> Result<(), Fail> {
+    let codes = three_codes(rt.alloc())?;
+    for (spoilt, line) in all_spoilt() {
+        let text = long_table(rt.alloc(), 3_000, spoilt);
+        assert!(rt;
+            is_refused(
+                &rt,
+                rt.alloc(),
+                &text,
+                &codes,
+                HouseholdFault::BadAmount(*line)
+            ),
+            "{line}"
+        );
+    }
+    Ok(())
+}

@@ -1,0 +1,11 @@
+//! What tells which row of a table failed.
+use std::alloc::Global;
+use std::test::Fail;
+
+/// Fails at this row.
+pub fn other_at(alloc: Global, row: &[u8]) -> Fail {
+    match format!(in alloc; "another answer at {row:?}") {
+        Ok(told) => Fail::from(told),
+        Err(_) => Fail::from("another answer"),
+    }
+}
