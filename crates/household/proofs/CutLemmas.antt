@@ -35,7 +35,7 @@ over_none i count left here h none below =
     let long : length (drop i left) ≡ 0 = ap length (sym h ∙ none) in
     omega (arith, dropped, long, below)
 
--- behind some records fewer are left
+-- after some records fewer are left
 pub fewer : (count : ℕ) (old new : List (List (List ℕ))) → 0 < count → (new ≡ drop count old) × (count ≤ length old) → length new < length old
 fewer count old new some e =
     let dropped = length-drop count old in
@@ -50,7 +50,7 @@ each_push P [] x each last (suc n) d h = absurd (omega (arith, h))
 each_push P (y ∷ xs) x each last zero d h = each 0 d (omega arith)
 each_push P (y ∷ xs) x each last (suc n) d h = each_push (λ m. P (suc m)) xs x (λ m e k. each (suc m) e (omega (arith, k))) last n d (omega (arith, h))
 
--- the cuts so far, and the reader behind the last one
+-- the cuts so far, and the reader after the last one
 pub record CutsTo (bytes : List ℕ) (records : List (List (List ℕ))) (cuts : List Cut) (cut : Cut) : Type 0 where
   pub each : (n : ℕ) (d : Cut) → n < length cuts → left_at bytes (get_or cuts n d) ≡ drop (n * BETWEEN) records
   pub here : (n : ℕ) → length cuts ≡ suc n → left_at bytes cut ≡ drop (n * BETWEEN) records

@@ -41,7 +41,7 @@ front_fails {A} {B} {F} read (suc size) before (x ∷ xs) fault e = by (read bef
     by (Ok value) more h = more value h
     by (Err other) more h = h
 
--- the first things say these, and the others go on behind them
+-- the first things say these, and the others go on after them
 front_says : {A B F : Type 0} (read : List B → A → Result B F) (size : ℕ) (before said : List B) (things : List A) → in_turn read before (take size things) ≡ Ok said
     → in_turn read before things ≡ in_turn read said (drop size things)
 front_says read zero before said things e = (let same : before ≡ said = cc in ap (λ b. in_turn read b things) same)
@@ -63,9 +63,9 @@ as_many {A} {B} {F} read before said (x ∷ xs) e = by (read before x) (λ value
     by (Ok value) more h = let many = more value h in let long = length-append before (value ∷ []) in omega (arith, many, long)
     by (Err other) more h = absurd (cc)
 
--- ---- rows behind rows
+-- ---- rows after rows
 
--- what a row says behind some rows goes with their number
+-- what a row says after some rows goes with their number
 same_row : (inputs : List Coded) (columns : List ℕ) (number more : ℕ) (rows before : List Row) (fields : Record) → more ≡ number + length rows
     → table_row_behind inputs columns number (rows ++ before) fields ≡ table_row_behind inputs columns more before fields
 same_row inputs columns number more rows before fields m =
@@ -73,7 +73,7 @@ same_row inputs columns number more rows before fields m =
     let same : number + length (rows ++ before) ≡ more + length before = omega (arith, m, long) in
     ap (λ k. row_behind inputs columns k fields) same
 
--- the rows of a table are those behind none
+-- the rows of a table are those after none
 from_first : (inputs : List Coded) (columns : List ℕ) (before : List Row) (records : List Record) → in_turn (table_row_behind inputs columns 0) before records ≡ in_turn (table_row inputs columns) before records
 from_first inputs columns before [] = refl
 from_first inputs columns before (fields ∷ records) =
@@ -86,7 +86,7 @@ from_first inputs columns before (fields ∷ records) =
     by (Ok value) go = go value
     by (Err fault) go = refl
 
--- rows that are read behind others are those that are read by themselves, at their numbers
+-- rows that are read after others are those that are read by themselves, at their numbers
 behind_rows : (inputs : List Coded) (columns : List ℕ) (number more : ℕ) (rows before : List Row) (records : List Record) → more ≡ number + length rows
     → in_turn (table_row_behind inputs columns number) (rows ++ before) records ≡ behind rows (in_turn (table_row_behind inputs columns more) before records)
 behind_rows inputs columns number more rows before [] m = refl
@@ -108,7 +108,7 @@ nothing_behind inputs columns number other size rows records short =
     let none : drop size records ≡ [] = drop_all size records short in
     ap (in_turn (table_row_behind inputs columns number) rows) none ∙ ap Ok (sym (append-nil rows)) ∙ ap (λ l. behind rows (in_turn (table_row_behind inputs columns other) [] l)) (sym none)
 
--- the rows of a part and then those behind it
+-- the rows of a part and then those after it
 part_and_behind : (inputs : List Coded) (columns : List ℕ) (number size : ℕ) (rows : List Row) (records : List Record)
     → in_turn (table_row_behind inputs columns number) [] (take size records) ≡ Ok rows
     → in_turn (table_row_behind inputs columns number) [] records ≡ behind rows (in_turn (table_row_behind inputs columns (number + size)) [] (drop size records))
@@ -128,7 +128,7 @@ part_and_behind inputs columns number size rows records e =
 
 -- ---- all parts
 
--- each worker gives what its records say, which are so many behind those of the workers before it
+-- each worker gives what its records say, which are so many after those of the workers before it
 abbrev pub AreGiven : List Coded → List ℕ → ℕ → ℕ → List Record → List Given → Type 0
 AreGiven inputs columns size number records parts =
     (n at place : ℕ) (d : Given) → n < length parts → at ≡ n * size → place ≡ number + at

@@ -65,7 +65,7 @@ labelled inputs line columns (label ∷ cells) =
     then if_read (λ pairs. Ok (record { label = label; household = record { pairs = pairs } })) (pairs_read inputs line columns cells)
     else Err (BadRow line)
 
--- What a row says behind so many rows. The first of these faults that it has decides: it is one row too
+-- What a row says after so many rows. The first of these faults that it has decides: it is one row too
 -- many, it hasn't as many fields as the first record or its label is none, one of its amounts is none, one of
 -- them isn't of its input's type.
 abbrev pub row_behind : List Coded → List ℕ → ℕ → List (List ℕ) → Result Row HouseholdFault

@@ -17,7 +17,7 @@ pub(crate) struct Cut {
 /// How many records there are from one cut to the next.
 pub(crate) const BETWEEN: usize = 256;
 
-/// Cuts between the records that are left after this one: it, and one behind each 256 records. Its only error is running out of memory.
+/// Cuts between the records that are left after this one: it, and one after each 256 records. Its only error is running out of memory.
 pub(crate) fn cuts_of(alloc: Global, bytes: &[u8], first: Cut) -> Result<Vec<Cut>, AllocError>
     ensures { IfOk result (λ cuts. AreCuts bytes.now (left_at bytes.now first) cuts.items) }
 {

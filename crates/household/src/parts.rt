@@ -21,7 +21,7 @@ use std::alloc::Global;
 use std::thread;
 use std::thread::Threads;
 
-/// The rows that are left behind this cut, or the fault of the first that has one, whatever the order in time.
+/// The rows that are left after this cut, or the fault of the first that has one, whatever the order in time.
 pub(crate) fn read_rows<R: Threads + Sync>(
     rt: &R,
     alloc: Global,
@@ -95,7 +95,7 @@ fn reader_at<'a>(alloc: Global, bytes: &'a [u8], cut: Cut) -> Records<'a>
     }
 }
 
-// The line of the record behind so many of a part, whose first cut has this number.
+// The line of the record after so many of a part, whose first cut has this number.
 fn line_of(start: usize, rows: usize) -> Result<u32, HouseholdFault>
     ensures { MatchResult result (λ line. (start * BETWEEN + rows < ROWS) × (line ≡ line_behind (start * BETWEEN + rows))) (λ fault. (ROWS ≤ start * BETWEEN + rows) × (fault ≡ TooManyRows)) }
 {

@@ -18,7 +18,7 @@ abbrev pub GoesOverAll : List ℕ → ℕ → Cut → Bool → Cut → Type 0
 GoesOverAll bytes count old true new = (left_at bytes new ≡ drop count (left_at bytes old)) × (count ≤ length (left_at bytes old))
 GoesOverAll bytes count old false new = length (left_at bytes old) < count
 
--- Cuts of these records: at each the records behind so many of them are left, and the last cut has fewer behind it than there are between two.
+-- Cuts of these records: at each the records after so many of them are left, and the last cut has fewer after it than there are between two.
 pub record AreCuts (bytes : List ℕ) (records : List (List (List ℕ))) (cuts : List Cut) : Type 0 where
   pub each : (n : ℕ) (d : Cut) → n < length cuts → left_at bytes (get_or cuts n d) ≡ drop (n * BETWEEN) records
   pub far : length records < length cuts * BETWEEN

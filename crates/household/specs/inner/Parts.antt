@@ -12,7 +12,7 @@ use Rattle.household.specs.InTurn.{in_turn}
 use Rattle.household.specs.Table.{row_behind}
 use Rattle.household.specs.inner.Cuts.{left_at}
 
--- what a row says behind so many rows and then these
+-- what a row says after so many rows and then these
 abbrev pub table_row_behind : List Coded → List ℕ → ℕ → List Row → List (List ℕ) → Result Row HouseholdFault
 table_row_behind inputs columns more before fields = row_behind inputs columns (more + length before) fields
 
@@ -20,13 +20,13 @@ table_row_behind inputs columns more before fields = row_behind inputs columns (
 abbrev pub AreCutsFrom : List ℕ → List (List (List ℕ)) → ℕ → List Cut → Type 0
 AreCutsFrom bytes records start cuts = (n : ℕ) (d : Cut) → n < length cuts → left_at bytes (get_or cuts n d) ≡ drop ((start + n) * BETWEEN) records
 
--- What a worker gives: the rows of so many of these records, behind so many of them, or their fault.
+-- What a worker gives: the rows of so many of these records, after so many of them, or their fault.
 abbrev pub SaysPart : List Coded → List ℕ → List (List (List ℕ)) → ℕ → ℕ → Result (Vec Row Global) HouseholdFault → Type 0
 SaysPart inputs columns records before size result =
     Outcome Memory result (λ rows. in_turn (table_row_behind inputs columns before) [] (take size (drop before records)) ≡ Ok rows.items)
     (λ fault. in_turn (table_row_behind inputs columns before) [] (take size (drop before records)) ≡ Err fault)
 
--- the rows behind those of a part
+-- the rows after those of a part
 abbrev pub behind : List Row → Result (List Row) HouseholdFault → Result (List Row) HouseholdFault
 behind rows (Ok more) = Ok (rows ++ more)
 behind rows (Err fault) = Err fault
