@@ -3,17 +3,19 @@
 
 At the top of the repository. The rules are those of examples/impot2023 with their driver: nine codes, eight values. The command computes ROWS (1,000,000) in tables
 of 100,000, which is the most that one takes, and its output is dropped. Python is handed the same households one after the other, and reads of each answer
-nothing, one value, or all. Seconds are user and system of the process and of what it starts, one run each; the machine may be loaded. The sums of what is paid are compared.
+nothing, one value, or all. Seconds are user and system of the process and of what it starts, one run each. Since the machine may be loaded, the command is run anew before each
+of these, and a ratio is that to the run right before. The sums of what is paid are compared.
 """
 import os
 import re
+import resource
 import sys
 
 HERE = os.path.dirname(os.path.abspath(__file__))
 ROOT = os.path.dirname(os.path.dirname(HERE))
 sys.path[:0] = [os.path.dirname(HERE), os.path.join(ROOT, "python"), os.path.join(ROOT, "examples", "reform2023")]
 from households import CODES, SEED, drawn  # noqa: E402
-from measured import used  # noqa: E402
+from measured import machine, timed  # noqa: E402
 
 WORDS = ["examples/impot2023/rules.list", "examples/impot2023/driver.mpp"]
 MADE, PART = 10_000, 100_000
@@ -29,28 +31,36 @@ def made():
 
 
 def by_package(program, what, rows, folder):
-    """The part of a process of its own: the sum of what is paid, where it is read."""
+    """The part of a process of its own: the sum of what is paid, where it is read, and seconds of this process and of the programs that it started."""
     from vodmejka import Rules
 
     rules, households, read = Rules(*WORDS, program=program, cache=os.path.join(folder, "cache")), made(), READ[what]
-    print(sum(read(answer) for answer in rules.batch(households[k % MADE] for k in range(rows))))
+    begun = seconds_of(resource.RUSAGE_SELF), seconds_of(resource.RUSAGE_CHILDREN)
+    paid = sum(read(answer) for answer in rules.batch(households[k % MADE] for k in range(rows)))
+    print(paid, seconds_of(resource.RUSAGE_SELF) - begun[0], seconds_of(resource.RUSAGE_CHILDREN) - begun[1])
+
+
+def seconds_of(who):
+    """Seconds of the processor, user and system."""
+    usage = resource.getrusage(who)
+    return usage.ru_utime + usage.ru_stime
 
 
 def by_command(program, rows, folder):
-    """Seconds of the command over all tables, and the sum of what is paid."""
+    """Seconds of the command over all tables, of the processor and by the clock, and the sum of what is paid."""
     households = made()
     table = os.path.join(folder, "table.csv")
     with open(table, "w", encoding="ascii") as out:
         out.write(",".join(["name", *CODES]) + "\n")
         out.writelines(",".join([f"h{k}", *(str(households[k % MADE].get(code, "")) for code in CODES)]) + "\n" for k in range(min(PART, rows)))
-    seconds = paid = 0
+    seconds = clock = paid = 0
     for _ in range(max(1, rows // PART)):
-        spent, _, status, text = used([program, "batch", *WORDS, "-", table], ROOT)
+        spent, _, status, text, elapsed = timed([program, "batch", *WORDS, "-", table], ROOT)
         if status or text.count(b"household ") != min(PART, rows):
             sys.exit(f"batch: status {status}: {text[:200]!r}")
-        seconds += spent
+        seconds, clock = seconds + spent, clock + elapsed
         paid += sum(map(int, re.findall(rb"\nTOTAL = ([0-9]+)\n", text)))
-    return seconds, paid
+    return seconds, clock, paid
 
 
 def main():
@@ -60,14 +70,16 @@ def main():
         return by_package(program, sys.argv[4], rows, folder)
     if rows % min(PART, rows):
         sys.exit("measure: a whole number of tables")
-    alone, paid = by_command(program, rows, folder)
-    print(f"| {rows:,} households | seconds, user and system | of the command's |\n|---|---:|---:|")
-    print(f"| the command `batch` | {alone:.2f} | 1.00 |", flush=True)
+    print(f"{machine()}\n\n| {rows:,} households | seconds | of these Python's | of the command's | by the clock |\n|---|---:|---:|---:|---:|")
     for what in READ:
-        seconds, _, status, text = used([sys.executable, "-B", __file__, program, folder, str(rows), what], ROOT)
-        if status or int(text) not in (paid, 0 if what == "nothing" else paid):
+        alone, clock, paid = by_command(program, rows, folder)
+        print(f"| the command `batch` | {alone:.2f} | | 1.00 | {clock:.2f} |", flush=True)
+        _, _, status, text, clock = timed([sys.executable, "-B", __file__, program, folder, str(rows), what], ROOT)
+        told = text.split()
+        if status or int(told[0]) not in (paid, 0 if what == "nothing" else paid):
             sys.exit(f"{what}: status {status}, {text!r}, where the command says {paid}")
-        print(f"| `.batch`, reading {what} of each answer | {seconds:.2f} | {seconds / alone:.2f} |", flush=True)
+        own, children = map(float, told[1:])
+        print(f"| `.batch`, reading {what} of each answer | {own + children:.2f} | {own:.2f} | {(own + children) / alone:.2f} | {clock:.2f} |", flush=True)
     return None
 
 

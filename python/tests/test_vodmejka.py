@@ -1,8 +1,11 @@
 """Tests of the package, on small rules whose answers are worked out by hand. They need the program."""
 import os
+import pickle
 import tempfile
 import unittest
+from collections import OrderedDict
 from decimal import Decimal
+from types import MappingProxyType
 
 from vodmejka import OVER, Broken, NotFound, Refused, Rules
 
@@ -15,7 +18,7 @@ regle 10 : application : iliad ;
 IRN = max(0, REV - SEUIL) + B ;
 C = REV * REV * REV ;
 A20 : anomalie : "A" : "20" : "00" : "." : "N" ;
-A30 : informative : "A" : "30" : "00" : "household h1" : "N" ;
+A30 : informative : "A" : "30" : "00" : "household ~" : "N" ;
 verif 20 : application : iliad ; si REV < 0 alors erreur A20 ;
 verif 30 : application : iliad ; si REV > 9000 alors erreur A30 ;
 """
@@ -47,7 +50,7 @@ class Package(unittest.TestCase):
         stop = self.rules.run({"1AJ": -1}).stop
         self.assertEqual((stop.verification, stop.error, stop.kind, stop.text), ("20", "A20", "anomalie", "A:20:00:.:N"))
         (note,) = self.rules.run({"1AJ": 9001}).notes
-        self.assertEqual((note.verification, note.error, note.kind, note.text), ("30", "A30", "informative", "A:30:00:household h1:N"))
+        self.assertEqual((note.verification, note.error, note.kind, note.text), ("30", "A30", "informative", "A:30:00:household ~:N"))
 
     def test_refusals(self):
         with self.assertRaises(Refused) as caught:
@@ -89,8 +92,42 @@ class Package(unittest.TestCase):
             with self.assertRaises(error):
                 list(self.rules.batch([{"1AJ": 1}, {"1AJ": wrong}]))
 
+    def test_batch_of_all_households(self):
+        """Households with other lists of codes, in other orders, and of other types, have the answers that they have alone."""
+        rows = [{}, {"1AJ": 2000}, {"1BB": 1}, {"1AJ": 3000, "1BB": 1}, {"1AJ": None, "1BB": "1"}, {"1AJ": "4000"}, {"1AJ": Decimal("5000.5"), "1BB": None}]
+        due = [0, 1000, 1, 2001, 1, 3000, Decimal("4000.5")]
+        other = [{"1BB": 0, "1AJ": 1500}, OrderedDict([("1AJ", 1600)]), MappingProxyType({"1BB": 1, "1AJ": 1700})]
+        self.assertEqual([answer["IRN"] for answer in self.rules.batch(rows)], due)
+        self.assertEqual([answer["IRN"] for answer in self.rules.batch(rows + other)], due + [500, 600, 701])
+        self.assertEqual([answer["IRN"] for answer in self.rules.batch(rows + other, rows_at_once=1)], due + [500, 600, 701])
+        for wrong in ("None", "1,5", '"', "1\n", "1E3"):
+            with self.assertRaisesRegex(Refused, "household line 3: bad amount"):
+                list(self.rules.batch([{"1AJ": None}, {"1AJ": wrong}]))
+        for code in ("9ZZ", 'a"b', "a,b", "a%sb"):
+            with self.assertRaisesRegex(Refused, "household line 1: unknown code"):
+                list(self.rules.batch([{"1AJ": 1}, {code: 1}]))
+
+    def test_batch_of_many_lists_of_codes(self):
+        codes = [f"C{k}" for k in range(12)]
+        self.put("many.m", "".join(f'R{k} : saisie alias {code} : "r" ;\n' for k, code in enumerate(codes)) + 'S : calculee restituee : "s" ;\n'
+                 + "regle 1 : application : iliad ;\nS = " + " + ".join(f"R{k}" for k in range(12)) + " ;\n")
+        rules = Rules(self.put("many.txt", f"iliad\n{self.room.name}/many.m\n"), cache=self.room.name)
+        rows = [{code: 2**k for k, code in enumerate(codes) if number >> k & 1} for number in range(4096)]
+        for size in (100, 900, 5000):
+            self.assertEqual([answer["S"] or 0 for answer in rules.batch(rows, rows_at_once=size)], list(range(4096)))
+
+    def test_texts_that_look_like_values(self):
+        self.put("value.m", RULES.replace('"A" : "30"', '"IRN = 5" : ""').replace('"A" : "20"', '"IRN = 5" : ""'))
+        rules = Rules(self.put("value.txt", f"iliad\n{self.room.name}/value.m\n"), cache=self.room.name)
+        noted, over, stopped = rules.batch([{"1AJ": 9001}, {"1AJ": 10_000_000}, {"1AJ": -1}])
+        self.assertEqual((noted["IRN"], noted.notes[0].text, over["C"], over["IRN"]), (8001, "IRN = 5::00:household ~:N", OVER, 9999000))
+        with self.assertRaises(KeyError):
+            stopped["IRN"]
+        self.assertEqual((stopped.values, stopped.notes, stopped.stop.text), ({}, (), "IRN = 5::00:.:N"))
+        self.assertEqual(noted, pickle.loads(pickle.dumps(noted)))
+
     def test_texts_that_look_like_labels(self):
-        text = RULES.replace('"A" : "30" : "00" : "household h1"', '"household h1' + '" : "" : "" : ""')
+        text = RULES.replace('"A" : "30" : "00" : "household ~"', '"household ~' + '" : "" : "" : ""')
         self.put("label.m", text.replace("> 9000", "> 9"))
         rules = Rules(self.put("label.txt", f"iliad\n{self.room.name}/label.m\n"), cache=self.room.name)
         found = list(rules.batch([{"1AJ": 2500}, {"1AJ": 3}, {"1AJ": 4000}]))
@@ -99,7 +136,7 @@ class Package(unittest.TestCase):
 
     def test_texts_of_several_lines(self):
         """In rules a line feed of a text is told as a blank; a code file that nobody compiled may have one."""
-        self.put("lines.m", RULES.replace('"household h1"', '"a\nIRN = 7"'))
+        self.put("lines.m", RULES.replace('"household ~"', '"a\nIRN = 7"'))
         rules = Rules(self.put("lines.txt", f"iliad\n{self.room.name}/lines.m\n"), cache=self.room.name)
         self.assertEqual(rules.run({"1AJ": 9001}).notes[0].text, "A:30:00:a IRN = 7:N")
         code = "mcode 1\nslots 0\nlabel verif 1 E anomalie 6e0a\ncode\nend\n"

@@ -3,8 +3,8 @@ from __future__ import annotations
 
 import re
 from dataclasses import dataclass
-from decimal import Decimal
-from typing import Iterator, Union
+from decimal import Decimal, InvalidOperation
+from typing import Iterable, Iterator, Union
 
 from .errors import Broken
 
@@ -43,88 +43,110 @@ class Stop:
     driver_line: int | None = None
 
 
+Read = tuple[dict[str, Value], tuple[Note, ...], Union[Stop, None]]
+
+
 class Answer:
     """What a household is told: the values by their names in order, and the notes; or the stop, and then there are no values.
 
-    The lines of the program are read when something of them is asked for, and a single value by its line alone, so that many answers cost little.
+    Of a batch the lines of the program are read when something of them is asked for, and a single value by its line alone, so that many answers cost little.
     """
 
-    __slots__ = ("_lines", "_read")
+    __slots__ = ("_lines", "_form", "_values", "_rest")
 
     def __init__(self, values: dict[str, Value] | None = None, notes: tuple[Note, ...] = (), stop: Stop | None = None):
-        self._lines = ""
-        self._read: tuple[dict[str, Value], tuple[Note, ...], Stop | None] | None = ({} if values is None else values, notes, stop)
-
-    @classmethod
-    def of_lines(cls, lines: str) -> Answer:
-        """The answer that these lines are, with a line feed between them."""
-        made = cls.__new__(cls)
-        made._lines, made._read = lines, None
-        return made
-
-    @classmethod
-    def of_part(cls, part: str) -> Answer:
-        """The same, with a first line that is no part of the answer."""
-        made = cls.__new__(cls)
-        made._lines, made._read = part[part.find("\n") + 1 or len(part) :], None
-        return made
+        self._lines, self._form = "", NO_FORM
+        self._values: dict[str, Value] | None = {} if values is None else values
+        self._rest: tuple[tuple[Note, ...], Stop | None] | None = (notes, stop)
 
     @property
     def values(self) -> dict[str, Value]:
-        return self._all()[0]
+        if self._values is None:
+            self._values = self._form.values(self._lines)
+        return self._values
 
     @property
     def notes(self) -> tuple[Note, ...]:
-        return self._all()[1]
+        return self._told()[0]
 
     @property
     def stop(self) -> Stop | None:
-        return self._all()[2]
+        return self._told()[1]
 
     def __getitem__(self, name: str) -> Value:
-        if self._read is None:
-            lines, key = self._lines, f"{name} = "
-            begin = after_notes(lines, 0) if lines.startswith("noted ") else 0
-            if not lines.startswith(LABELS, begin):
-                at = lines.find("\n" + key, begin - 1 if begin else 0) + 1
-                if at or lines.startswith(key):
-                    end = lines.find("\n", at)
-                    text = lines[at + len(key) : end if end >= 0 else len(lines)]
-                    if NUMBER.fullmatch(text):
-                        return Decimal(text)
-        return self.values[name]
+        try:
+            return Decimal(self._lines.rpartition(self._form.begins[name])[2].partition("\n")[0])
+        except (KeyError, InvalidOperation):
+            return self.values[name]
 
     def __eq__(self, other: object) -> bool:
-        return isinstance(other, Answer) and self._all() == other._all()
+        return isinstance(other, Answer) and (self.values, *self._told()) == (other.values, *other._told())
 
     __hash__ = None  # type: ignore[assignment]
 
     def __repr__(self) -> str:
-        values, notes, stop = self._all()
-        return f"Answer(values={values!r}, notes={notes!r}, stop={stop!r})"
+        return f"Answer(values={self.values!r}, notes={self.notes!r}, stop={self.stop!r})"
 
-    def _all(self) -> tuple[dict[str, Value], tuple[Note, ...], Stop | None]:
-        if self._read is None:
-            self._read = values_of(self._lines) or parts_of(iter(self._lines.split("\n") if self._lines else ()))
-        return self._read
+    def _told(self) -> tuple[tuple[Note, ...], Stop | None]:
+        """The notes and the stop."""
+        if self._rest is None:
+            begin = after_notes(self._lines)
+            told = self._lines if self._lines.startswith(STOPS, begin) else self._lines[:begin]
+            self._rest = parts_of(lines_of(told))[1:]
+        return self._rest
 
 
-LABELS = ("failed ", "noted ", "over ")
+class Form:
+    """How answers of rules tell values of these names, where all are amounts: how each line begins, and the form of all lines together.
+
+    The lines of an answer have a line feed before the first one and after each. The last line that begins with a name and ` = ` is that name's, or the text of
+    a note or a stop, and this is no amount, since it has the colons between the error's texts.
+    """
+
+    def __init__(self, names: list[str]):
+        self.names = names
+        self.begins = {name: f"\n{name} = " for name in names}
+        together = "".join(f"{re.escape(name)} = (-?[0-9.]+)\n" for name in names[:MOST_TOGETHER])
+        self.match = re.compile(together if 0 < len(names) <= MOST_TOGETHER else "(?!)").fullmatch
+
+    def values(self, lines: str) -> dict[str, Value]:
+        """The values that lines tell."""
+        begin = after_notes(lines)
+        match = self.match(lines, begin)
+        if match:
+            return dict(zip(self.names, map(Decimal, match.groups())))
+        told = lines[begin:]
+        found = [] if told.startswith(STOPS) else VALUES.findall(told)
+        if len(found) != told.count("\n"):
+            return parts_of(lines_of(lines))[0]
+        return {name: Decimal(number) if number else None if undefined else OVER for name, number, undefined, _ in found}
+
+    def answers(self, parts: Iterable[str]) -> Iterator[Answer]:
+        """The answers that have these lines."""
+        new = Answer.__new__
+        for part in parts:
+            made = new(Answer)
+            made._lines, made._form, made._values, made._rest = part, self, None, None
+            yield made
+
+
+MOST_TOGETHER = 100
+NO_FORM = Form([])
+STOPS = ("failed ", "over ")
 LABELLED = re.compile(r"(failed|noted) ([0-9]+) ([^ ]+) (anomalie|discordance|informative)")
 OVER_LINE = re.compile(r"over (?:verification ([0-9]+) ([^ ]+)|driver line ([0-9]+))")
-NUMBER = re.compile(r"-?[0-9]+(?:\.[0-9]+)?")
 VALUE = re.compile(r"([^ \n]+)(?: = (-?[0-9]+(?:\.[0-9]+)?)|( undefined)|( over))")
+VALUES = re.compile("(?m)^" + VALUE.pattern + "$")
 
 
-def value_of(match: re.Match[str]) -> Value:
-    """The value of a line of VALUE."""
-    if match[2] is not None:
-        return Decimal(match[2])
-    return None if match[3] else OVER
+def lines_of(lines: str) -> Iterator[str]:
+    """The lines that stand so, one by one."""
+    return iter(lines[1:].split("\n")[:-1])
 
 
-def after_notes(lines: str, begin: int) -> int:
-    """Where the lines after the notes begin, each of which has two; the lines begin at a place."""
+def after_notes(lines: str) -> int:
+    """Where the lines after the notes begin, each of which has two."""
+    begin = 1
     while lines.startswith("noted ", begin):
         text = lines.find("\n", begin) + 1
         behind = lines.find("\n", text) + 1
@@ -134,21 +156,7 @@ def after_notes(lines: str, begin: int) -> int:
     return begin
 
 
-VALUES = re.compile("(?m)^" + VALUE.pattern + "$")
-
-
-def values_of(lines: str) -> tuple[dict[str, Value], tuple[Note, ...], Stop | None] | None:
-    """What `parts_of` says where each line is a note's or a value's, all values at once; None where one is another."""
-    begin = after_notes(lines, 0)
-    told = lines[begin:]
-    found = [] if told.startswith(LABELS) else VALUES.findall(told)
-    if len(found) != told.count("\n") + 1:
-        return None
-    notes = parts_of(iter(lines[:begin].split("\n")[:-1]))[1] if begin else ()
-    return {name: Decimal(number) if number else None if undefined else OVER for name, number, undefined, _ in found}, notes, None
-
-
-def parts_of(lines: Iterator[str]) -> tuple[dict[str, Value], tuple[Note, ...], Stop | None]:
+def parts_of(lines: Iterator[str]) -> Read:
     """The values, the notes and the stop that lines tell."""
     values: dict[str, Value] = {}
     notes: list[Note] = []
@@ -161,7 +169,7 @@ def parts_of(lines: Iterator[str]) -> tuple[dict[str, Value], tuple[Note, ...], 
         elif match := OVER_LINE.fullmatch(line):
             return {}, (), Stop(line, match[1], match[2], driver_line=int(match[3]) if match[3] else None)
         elif match := VALUE.fullmatch(line):
-            values.setdefault(match[1], value_of(match))
+            values.setdefault(match[1], Decimal(match[2]) if match[2] else None if match[3] else OVER)
         else:
             raise Broken(f"a line that is no answer: {line}")
     return values, tuple(notes), None

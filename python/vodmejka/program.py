@@ -33,9 +33,9 @@ def digest_of(*pieces: bytes) -> str:
     return made.hexdigest()
 
 
-def run(program: str, *words: str, typed: bytes = b"", folder: str | None = None) -> tuple[bytes, int]:
+def run(program: str, *words: str, folder: str | None = None) -> tuple[bytes, int]:
     """What the program prints, and its status: 0 or 6. What else it says is an error."""
-    done = subprocess.run([program, *words], input=typed, stdout=subprocess.PIPE, stderr=subprocess.DEVNULL, cwd=folder, check=False)
+    done = subprocess.run([program, *words], stdin=subprocess.DEVNULL, stdout=subprocess.PIPE, stderr=subprocess.DEVNULL, cwd=folder, check=False)
     raise_for(done.stdout, done.returncode)
     return done.stdout, done.returncode
 

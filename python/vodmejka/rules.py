@@ -1,25 +1,22 @@
 """A rule base that is ready to compute."""
 from __future__ import annotations
 
-import csv
-import io
 import itertools
 import os
 import re
 import shutil
 import tempfile
-from decimal import Decimal
-from typing import Any, Iterable, Iterator, Mapping
+from typing import Any, Iterable, Iterator
 
-from .answers import Answer
+from .answers import Answer, Form, answer_of
 from .errors import Broken, NotFound, Refused
 from .program import ENCODING, Amount, digest_of, household_bytes, program_path, run, spelled
 from .session import Session
+from .tables import LABEL, Household, Tables
 
 ROWS, MOST_ROWS = 50_000, 100_000
 TABLE_BYTES = 16_777_216
 VALUES = 4_000_000
-Household = Mapping[str, Amount]
 
 
 def fetched(name: str) -> bytes:
@@ -77,7 +74,7 @@ class Rules:
         """What the household is told. `household` has amounts by codes: Decimal, int or text, and None for nothing."""
         path = self._put("household.csv", household_bytes(household))
         text, _ = self._run("exec", self._code, path)
-        return Answer.of_lines(lines_of(text))
+        return answer_of(iter(lines_of(text).split("\n")[:-1]))
 
     def batch(self, rows: Any, rows_at_once: int = ROWS) -> Any:
         """What households are told, in their order, as they are computed: any number of them, of which some thousand are in memory at once.
@@ -153,18 +150,19 @@ class Rules:
         return self._path("code")
 
     def _answers(self, rows: Iterable[Household], at_once: int) -> Iterator[Answer]:
-        left = iter(rows)
-        outputs = sum(line.startswith(("output ", "note ")) for line in self._lines)
-        size = max(1, min(at_once, MOST_ROWS, VALUES // (outputs + 1)))
+        left, tables = iter(rows), Tables()
+        form = Form([line.split(" ")[1] for line in self._lines if line.startswith("output ")])
+        notes = sum(line.startswith("note ") for line in self._lines)
+        size = max(1, min(at_once, MOST_ROWS, VALUES // (len(form.names) + notes + 1)))
         while chunk := list(itertools.islice(left, size)):
-            yield from self._batch(chunk) if self._words else map(self.run, chunk)
+            yield from form.answers(self._batch(tables, chunk)) if self._words else map(self.run, chunk)
 
-    def _batch(self, households: list[Household]) -> Iterator[Answer]:
-        """The answers of some households, by one batch, or by several where the table would be too long for one."""
-        table = table_bytes(households)
+    def _batch(self, tables: Tables, households: list[Household]) -> list[str]:
+        """The lines of the answers of some households, by one batch, or by several where the table would be too long for one."""
+        table = tables.table(households)
         if len(table) > TABLE_BYTES and len(households) > 1:
             half = len(households) // 2
-            return itertools.chain(self._batch(households[:half]), self._batch(households[half:]))
+            return self._batch(tables, households[:half]) + self._batch(tables, households[half:])
         self._put("table.csv", table)
         text, _ = self._run("batch", *self._words, "table.csv")
         return parted(lines_of(text), len(households))
@@ -183,63 +181,34 @@ class Rules:
         return pandas.DataFrame(made, index=frame.index, columns=[*names, "stop", "notes"], dtype=object)
 
 
-def table_bytes(households: list[Household]) -> bytes:
-    """Households as a table, labelled h0, h1 and so on.
-
-    What csv writes of whole numbers, texts and None is an amount as it stands; where all amounts are of these types, or decimals none of which is written with an
-    exponent or is no number, nothing is looked at one by one. Columns are put together by what runs without the interpreter.
-    """
-    codes = list(dict.fromkeys(itertools.chain.from_iterable(households)))
-    columns = [[household.get(code) for household in households] for code in codes]
-    types = set(itertools.chain.from_iterable(map(set, (map(type, column) for column in columns))))
-    labels = list(map("h{}".format, range(len(households))))
-    text = csv_text(["name", *codes], zip(labels, *columns)) if types <= PLAIN else None
-    if text is None or Decimal in types and WORDS.search(text, text.index("\n")):
-        exact_columns = [[None if amount is None else spelled(code, amount) for amount in column] for code, column in zip(codes, columns)]
-        text = csv_text(["name", *codes], zip(labels, *exact_columns))
-    return text.encode(ENCODING)
-
-
-PLAIN = {int, str, Decimal, type(None)}
-WORDS = re.compile("[EeIN]")
-
-
-def csv_text(head: list[str], rows: Iterable[Iterable[object]]) -> str:
-    out = io.StringIO(newline="")
-    writer = csv.writer(out, lineterminator="\n")
-    writer.writerow(head)
-    writer.writerows(rows)
-    return out.getvalue()
-
-
 def lines_of(output: bytes) -> str:
-    """The lines of an output, with a line feed between them."""
+    """The lines of an output, each with its line feed."""
     if output and not output.endswith(b"\n"):
         raise Broken(f"a last line without its end: {output[-200:]!r}")
-    return output[:-1].decode(ENCODING)
+    return output.decode(ENCODING)
 
 
-def parted(text: str, count: int) -> Iterator[Answer]:
-    """The answers that a batch of so many households printed, each after its label."""
-    parts = ("\n" + text).split("\nhousehold h")
-    if len(parts) != count + 1 or parts[0] or not all(map(str.startswith, parts[1:], map("{}\n".format, range(count)))):
+def parted(text: str, count: int) -> list[str]:
+    """What a batch of so many households printed after the label of each, with the line feed of the label."""
+    parts = text.split(f"household {LABEL}")
+    if len(parts) != count + 1 or parts[0]:
         parts = parted_by_line(text)
-        if [part.partition("\n")[0] for part in parts] != ["", *map(str, range(count))]:
+        if len(parts) != count + 1 or parts[0]:
             raise Broken(f"{len(parts) - 1} answers for {count} households")
-    return map(Answer.of_part, parts[1:])
+    return parts[1:]
 
 
 def parted_by_line(text: str) -> list[str]:
-    """The same where the text of a note or a stop looks like a label: it is passed over with the line before it."""
+    """The same where a label stands in the text of a note or a stop too: it is passed over with the line before it."""
     parts: list[list[str]] = [[]]
     in_text = False
-    for line in text.split("\n"):
-        if not in_text and line == f"household h{len(parts) - 1}":
-            parts.append([str(len(parts) - 1)])
+    for line in text.split("\n")[:-1]:
+        if not in_text and line == f"household {LABEL}":
+            parts.append(["\n"])
             continue
-        parts[-1].append(line)
+        parts[-1].append(line + "\n")
         in_text = not in_text and line.startswith(("failed ", "noted "))
-    return ["\n".join(part) for part in parts]
+    return list(map("".join, parts))
 
 
 def exact(code: str, value: Any) -> Amount:

@@ -161,7 +161,11 @@ def answer_exec(code_file, household):
 def answer_check(source, household, report):
     """Whether a report is sound for the rules and a household."""
     rules = Rules(source)
-    environment = rules.start(read_household(household, rules.declared.inputs, rules.declared.types))
+    return checked(rules, rules.start(read_household(household, rules.declared.inputs, rules.declared.types)), report)
+
+
+def checked(rules, environment, report):
+    """The same where rules and household are read already."""
     unsound = first_unsound(rules.base, environment, read_report(report, rules.declared))
     if unsound is not None:
         raise Refused(b"refused report line " + decimal(unsound) + b": not sound")
