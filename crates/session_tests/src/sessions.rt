@@ -212,19 +212,30 @@ fn ends<L: Ledger>(
     ended == end && told.len() == written && WRITTEN.starts_with(told)
 }
 
-// The same, where a call of the input and one of the output fail.
+// The same, where a call of the output fails.
+fn serves_from(
+    alloc: Global,
+    session: &mut Session,
+    input: &mut MemSource,
+    row: &(usize, u64, u64, ServeEnd, usize),
+) -> Result<bool, AllocError> {
+    let mut out = output(alloc, row.2)?;
+    Ok(ends::<Brand>(session, input, &mut out, row.3, row.4, Blank::new(1)))
+}
+
+// And one of the input.
+fn serves_in(
+    alloc: Global,
+    session: &mut Session,
+    row: &(usize, u64, u64, ServeEnd, usize),
+) -> Result<bool, AllocError> {
+    let mut input = input(alloc, row.0, row.1)?;
+    serves_from(alloc, session, &mut input, row)
+}
+
 fn serves(alloc: Global, row: &(usize, u64, u64, ServeEnd, usize)) -> Result<bool, AllocError> {
     let mut session = started(alloc)?;
-    let mut input = input(alloc, row.0, row.1)?;
-    let mut out = output(alloc, row.2)?;
-    Ok(ends::<Brand>(
-        &mut session,
-        &mut input,
-        &mut out,
-        row.3,
-        row.4,
-        Blank::new(1),
-    ))
+    serves_in(alloc, &mut session, row)
 }
 
 #[test]

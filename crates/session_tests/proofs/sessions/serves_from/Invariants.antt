@@ -1,4 +1,4 @@
-use Rattle.session_tests.proofs.sessions.serves.Given as goal
+use Rattle.session_tests.proofs.sessions.serves_from.Given as goal
 
 abbrev pub ghosts-ends : goal.ghosts-ends
 ghosts-ends a = record { name = a.blank.name; parts = a.blank.parts }
