@@ -329,7 +329,8 @@ fn is_cut<R: Threads + Sync>(
     before: usize,
     want: Status,
 ) -> bool {
-    let Ok(mut out) = MemSink::new(alloc, 1, failing(alloc, before as u64 + 1)) else {
+    let Ok(mut out) = MemSink::new(alloc, 1, failing(alloc, (before as u64).saturating_add(1)))
+    else {
         return false;
     };
     let mut files = files_with(alloc, "d.txt", Vec::new(alloc), 0);

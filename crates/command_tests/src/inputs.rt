@@ -122,7 +122,7 @@ fn is_read_so<R: Threads + Sync>(rt: &R, alloc: Global, taken: usize) -> bool {
         alloc,
         SERVE,
         b"",
-        (taken as u64 + 1, 0),
+        ((taken as u64).saturating_add(1), 0),
         &text,
         Status::ReadFault,
     )
