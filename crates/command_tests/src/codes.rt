@@ -1,10 +1,12 @@
 //! Code files: what `compile` writes and what `exec` answers.
-use crate::commands::{USAGE, Wanted, check, done, file};
+use crate::commands::{
+    USAGE, Wanted, add_file, copied, does, failing, long_text, other_at, status_of,
+};
 use m_commands::Status;
-use m_places::limits::FILE_BYTES;
 use m_ports::{MemFiles, MemSink};
-use std::alloc::{AllocError, Global};
+use std::alloc::Global;
 use std::test::Fail;
+use std::thread::Threads;
 
 /// A code file that prints what a revenue has above 1000.
 const CODE: &str = "mcode 1
@@ -23,17 +25,27 @@ end
 
 const EXEC: &str = "exec c.txt h.csv";
 
-/// The files of `exec`: a code file, and a household of 2500.5.
-fn code_files(alloc: Global, code: &[u8]) -> Result<MemFiles, AllocError> {
+/// The files of `exec`: a code file, and a household of 2500.5. The fetch of this number fails.
+fn code_files(alloc: Global, code: Vec<u8>, call: u64) -> MemFiles {
     let mut files = Vec::new(alloc);
-    files.push(file(alloc, b"c.txt", code)?)?;
-    files.push(file(alloc, b"h.csv", b"code,amount\n1AJ,2500.5\n")?)?;
-    files.push(file(alloc, b"x.csv", b"code,amount\n2AJ,1\n")?)?;
-    Ok(MemFiles::new(alloc, files, Vec::new(alloc)))
+    add_file(alloc, &mut files, b"c.txt", code);
+    add_file(
+        alloc,
+        &mut files,
+        b"h.csv",
+        copied(alloc, b"code,amount\n1AJ,2500.5\n"),
+    );
+    add_file(
+        alloc,
+        &mut files,
+        b"x.csv",
+        copied(alloc, b"code,amount\n2AJ,1\n"),
+    );
+    MemFiles::new(alloc, files, failing(alloc, call))
 }
 
 /// The words, the number of the fetch that fails, the text, the status and the names that were tried.
-const EXECS: [(&str, u64, &str, Status, &str); 8] = [
+static EXECS: [(&str, u64, &str, Status, &str); 8] = [
     (EXEC, 0, "IRN = 1500.5\n", Status::Done, "c.txt h.csv "),
     (EXEC, 1, "unreadable c.txt\n", Status::ReadFault, "c.txt! "),
     (
@@ -80,24 +92,61 @@ const EXECS: [(&str, u64, &str, Status, &str); 8] = [
     ),
 ];
 
+// The tables, out of reach of the proofs of what goes over them.
+
+fn all_execs() -> &'static [(&'static str, u64, &'static str, Status, &'static str)] {
+    &EXECS
+}
+
+fn all_codes() -> &'static [(&'static str, &'static str, &'static str)] {
+    &CODES
+}
+
+fn no_commands() -> &'static [&'static str] {
+    &NO_COMMANDS
+}
+
+fn all_compiles() -> &'static [(
+    &'static str,
+    &'static str,
+    &'static str,
+    Status,
+    &'static str,
+)] {
+    &COMPILES
+}
+
+/// The code file, out of reach of the proofs.
+fn code() -> &'static [u8] {
+    CODE.as_bytes()
+}
+
+fn execs_so<R: Threads + Sync>(
+    rt: &R,
+    alloc: Global,
+    row: &(&'static str, u64, &'static str, Status, &'static str),
+) -> bool {
+    let mut files = code_files(alloc, copied(alloc, code()), row.1);
+    let want = Wanted {
+        text: row.2,
+        status: row.3,
+        tried: row.4,
+    };
+    does(rt, alloc, row.0, &mut files, want)
+}
+
 #[test]
 fn execs(rt: HostRuntime) -> Result<(), Fail> {
-    let alloc = rt.alloc();
-    for (line, failing, text, status, tried) in EXECS {
-        let mut files = code_files(alloc, CODE.as_bytes())?;
-        files.failing.push(failing)?;
-        let want = Wanted {
-            text,
-            status,
-            tried,
-        };
-        check(&rt, alloc, line, line, &mut files, want)?;
+    for row in all_execs() {
+        if !execs_so(&rt, rt.alloc(), row) {
+            return Err(other_at(rt.alloc(), row.4));
+        }
     }
     Ok(())
 }
 
 /// What stands in the code file in place of what, and the text.
-const CODES: [(&str, &str, &str); 6] = [
+static CODES: [(&str, &str, &str); 6] = [
     ("mcode 1\n", "mcode 2\n", "refused code: bad header\n"),
     ("end\n", "", "refused code line 12: bad line\n"),
     (
@@ -118,18 +167,46 @@ const CODES: [(&str, &str, &str); 6] = [
     ("out 0 0\n", "", "refused code line 11: bad line\n"),
 ];
 
+/// Whether this code is refused so by a command that tries these names.
+fn is_refused<R: Threads + Sync>(
+    rt: &R,
+    alloc: Global,
+    code: Vec<u8>,
+    line: &str,
+    text: &str,
+    tried: &str,
+) -> bool {
+    let mut files = code_files(alloc, code, 0);
+    let want = Wanted {
+        text,
+        status: Status::Refused,
+        tried,
+    };
+    does(rt, alloc, line, &mut files, want)
+}
+
+/// The code file, changed.
+fn changed(alloc: Global, old: &str, new: &str) -> Vec<u8> {
+    match CODE.replace(alloc, old, new) {
+        Ok(code) => copied(alloc, code.as_bytes()),
+        Err(_) => Vec::new(alloc),
+    }
+}
+
 #[test]
 fn refuses_codes(rt: HostRuntime) -> Result<(), Fail> {
     let alloc = rt.alloc();
-    for (old, new, text) in CODES {
-        let code = CODE.replace(alloc, old, new)?;
-        let mut files = code_files(alloc, code.as_bytes())?;
-        let want = Wanted {
+    for (old, new, text) in all_codes() {
+        if !is_refused(
+            &rt,
+            alloc,
+            changed(alloc, old, new),
+            EXEC,
             text,
-            status: Status::Refused,
-            tried: "c.txt h.csv ",
-        };
-        check(&rt, alloc, new, EXEC, &mut files, want)?;
+            "c.txt h.csv ",
+        ) {
+            return Err(other_at(alloc, text));
+        }
     }
     Ok(())
 }
@@ -137,32 +214,31 @@ fn refuses_codes(rt: HostRuntime) -> Result<(), Fail> {
 /// A code file may be longer than other files.
 #[test]
 fn long_codes(rt: HostRuntime) -> Result<(), Fail> {
-    let alloc = rt.alloc();
-    let bytes = vec![in alloc; b' '; FILE_BYTES as usize + 1]?;
-    let mut files = code_files(alloc, &bytes)?;
-    let want = Wanted {
-        text: "refused code: bad header\n",
-        status: Status::Refused,
-        tried: "c.txt h.csv ",
-    };
-    check(&rt, alloc, "a long code file", EXEC, &mut files, want)?;
-    let want = Wanted {
-        text: "refused file too long c.txt\n",
-        status: Status::Refused,
-        tried: "c.txt h.csv h.csv c.txt ",
-    };
-    check(
-        &rt,
-        alloc,
-        "a long household",
-        "exec h.csv c.txt",
-        &mut files,
-        want,
-    )
+    let long = long_text(rt.alloc())?;
+    let text = "refused code: bad header\n";
+    assert!(rt; is_refused(&rt, rt.alloc(), long, EXEC, text, "c.txt h.csv "));
+    Ok(())
+}
+
+#[test]
+fn long_households(rt: HostRuntime) -> Result<(), Fail> {
+    let long = long_text(rt.alloc())?;
+    let text = "refused file too long c.txt\n";
+    assert!(rt;
+        is_refused(
+            &rt,
+            rt.alloc(),
+            long,
+            "exec h.csv c.txt",
+            text,
+            "h.csv c.txt "
+        )
+    );
+    Ok(())
 }
 
 /// Words that are no command.
-const NO_COMMANDS: [&str; 6] = [
+static NO_COMMANDS: [&str; 6] = [
     "exec",
     "exec c.txt",
     "exec c.txt h.csv h.csv",
@@ -171,23 +247,28 @@ const NO_COMMANDS: [&str; 6] = [
     "compiles l.txt - -",
 ];
 
+fn is_no_command<R: Threads + Sync>(rt: &R, alloc: Global, line: &str) -> bool {
+    let mut files = code_files(alloc, copied(alloc, code()), 0);
+    let want = Wanted {
+        text: USAGE,
+        status: Status::Usage,
+        tried: "",
+    };
+    does(rt, alloc, line, &mut files, want)
+}
+
 #[test]
 fn tells_words(rt: HostRuntime) -> Result<(), Fail> {
-    let alloc = rt.alloc();
-    for line in NO_COMMANDS {
-        let mut files = code_files(alloc, CODE.as_bytes())?;
-        let want = Wanted {
-            text: USAGE,
-            status: Status::Usage,
-            tried: "",
-        };
-        check(&rt, alloc, line, line, &mut files, want)?;
+    for line in no_commands() {
+        if !is_no_command(&rt, rt.alloc(), line) {
+            return Err(other_at(rt.alloc(), line));
+        }
     }
     Ok(())
 }
 
 /// Words, the list, the text, the status and the names that were tried.
-const COMPILES: [(&str, &str, &str, Status, &str); 5] = [
+static COMPILES: [(&str, &str, &str, Status, &str); 5] = [
     (
         "compile l.txt - -",
         "iliad\na.m\n",
@@ -239,14 +320,19 @@ end
 ";
 
 /// The files of `compile`, with this list and this code file.
-fn source_files(alloc: Global, list: &str, code: &[u8]) -> Result<MemFiles, AllocError> {
+fn source_files(alloc: Global, list: &str, code: &[u8]) -> MemFiles {
     let mut files = Vec::new(alloc);
-    files.push(file(alloc, b"l.txt", list.as_bytes())?)?;
-    files.push(file(alloc, b"a.m", rules())?)?;
-    files.push(file(alloc, b"d.txt", b"")?)?;
-    files.push(file(alloc, b"c.txt", code)?)?;
-    files.push(file(alloc, b"h.csv", b"code,amount\n1AJ,2500.5\n")?)?;
-    Ok(MemFiles::new(alloc, files, Vec::new(alloc)))
+    add_file(alloc, &mut files, b"l.txt", copied(alloc, list.as_bytes()));
+    add_file(alloc, &mut files, b"a.m", copied(alloc, rules()));
+    add_file(alloc, &mut files, b"d.txt", Vec::new(alloc));
+    add_file(alloc, &mut files, b"c.txt", copied(alloc, code));
+    add_file(
+        alloc,
+        &mut files,
+        b"h.csv",
+        copied(alloc, b"code,amount\n1AJ,2500.5\n"),
+    );
+    MemFiles::new(alloc, files, Vec::new(alloc))
 }
 
 /// The rules: the tax is a revenue without 1000.
@@ -259,34 +345,54 @@ IRN = REV - SEUIL ;
 "
 }
 
+fn compiles_so<R: Threads + Sync>(
+    rt: &R,
+    alloc: Global,
+    row: &(
+        &'static str,
+        &'static str,
+        &'static str,
+        Status,
+        &'static str,
+    ),
+) -> bool {
+    let mut files = source_files(alloc, row.1, b"");
+    let want = Wanted {
+        text: row.2,
+        status: row.3,
+        tried: row.4,
+    };
+    does(rt, alloc, row.0, &mut files, want)
+}
+
 #[test]
 fn compiles(rt: HostRuntime) -> Result<(), Fail> {
-    let alloc = rt.alloc();
-    for (line, list, text, status, tried) in COMPILES {
-        let mut files = source_files(alloc, list, b"")?;
-        let want = Wanted {
-            text,
-            status,
-            tried,
-        };
-        check(&rt, alloc, line, line, &mut files, want)?;
+    for row in all_compiles() {
+        if !compiles_so(&rt, rt.alloc(), row) {
+            return Err(other_at(rt.alloc(), row.4));
+        }
     }
     Ok(())
+}
+
+/// Whether this code file prints `IRN = 1500.5`.
+fn is_executed<R: Threads + Sync>(rt: &R, alloc: Global, code: &[u8]) -> bool {
+    let mut files = source_files(alloc, "", code);
+    let want = Wanted {
+        text: "IRN = 1500.5\n",
+        status: Status::Done,
+        tried: "c.txt h.csv ",
+    };
+    does(rt, alloc, EXEC, &mut files, want)
 }
 
 /// What is compiled, executed.
 #[test]
 fn executes_compiled(rt: HostRuntime) -> Result<(), Fail> {
     let alloc = rt.alloc();
+    let mut files = source_files(alloc, "iliad\na.m\n", b"");
     let mut out = MemSink::new(alloc, 7, Vec::new(alloc))?;
-    let mut files = source_files(alloc, "iliad\na.m\n", b"")?;
-    let status = done(&rt, alloc, "compile l.txt - -", &mut files, &mut out)?;
-    assert_eq!(rt; status, Status::Done);
-    let mut files = source_files(alloc, "", out.written())?;
-    let want = Wanted {
-        text: "IRN = 1500.5\n",
-        status: Status::Done,
-        tried: "c.txt h.csv ",
-    };
-    check(&rt, alloc, "what is compiled", EXEC, &mut files, want)
+    assert!(rt; status_of(&rt, alloc, "compile l.txt - -", &mut files, &mut out) == Status::Done);
+    assert!(rt; is_executed(&rt, alloc, out.written()));
+    Ok(())
 }

@@ -17,69 +17,99 @@ regle 10 : application : iliad ;
 "
 }
 
-/// A file of this name.
-pub(crate) fn file(
+/// A copy of these bytes. Where there is no memory it is empty, so something else is printed.
+pub(crate) fn copied(alloc: Global, bytes: &[u8]) -> Vec<u8> {
+    let mut copy = Vec::new(alloc);
+    let _added = copy.extend_from_slice(bytes);
+    copy
+}
+
+/// Adds a file of this name.
+pub(crate) fn add_file(
     alloc: Global,
+    files: &mut Vec<(Name, Vec<u8>)>,
     name: &[u8],
-    bytes: &[u8],
-) -> Result<(Name, Vec<u8>), AllocError> {
-    Ok((Name::new(alloc, name)?, Vec::from_slice(alloc, bytes)?))
+    bytes: Vec<u8>,
+) {
+    if let Ok(name) = Name::new(alloc, name) {
+        let _added = files.push((name, bytes));
+    }
+}
+
+/// The number of the one call that fails; 0 is none.
+pub(crate) fn failing(alloc: Global, call: u64) -> Vec<u64> {
+    let mut calls = Vec::new(alloc);
+    let _added = calls.push(call);
+    calls
 }
 
 /// Words, which stand between spaces.
-fn words(alloc: Global, line: &str) -> Result<Vec<Word>, AllocError> {
+pub(crate) fn words(alloc: Global, line: &str) -> Vec<Word> {
     let mut words = Vec::new(alloc);
     for word in line.split_whitespace() {
-        words.push(Name::new(alloc, word.as_bytes())?)?;
+        if let Ok(word) = Name::new(alloc, word.as_bytes()) {
+            let _added = words.push(word);
+        }
     }
-    Ok(words)
+    words
 }
 
-/// The base and the formulas of its rule.
-fn with_formulas(alloc: Global, formulas: &str) -> Result<Vec<u8>, AllocError> {
-    let mut rules = Vec::from_slice(alloc, base())?;
-    rules.extend_from_slice(formulas.as_bytes())?;
-    rules.push(b'\n')?;
-    Ok(rules)
+/// Fails at this row.
+pub(crate) fn other_at(alloc: Global, row: &str) -> Fail {
+    match format!(in alloc; "another answer at {row}") {
+        Ok(told) => Fail::from(told),
+        Err(_) => Fail::from("another answer"),
+    }
 }
 
-/// The files of a run of these rules on these rows of a household.
-fn run_files(alloc: Global, rules: Vec<u8>, rows: &str) -> Result<MemFiles, AllocError> {
-    let mut household = Vec::from_slice(alloc, b"code,amount\n")?;
-    household.extend_from_slice(rows.as_bytes())?;
+/// The base and the formula of its rule.
+fn whole_rules(alloc: Global) -> Vec<u8> {
+    let mut rules = copied(alloc, base());
+    let _formula = rules.extend_from_slice(b"IRN = REV - SEUIL ;\n");
+    rules
+}
+
+/// Adds the files of a run of these rules on a household.
+fn add_run_files(
+    alloc: Global,
+    files: &mut Vec<(Name, Vec<u8>)>,
+    rules: Vec<u8>,
+    household: &[u8],
+) {
+    add_file(alloc, files, b"l.txt", copied(alloc, b"iliad\na.m\n"));
+    add_file(alloc, files, b"a.m", rules);
+    add_file(alloc, files, b"h.csv", copied(alloc, household));
+}
+
+/// The files of a run that prints `IRN = 1500.5`, of which this one has these bytes instead, and whose call of this number fails.
+fn files_with(alloc: Global, name: &str, bytes: Vec<u8>, call: u64) -> MemFiles {
     let mut files = Vec::new(alloc);
-    files.push(file(alloc, b"l.txt", b"iliad\na.m\n")?)?;
-    files.push((Name::new(alloc, b"a.m")?, rules))?;
-    files.push((Name::new(alloc, b"h.csv")?, household))?;
-    Ok(MemFiles::new(alloc, files, Vec::new(alloc)))
+    add_file(alloc, &mut files, name.as_bytes(), bytes);
+    add_run_files(
+        alloc,
+        &mut files,
+        whole_rules(alloc),
+        b"code,amount\n1AJ,2500.5\n",
+    );
+    MemFiles::new(alloc, files, failing(alloc, call))
 }
 
-/// Does a command over files in memory, and gives its status. Where it had no memory and wrote nothing,
-/// that is the error, as it is where the test itself has none.
-pub(crate) fn done<R: Threads + Sync>(
+/// Does a command over files in memory, and gives its status.
+pub(crate) fn status_of<R: Threads + Sync>(
     rt: &R,
     alloc: Global,
     line: &str,
     files: &mut MemFiles,
     out: &mut MemSink,
-) -> Result<Status, AllocError> {
-    let words = words(alloc, line)?;
+) -> Status {
+    let words = words(alloc, line);
     let mut input = MemSource::new(Vec::new(alloc), 1, Vec::new(alloc));
-    let status = m_tax(rt, alloc, &words, files, &mut input, out);
-    if status == Status::Memory && out.written().is_empty() {
-        return Err(AllocError);
-    }
-    Ok(status)
+    m_tax(rt, alloc, &words, files, &mut input, out)
 }
 
-/// The files of a run that prints `IRN = 1500.5`, of which this one has these bytes instead.
-fn files_with(alloc: Global, name: &str, bytes: Vec<u8>) -> Result<MemFiles, AllocError> {
-    let rules = with_formulas(alloc, "IRN = REV - SEUIL ;")?;
-    let mut files = run_files(alloc, rules, "1AJ,2500.5\n")?;
-    files
-        .files
-        .insert(0, (Name::new(alloc, name.as_bytes())?, bytes))?;
-    Ok(files)
+/// A text of more bytes than most files may have.
+pub(crate) fn long_text(alloc: Global) -> Result<Vec<u8>, AllocError> {
+    vec![in alloc; b' '; FILE_BYTES as usize + 1]
 }
 
 /// What a command is to print, its status, and the names that it tries: each with a space after it, and
@@ -91,39 +121,32 @@ pub(crate) struct Wanted<'a> {
     pub(crate) tried: &'a str,
 }
 
-/// The names that were tried, as a `Wanted` has them.
-fn tried(alloc: Global, files: &MemFiles) -> Result<Vec<u8>, AllocError> {
+/// Whether these are the names that were tried, as a `Wanted` has them.
+fn are_tried(alloc: Global, files: &MemFiles, wanted: &str) -> bool {
     let mut names = Vec::new(alloc);
     for attempt in files.attempted() {
-        names.extend_from_slice(attempt.name.bytes())?;
-        if attempt.failed {
-            names.push(b'!')?;
-        }
-        names.push(b' ')?;
+        let _name = names.extend_from_slice(attempt.name.bytes());
+        let end: &[u8] = if attempt.failed { b"! " } else { b" " };
+        let _end = names.extend_from_slice(end);
     }
-    Ok(names)
+    names.as_slice() == wanted.as_bytes()
 }
 
-/// Does a command over these files, and fails, naming the row, where it does anything but what is wanted.
-pub(crate) fn check<R: Threads + Sync>(
+/// Whether a command over these files does what is wanted.
+pub(crate) fn does<R: Threads + Sync>(
     rt: &R,
     alloc: Global,
-    row: &str,
     line: &str,
     files: &mut MemFiles,
     want: Wanted<'_>,
-) -> Result<(), Fail> {
-    let mut out = MemSink::new(alloc, 7, Vec::new(alloc))?;
-    let status = done(rt, alloc, line, files, &mut out)?;
-    let tried = tried(alloc, files)?;
-    let is_right = out.written() == want.text.as_bytes()
-        && status == want.status
-        && tried.as_slice() == want.tried.as_bytes();
-    if is_right {
-        return Ok(());
-    }
-    let text = str::from_utf8(out.written()).unwrap_or("no text");
-    Err(Fail::from(format!(in alloc; "{row}: {status:?} and {text}")?))
+) -> bool {
+    let Ok(mut out) = MemSink::new(alloc, 7, Vec::new(alloc)) else {
+        return false;
+    };
+    let status = status_of(rt, alloc, line, files, &mut out);
+    status == want.status
+        && out.written() == want.text.as_bytes()
+        && are_tried(alloc, files, want.tried)
 }
 
 /// All files of a run.
@@ -138,7 +161,7 @@ pub(crate) const USAGE: &str =
     "usage: m_tax run|serve LIST DRIVER REQUESTS HOUSEHOLD, batch LIST DRIVER REQUESTS TABLE, compile LIST DRIVER REQUESTS, exec CODEFILE HOUSEHOLD, large N, check LIST HOUSEHOLD REPORT, lint LIST DRIVER REQUESTS, cases LIST DRIVER REQUESTS TABLE\n";
 
 /// The words, the list, the number of the fetch that fails, the text, the names that were tried.
-const FETCHES: [(&str, &str, u64, &str, &str); 15] = [
+static FETCHES: [(&str, &str, u64, &str, &str); 15] = [
     (RUN, LIST, 1, "unreadable l.txt\n", "l.txt! "),
     (RUN, LIST, 2, "unreadable a.m\n", "l.txt a.m! "),
     (RUN, LIST, 3, "unreadable h.csv\n", "l.txt a.m h.csv! "),
@@ -204,52 +227,89 @@ const FETCHES: [(&str, &str, u64, &str, &str); 15] = [
     ),
 ];
 
+// The tables, out of reach of the proofs of what goes over them.
+
+fn all_fetches() -> &'static [(&'static str, &'static str, u64, &'static str, &'static str)] {
+    &FETCHES
+}
+
+fn all_limits() -> &'static [(&'static str, &'static str, &'static str)] {
+    &LIMITS
+}
+
+fn all_writes() -> &'static [(&'static str, &'static str, Status)] {
+    &WRITES
+}
+
+/// The status of a command that prints this.
+fn status_by(text: &str) -> Status {
+    match text.as_bytes() {
+        [b'u', ..] => Status::ReadFault,
+        [b'r', ..] => Status::Refused,
+        _ => Status::Done,
+    }
+}
+
+fn fetches_so<R: Threads + Sync>(
+    rt: &R,
+    alloc: Global,
+    row: &(&'static str, &'static str, u64, &'static str, &'static str),
+) -> bool {
+    let mut files = files_with(alloc, "l.txt", copied(alloc, row.1.as_bytes()), row.2);
+    let want = Wanted {
+        text: row.3,
+        status: status_by(row.3),
+        tried: row.4,
+    };
+    does(rt, alloc, row.0, &mut files, want)
+}
+
 #[test]
 fn fetches(rt: HostRuntime) -> Result<(), Fail> {
-    let alloc = rt.alloc();
-    for (line, list, failing, text, tried) in FETCHES {
-        let mut files = files_with(alloc, "l.txt", Vec::from_slice(alloc, list.as_bytes())?)?;
-        files.failing.push(failing)?;
-        let status = match text.as_bytes() {
-            [b'u', ..] => Status::ReadFault,
-            [b'r', ..] => Status::Refused,
-            _ => Status::Done,
-        };
-        let want = Wanted {
-            text,
-            status,
-            tried,
-        };
-        check(&rt, alloc, list, line, &mut files, want)?;
+    for row in all_fetches() {
+        if !fetches_so(&rt, rt.alloc(), row) {
+            return Err(other_at(rt.alloc(), row.4));
+        }
     }
     Ok(())
 }
 
 /// The file that is too long, the text, the names that were tried.
-const LIMITS: [(&str, &str, &str); 3] = [
+static LIMITS: [(&str, &str, &str); 3] = [
     ("l.txt", "refused file too long l.txt\n", "l.txt "),
     ("a.m", "refused file too long a.m\n", "l.txt a.m "),
     ("h.csv", "refused file too long h.csv\n", "l.txt a.m h.csv "),
 ];
 
+fn is_too_long<R: Threads + Sync>(
+    rt: &R,
+    alloc: Global,
+    row: &(&'static str, &'static str, &'static str),
+) -> bool {
+    let Ok(bytes) = long_text(alloc) else {
+        return false;
+    };
+    let mut files = files_with(alloc, row.0, bytes, 0);
+    let want = Wanted {
+        text: row.1,
+        status: Status::Refused,
+        tried: row.2,
+    };
+    does(rt, alloc, RUN, &mut files, want)
+}
+
 #[test]
 fn limits(rt: HostRuntime) -> Result<(), Fail> {
-    let alloc = rt.alloc();
-    for (name, text, tried) in LIMITS {
-        let bytes = vec![in alloc; b' '; FILE_BYTES as usize + 1]?;
-        let mut files = files_with(alloc, name, bytes)?;
-        let want = Wanted {
-            text,
-            status: Status::Refused,
-            tried,
-        };
-        check(&rt, alloc, name, RUN, &mut files, want)?;
+    for row in all_limits() {
+        if !is_too_long(&rt, rt.alloc(), row) {
+            return Err(other_at(rt.alloc(), row.0));
+        }
     }
     Ok(())
 }
 
 /// The words, the text, and the status where all of it is written.
-const WRITES: [(&str, &str, Status); 4] = [
+static WRITES: [(&str, &str, Status); 4] = [
     (RUN, "IRN = 1500.5\n", Status::Done),
     ("run x - - h.csv", "unreadable x\n", Status::ReadFault),
     (
@@ -260,29 +320,53 @@ const WRITES: [(&str, &str, Status); 4] = [
     ("run", USAGE, Status::Usage),
 ];
 
+/// Whether a command whose write after so many bytes fails writes these and ends so.
+fn is_cut<R: Threads + Sync>(
+    rt: &R,
+    alloc: Global,
+    line: &str,
+    text: &[u8],
+    before: usize,
+    want: Status,
+) -> bool {
+    let Ok(mut out) = MemSink::new(alloc, 1, failing(alloc, (before as u64).saturating_add(1)))
+    else {
+        return false;
+    };
+    let mut files = files_with(alloc, "d.txt", Vec::new(alloc), 0);
+    let status = status_of(rt, alloc, line, &mut files, &mut out);
+    let is_whole = before == text.len();
+    let wanted = if is_whole { want } else { Status::WriteFault };
+    out.written().len() == before && text.starts_with(out.written()) && status == wanted
+}
+
+fn is_cut_anywhere<R: Threads + Sync>(
+    rt: &R,
+    alloc: Global,
+    line: &str,
+    text: &[u8],
+    want: Status,
+) -> bool {
+    for before in 0..text.len() + 1 {
+        if !is_cut(rt, alloc, line, text, before, want) {
+            return false;
+        }
+    }
+    true
+}
+
 #[test]
 fn fails_to_write(rt: HostRuntime) -> Result<(), Fail> {
-    let alloc = rt.alloc();
-    for (line, text, want) in WRITES {
-        for before in 0..text.len() as u64 + 1 {
-            let mut files = files_with(alloc, "d.txt", Vec::new(alloc))?;
-            let mut out = MemSink::new(alloc, 1, vec![in alloc; before + 1]?)?;
-            let status = done(&rt, alloc, line, &mut files, &mut out)?;
-            assert_eq!(rt; out.written().len() as u64, before, "{line}");
-            assert!(rt;
-                text.as_bytes().starts_with(out.written()),
-                "{line} {before}"
-            );
-            let is_whole = before == text.len() as u64;
-            let wanted = if is_whole { want } else { Status::WriteFault };
-            assert_eq!(rt; status, wanted, "{line} {before}");
+    for (line, text, want) in all_writes() {
+        if !is_cut_anywhere(&rt, rt.alloc(), line, text.as_bytes(), *want) {
+            return Err(other_at(rt.alloc(), line));
         }
     }
     Ok(())
 }
 
 /// What prefixes of the rules of `prefixes` print without rows, by how many bytes they have.
-const FRONTS: [(usize, &str); 13] = [
+static FRONTS: [(usize, &str); 13] = [
     // whole items, without the last line feed and with it
     (0, ""),
     (48, ""),
@@ -302,7 +386,7 @@ const FRONTS: [(usize, &str); 13] = [
 
 /// What a prefix prints whose last item isn't whole, where it has fewer bytes than this: the fault stands where the item
 /// begins.
-const ITEMS: [(usize, &str); 4] = [
+static ITEMS: [(usize, &str); 4] = [
     (48, "refused a.m line 1 byte 0: syntax\n"),
     (71, "refused a.m line 2 byte 49: syntax\n"),
     (104, "refused a.m line 3 byte 72: syntax\n"),
@@ -311,41 +395,54 @@ const ITEMS: [(usize, &str); 4] = [
 
 /// What the first so many bytes of the rules of `prefixes` print without rows.
 fn prefix_text(bytes: usize) -> &'static str {
-    for (front, text) in FRONTS {
-        if front == bytes {
-            return text;
+    for (front, text) in FRONTS.iter() {
+        if *front == bytes {
+            return *text;
         }
     }
-    for (end, text) in ITEMS {
-        if bytes < end {
-            return text;
+    for (end, text) in ITEMS.iter() {
+        if bytes < *end {
+            return *text;
         }
     }
     ""
 }
 
-#[test]
-fn prefixes(rt: HostRuntime) -> Result<(), Fail> {
-    let alloc = rt.alloc();
-    let whole = with_formulas(alloc, "IRN = REV - SEUIL ;")?;
-    assert_eq!(rt; whole.len(), 158);
-    for bytes in 0..159 {
-        let mut rules = whole.clone()?;
-        rules.truncate(bytes);
-        let mut files = run_files(alloc, rules, "")?;
-        let text = prefix_text(bytes);
-        let status = if text.starts_with("refused") {
-            Status::Refused
-        } else {
-            Status::Done
-        };
-        let want = Wanted {
-            text,
-            status,
-            tried: ALL,
-        };
-        let row = format!(in alloc; "the first {bytes} bytes")?;
-        check(&rt, alloc, &row, RUN, &mut files, want)?;
+/// Whether so many bytes of the rules print what they are to.
+fn is_prefix<R: Threads + Sync>(rt: &R, alloc: Global, whole: &[u8], bytes: usize) -> bool {
+    if bytes > whole.len() {
+        return false;
     }
-    Ok(())
+    let mut files = Vec::new(alloc);
+    add_run_files(
+        alloc,
+        &mut files,
+        copied(alloc, &whole[..bytes]),
+        b"code,amount\n",
+    );
+    let mut files = MemFiles::new(alloc, files, Vec::new(alloc));
+    let text = prefix_text(bytes);
+    let want = Wanted {
+        text,
+        status: status_by(text),
+        tried: ALL,
+    };
+    does(rt, alloc, RUN, &mut files, want)
+}
+
+/// The first number of bytes of the rules that prints anything else.
+fn first_other<R: Threads + Sync>(rt: &R, alloc: Global, whole: &[u8]) -> Option<usize> {
+    for bytes in 0..159 {
+        if !is_prefix(rt, alloc, whole, bytes) {
+            return Some(bytes);
+        }
+    }
+    None
+}
+
+#[test]
+fn prefixes(rt: HostRuntime) {
+    let whole = whole_rules(rt.alloc());
+    assert!(rt; whole.len() == 158);
+    assert!(rt; first_other(&rt, rt.alloc(), &whole).is_none());
 }

@@ -1,9 +1,8 @@
 //! Reads and writes that fail in a session and in a batch, at each call in turn.
+use crate::commands::{add_file, copied, failing, words};
 use m_commands::{Status, m_tax};
-use m_places::{Name, Word};
 use m_ports::{MemFiles, MemSink, MemSource};
-use std::alloc::{AllocError, Global};
-use std::test::Fail;
+use std::alloc::Global;
 use std::thread::Threads;
 
 /// The rules: the tax is what a revenue has above 1000.
@@ -44,126 +43,176 @@ fn ended(bytes: usize) -> usize {
     }
 }
 
-/// A file of this name.
-fn file(alloc: Global, name: &[u8], bytes: &[u8]) -> Result<(Name, Vec<u8>), AllocError> {
-    Ok((Name::new(alloc, name)?, Vec::from_slice(alloc, bytes)?))
+/// Adds bytes. Where there is no memory nothing is added, so something else is printed.
+fn add(text: &mut Vec<u8>, bytes: &[u8]) {
+    let _added = text.extend_from_slice(bytes);
 }
 
-/// A table of so many rows, which is more than one group, and the lines that it is answered with.
-fn table(alloc: Global, rows: u32) -> Result<(Vec<u8>, Vec<u8>), AllocError> {
-    let mut table = Vec::from_slice(alloc, b"name,1AJ\n")?;
+fn add_row(alloc: Global, table: &mut Vec<u8>, k: u32) {
+    if let Ok(row) = format!(in alloc; "h{k},{k}\n") {
+        add(table, row.as_bytes());
+    }
+}
+
+/// A table of so many rows, which is more than one group.
+fn table(alloc: Global, rows: u32) -> Vec<u8> {
+    let mut table = Vec::new(alloc);
+    add(&mut table, b"name,1AJ\n");
+    for k in 0..rows {
+        add_row(alloc, &mut table, k);
+    }
+    table
+}
+
+fn add_reply(alloc: Global, lines: &mut Vec<u8>, k: u32) {
+    if let Ok(line) = format!(in alloc; "household h{k}\nIRN = 0\n") {
+        add(lines, line.as_bytes());
+    }
+}
+
+/// The lines that it is answered with.
+fn answers(alloc: Global, rows: u32) -> Vec<u8> {
     let mut lines = Vec::new(alloc);
     for k in 0..rows {
-        let row = format!(in alloc; "h{k},{k}\n")?;
-        table.extend_from_slice(row.as_bytes())?;
-        let line = format!(in alloc; "household h{k}\nIRN = 0\n")?;
-        lines.extend_from_slice(line.as_bytes())?;
+        add_reply(alloc, &mut lines, k);
     }
-    Ok((table, lines))
+    lines
 }
 
 /// The files of a session and of a batch over this table.
-fn files(alloc: Global, table: Vec<u8>) -> Result<MemFiles, AllocError> {
+fn files(alloc: Global, table: &[u8]) -> MemFiles {
     let mut files = Vec::new(alloc);
-    files.push(file(alloc, b"l.txt", b"iliad\na.m\n")?)?;
-    files.push(file(alloc, b"a.m", rules())?)?;
-    files.push(file(alloc, b"h.csv", b"code,amount\n")?)?;
-    files.push((Name::new(alloc, b"t.csv")?, table))?;
-    Ok(MemFiles::new(alloc, files, Vec::new(alloc)))
+    add_file(alloc, &mut files, b"l.txt", copied(alloc, b"iliad\na.m\n"));
+    add_file(alloc, &mut files, b"a.m", copied(alloc, rules()));
+    add_file(alloc, &mut files, b"h.csv", copied(alloc, b"code,amount\n"));
+    add_file(alloc, &mut files, b"t.csv", copied(alloc, table));
+    MemFiles::new(alloc, files, Vec::new(alloc))
 }
 
-/// Words, which stand between spaces.
-fn words(alloc: Global, line: &str) -> Result<Vec<Word>, AllocError> {
-    let mut words = Vec::new(alloc);
-    for word in line.split_whitespace() {
-        words.push(Name::new(alloc, word.as_bytes())?)?;
-    }
-    Ok(words)
-}
-
-/// Does a command where the read and the write with these numbers fail, and gives the text that was written and the status.
-fn seen<R: Threads + Sync>(
+/// Whether a command where the read and the write with these numbers fail writes this text and ends so.
+fn does<R: Threads + Sync>(
     rt: &R,
     alloc: Global,
     line: &str,
-    table: Vec<u8>,
-    read: u64,
-    write: u64,
-) -> Result<(MemSink, Status), AllocError> {
-    let words = words(alloc, line)?;
-    let mut files = files(alloc, table)?;
-    let mut input = MemSource::new(
-        Vec::from_slice(alloc, typed())?,
-        1,
-        vec![in alloc; read; 1]?,
-    );
-    let mut out = MemSink::new(alloc, 1, vec![in alloc; write; 1]?)?;
+    table: &[u8],
+    calls: (u64, u64),
+    text: &[u8],
+    want: Status,
+) -> bool {
+    let Ok(mut out) = MemSink::new(alloc, 1, failing(alloc, calls.1)) else {
+        return false;
+    };
+    let words = words(alloc, line);
+    let mut files = files(alloc, table);
+    let mut input = MemSource::new(copied(alloc, typed()), 1, failing(alloc, calls.0));
     let status = m_tax(rt, alloc, &words, &mut files, &mut input, &mut out);
-    Ok((out, status))
+    out.written() == text && status == want
 }
 
 const SERVE: &str = "serve l.txt - - h.csv";
 
 const BATCH: &str = "batch l.txt - - t.csv";
 
-/// Fails, with the number of the call, where a session with these failures doesn't write this text and end so.
-fn check<R: Threads + Sync>(
-    rt: &R,
-    alloc: Global,
-    read: u64,
-    write: u64,
-    text: &[u8],
-    want: Status,
-) -> Result<(), Fail> {
-    let (out, status) = seen(rt, alloc, SERVE, Vec::new(alloc), read, write)?;
-    if out.written() == text && status == want {
-        return Ok(());
-    }
-    let text = str::from_utf8(out.written()).unwrap_or("no text");
-    Err(Fail::from(format!(in alloc; "{read} {write}: {status:?} and {text}")?))
+/// Whether a session whose read after so many bytes fails replies to the lines that ended before.
+fn is_read_so<R: Threads + Sync>(rt: &R, alloc: Global, taken: usize) -> bool {
+    let mut text = copied(alloc, replies(ended(taken)));
+    add(&mut text, b"unreadable input\n");
+    does(
+        rt,
+        alloc,
+        SERVE,
+        b"",
+        ((taken as u64).saturating_add(1), 0),
+        &text,
+        Status::ReadFault,
+    )
 }
 
 #[test]
-fn reads(rt: HostRuntime) -> Result<(), Fail> {
-    let alloc = rt.alloc();
+fn reads(rt: HostRuntime) {
     for taken in 0..typed().len() + 1 {
-        let mut text = Vec::from_slice(alloc, replies(ended(taken)))?;
-        text.extend_from_slice(b"unreadable input\n")?;
-        check(&rt, alloc, taken as u64 + 1, 0, &text, Status::ReadFault)?;
+        assert!(rt; is_read_so(&rt, rt.alloc(), taken));
     }
-    check(&rt, alloc, 0, 0, replies(4), Status::Done)
+    assert!(rt;
+        does(
+            &rt,
+            rt.alloc(),
+            SERVE,
+            b"",
+            (0, 0),
+            replies(4),
+            Status::Done
+        )
+    );
+}
+
+/// Whether a session whose write after so many bytes fails writes these.
+fn is_written_so<R: Threads + Sync>(rt: &R, alloc: Global, text: &[u8], given: usize) -> bool {
+    if given > text.len() {
+        return false;
+    }
+    let calls = (0, given as u64 + 1);
+    does(
+        rt,
+        alloc,
+        SERVE,
+        b"",
+        calls,
+        &text[..given],
+        Status::WriteFault,
+    )
 }
 
 #[test]
-fn writes(rt: HostRuntime) -> Result<(), Fail> {
-    let alloc = rt.alloc();
+fn writes(rt: HostRuntime) {
     let text = replies(4);
     for given in 0..text.len() {
-        let front = &text[..given];
-        check(&rt, alloc, 0, given as u64 + 1, front, Status::WriteFault)?;
+        assert!(rt; is_written_so(&rt, rt.alloc(), text, given));
     }
-    Ok(())
+}
+
+/// Writes that fail: some of the first group, all around its end, and one after the last.
+const FAILING: [usize; 11] = [
+    1, 2, 100, 5_777, 5_778, 5_779, 5_780, 5_800, 5_870, 5_871, 6_000,
+];
+
+/// Whether a batch whose write of this number fails writes the lines before it.
+fn is_batch_so<R: Threads + Sync>(
+    rt: &R,
+    alloc: Global,
+    table: &[u8],
+    lines: &[u8],
+    write: usize,
+) -> bool {
+    let given = lines.len().min(write.saturating_sub(1));
+    let want = if given < lines.len() {
+        Status::WriteFault
+    } else {
+        Status::Done
+    };
+    does(
+        rt,
+        alloc,
+        BATCH,
+        table,
+        (0, write as u64),
+        &lines[..given],
+        want,
+    )
+}
+
+fn are_batches_so<R: Threads + Sync>(rt: &R, alloc: Global, table: &[u8], lines: &[u8]) -> bool {
+    for write in FAILING {
+        if !is_batch_so(rt, alloc, table, lines, write) {
+            return false;
+        }
+    }
+    true
 }
 
 #[test]
-fn batches(rt: HostRuntime) -> Result<(), Fail> {
-    let alloc = rt.alloc();
-    let (_, lines) = table(alloc, 260)?;
-    // some writes of the first group, all around its end, and one after the last
-    for write in [
-        1, 2, 100, 5_777, 5_778, 5_779, 5_780, 5_800, 5_870, 5_871, 6_000,
-    ] {
-        let (table, _) = table(alloc, 260)?;
-        let (out, status) = seen(&rt, alloc, BATCH, table, 0, write)?;
-        let given = lines.len().min(write as usize - 1);
-        let want = if given < lines.len() {
-            Status::WriteFault
-        } else {
-            Status::Done
-        };
-        if out.written() != &lines[..given] || status != want {
-            return Err(Fail::from(format!(in alloc; "{write}: {status:?}")?));
-        }
-    }
-    Ok(())
+fn batches(rt: HostRuntime) {
+    let table = table(rt.alloc(), 260);
+    let lines = answers(rt.alloc(), 260);
+    assert!(rt; are_batches_so(&rt, rt.alloc(), &table, &lines));
 }
