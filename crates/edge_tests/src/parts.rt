@@ -63,27 +63,28 @@ fn long_table(alloc: Global, count: u32, spoilt: &[u32]) -> Vec<u8> {
 }
 
 /// Whether a row is that of a number.
-fn is_row(alloc: Global, k: u32, row: &Row) -> bool {
+fn is_row(alloc: Global, k: usize, row: &Row) -> bool {
     let Ok(label) = format!(in alloc; "h,{k}") else {
         return false;
     };
     row.label.bytes() == label.as_bytes()
         && match row.household.pairs.as_slice() {
-            [pair] => pair.1.millionths() == i128::from(k) * 1_000_000,
+            [pair] => pair.1.millionths() == k as i128 * 1_000_000,
             _ => false,
         }
 }
 
 /// Whether these are the rows of a long table, in their order.
 fn are_rows(alloc: Global, count: u32, rows: &[Row]) -> bool {
-    let mut k = 0;
-    for row in rows {
-        if k == count || !is_row(alloc, k, row) {
+    if rows.len() != count as usize {
+        return false;
+    }
+    for (k, row) in rows.iter().enumerate() {
+        if !is_row(alloc, k, row) {
             return false;
         }
-        k += 1;
     }
-    k == count
+    true
 }
 
 fn is_read<R: Threads + Sync>(rt: &R, alloc: Global, codes: &Codes, count: u32) -> bool {

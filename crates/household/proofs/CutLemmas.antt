@@ -1,14 +1,19 @@
 -- Going over records without reading them.
-use Rattle.std.proofs.Common.{◌≡◌, ℕ, ◌+◌, ◌-◌, ◌*◌, ◌<◌, ◌≤◌, zero, suc, List, [], ◌∷◌, ◌++◌, length, length-append, length-drop, get_or, drop, Bool, true, refl, sym, ap, subst, ◌∙◌, arith}
+use Rattle.std.proofs.Common.{◌≡◌, ℕ, ◌-◌, ◌*◌, ◌<◌, ◌≤◌, zero, suc, List, [], ◌∷◌, ◌++◌, length, length-append, length-drop, get_or, drop, take, true, false, refl, sym, ap, subst, ◌∙◌, arith}
 use Rattle.std.proofs.lemmas.List.{drop-drop}
-use Rattle.csv.specs.Machine.{ends_at_end}
+use Rattle.csv.specs.Machine.{step, is_end, ends_at_end, fields_after, field_after}
+use Rattle.csv.specs.Reading.{default_config}
+use Rattle.csv.specs.declared.parser.Action.{Action as CsvAction}
 use Rattle.csv.specs.declared.parser.State.{State}
 use Rattle.csv.specs.declared.parser.State.TheVariants as st
-use Rattle.household.specs.Reader.{records_from_state}
+use Rattle.household.specs.Reader.{records_from_state, state_of}
+use Rattle.household.specs.declared.records.Place.TheVariants.{Plain}
+use Rattle.household.specs.inner.Left.{IsPlainEnd}
 use Rattle.household.specs.declared.cuts.Cut.{Cut}
 use Rattle.household.specs.declared.cuts.TheConstants.{BETWEEN}
-use Rattle.household.specs.inner.Cuts.{AreCuts, left_at}
-use Rattle.household.proofs.LeftLemmas.{last_ends}
+use Rattle.household.specs.inner.Cuts.{AreCuts, GoesOn, left_at}
+use Rattle.household.proofs.LeftLemmas.{byte_joins, last_ends}
+use Rattle.household.proofs.PlainLemmas.{drop_byte}
 
 -- the record that the end of the bytes ends
 pub over_last : (left : List (List (List ℕ))) (s : State) (fields : List (List ℕ)) (field rest : List ℕ) → rest ≡ [] → ends_at_end s ≡ true → left ≡ records_from_state s fields field rest
@@ -17,6 +22,39 @@ over_last left s fields field rest none ends e = (
   fields ++ field ∷ [],
   e ∙ ap (records_from_state s fields field) none ∙ last_ends s fields field ends ∙ ap (λ (bytes : List ℕ). (fields ++ field ∷ []) ∷ records_from_state st.StartRecord [] [] bytes) (sym none),
 )
+
+-- what a reader that was within a record has left, a byte and perhaps some bytes of a field later
+pub over_byte : (left : List (List (List ℕ))) (bytes : List ℕ) (s : State) (a : CsvAction) (at : ℕ) (mid new : Cut) → at < length bytes
+    → ((fields : List (List ℕ)) × (field : List ℕ) × (left ≡ records_from_state s fields field (drop at bytes)))
+    → state_of mid.place ≡ (step default_config s (get_or bytes at 0)).0 → a ≡ (step default_config s (get_or bytes at 0)).1 → is_end a ≡ false → mid.at ≡ suc at → GoesOn bytes mid new
+    → (fields : List (List ℕ)) × (field : List ℕ) × (left ≡ records_from_state (state_of new.place) fields field (drop new.at bytes))
+over_byte left bytes s a at mid new below begun hs ha no_end m on =
+    let fields = begun.0 in
+    let field = begun.1 in
+    let byte = get_or bytes at 0 in
+    let next = on.same (fields_after a fields field) (field_after a byte field) in (
+      fields_after a fields field,
+      next.0,
+      begun.2 ∙ ap (records_from_state s fields field) (drop_byte at bytes below)
+          ∙ byte_joins s (state_of mid.place) a fields (fields_after a fields field) field (field_after a byte field) byte (drop (suc at) bytes) hs ha refl refl no_end
+          ∙ ap (λ k. records_from_state (state_of mid.place) (fields_after a fields field) (field_after a byte field) (drop k bytes)) (sym m)
+          ∙ next.1,
+    )
+
+-- a reader that stays where it is
+pub stays : (bytes : List ℕ) (cut : Cut) → GoesOn bytes cut cut
+stays bytes cut = record { forward = omega arith; same = λ fields field. (field, refl) }
+
+-- a reader that goes on to the end of a field without quotation marks
+pub to_plain_end : (bytes : List ℕ) (old new : Cut) → old.place ≡ Plain → new.place ≡ old.place → IsPlainEnd bytes old.at new.at → GoesOn bytes old new
+to_plain_end bytes old new plain same end = record {
+  forward = end.begins;
+  same = λ fields field. (
+    field ++ take (new.at - old.at) (drop old.at bytes),
+    ap (λ p. records_from_state (state_of p) fields field (drop old.at bytes)) plain ∙ end.joins fields field
+        ∙ ap (λ p. records_from_state (state_of p) fields (field ++ take (new.at - old.at) (drop old.at bytes)) (drop new.at bytes)) (sym (same ∙ plain)),
+  );
+}
 
 -- what a list has from a place on, where it has an element there
 drop_begun : {A : Type 0} (i : ℕ) (left new : List A) (x : A) → drop i left ≡ x ∷ new → (new ≡ drop (suc i) left) × (suc i ≤ length left)

@@ -8,4 +8,5 @@ pub mod KeptLemmas
 pub mod LawLemmas
 pub mod LeftLemmas
 pub mod PartLemmas
+pub mod PlainLemmas
 pub mod ValueLemmas

@@ -1,5 +1,5 @@
 -- The rows of all parts are those of a table, and the first fault among them is the table's.
-use Rattle.std.proofs.Common.{◌≡◌, ◌≢◌, ℕ, zero, suc, ◌+◌, ◌-◌, ◌*◌, ◌/◌, ◌%◌, min, ◌<◌, ◌≤◌, arith, get_or, take, drop, List, [], ◌∷◌, ◌++◌, length, length-append, Result, Ok, Err, Vec, cond, leb, Bool, true, false, refl, sym, ap, ◌∙◌, subst, append_assoc}
+use Rattle.std.proofs.Common.{◌≡◌, ◌≢◌, ℕ, zero, suc, ◌+◌, ◌*◌, ◌/◌, ◌%◌, min, ◌<◌, ◌≤◌, arith, get_or, take, drop, List, [], ◌∷◌, ◌++◌, length, length-append, Result, Ok, Err, Vec, leb, Bool, true, false, refl, sym, ap, ◌∙◌, subst, append_assoc}
 use Rattle.std.specs.declared.alloc.Global.{Global}
 use Rattle.std.proofs.lemmas.List.{append-nil, drop-drop, drop_all, length-drop, length-take}
 use Rattle.std.proofs.lemmas.Bool.{cond-false}

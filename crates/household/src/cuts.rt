@@ -1,10 +1,10 @@
 //! Where the records of a table begin, found without reading them.
-ghost use Rattle.std.specs.Prelude.{◌≡◌, IfOk};
+ghost use Rattle.std.specs.Prelude.{◌≡◌, ◌≤◌, IfOk, length};
 ghost use Rattle.csv.specs.Machine.{ends_at_end};
 ghost use Rattle.household.specs.Reader.{state_of};
-ghost use Rattle.household.specs.inner.Cuts.{AreCuts, GoesOver, GoesOverAll, left_at};
+ghost use Rattle.household.specs.inner.Cuts.{AreCuts, GoesOn, GoesOver, GoesOverAll, left_at};
 
-use crate::records::{Place, ends_at_end, is_end, step_from};
+use crate::records::{Place, ends_at_end, is_end, is_plain, plain_end, step_from};
 use std::alloc::{AllocError, Global};
 
 /// A place between two records: where it is in the bytes, and where a reader stands there.
@@ -53,10 +53,21 @@ fn go_over(bytes: &[u8], cut: &mut Cut) -> bool
         if is_end(step.action) {
             return true;
         }
+        go_on(bytes, cut);
     }
     if !ends_at_end(cut.place) {
         return false;
     }
     cut.place = Place::Record;
     true
+}
+
+// In a field without quotation marks, goes on to the next byte that ends it.
+fn go_on(bytes: &[u8], cut: &mut Cut)
+    requires { cut.old.at ≤ length bytes.now }
+    ensures { GoesOn bytes.now cut.old cut.new }
+{
+    if is_plain(cut.place) {
+        cut.at = plain_end(bytes, cut.at);
+    }
 }

@@ -1,6 +1,6 @@
 //! The records of a file whose fields are set apart by commas, one after another, as the crate
 //! `csv` reads them. The bytes are in memory, so that running out of memory is the only error there is.
-ghost use Rattle.std.specs.Prelude.{◌≡◌, ◌<◌, ◌≤◌, IfOk, OnOk, MatchResult, [], drop, get_or, length};
+ghost use Rattle.std.specs.Prelude.{◌≡◌, ◌<◌, ◌≤◌, IfOk, OnOk, MatchResult, [], drop, get_or, length, true};
 ghost use Rattle.csv.specs.Machine.{step, is_end, in_field, start_field, start_record, ends_with, ends_at_end, after_end, fields_after, field_after};
 ghost use Rattle.csv.specs.Reading.{default_config, is_bom, strip_bom};
 ghost use Rattle.csv.specs.Records.{fields_of, partial_of};
@@ -9,7 +9,7 @@ ghost use Rattle.m_places.specs.declared.limits.TheConstants.{ROWS};
 ghost use Rattle.household.specs.Records.{records_of};
 ghost use Rattle.household.specs.Household.{line_behind};
 ghost use Rattle.household.specs.Reader.{IsNext, left_of, state_of};
-ghost use Rattle.household.specs.inner.Left.{IsLast, Steps, action_of};
+ghost use Rattle.household.specs.inner.Left.{IsCopied, IsInner, IsLast, IsPlainEnd, Steps, action_of};
 ghost use Rattle.household.specs.declared.fault.HouseholdFault.TheVariants.{TooManyRows};
 
 use crate::HouseholdFault;
@@ -260,8 +260,51 @@ pub fn next_record(records: &mut Records<'_>, row: &mut ByteRecord) -> Result<bo
         if is_end(step.action) {
             return Ok(true);
         }
+        copy_plain(records)?;
     }
     last_record(records, row)
+}
+
+// In a field without quotation marks, copies the bytes up to the next that ends it, all at once.
+fn copy_plain(records: &mut Records<'_>) -> Result<(), AllocError>
+    requires { records.old.at ≤ length records.old.bytes.now }
+    ensures { OnOk result (IsCopied records.old records.new) }
+{
+    if !is_plain(records.place) {
+        return Ok(());
+    }
+    let end = plain_end(records.bytes, records.at);
+    records
+        .field
+        .extend_from_slice(&records.bytes[records.at..end])?;
+    records.at = end;
+    Ok(())
+}
+
+/// Whether a reader stands in a field without quotation marks.
+pub(crate) fn is_plain(place: Place) -> bool
+    ensures { result ≡ true → place ≡ Place.Plain }
+{
+    matches!(place, Place::Plain)
+}
+
+/// Where the bytes from a place on end that end no field without quotation marks.
+pub(crate) fn plain_end(bytes: &[u8], from: usize) -> usize
+    requires { from ≤ length bytes.now }
+    ensures { IsPlainEnd bytes.now from result }
+{
+    let mut at = from;
+    while at < bytes.len() && is_inner(bytes[at]) {
+        at += 1;
+    }
+    at
+}
+
+// Whether a byte ends no field without quotation marks.
+fn is_inner(byte: u8) -> bool
+    ensures { IsInner byte result }
+{
+    byte != 44 && byte != 13 && byte != 10
 }
 
 // The end of the bytes is reached: the record that was begun is the last one, if one was.

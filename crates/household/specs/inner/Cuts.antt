@@ -13,6 +13,12 @@ abbrev pub GoesOver : List ℕ → Cut → Bool → Cut → Type 0
 GoesOver bytes old true new = (fields : List (List ℕ)) × (left_at bytes old ≡ fields ∷ left_at bytes new)
 GoesOver bytes old false new = left_at bytes old ≡ []
 
+-- The record that was begun goes on from a place to another.
+pub record GoesOn (bytes : List ℕ) (old new : Cut) : Type 0 where
+  pub forward : old.at ≤ new.at
+  pub same : (fields : List (List ℕ)) (field : List ℕ)
+      → (more : List ℕ) × (records_from_state (state_of old.place) fields field (drop old.at bytes) ≡ records_from_state (state_of new.place) fields more (drop new.at bytes))
+
 -- So many records were gone over, or there were fewer.
 abbrev pub GoesOverAll : List ℕ → ℕ → Cut → Bool → Cut → Type 0
 GoesOverAll bytes count old true new = (left_at bytes new ≡ drop count (left_at bytes old)) × (count ≤ length (left_at bytes old))

@@ -1,4 +1,4 @@
-use Rattle.std.proofs.Common.{◌≡◌, ◌-◌, ◌*◌, ◌+◌, ◌<◌, ◌≤◌, ◌∙◌, suc, length, sym, subst, ap, arith}
+use Rattle.std.proofs.Common.{◌≡◌, ◌-◌, ◌*◌, ◌+◌, ◌<◌, ◌∙◌, length, sym, subst, arith}
 use Rattle.std.specs.Vec.{vec_len}
 use Rattle.m_places.specs.declared.limits.TheConstants.{ROWS}
 use Rattle.household.specs.Household.{line_behind}
