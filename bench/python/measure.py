@@ -15,7 +15,7 @@ HERE = os.path.dirname(os.path.abspath(__file__))
 ROOT = os.path.dirname(os.path.dirname(HERE))
 sys.path[:0] = [os.path.dirname(HERE), os.path.join(ROOT, "python"), os.path.join(ROOT, "examples", "reform2023")]
 from households import CODES, SEED, drawn  # noqa: E402
-from measured import machine, timed  # noqa: E402
+from measured import figure, machine, timed  # noqa: E402
 
 WORDS = ["examples/impot2023/rules.list", "examples/impot2023/driver.mpp"]
 MADE, PART = 10_000, 100_000
@@ -71,15 +71,21 @@ def main():
     if rows % min(PART, rows):
         sys.exit("measure: a whole number of tables")
     print(f"{machine()}\n\n| {rows:,} households | seconds | of these Python's | of the command's | by the clock |\n|---|---:|---:|---:|---:|")
+    ratios = {}
     for what in READ:
-        alone, clock, paid = by_command(program, rows, folder)
-        print(f"| the command `batch` | {alone:.2f} | | 1.00 | {clock:.2f} |", flush=True)
+        alone, alone_clock, paid = by_command(program, rows, folder)
+        print(f"| the command `batch` | {alone:.2f} | | 1.00 | {alone_clock:.2f} |", flush=True)
         _, _, status, text, clock = timed([sys.executable, "-B", __file__, program, folder, str(rows), what], ROOT)
         told = text.split()
         if status or int(told[0]) not in (paid, 0 if what == "nothing" else paid):
             sys.exit(f"{what}: status {status}, {text!r}, where the command says {paid}")
         own, children = map(float, told[1:])
         print(f"| `.batch`, reading {what} of each answer | {own + children:.2f} | {own:.2f} | {(own + children) / alone:.2f} | {clock:.2f} |", flush=True)
+        ratios[what] = (own + children) / alone, clock / alone_clock
+    print()
+    for what, name in (("nothing", "nothing"), ("one value", "one_value"), ("all values", "all_values")):
+        figure(f"python.batch_reading_{name}_to_command", ratios[what][0], "<=1.5" if what == "one value" else "-")
+    figure("python.batch_reading_one_value_to_command_by_the_clock", ratios["one value"][1], "-")
     return None
 
 
