@@ -87,11 +87,14 @@ fn kind_in(alloc: Global, symbols: &Symbols) -> Result<KindCells, AllocError> {
     KindCells::new(alloc, &index, b"k", &[Amount::zero()])
 }
 
-fn kind(alloc: Global) -> Result<KindCells, AllocError> {
-    let all = items(alloc, None)?;
+// None where the input is rejected, or there is no memory.
+fn kind(alloc: Global) -> Option<KindCells> {
+    let Ok(all) = items(alloc, None) else {
+        return None;
+    };
     match declare(alloc, &all) {
-        Ok(symbols) => kind_in(alloc, &symbols),
-        Err(_) => Err(AllocError),
+        Ok(symbols) => kind_in(alloc, &symbols).ok(),
+        Err(_) => None,
     }
 }
 
@@ -207,19 +210,19 @@ fn nested(alloc: Global) -> CCommand {
 // Whether A is defined; 1, which isn't what is wanted, where there is no memory.
 fn exists(alloc: Global) -> CTerm {
     match kind(alloc) {
-        Ok(kind) => CTerm::new(CNode::Exists(kind)),
-        Err(_) => CTerm::new(CNode::Lit(units(1))),
+        Some(kind) => CTerm::new(CNode::Exists(kind)),
+        None => CTerm::new(CNode::Lit(units(1))),
     }
 }
 
 // `partition` with A: C is 1 where A is defined in it, and else 2.
 fn partition(alloc: Global) -> CCommand {
     match kind(alloc) {
-        Ok(kind) => {
+        Some(kind) => {
             let block = one(alloc, choice(alloc, exists(alloc)));
             CCommand::new(CCommandNode::Partition(3, kind, block))
         }
-        Err(_) => set(2, 1),
+        None => set(2, 1),
     }
 }
 
