@@ -1,5 +1,5 @@
 //! Checks of reports: the files that they fetch, in order.
-use crate::commands::{Wanted, add_file, copied, does, failing, long_text, other_at};
+use crate::commands::{Wanted, add_file, add_text, does, failing, long_text, other_at};
 use m_commands::Status;
 use m_ports::MemFiles;
 use std::alloc::Global;
@@ -17,26 +17,16 @@ const CHECK: &str = "check l.txt h.csv p.txt";
 /// A list of one rule file, a household of 2500.5, and a report that is sound and one that isn't. The fetch of this number fails.
 fn check_files(alloc: Global, call: u64, long: Vec<u8>) -> MemFiles {
     let mut files = Vec::new(alloc);
-    add_file(alloc, &mut files, b"l.txt", copied(alloc, b"iliad\na.m\n"));
-    add_file(alloc, &mut files, b"a.m", copied(alloc, RULES));
-    add_file(
-        alloc,
-        &mut files,
-        b"h.csv",
-        copied(alloc, b"code,amount\n1AJ,2500.5\n"),
-    );
-    add_file(
+    add_text(alloc, &mut files, b"l.txt", b"iliad\na.m\n");
+    add_text(alloc, &mut files, b"a.m", RULES);
+    add_text(alloc, &mut files, b"h.csv", b"code,amount\n1AJ,2500.5\n");
+    add_text(
         alloc,
         &mut files,
         b"p.txt",
-        copied(alloc, b"REV = 2500.5\nIRN = 2500.5\n.\n"),
+        b"REV = 2500.5\nIRN = 2500.5\n.\n",
     );
-    add_file(
-        alloc,
-        &mut files,
-        b"q.txt",
-        copied(alloc, b"IRN = 2500.5\nREV = 2500.5\n"),
-    );
+    add_text(alloc, &mut files, b"q.txt", b"IRN = 2500.5\nREV = 2500.5\n");
     add_file(alloc, &mut files, b"long", long);
     MemFiles::new(alloc, files, failing(alloc, call))
 }

@@ -1,6 +1,6 @@
 //! Code files: what `compile` writes and what `exec` answers.
 use crate::commands::{
-    USAGE, Wanted, add_file, copied, does, failing, long_text, other_at, status_of,
+    USAGE, Wanted, add_file, add_text, copied, does, failing, long_text, other_at, status_of,
 };
 use m_commands::Status;
 use m_ports::{MemFiles, MemSink};
@@ -29,18 +29,8 @@ const EXEC: &str = "exec c.txt h.csv";
 fn code_files(alloc: Global, code: Vec<u8>, call: u64) -> MemFiles {
     let mut files = Vec::new(alloc);
     add_file(alloc, &mut files, b"c.txt", code);
-    add_file(
-        alloc,
-        &mut files,
-        b"h.csv",
-        copied(alloc, b"code,amount\n1AJ,2500.5\n"),
-    );
-    add_file(
-        alloc,
-        &mut files,
-        b"x.csv",
-        copied(alloc, b"code,amount\n2AJ,1\n"),
-    );
+    add_text(alloc, &mut files, b"h.csv", b"code,amount\n1AJ,2500.5\n");
+    add_text(alloc, &mut files, b"x.csv", b"code,amount\n2AJ,1\n");
     MemFiles::new(alloc, files, failing(alloc, call))
 }
 
@@ -322,16 +312,11 @@ end
 /// The files of `compile`, with this list and this code file.
 fn source_files(alloc: Global, list: &str, code: &[u8]) -> MemFiles {
     let mut files = Vec::new(alloc);
-    add_file(alloc, &mut files, b"l.txt", copied(alloc, list.as_bytes()));
-    add_file(alloc, &mut files, b"a.m", copied(alloc, rules()));
+    add_text(alloc, &mut files, b"l.txt", list.as_bytes());
+    add_text(alloc, &mut files, b"a.m", rules());
     add_file(alloc, &mut files, b"d.txt", Vec::new(alloc));
-    add_file(alloc, &mut files, b"c.txt", copied(alloc, code));
-    add_file(
-        alloc,
-        &mut files,
-        b"h.csv",
-        copied(alloc, b"code,amount\n1AJ,2500.5\n"),
-    );
+    add_text(alloc, &mut files, b"c.txt", code);
+    add_text(alloc, &mut files, b"h.csv", b"code,amount\n1AJ,2500.5\n");
     MemFiles::new(alloc, files, Vec::new(alloc))
 }
 

@@ -36,6 +36,11 @@ pub(crate) fn add_file(
     }
 }
 
+/// Adds a file of this name with these bytes.
+pub(crate) fn add_text(alloc: Global, files: &mut Vec<(Name, Vec<u8>)>, name: &[u8], bytes: &[u8]) {
+    add_file(alloc, files, name, copied(alloc, bytes));
+}
+
 /// The number of the one call that fails; 0 is none.
 pub(crate) fn failing(alloc: Global, call: u64) -> Vec<u64> {
     let mut calls = Vec::new(alloc);
@@ -76,9 +81,9 @@ fn add_run_files(
     rules: Vec<u8>,
     household: &[u8],
 ) {
-    add_file(alloc, files, b"l.txt", copied(alloc, b"iliad\na.m\n"));
+    add_text(alloc, files, b"l.txt", b"iliad\na.m\n");
     add_file(alloc, files, b"a.m", rules);
-    add_file(alloc, files, b"h.csv", copied(alloc, household));
+    add_text(alloc, files, b"h.csv", household);
 }
 
 /// The files of a run that prints `IRN = 1500.5`, of which this one has these bytes instead, and whose call of this number fails.

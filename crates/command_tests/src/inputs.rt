@@ -1,5 +1,5 @@
 //! Reads and writes that fail in a session and in a batch, at each call in turn.
-use crate::commands::{add_file, copied, failing, words};
+use crate::commands::{add_text, copied, failing, words};
 use m_commands::{Status, m_tax};
 use m_ports::{MemFiles, MemSink, MemSource};
 use std::alloc::Global;
@@ -82,10 +82,10 @@ fn answers(alloc: Global, rows: u32) -> Vec<u8> {
 /// The files of a session and of a batch over this table.
 fn files(alloc: Global, table: &[u8]) -> MemFiles {
     let mut files = Vec::new(alloc);
-    add_file(alloc, &mut files, b"l.txt", copied(alloc, b"iliad\na.m\n"));
-    add_file(alloc, &mut files, b"a.m", copied(alloc, rules()));
-    add_file(alloc, &mut files, b"h.csv", copied(alloc, b"code,amount\n"));
-    add_file(alloc, &mut files, b"t.csv", copied(alloc, table));
+    add_text(alloc, &mut files, b"l.txt", b"iliad\na.m\n");
+    add_text(alloc, &mut files, b"a.m", rules());
+    add_text(alloc, &mut files, b"h.csv", b"code,amount\n");
+    add_text(alloc, &mut files, b"t.csv", table);
     MemFiles::new(alloc, files, Vec::new(alloc))
 }
 

@@ -1,6 +1,6 @@
 //! A long session over the generated rules: 200,000 shows in a program of some 200,000 values. Each show changes the last input, which five of
 //! them hang on, and all replies are there within the time of a test only where a show computes those and no others.
-use crate::commands::{add_file, copied, words};
+use crate::commands::{add_file, add_text, words};
 use m_commands::{Status, m_tax};
 use m_large::{large_base, large_household};
 use m_places::Name;
@@ -46,12 +46,7 @@ fn add_household(alloc: Global, files: &mut Vec<(Name, Vec<u8>)>) {
 // The files of the command, with requests for nothing.
 fn files(alloc: Global) -> MemFiles {
     let mut files = Vec::new(alloc);
-    add_file(
-        alloc,
-        &mut files,
-        b"l.txt",
-        copied(alloc, b"iliad\nlarge.m\n"),
-    );
+    add_text(alloc, &mut files, b"l.txt", b"iliad\nlarge.m\n");
     add_file(alloc, &mut files, b"r.txt", Vec::new(alloc));
     add_rules(alloc, &mut files);
     add_household(alloc, &mut files);
