@@ -6,11 +6,12 @@ use Rattle.m_terms.specs.declared.fault.TermFault.{TermFault}
 use Rattle.m_terms.specs.declared.fault.TermFault.TheVariants.{NoTerm, Memory}
 use Rattle.m_terms.specs.inner.Reading.{Fails, GivesBy}
 
-fails : {A B : Type 0} (e : TermFault) (p : Option A) (q : Option B) → (p ≡ None → q ≡ None) → Fails e p → Fails e q
+-- where a part is missing, so that the whole is
+pub fails : {A B : Type 0} (e : TermFault) (p : Option A) (q : Option B) → (p ≡ None → q ≡ None) → Fails e p → Fails e q
 fails NoTerm p q f h = f h
 fails Memory p q f h = tt
 
--- where a part is missing, so that the whole is
+-- the same of what a call answers
 pub exit : {A B C : Type 0} (view : B → C) (result : Result B TermFault) (e : TermFault) {p : Option A} {q : Option (C × List Token)} (rest : List Token) → IsErrAnd result (λ x. x ≡ e) → (p ≡ None → q ≡ None) → Fails e p → GivesBy view result q rest
 exit view (Ok x) e rest h f g = absurd h
 exit view (Err x) e {p = p} {q = q} rest h f g = rw h (fails e p q f g)

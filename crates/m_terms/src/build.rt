@@ -3,11 +3,22 @@ ghost use Rattle.std.specs.Prelude.{◌≡◌, IfOk};
 ghost use Rattle.m_ast.specs.View.{syntax_of};
 ghost use Rattle.m_terms.specs.Grammar.{one, two, three, gathered};
 
+use crate::fault::TermFault;
 use m_ast::{Link, Node, Term, made};
 use m_fixed::Op;
 use std::alloc::{AllocError, Global};
 
+/// Drops what was read before a fault, and answers the fault. Readers call each other 256 levels deep: what they drop or build stands in functions
+/// of their own, so that their frames are small.
+#[inline(never)]
+pub fn without<T: Drop>(_read: T, fault: TermFault) -> TermFault
+    ensures { result ≡ fault }
+{
+    fault
+}
+
 /// A node in a box.
+#[inline(never)]
 pub fn boxed(alloc: Global, node: Node) -> Result<Box<Term>, AllocError>
     ensures { IfOk result (λ t. t.value ≡ syntax_of node) }
 {
@@ -15,6 +26,7 @@ pub fn boxed(alloc: Global, node: Node) -> Result<Box<Term>, AllocError>
 }
 
 /// An operator on one term.
+#[inline(never)]
 pub fn applied(alloc: Global, op: Op, a: Box<Term>) -> Result<Box<Term>, AllocError>
     ensures { IfOk result (λ t. t.value ≡ one op a.value) }
 {
@@ -24,6 +36,7 @@ pub fn applied(alloc: Global, op: Op, a: Box<Term>) -> Result<Box<Term>, AllocEr
 }
 
 /// An operator on two terms.
+#[inline(never)]
 pub fn applied_to_two(
     alloc: Global,
     op: Op,
@@ -39,6 +52,7 @@ pub fn applied_to_two(
 }
 
 /// An operator on three terms.
+#[inline(never)]
 pub fn applied_to_three(
     alloc: Global,
     op: Op,
@@ -56,11 +70,14 @@ pub fn applied_to_three(
 }
 
 /// A first operand and what is joined to it: where nothing is, the operand.
+#[inline(never)]
 pub fn chained(alloc: Global, first: Box<Term>, links: Vec<Link>) -> Result<Box<Term>, AllocError>
     ensures { IfOk result (λ t. t.value ≡ gathered first.value links.items) }
 {
     if links.is_empty() {
         return Ok(first);
     }
+    let mut links = links;
+    links.shrink_to_fit();
     boxed(alloc, Node::Chain(first, links))
 }

@@ -4,7 +4,7 @@ ghost use Rattle.std.specs.Prelude.{◌≡◌, ℕ, ◌<◌, ◌≤◌, ◌++◌
 ghost use Rattle.m_terms.specs.Grammar.{link, function_of};
 ghost use Rattle.m_terms.specs.inner.Reading.{GivesBy, until_at, other_at, choice_at, named_at, call_at, loop_at, other_word_at, word_at, prim_at, prim_of, factor_at, operator_at, operand_at, level_at, links_at, membership_at, inside_at, relation_at, negation_at, expr_at, inner_at};
 
-use crate::build::{applied, applied_to_three, applied_to_two, boxed, chained};
+use crate::build::{applied, applied_to_three, applied_to_two, boxed, chained, without};
 use crate::cursor::{Cursor, Level, Mark};
 use crate::fault::TermFault;
 use crate::header::header;
@@ -41,7 +41,7 @@ fn read_until(
 {
     let term = read_inner(alloc, cursor, depth)?;
     if !cursor.take(mark) {
-        return Err(TermFault::NoTerm);
+        return Err(without(term, TermFault::NoTerm));
     }
     Ok(term)
 }
@@ -63,6 +63,7 @@ fn read_other(alloc: Global, cursor: &mut Cursor<'_>, depth: u32) -> Result<Box<
 }
 
 // expr "alors" expr [ "sinon" expr ] "finsi", after `si`
+#[inline(never)]
 #[cycle(read)]
 #[tactic(auto, unfolding(crate::specs::inner::Reading::choice_at))]
 fn read_choice(alloc: Global, cursor: &mut Cursor<'_>, depth: u32) -> Result<Box<Term>, TermFault>
@@ -70,12 +71,19 @@ fn read_choice(alloc: Global, cursor: &mut Cursor<'_>, depth: u32) -> Result<Box
     ensures shorter { OnOk result (length cursor.new < length cursor.old) }
 {
     let condition = read_until(alloc, cursor, depth, Mark::OfKey(Key::Alors))?;
-    let chosen = read_inner(alloc, cursor, depth)?;
-    let other = read_other(alloc, cursor, depth)?;
+    let chosen = match read_inner(alloc, cursor, depth) {
+        Ok(chosen) => chosen,
+        Err(fault) => return Err(without(condition, fault)),
+    };
+    let other = match read_other(alloc, cursor, depth) {
+        Ok(other) => other,
+        Err(fault) => return Err(without((condition, chosen), fault)),
+    };
     Ok(applied_to_three(alloc, Op::Choose, condition, chosen, other)?)
 }
 
 // WORD | WORD "[" expr "]", after the WORD
+#[inline(never)]
 #[cycle(read)]
 #[tactic(auto, unfolding(crate::specs::inner::Reading::named_at))]
 fn read_named(
@@ -92,11 +100,15 @@ fn read_named(
     if !cursor.take(Mark::OfSign(Sign::OpenBracket)) {
         return Ok(boxed(alloc, Node::Named(name, place))?);
     }
-    let index = read_until(alloc, cursor, depth, Mark::OfSign(Sign::CloseBracket))?;
+    let index = match read_until(alloc, cursor, depth, Mark::OfSign(Sign::CloseBracket)) {
+        Ok(index) => index,
+        Err(fault) => return Err(without(name, fault)),
+    };
     Ok(boxed(alloc, Node::Cell(name, index, place))?)
 }
 
 // "(" expr ")" | "(" expr "," expr ")", after a function
+#[inline(never)]
 #[cycle(read)]
 #[tactic(auto, unfolding(crate::specs::inner::Reading::call_at, crate::specs::inner::Reading::called_at, crate::specs::inner::Reading::called_two_at))]
 fn read_call(
@@ -117,11 +129,14 @@ fn read_call(
         return Ok(applied(alloc, op, only)?);
     }
     let first = read_until(alloc, cursor, depth, Mark::OfSign(Sign::Comma))?;
-    let second = read_until(alloc, cursor, depth, Mark::OfSign(Sign::CloseParen))?;
-    Ok(applied_to_two(alloc, op, first, second)?)
+    match read_until(alloc, cursor, depth, Mark::OfSign(Sign::CloseParen)) {
+        Ok(second) => Ok(applied_to_two(alloc, op, first, second)?),
+        Err(fault) => Err(without(first, fault)),
+    }
 }
 
 // "(" header ":" expr ")", after `somme`
+#[inline(never)]
 #[cycle(read)]
 #[tactic(auto, unfolding(crate::specs::inner::Reading::loop_at))]
 fn read_loop(alloc: Global, cursor: &mut Cursor<'_>, depth: u32) -> Result<Box<Term>, TermFault>
@@ -133,10 +148,12 @@ fn read_loop(alloc: Global, cursor: &mut Cursor<'_>, depth: u32) -> Result<Box<T
     }
     let header = header(alloc, cursor)?;
     if !cursor.take(Mark::OfSign(Sign::Colon)) {
-        return Err(TermFault::NoTerm);
+        return Err(without(header, TermFault::NoTerm));
     }
-    let body = read_until(alloc, cursor, depth, Mark::OfSign(Sign::CloseParen))?;
-    Ok(boxed(alloc, Node::Loop(header, body))?)
+    match read_until(alloc, cursor, depth, Mark::OfSign(Sign::CloseParen)) {
+        Ok(body) => Ok(boxed(alloc, Node::Loop(header, body))?),
+        Err(fault) => Err(without(header, fault)),
+    }
 }
 
 // The operator of a function, and whether it has two arguments.
@@ -228,8 +245,10 @@ fn read_level(
     ensures shorter { OnOk result (length cursor.new < length cursor.old) }
 {
     let first = read_operand(alloc, cursor, depth, level)?;
-    let links = read_links(alloc, cursor, depth, level)?;
-    Ok(chained(alloc, first, links)?)
+    match read_links(alloc, cursor, depth, level) {
+        Ok(links) => Ok(chained(alloc, first, links)?),
+        Err(fault) => Err(without(first, fault)),
+    }
 }
 
 // What stands between the operators of a level.
@@ -252,6 +271,7 @@ fn read_operand(
 }
 
 // Adds an operator and its operand. A first one gets room for one.
+#[inline(never)]
 fn add_link(links: &mut Vec<Link>, op: Op, term: Box<Term>) -> Result<(), AllocError>
     ensures { OnOk result (links.new.items ≡ links.old.items ++ link op term.value ∷ []) }
 {
@@ -276,10 +296,15 @@ fn read_links(
 {
     let mut links = Vec::new(alloc);
     'links: while let Some(op) = cursor.take_operator(level) {
-        let term = read_operand(alloc, cursor, depth, level)?;
-        add_link(&mut links, op, term)?;
+        let term = match read_operand(alloc, cursor, depth, level) {
+            Ok(term) => term,
+            Err(fault) => return Err(without(links, fault)),
+        };
+        match add_link(&mut links, op, term) {
+            Ok(()) => {}
+            Err(AllocError) => return Err(without(links, TermFault::Memory)),
+        }
     }
-    links.shrink_to_fit();
     Ok(links)
 }
 
@@ -294,11 +319,14 @@ fn read_relation(alloc: Global, cursor: &mut Cursor<'_>, depth: u32) -> Result<B
     let Some(op) = cursor.take_comparison() else {
         return read_membership(alloc, cursor, first);
     };
-    let second = read_level(alloc, cursor, depth, Level::Sum)?;
-    Ok(applied_to_two(alloc, op, first, second)?)
+    match read_level(alloc, cursor, depth, Level::Sum) {
+        Ok(second) => Ok(applied_to_two(alloc, op, first, second)?),
+        Err(fault) => Err(without(first, fault)),
+    }
 }
 
 // [ [ "non" ] "dans" "(" members ")" ], after a term
+#[inline(never)]
 #[tactic(auto, unfolding(crate::specs::inner::Reading::membership_at, crate::specs::inner::Reading::outside_at))]
 fn read_membership(
     alloc: Global,
@@ -315,12 +343,13 @@ fn read_membership(
         return Ok(term);
     }
     if !cursor.take(Mark::OfKey(Key::Dans)) {
-        return Err(TermFault::NoTerm);
+        return Err(without(term, TermFault::NoTerm));
     }
     read_inside(alloc, cursor, term, true)
 }
 
 // "(" members ")", after `dans`
+#[inline(never)]
 #[tactic(auto, unfolding(crate::specs::inner::Reading::inside_at))]
 fn read_inside(
     alloc: Global,

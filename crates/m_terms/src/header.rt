@@ -150,6 +150,7 @@ fn read_indexes(
 }
 
 /// A header, whatever follows it.
+#[inline(never)]
 #[tactic(auto, unfolding(crate::specs::inner::Reading::header_at))]
 pub fn header(alloc: Global, cursor: &mut Cursor<'_>) -> Result<Header, TermFault>
     ensures reads { Gives result (header_at cursor.old) cursor.new }
