@@ -231,7 +231,7 @@ def _(n):
 
 # Brackets, in all levels of the grammar.
 
-DEEP = (8192, 1024)
+DEEP = (8192, 512)
 
 
 def nested(opening, inner, closing, expected, depth=256, rules=ONE):
@@ -241,10 +241,14 @@ def nested(opening, inner, closing, expected, depth=256, rules=ONE):
     return make
 
 
+# A bracket below each operator that binds a term: a tree has nine levels for each.
+ALL_LEVELS = "0 ou 1 et non 0 = 0 + 1 * -abs("
+
 # In each, what is told of 1 is 1 again.
 LEVELS = [
     ("brackets", "(", ")"),
-    ("sums, products, signs, comparisons, et, ou, non", "(0 ou 1 et non 0 = 0 + 1 * -(" , "))"),
+    ("sums, products, signs, comparisons, et, ou, non", "(0 ou 1 et non 0 = 0 + 1 * -(", "))"),
+    ("all levels of a bracket", ALL_LEVELS, ")"),
     ("products", "1 * (", ")"),
     ("conditions", "si ", " alors 1 sinon 0 finsi"),
     ("first branches", "si 1 alors ", " sinon 0 finsi"),
@@ -262,6 +266,26 @@ for _name, _open, _close in LEVELS:
 shape("256 brackets: indexes", 256, grows=False, stacks=DEEP)(
     nested("T[", "0", "]", 0, 256, ONE + 'T : tableau[1] calculee : "" ; regle 2 : application : iliad ; T[0] = 0 ;\n')
 )
+
+
+def deep_files(rest):
+    """Eight rule files, which workers read, each with the term of most levels and what follows it."""
+    names = [f"A{k}" for k in range(8)]
+    heads = "".join(f'{name} : calculee restituee : "" ;\n' for name in names)
+    term = ALL_LEVELS * 256 + "1" + ")" * 256
+    return {"a.m": heads, **{f"f{name}.m": f"regle {k + 1} : application : iliad ;\n{name} = {term} ;\n{rest}" for k, name in enumerate(names)}}
+
+
+@shape("256 brackets: all levels of a bracket, in eight files", 256, grows=False, stacks=DEEP)
+def _(n):
+    return case(None, "".join(f"A{k} = 1\n" for k in range(8)), files=deep_files(""))
+
+
+# A worker lets go of the terms of a refused file. Workers have the stack that the system gives a thread.
+@shape("256 brackets: all levels of a bracket, in eight refused files", 256, grows=False, stacks=(8192, 1024))
+def _(n):
+    files = deep_files("]\n")
+    return case(None, refused("syntax", file="fA0.m", line=3, byte=len(files["fA0.m"]) - 2), 1, files=files)
 
 
 @shape("257 brackets in 65,000 formulas after 256", FILE)

@@ -1,13 +1,28 @@
 //! The program: `main` alone, which hands the words, the real files, the real input and the real output to `m_tax` of
-//! `m_commands`. That call carries the program's theorem.
+//! `m_commands`. That call carries the program's theorem. It is made on a thread that has stack for the deepest terms, whatever the
+//! system gives the first thread.
 #![tactic(auto)]
+
+ghost use Rattle.std.specs.Prelude.{⊤};
 
 use m_commands::{Status, m_tax};
 use m_places::{Name, Word};
 use m_ports::{HostFiles, HostSink, HostSource};
 use std::alloc::AllocError;
 use std::process::ExitCode;
+use std::thread::{Builder, Promise};
 use std::{env, io};
+
+// The bytes of stack that the work may take. The deepest term of the formats takes some four megabytes.
+const STACK: usize = 16_777_216;
+
+// Nothing is promised of the status here: the contract of `m_tax` says what it is.
+#[derive(Drop)]
+struct AnyStatus;
+
+impl Promise<u8> for AnyStatus {
+    ghost kept_by = { λ _ _. ⊤ };
+}
 
 /// The words after the program's name. A command line that can't be read as text has none, and so is
 /// no command. The only error is running out of memory.
@@ -29,13 +44,22 @@ fn command_words<R: env::Env + AllocGlobal>(rt: &R) -> Result<Vec<Word>, AllocEr
 }
 
 fn main(rt: HostRuntime) -> ExitCode {
-    let Ok(words) = command_words(&rt) else {
-        return ExitCode::from(Status::Memory.number());
+    let work = move || -> u8 {
+        let alloc = rt.alloc();
+        let Ok(words) = command_words(&rt) else {
+            return Status::Memory.number();
+        };
+        let mut files = HostFiles::new(alloc, &rt);
+        let mut input = HostSource::new(rt.stdin());
+        let mut out = HostSink::new(rt.stdout());
+        m_tax(&rt, alloc, &words, &mut files, &mut input, &mut out).number()
     };
-    let alloc = rt.alloc();
-    let mut files = HostFiles::new(alloc, &rt);
-    let mut input = HostSource::new(rt.stdin());
-    let mut out = HostSink::new(rt.stdout());
-    let status = m_tax(&rt, alloc, &words, &mut files, &mut input, &mut out);
-    ExitCode::from(status.number())
+    match Builder::new()
+        .stack_size(STACK)
+        .spawn_with(&rt, AnyStatus, work)
+    {
+        Ok(thread) => ExitCode::from(thread.join(&rt)),
+        // Where no thread can be made, the first one does the work.
+        Err(refused) => ExitCode::from((refused.value)()),
+    }
 }
