@@ -473,8 +473,9 @@ def _(n):
 
 @shape("checks of one verification with a number of many bytes", 3000)
 def _(n):
-    # Each has its label, and the number is 100 times as long as there are checks.
-    return case([f'{ONE}E : anomalie : "" : "" : "" : "" ;\nverif ', *many("0", 100 * n), "1 : application : iliad ;\n", *many("si 0 alors erreur E;", n)], "A undefined\n")
+    # A verification's number has nine digits at most, so the item isn't one: its place is that of `verif`.
+    head = f'{ONE}E : anomalie : "" : "" : "" : "" ;\n'
+    return case([head, "verif ", *many("0", 100 * n), "1 : application : iliad ;\n", *many("si 0 alors erreur E;", n)], refused("syntax", line=3, byte=len(head)), 1)
 
 
 @shape("a table of 1,024 cells with a name of many bytes, returned", 30_000)
