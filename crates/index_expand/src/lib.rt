@@ -10,6 +10,7 @@ mod faults;
 mod formulas;
 mod items;
 mod parts;
+mod template;
 mod terms;
 mod words;
 

@@ -8,6 +8,7 @@ ghost use Rattle.loop_values.specs.Letters.{bind, replaced};
 ghost use Rattle.index_expand.specs.Terms as spec;
 ghost use Rattle.index_expand.specs.inner.Operands.{link_expanded, member_expanded, instance_link, links_sum, chain_of};
 
+use crate::template::Binding;
 use crate::words::Words;
 use loop_values::{bound_by, index_values, is_digits, number, replaced, single_count};
 use m_ast::{Index, Link, Member, Node, Term};
@@ -19,7 +20,6 @@ use std::mem::replace;
 
 /// A term where letters stand for words, and `X` for the number of a cell, if it does. Its only error is running out of memory.
 pub(crate) fn expanded(
-    alloc: Global,
     words: &mut Words<'_>,
     letters: &mut [Option<Name>],
     cell: Option<u32>,
@@ -29,7 +29,7 @@ pub(crate) fn expanded(
     ensures term { IfOk result (λ t. t ≡ spec.expanded cell letters.old term.now) }
     ensures letters { OnOk result (letters.new ≡ letters.old) }
 {
-    let term = expanded_box(alloc, words, letters, cell, term)?;
+    let term = expanded_box(words, letters, cell, term)?;
     Ok(Box::into_inner(term))
 }
 
@@ -52,24 +52,18 @@ fn number_node(n: u64) -> PNode
 }
 
 // What a word without letters is.
-fn word_node(
-    alloc: Global,
-    words: &mut Words<'_>,
-    word: &[u8],
-    place: Place,
-) -> Result<PNode, AllocError>
+fn word_node(words: &mut Words<'_>, word: &[u8], place: Place) -> Result<PNode, AllocError>
     ensures { IfOk result (λ node. syntax_of node ≡ spec.word_term word.now place) }
 {
     if is_number_word(word) {
         Ok(number_node(number(word)))
     } else {
-        Ok(PNode::Named(words.shared(alloc, word)?, place))
+        Ok(PNode::Named(words.shared(word)?, place))
     }
 }
 
 /// A word where letters stand for words. Its only error is running out of memory.
 pub(crate) fn word_with(
-    alloc: Global,
     words: &mut Words<'_>,
     letters: &[Option<Name>],
     word: &Name,
@@ -77,8 +71,8 @@ pub(crate) fn word_with(
     requires { length letters.now ≡ 256 }
     ensures { IfOk result (λ name. name ≡ replaced letters.now word.now) }
 {
-    let word = replaced(alloc, letters, word.bytes())?;
-    words.shared(alloc, word.bytes())
+    let word = replaced(words.alloc, letters, word.bytes())?;
+    words.shared(word.bytes())
 }
 
 fn is_number_word(word: &[u8]) -> bool
@@ -100,7 +94,6 @@ fn x_node(cell: Option<u32>, place: Place) -> PNode
 
 #[cycle(expanded)]
 fn expanded_box(
-    alloc: Global,
     words: &mut Words<'_>,
     letters: &mut [Option<Name>],
     cell: Option<u32>,
@@ -111,52 +104,51 @@ fn expanded_box(
     ensures letters { OnOk result (letters.new ≡ letters.old) }
 {
     match &term.node {
-        Node::Lit(value) => boxed(alloc, PNode::Lit(*value)),
+        Node::Lit(value) => boxed(words.alloc, PNode::Lit(*value)),
         Node::Named(word, place) => {
-            let word = replaced(alloc, letters, word.bytes())?;
-            let node = word_node(alloc, words, word.bytes(), *place)?;
-            boxed(alloc, node)
+            let word = replaced(words.alloc, letters, word.bytes())?;
+            let node = word_node(words, word.bytes(), *place)?;
+            boxed(words.alloc, node)
         }
-        Node::X(place) => boxed(alloc, x_node(cell, *place)),
+        Node::X(place) => boxed(words.alloc, x_node(cell, *place)),
         Node::Cell(word, index, place) => {
-            let index = expanded_box(alloc, words, letters, cell, index)?;
-            let word = word_with(alloc, words, letters, word)?;
-            boxed(alloc, PNode::Cell(word, index, *place))
+            let index = expanded_box(words, letters, cell, index)?;
+            let word = word_with(words, letters, word)?;
+            boxed(words.alloc, PNode::Cell(word, index, *place))
         }
         Node::Apply(op, arguments) => boxed(
-            alloc,
-            PNode::Apply(*op, expanded_terms(alloc, words, letters, cell, arguments)?),
+            words.alloc,
+            PNode::Apply(*op, expanded_terms(words, letters, cell, arguments)?),
         ),
         Node::Chain(first, links) => {
-            let first = expanded_box(alloc, words, letters, cell, first)?;
+            let first = expanded_box(words, letters, cell, first)?;
             boxed(
-                alloc,
-                PNode::Chain(first, expanded_links(alloc, words, letters, cell, links)?),
+                words.alloc,
+                PNode::Chain(first, expanded_links(words, letters, cell, links)?),
             )
         }
         Node::Among(negated, first, members) => {
-            let first = expanded_box(alloc, words, letters, cell, first)?;
+            let first = expanded_box(words, letters, cell, first)?;
             boxed(
-                alloc,
+                words.alloc,
                 PNode::Among(
                     *negated,
                     first,
-                    expanded_members(alloc, words, letters, cell, members)?,
+                    expanded_members(words, letters, cell, members)?,
                 ),
             )
         }
         Node::Loop(header, body) => {
-            let mut links = Vec::new(alloc);
+            let mut links = Vec::new(words.alloc);
             let indexes = header.indexes.as_slice();
-            expand_instances(alloc, words, letters, cell, indexes, body, &mut links)?;
-            summed(alloc, links)
+            expand_instances(words, letters, cell, indexes, body, &mut links)?;
+            summed(words.alloc, links)
         }
     }
 }
 
 #[cycle(expanded)]
 fn expanded_terms(
-    alloc: Global,
     words: &mut Words<'_>,
     letters: &mut [Option<Name>],
     cell: Option<u32>,
@@ -166,9 +158,9 @@ fn expanded_terms(
     ensures terms { IfOk result (λ v. v.items ≡ map (spec.expanded cell letters.old) terms.now) }
     ensures letters { OnOk result (letters.new ≡ letters.old) }
 {
-    let mut copies = Vec::with_capacity(alloc, terms.len())?;
+    let mut copies = Vec::with_capacity(words.alloc, terms.len())?;
     for term in terms {
-        let copy = expanded_box(alloc, words, letters, cell, term)?;
+        let copy = expanded_box(words, letters, cell, term)?;
         copies.push(Box::into_inner(copy))?;
     }
     Ok(copies)
@@ -176,7 +168,6 @@ fn expanded_terms(
 
 #[cycle(expanded)]
 fn expanded_links(
-    alloc: Global,
     words: &mut Words<'_>,
     letters: &mut [Option<Name>],
     cell: Option<u32>,
@@ -186,9 +177,9 @@ fn expanded_links(
     ensures links { IfOk result (λ v. v.items ≡ map (link_expanded cell letters.old) links.now) }
     ensures letters { OnOk result (letters.new ≡ letters.old) }
 {
-    let mut copies = Vec::with_capacity(alloc, links.len())?;
+    let mut copies = Vec::with_capacity(words.alloc, links.len())?;
     for link in links {
-        let term = expanded_box(alloc, words, letters, cell, &link.term)?;
+        let term = expanded_box(words, letters, cell, &link.term)?;
         copies.push(PLink {
             op: link.op,
             term: Box::into_inner(term),
@@ -199,7 +190,6 @@ fn expanded_links(
 
 #[cycle(expanded)]
 fn expanded_members(
-    alloc: Global,
     words: &mut Words<'_>,
     letters: &mut [Option<Name>],
     cell: Option<u32>,
@@ -209,10 +199,10 @@ fn expanded_members(
     ensures members { IfOk result (λ v. v.items ≡ map (member_expanded cell letters.old) members.now) }
     ensures letters { OnOk result (letters.new ≡ letters.old) }
 {
-    let mut copies = Vec::with_capacity(alloc, members.len())?;
+    let mut copies = Vec::with_capacity(words.alloc, members.len())?;
     for member in members {
-        let low = expanded_box(alloc, words, letters, cell, &member.low)?;
-        let high = expanded_box(alloc, words, letters, cell, &member.high)?;
+        let low = expanded_box(words, letters, cell, &member.low)?;
+        let high = expanded_box(words, letters, cell, &member.high)?;
         copies.push(PMember {
             low: Box::into_inner(low),
             high: Box::into_inner(high),
@@ -224,7 +214,6 @@ fn expanded_members(
 // Puts the instances of a loop's body after the operands of a sum.
 #[cycle(expanded)]
 fn expand_instances(
-    alloc: Global,
     words: &mut Words<'_>,
     letters: &mut [Option<Name>],
     cell: Option<u32>,
@@ -239,17 +228,17 @@ fn expand_instances(
 {
     let singles = single_count(indexes);
     if singles > 1 {
-        return expand_singles(alloc, words, letters, cell, singles, indexes, body, links);
+        return expand_singles(words, letters, cell, singles, indexes, body, links);
     }
     match indexes {
         [] => {
-            let term = expanded_box(alloc, words, letters, cell, body)?;
+            let term = expanded_box(words, letters, cell, body)?;
             links.push(PLink {
                 op: Op::Add,
                 term: Box::into_inner(term),
             })?;
         }
-        [index, rest @ ..] => expand_index(alloc, words, letters, cell, index, rest, body, links)?,
+        [index, rest @ ..] => expand_index(words, letters, cell, index, rest, body, links)?,
     }
     Ok(())
 }
@@ -258,7 +247,6 @@ fn expand_instances(
 // is no deeper than one of a single index.
 #[cycle(expanded)]
 fn expand_singles(
-    alloc: Global,
     words: &mut Words<'_>,
     letters: &[Option<Name>],
     cell: Option<u32>,
@@ -274,16 +262,15 @@ fn expand_singles(
     ensures { OnOk result (links.new.items
         ≡ links.old.items ++ map (instance_link cell body.now) (instances indexes.now letters.now)) }
 {
-    let mut inner = bound_by(alloc, letters, &indexes[..singles])?;
+    let mut inner = bound_by(words.alloc, letters, &indexes[..singles])?;
     let rest = &indexes[singles..];
-    expand_instances(alloc, words, inner.as_mut_slice(), cell, rest, body, links)?;
+    expand_instances(words, inner.as_mut_slice(), cell, rest, body, links)?;
     Ok(())
 }
 
 // The same for each value of an index, which is slower than these.
 #[cycle(expanded)]
 fn expand_index(
-    alloc: Global,
     words: &mut Words<'_>,
     letters: &mut [Option<Name>],
     cell: Option<u32>,
@@ -297,19 +284,13 @@ fn expand_index(
         ≡ links.old.items ++ map (instance_link cell body.now) (instances (index.now ∷ indexes.now) letters.old)) }
     ensures letters { OnOk result (letters.new ≡ letters.old) }
 {
-    let values = index_values(alloc, index)?;
+    let values = index_values(words.alloc, index)?;
     for value in &values {
-        expand_bound(
-            alloc,
-            words,
-            letters,
-            cell,
-            index.letter,
+        let binding = Binding {
+            letter: index.letter,
             value,
-            indexes,
-            body,
-            links,
-        )?;
+        };
+        expand_bound(words, letters, cell, &binding, indexes, body, links)?;
     }
     Ok(())
 }
@@ -317,25 +298,23 @@ fn expand_index(
 // The same where a letter stands for a value. What it stood for outside of the loop is put back.
 #[cycle(expanded)]
 fn expand_bound(
-    alloc: Global,
     words: &mut Words<'_>,
     letters: &mut [Option<Name>],
     cell: Option<u32>,
-    letter: u8,
-    value: &Name,
+    binding: &Binding<'_>,
     indexes: &[Index],
     body: &Term,
     links: &mut Vec<PLink>,
 ) -> Result<(), AllocError>
     requires { length letters.old ≡ 256 }
     ensures links { OnOk result (links.new.items
-        ≡ links.old.items ++ map (instance_link cell body.now) (instances indexes.now (bind letters.old letter value.now))) }
+        ≡ links.old.items ++ map (instance_link cell body.now) (instances indexes.now (bind letters.old binding.now.letter binding.now.value.now))) }
     ensures letters { OnOk result (letters.new ≡ letters.old) }
 {
-    let value = value.copy(alloc)?;
-    let outer = replace(&mut letters[letter as usize], Some(value));
-    expand_instances(alloc, words, letters, cell, indexes, body, links)?;
-    letters[letter as usize] = outer;
+    let value = binding.value.copy(words.alloc)?;
+    let outer = replace(&mut letters[binding.letter as usize], Some(value));
+    expand_instances(words, letters, cell, indexes, body, links)?;
+    letters[binding.letter as usize] = outer;
     Ok(())
 }
 

@@ -13,8 +13,8 @@ use Rattle.index_expand.proofs.terms.+expanded.Goals as goal
 
 pub expand_bound-returns-clause-letters : goal.expand_bound-returns-clause-letters
 expand_bound-returns-clause-letters t c =
-    ap (λ ls. set ls c.args.letter c.replace-outer.result) c.in_ok-expand_instances.ensures.letters
-    ∙ put_back c.args.letters.now c.args.letter _ c.replace-outer.result c.index-letters-letter.result c.replace-outer.ensures.value
+    ap (λ ls. set ls c.args.binding.now.letter c.replace-outer.result) c.in_ok-expand_instances.ensures.letters
+    ∙ put_back c.args.letters.now c.args.binding.now.letter _ c.replace-outer.result c.index-letters-binding.result c.replace-outer.ensures.value
 
 pub expand_index-loop-value-preserved : goal.expand_index-loop-value-preserved
 expand_index-loop-value-preserved t c = record {
