@@ -7,9 +7,10 @@ ghost use Rattle.index_expand.specs.Expansion.{defined, defined_cell, definition
 ghost use Rattle.index_expand.specs.inner.Taken.{IsTaken, IsTooMuch, weighed};
 
 use crate::ExpandFault;
+use crate::build::word_with;
 use crate::parts::MOST;
 use crate::template::Template;
-use crate::terms::{expanded, word_with};
+use crate::terms::expanded;
 use crate::words::Words;
 use loop_values::replaced;
 use m_ast::{Role, Slot};

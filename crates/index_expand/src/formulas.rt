@@ -86,7 +86,8 @@ fn take_instances(
 ) -> Result<u64, ExpandFault>
     requires letters { length letters.old ≡ 256 }
     requires total { total ≤ MOST }
-    ensures outcome { let these = flat_map (definitions_at template.now.symbols.now template.now.formula.now template.now.formula.now.slot) (instances indexes.now letters.old) in
+    ensures outcome { let these = flat_map (definitions_at template.now.symbols.now template.now.formula.now template.now.formula.now.slot)
+        (instances indexes.now letters.old) in
         Outcome ExpandFault.Memory result
         (λ after. IsTaken definitions.old.items definitions.new.items these (weighed these template.now.weight) total after)
         (λ fault. IsTooMuch (weighed these template.now.weight) total template.now.rule fault) }
@@ -111,7 +112,8 @@ fn take_index(
 ) -> Result<u64, ExpandFault>
     requires letters { length letters.old ≡ 256 }
     requires total { total ≤ MOST }
-    ensures outcome { let these = flat_map (definitions_at template.now.symbols.now template.now.formula.now template.now.formula.now.slot) (instances (index.now ∷ indexes.now) letters.old) in
+    ensures outcome { let these = flat_map (definitions_at template.now.symbols.now template.now.formula.now template.now.formula.now.slot)
+        (instances (index.now ∷ indexes.now) letters.old) in
         Outcome ExpandFault.Memory result
         (λ after. IsTaken definitions.old.items definitions.new.items these (weighed these template.now.weight) total after)
         (λ fault. IsTooMuch (weighed these template.now.weight) total template.now.rule fault) }
@@ -150,7 +152,8 @@ fn take_bound(
 ) -> Result<u64, ExpandFault>
     requires letters { length letters.old ≡ 256 }
     requires total { total ≤ MOST }
-    ensures outcome { let these = flat_map (definitions_at template.now.symbols.now template.now.formula.now template.now.formula.now.slot) (instances indexes.now (bind letters.old binding.now.letter binding.now.value.now)) in
+    ensures outcome { let these = flat_map (definitions_at template.now.symbols.now template.now.formula.now template.now.formula.now.slot)
+        (instances indexes.now (bind letters.old binding.now.letter binding.now.value.now)) in
         Outcome ExpandFault.Memory result
         (λ after. IsTaken definitions.old.items definitions.new.items these (weighed these template.now.weight) total after)
         (λ fault. IsTooMuch (weighed these template.now.weight) total template.now.rule fault) }

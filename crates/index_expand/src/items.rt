@@ -26,8 +26,8 @@ use std::alloc::{AllocError, Global};
 
 /// The rules and verifications of an application without loops, or the fault of the items.
 ///
-/// The items are whole, as the reader of rule files gives them, and each table has a cell, as `declare` gives them. A chained rule, and an item of another application, count
-/// for nothing.
+/// The items are whole, as the reader of rule files gives them, and each table has a cell, as `declare` gives them. A chained
+/// rule, and an item of another application, count for nothing.
 pub fn expand(
     alloc: Global,
     items: &[Item],

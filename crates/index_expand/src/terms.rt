@@ -1,21 +1,24 @@
 //! Terms without their loops.
-ghost use Rattle.std.specs.Prelude.{◌≡◌, ◌∷◌, ◌++◌, ◌<◌, ◌≤◌, All, IfOk, OnOk, IsTrue, length, map, take};
-ghost use Rattle.std.specs.Bool.{OnTrue};
-ghost use Rattle.m_fixed.specs.Text.{only_digits};
-ghost use Rattle.plain_rules.specs.View.{syntax_of};
+ghost use Rattle.std.specs.Prelude.{◌≡◌, ◌∷◌, ◌++◌, ◌<◌, ◌≤◌, All, IfOk, OnOk, length, map, take};
+ghost use Rattle.m_ast.specs.Syntax as tree;
+ghost use Rattle.m_ast.specs.View.{terms_of, links_of, members_of};
 ghost use Rattle.loop_values.specs.Headers.{IsSingle, instances};
-ghost use Rattle.loop_values.specs.Letters.{bind, replaced};
+ghost use Rattle.loop_values.specs.Letters.{bind};
 ghost use Rattle.index_expand.specs.Terms as spec;
-ghost use Rattle.index_expand.specs.inner.Operands.{link_expanded, member_expanded, instance_link, links_sum, chain_of};
+ghost use Rattle.index_expand.specs.inner.Operands.{link_expanded, member_expanded, instance_link};
 
+use crate::build::{
+    add_link, add_member, add_term, boxed, boxed_value, boxed_word, boxed_x, summed, without,
+    word_with,
+};
 use crate::template::Binding;
 use crate::words::Words;
-use loop_values::{bound_by, index_values, is_digits, number, replaced, single_count};
-use m_ast::{Index, Link, Member, Node, Term};
-use m_fixed::{Amount, Op, Value};
-use m_places::{Name, Place, SharedName};
-use plain_rules::{PLink, PMember, PNode, PTerm, plain};
-use std::alloc::{AllocError, Global};
+use loop_values::{bound_by, index_values, single_count};
+use m_ast::{Header, Index, Link, Member, Node, Term};
+use m_fixed::Op;
+use m_places::{Name, Place};
+use plain_rules::{PLink, PMember, PNode, PTerm};
+use std::alloc::AllocError;
 use std::mem::replace;
 
 /// A term where letters stand for words, and `X` for the number of a cell, if it does. Its only error is running out of memory.
@@ -33,65 +36,6 @@ pub(crate) fn expanded(
     Ok(Box::into_inner(term))
 }
 
-// A node in a box.
-fn boxed(alloc: Global, node: PNode) -> Result<Box<PTerm>, AllocError>
-    ensures { IfOk result (λ t. t.value ≡ syntax_of node) }
-{
-    Ok(Box::new(alloc, plain(node))?)
-}
-
-// A literal of so many whole units.
-fn number_node(n: u64) -> PNode
-    requires { n < 1000000000000 }
-    ensures { syntax_of result ≡ spec.number_term n }
-{
-    match Amount::new(n as i128 * 1_000_000) {
-        Some(amount) => PNode::Lit(Value::Num(amount)),
-        None => unreachable!(),
-    }
-}
-
-// What a word without letters is.
-fn word_node(words: &mut Words<'_>, word: &[u8], place: Place) -> Result<PNode, AllocError>
-    ensures { IfOk result (λ node. syntax_of node ≡ spec.word_term word.now place) }
-{
-    if is_number_word(word) {
-        Ok(number_node(number(word)))
-    } else {
-        Ok(PNode::Named(words.shared(word)?, place))
-    }
-}
-
-/// A word where letters stand for words. Its only error is running out of memory.
-pub(crate) fn word_with(
-    words: &mut Words<'_>,
-    letters: &[Option<Name>],
-    word: &Name,
-) -> Result<SharedName, AllocError>
-    requires { length letters.now ≡ 256 }
-    ensures { IfOk result (λ name. name ≡ replaced letters.now word.now) }
-{
-    let word = replaced(words.alloc, letters, word.bytes())?;
-    words.shared(word.bytes())
-}
-
-fn is_number_word(word: &[u8]) -> bool
-    ensures test { result ≡ spec.is_number_word word.now }
-    ensures short { OnTrue result (length word.now ≤ 12) }
-    ensures digits { OnTrue result (IsTrue (only_digits word.now)) }
-{
-    is_digits(word) && word.len() <= 12
-}
-
-fn x_node(cell: Option<u32>, place: Place) -> PNode
-    ensures { syntax_of result ≡ spec.x_term cell place }
-{
-    match cell {
-        Some(k) => number_node(k as u64),
-        None => PNode::X(place),
-    }
-}
-
 #[cycle(expanded)]
 fn expanded_box(
     words: &mut Words<'_>,
@@ -104,46 +48,121 @@ fn expanded_box(
     ensures letters { OnOk result (letters.new ≡ letters.old) }
 {
     match &term.node {
-        Node::Lit(value) => boxed(words.alloc, PNode::Lit(*value)),
-        Node::Named(word, place) => {
-            let word = replaced(words.alloc, letters, word.bytes())?;
-            let node = word_node(words, word.bytes(), *place)?;
-            boxed(words.alloc, node)
-        }
-        Node::X(place) => boxed(words.alloc, x_node(cell, *place)),
-        Node::Cell(word, index, place) => {
-            let index = expanded_box(words, letters, cell, index)?;
-            let word = word_with(words, letters, word)?;
-            boxed(words.alloc, PNode::Cell(word, index, *place))
-        }
-        Node::Apply(op, arguments) => boxed(
-            words.alloc,
-            PNode::Apply(*op, expanded_terms(words, letters, cell, arguments)?),
-        ),
-        Node::Chain(first, links) => {
-            let first = expanded_box(words, letters, cell, first)?;
-            boxed(
-                words.alloc,
-                PNode::Chain(first, expanded_links(words, letters, cell, links)?),
-            )
-        }
+        Node::Lit(value) => boxed_value(words.alloc, value),
+        Node::Named(word, place) => boxed_word(words, letters, word, *place),
+        Node::X(place) => boxed_x(words.alloc, cell, *place),
+        Node::Cell(word, index, place) => expanded_cell(words, letters, cell, word, index, *place),
+        Node::Apply(op, arguments) => expanded_apply(words, letters, cell, *op, arguments),
+        Node::Chain(first, links) => expanded_chain(words, letters, cell, first, links),
         Node::Among(negated, first, members) => {
-            let first = expanded_box(words, letters, cell, first)?;
-            boxed(
-                words.alloc,
-                PNode::Among(
-                    *negated,
-                    first,
-                    expanded_members(words, letters, cell, members)?,
-                ),
-            )
+            expanded_among(words, letters, cell, *negated, first, members)
         }
-        Node::Loop(header, body) => {
-            let mut links = Vec::new(words.alloc);
-            let indexes = header.indexes.as_slice();
-            expand_instances(words, letters, cell, indexes, body, &mut links)?;
-            summed(words.alloc, links)
-        }
+        Node::Loop(header, body) => expanded_loop(words, letters, cell, header, body),
+    }
+}
+
+// The read of a table's cell.
+#[inline(never)]
+#[cycle(expanded)]
+fn expanded_cell(
+    words: &mut Words<'_>,
+    letters: &mut [Option<Name>],
+    cell: Option<u32>,
+    word: &Name,
+    index: &Term,
+    place: Place,
+) -> Result<Box<PTerm>, AllocError>
+    requires { length letters.old ≡ 256 }
+    ensures term { IfOk result (λ t. t.value ≡ spec.expanded cell letters.old (tree.cell word.now index.now place)) }
+    ensures letters { OnOk result (letters.new ≡ letters.old) }
+{
+    let index = expanded_box(words, letters, cell, index)?;
+    match word_with(words, letters, word) {
+        Ok(word) => boxed(words.alloc, PNode::Cell(word, index, place)),
+        Err(error) => Err(without(index, error)),
+    }
+}
+
+// An operator on terms.
+#[inline(never)]
+#[cycle(expanded)]
+fn expanded_apply(
+    words: &mut Words<'_>,
+    letters: &mut [Option<Name>],
+    cell: Option<u32>,
+    op: Op,
+    arguments: &[Term],
+) -> Result<Box<PTerm>, AllocError>
+    requires { length letters.old ≡ 256 }
+    ensures term { IfOk result (λ t. t.value ≡ spec.expanded cell letters.old (tree.apply op (terms_of arguments.now))) }
+    ensures letters { OnOk result (letters.new ≡ letters.old) }
+{
+    let arguments = expanded_terms(words, letters, cell, arguments)?;
+    boxed(words.alloc, PNode::Apply(op, arguments))
+}
+
+// A first operand and what is joined to it.
+#[inline(never)]
+#[cycle(expanded)]
+fn expanded_chain(
+    words: &mut Words<'_>,
+    letters: &mut [Option<Name>],
+    cell: Option<u32>,
+    first: &Term,
+    links: &[Link],
+) -> Result<Box<PTerm>, AllocError>
+    requires { length letters.old ≡ 256 }
+    ensures term { IfOk result (λ t. t.value ≡ spec.expanded cell letters.old (tree.chain first.now (links_of links.now))) }
+    ensures letters { OnOk result (letters.new ≡ letters.old) }
+{
+    let first = expanded_box(words, letters, cell, first)?;
+    match expanded_links(words, letters, cell, links) {
+        Ok(links) => boxed(words.alloc, PNode::Chain(first, links)),
+        Err(error) => Err(without(first, error)),
+    }
+}
+
+// A membership.
+#[inline(never)]
+#[cycle(expanded)]
+fn expanded_among(
+    words: &mut Words<'_>,
+    letters: &mut [Option<Name>],
+    cell: Option<u32>,
+    negated: bool,
+    first: &Term,
+    members: &[Member],
+) -> Result<Box<PTerm>, AllocError>
+    requires { length letters.old ≡ 256 }
+    ensures term { IfOk result (λ t. t.value ≡ spec.expanded cell letters.old (tree.among negated first.now (members_of members.now))) }
+    ensures letters { OnOk result (letters.new ≡ letters.old) }
+{
+    let first = expanded_box(words, letters, cell, first)?;
+    match expanded_members(words, letters, cell, members) {
+        Ok(members) => boxed(words.alloc, PNode::Among(negated, first, members)),
+        Err(error) => Err(without(first, error)),
+    }
+}
+
+// A loop: the sum of its instances.
+#[inline(never)]
+#[cycle(expanded)]
+fn expanded_loop(
+    words: &mut Words<'_>,
+    letters: &mut [Option<Name>],
+    cell: Option<u32>,
+    header: &Header,
+    body: &Term,
+) -> Result<Box<PTerm>, AllocError>
+    requires { length letters.old ≡ 256 }
+    ensures term { IfOk result (λ t. t.value ≡ spec.expanded cell letters.old (tree.loop header.now body.now)) }
+    ensures letters { OnOk result (letters.new ≡ letters.old) }
+{
+    let mut links = Vec::new(words.alloc);
+    let indexes = header.indexes.as_slice();
+    match expand_instances(words, letters, cell, indexes, body, &mut links) {
+        Ok(()) => summed(words.alloc, links),
+        Err(error) => Err(without(links, error)),
     }
 }
 
@@ -160,8 +179,14 @@ fn expanded_terms(
 {
     let mut copies = Vec::with_capacity(words.alloc, terms.len())?;
     for term in terms {
-        let copy = expanded_box(words, letters, cell, term)?;
-        copies.push(Box::into_inner(copy))?;
+        let copy = match expanded_box(words, letters, cell, term) {
+            Ok(copy) => copy,
+            Err(error) => return Err(without(copies, error)),
+        };
+        match add_term(&mut copies, copy) {
+            Ok(()) => {}
+            Err(error) => return Err(without(copies, error)),
+        }
     }
     Ok(copies)
 }
@@ -179,11 +204,14 @@ fn expanded_links(
 {
     let mut copies = Vec::with_capacity(words.alloc, links.len())?;
     for link in links {
-        let term = expanded_box(words, letters, cell, &link.term)?;
-        copies.push(PLink {
-            op: link.op,
-            term: Box::into_inner(term),
-        })?;
+        let term = match expanded_box(words, letters, cell, &link.term) {
+            Ok(term) => term,
+            Err(error) => return Err(without(copies, error)),
+        };
+        match add_link(&mut copies, link.op, term) {
+            Ok(()) => {}
+            Err(error) => return Err(without(copies, error)),
+        }
     }
     Ok(copies)
 }
@@ -201,12 +229,18 @@ fn expanded_members(
 {
     let mut copies = Vec::with_capacity(words.alloc, members.len())?;
     for member in members {
-        let low = expanded_box(words, letters, cell, &member.low)?;
-        let high = expanded_box(words, letters, cell, &member.high)?;
-        copies.push(PMember {
-            low: Box::into_inner(low),
-            high: Box::into_inner(high),
-        })?;
+        let low = match expanded_box(words, letters, cell, &member.low) {
+            Ok(low) => low,
+            Err(error) => return Err(without(copies, error)),
+        };
+        let high = match expanded_box(words, letters, cell, &member.high) {
+            Ok(high) => high,
+            Err(error) => return Err(without((copies, low), error)),
+        };
+        match add_member(&mut copies, low, high) {
+            Ok(()) => {}
+            Err(error) => return Err(without(copies, error)),
+        }
     }
     Ok(copies)
 }
@@ -233,18 +267,15 @@ fn expand_instances(
     match indexes {
         [] => {
             let term = expanded_box(words, letters, cell, body)?;
-            links.push(PLink {
-                op: Op::Add,
-                term: Box::into_inner(term),
-            })?;
+            add_link(links, Op::Add, term)
         }
-        [index, rest @ ..] => expand_index(words, letters, cell, index, rest, body, links)?,
+        [index, rest @ ..] => expand_index(words, letters, cell, index, rest, body, links),
     }
-    Ok(())
 }
 
 // The same where several indexes of one value come first. Their letters are bound together, so that a header of many of these
 // is no deeper than one of a single index.
+#[inline(never)]
 #[cycle(expanded)]
 fn expand_singles(
     words: &mut Words<'_>,
@@ -316,28 +347,4 @@ fn expand_bound(
     expand_instances(words, letters, cell, indexes, body, links)?;
     letters[binding.letter as usize] = outer;
     Ok(())
-}
-
-// The sum of terms in order, each of which is a further operand: one term is that term itself.
-fn summed(alloc: Global, links: Vec<PLink>) -> Result<Box<PTerm>, AllocError>
-    ensures { IfOk result (λ t. t.value ≡ links_sum links.items) }
-{
-    let mut links = links;
-    if links.is_empty() {
-        return boxed(alloc, PNode::Lit(Value::Undef));
-    }
-    let first = links.remove(0);
-    let first = Box::new(alloc, first.term)?;
-    with_links(alloc, first, links)
-}
-
-// A chain, or its first operand where there are no more.
-fn with_links(alloc: Global, first: Box<PTerm>, links: Vec<PLink>) -> Result<Box<PTerm>, AllocError>
-    ensures { IfOk result (λ t. t.value ≡ chain_of first.value links.items) }
-{
-    if links.is_empty() {
-        Ok(first)
-    } else {
-        boxed(alloc, PNode::Chain(first, links))
-    }
 }
