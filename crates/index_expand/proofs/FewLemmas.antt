@@ -1,5 +1,5 @@
 -- What has no more parts than a base may have has no more conditions.
-use Rattle.std.proofs.Common.{◌≡◌, ℕ, ◌+◌, ◌≤◌, Bool, true, false, cond, nat_lt, List, [], ◌∷◌, ◌++◌, length, length-append, map, Option, Some, None, Result, Ok, Err, refl, subst, sym, ap, ◌∙◌, arith}
+use Rattle.std.proofs.Common.{◌≡◌, ℕ, ◌+◌, ◌≤◌, Bool, true, false, cond, nat_lt, List, [], ◌∷◌, length, length-append, map, Some, None, Result, Ok, Err, refl, ap, ◌∙◌, arith}
 use Rattle.std.specs.Prelude.{IfOk}
 use Rattle.std.specs.List.{flat_map, sum_by}
 use Rattle.std.proofs.lemmas.Bool.{ltb-false}
@@ -14,7 +14,6 @@ use Rattle.m_symbols.specs.Declarations.{Declared}
 use Rattle.plain_rules.specs.declared.rules.Plain.{Plain}
 use Rattle.index_expand.specs.declared.fault.ExpandFault.{ExpandFault}
 use Rattle.index_expand.specs.declared.fault.ExpandFault.TheVariants.{TooManyParts, Memory}
-use Rattle.index_expand.specs.Parts.{parts}
 use Rattle.index_expand.specs.Expansion.{condition_of, item_conditions}
 use Rattle.index_expand.specs.Faults.{check_parts, item_parts, item_place, too_many}
 

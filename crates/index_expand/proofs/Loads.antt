@@ -7,11 +7,11 @@ abbrev mutual
   load (lit v) = 1
   load (named n p) = 1
   load (the_x p) = 1
-  load (cell n a p) = load a + 1
-  load (apply op all) = terms_load all + 1
-  load (chain a all) = load a + links_load all + 1
-  load (among negated a all) = load a + members_load all + 1
-  load (loop h a) = load a + 3 * length h.indexes + 2
+  load (cell n a p) = load a + 2
+  load (apply op all) = terms_load all + 2
+  load (chain a all) = load a + links_load all + 2
+  load (among negated a all) = load a + members_load all + 2
+  load (loop h a) = load a + 3 * length h.indexes + 3
 
   pub terms_load : Terms → ℕ
   terms_load no_terms = 0

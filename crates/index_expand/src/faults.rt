@@ -1,6 +1,7 @@
 //! Faults of loops and letters: the one with the least place.
 ghost use Rattle.std.specs.Prelude.{◌≡◌, not};
 ghost use Rattle.std.specs.List.{flat_map, list_any};
+ghost use Rattle.m_ast.specs.Syntax as tree;
 ghost use Rattle.m_ast.specs.View.{terms_of, links_of, members_of};
 ghost use Rattle.loop_values.specs.Headers.{is_bad_index, all_indexes};
 ghost use Rattle.loop_values.specs.Values.{is_nothing};
@@ -39,6 +40,7 @@ fn no_scope() -> [bool; 256]
 }
 
 // Within a loop over these indexes.
+#[inline(never)]
 fn scope_within(indexes: &[Index], scope: &[bool; 256]) -> [bool; 256]
     ensures { result ≡ spec.scope_within indexes.now scope.now }
 {
@@ -69,6 +71,7 @@ fn with_headers(first: Option<ExpandFault>, headers: &[Header]) -> Option<Expand
     first
 }
 
+#[inline(never)]
 fn with_header(first: Option<ExpandFault>, header: &Header) -> Option<ExpandFault>
     ensures { result ≡ spec.least first (spec.header_faults header.now) }
 {
@@ -129,6 +132,7 @@ fn is_bad(header: &[Index], repeated: &[bool; 256], index: &Index) -> bool
     has_bad_span(index) || repeated[index.letter as usize]
 }
 
+#[inline(never)]
 fn with_word(
     first: Option<ExpandFault>,
     scope: &[bool; 256],
@@ -219,11 +223,23 @@ fn with_term(first: Option<ExpandFault>, scope: &[bool; 256], term: &Term) -> Op
             let first = with_term(first, scope, operand);
             with_members(first, scope, members)
         }
-        Node::Loop(header, body) => {
-            let first = with_header(first, header);
-            with_term(first, &scope_within(header.indexes.as_slice(), scope), body)
-        }
+        Node::Loop(header, body) => with_loop(first, scope, header, body),
     }
+}
+
+// The header of a loop, and its body within it. A function of its own, so that a level without a loop has no scope in its frame.
+#[inline(never)]
+#[cycle(with_term)]
+fn with_loop(
+    first: Option<ExpandFault>,
+    scope: &[bool; 256],
+    header: &Header,
+    body: &Term,
+) -> Option<ExpandFault>
+    ensures { result ≡ spec.least first (spec.term_faults scope.now (tree.loop header.now body.now)) }
+{
+    let first = with_header(first, header);
+    with_term(first, &scope_within(header.indexes.as_slice(), scope), body)
 }
 
 #[cycle(with_term)]

@@ -13,24 +13,23 @@ ghost use Rattle.index_expand.specs.inner.Taken.{IsTaken, IsTooMuch, weighed};
 use crate::ExpandFault;
 use crate::definitions::take_instance;
 use crate::parts::{MOST, parts};
+use crate::template::{Binding, Template};
 use crate::words::Words;
 use loop_values::{headers_count, index_values, kept_indexes};
 use m_ast::{Formula, Index};
 use m_places::{Name, Place};
 use m_symbols::Symbols;
 use plain_rules::Definition;
-use std::alloc::Global;
 use std::mem::replace;
 
 /// Puts the definitions of a formula after definitions, where so many parts were counted before, and answers how many there
-/// are with these. The place is that of the formula's item.
+/// are with these. The place is that of the formula's rule.
 pub(crate) fn take_formula(
-    alloc: Global,
     words: &mut Words<'_>,
-    symbols: &Symbols,
-    item: Place,
-    formula: &Formula,
     letters: &mut [Option<Name>],
+    symbols: &Symbols,
+    rule: Place,
+    formula: &Formula,
     definitions: &mut Vec<Definition>,
     total: u64,
 ) -> Result<u64, ExpandFault>
@@ -40,22 +39,23 @@ pub(crate) fn take_formula(
     ensures outcome { Outcome ExpandFault.Memory result
         (λ after. IsTaken definitions.old.items definitions.new.items
         (formula_definitions symbols.now formula.now) (formula_parts symbols.now formula.now) total after)
-        (λ fault. IsTooMuch (formula_parts symbols.now formula.now) total item fault) }
+        (λ fault. IsTooMuch (formula_parts symbols.now formula.now) total rule fault) }
     ensures letters { OnOk result (letters.new ≡ letters.old) }
 {
-    if let Some(fault) = refusal(item, formula) {
+    if let Some(fault) = refusal(rule, formula) {
         return Err(fault);
     }
-    let weight = parts(&formula.term) + 1;
-    let indexes = kept_indexes(alloc, formula.loops.as_slice())?;
-    take_instances(
-        alloc,
-        words,
+    let template = Template {
         symbols,
-        item,
+        rule,
         formula,
-        weight,
+        weight: parts(&formula.term) + 1,
+    };
+    let indexes = kept_indexes(words.alloc, formula.loops.as_slice())?;
+    take_instances(
+        words,
         letters,
+        &template,
         indexes.as_slice(),
         definitions,
         total,
@@ -64,104 +64,73 @@ pub(crate) fn take_formula(
 
 // The fault of a formula with more instances than there may be parts: each instance is a definition at least, since a table
 // has a cell. So what is looked at further has few indexes with two values or more.
-fn refusal(item: Place, formula: &Formula) -> Option<ExpandFault>
-    ensures { IfSome result (λ fault. (declared : Declared) → TablesHaveCells declared → IsTooMuch (formula_parts declared formula.now) 0 item fault) }
+fn refusal(rule: Place, formula: &Formula) -> Option<ExpandFault>
+    ensures { IfSome result (λ fault. (declared : Declared) → TablesHaveCells declared → IsTooMuch (formula_parts declared formula.now) 0 rule fault) }
 {
     if headers_count(formula.loops.as_slice()) <= MOST {
         None
     } else {
-        Some(ExpandFault::TooManyParts(item))
+        Some(ExpandFault::TooManyParts(rule))
     }
 }
 
 // The definitions of the instances of indexes.
 #[cycle(take_instances)]
 fn take_instances(
-    alloc: Global,
     words: &mut Words<'_>,
-    symbols: &Symbols,
-    item: Place,
-    formula: &Formula,
-    weight: u64,
     letters: &mut [Option<Name>],
+    template: &Template<'_>,
     indexes: &[Index],
     definitions: &mut Vec<Definition>,
     total: u64,
 ) -> Result<u64, ExpandFault>
     requires letters { length letters.old ≡ 256 }
-    requires weight { weight ≤ MOST + 1 }
     requires total { total ≤ MOST }
-    ensures outcome { let these = flat_map (definitions_at symbols.now formula.now formula.now.slot) (instances indexes.now letters.old) in
+    ensures outcome { let these = flat_map (definitions_at template.now.symbols.now template.now.formula.now template.now.formula.now.slot)
+        (instances indexes.now letters.old) in
         Outcome ExpandFault.Memory result
-        (λ after. IsTaken definitions.old.items definitions.new.items these (weighed these weight) total after)
-        (λ fault. IsTooMuch (weighed these weight) total item fault) }
+        (λ after. IsTaken definitions.old.items definitions.new.items these (weighed these template.now.weight) total after)
+        (λ fault. IsTooMuch (weighed these template.now.weight) total template.now.rule fault) }
     ensures letters { OnOk result (letters.new ≡ letters.old) }
 {
     match indexes {
-        [] => take_instance(
-            alloc,
-            words,
-            symbols,
-            item,
-            formula,
-            weight,
-            letters,
-            definitions,
-            total,
-        ),
-        [index, rest @ ..] => take_index(
-            alloc,
-            words,
-            symbols,
-            item,
-            formula,
-            weight,
-            letters,
-            index,
-            rest,
-            definitions,
-            total,
-        ),
+        [] => take_instance(words, letters, template, definitions, total),
+        [index, rest @ ..] => take_index(words, letters, template, index, rest, definitions, total),
     }
 }
 
 // The definitions of the instances of an index that is slower than these.
 #[cycle(take_instances)]
 fn take_index(
-    alloc: Global,
     words: &mut Words<'_>,
-    symbols: &Symbols,
-    item: Place,
-    formula: &Formula,
-    weight: u64,
     letters: &mut [Option<Name>],
+    template: &Template<'_>,
     index: &Index,
     indexes: &[Index],
     definitions: &mut Vec<Definition>,
     total: u64,
 ) -> Result<u64, ExpandFault>
     requires letters { length letters.old ≡ 256 }
-    requires weight { weight ≤ MOST + 1 }
     requires total { total ≤ MOST }
-    ensures outcome { let these = flat_map (definitions_at symbols.now formula.now formula.now.slot) (instances (index.now ∷ indexes.now) letters.old) in
+    ensures outcome { let these = flat_map (definitions_at template.now.symbols.now template.now.formula.now template.now.formula.now.slot)
+        (instances (index.now ∷ indexes.now) letters.old) in
         Outcome ExpandFault.Memory result
-        (λ after. IsTaken definitions.old.items definitions.new.items these (weighed these weight) total after)
-        (λ fault. IsTooMuch (weighed these weight) total item fault) }
+        (λ after. IsTaken definitions.old.items definitions.new.items these (weighed these template.now.weight) total after)
+        (λ fault. IsTooMuch (weighed these template.now.weight) total template.now.rule fault) }
     ensures letters { OnOk result (letters.new ≡ letters.old) }
 {
-    let values = index_values(alloc, index)?;
+    let values = index_values(words.alloc, index)?;
     let mut count = total;
     for value in &values {
-        count = take_bound(
-            alloc,
-            words,
-            symbols,
-            item,
-            formula,
-            weight,
-            letters,
-            index.letter,
+        let binding = Binding {
+            letter: index.letter,
             value,
+        };
+        count = take_bound(
+            words,
+            letters,
+            template,
+            &binding,
             indexes,
             definitions,
             count,
@@ -173,42 +142,26 @@ fn take_index(
 // The definitions of the instances of indexes where a letter stands for a value. What it stood for before is put back.
 #[cycle(take_instances)]
 fn take_bound(
-    alloc: Global,
     words: &mut Words<'_>,
-    symbols: &Symbols,
-    item: Place,
-    formula: &Formula,
-    weight: u64,
     letters: &mut [Option<Name>],
-    letter: u8,
-    value: &Name,
+    template: &Template<'_>,
+    binding: &Binding<'_>,
     indexes: &[Index],
     definitions: &mut Vec<Definition>,
     total: u64,
 ) -> Result<u64, ExpandFault>
     requires letters { length letters.old ≡ 256 }
-    requires weight { weight ≤ MOST + 1 }
     requires total { total ≤ MOST }
-    ensures outcome { let these = flat_map (definitions_at symbols.now formula.now formula.now.slot) (instances indexes.now (bind letters.old letter value.now)) in
+    ensures outcome { let these = flat_map (definitions_at template.now.symbols.now template.now.formula.now template.now.formula.now.slot)
+        (instances indexes.now (bind letters.old binding.now.letter binding.now.value.now)) in
         Outcome ExpandFault.Memory result
-        (λ after. IsTaken definitions.old.items definitions.new.items these (weighed these weight) total after)
-        (λ fault. IsTooMuch (weighed these weight) total item fault) }
+        (λ after. IsTaken definitions.old.items definitions.new.items these (weighed these template.now.weight) total after)
+        (λ fault. IsTooMuch (weighed these template.now.weight) total template.now.rule fault) }
     ensures letters { OnOk result (letters.new ≡ letters.old) }
 {
-    let value = value.copy(alloc)?;
-    let outer = replace(&mut letters[letter as usize], Some(value));
-    let count = take_instances(
-        alloc,
-        words,
-        symbols,
-        item,
-        formula,
-        weight,
-        letters,
-        indexes,
-        definitions,
-        total,
-    )?;
-    letters[letter as usize] = outer;
+    let value = binding.value.copy(words.alloc)?;
+    let outer = replace(&mut letters[binding.letter as usize], Some(value));
+    let count = take_instances(words, letters, template, indexes, definitions, total)?;
+    letters[binding.letter as usize] = outer;
     Ok(count)
 }

@@ -26,8 +26,8 @@ use std::alloc::{AllocError, Global};
 
 /// The rules and verifications of an application without loops, or the fault of the items.
 ///
-/// The items are whole, as the reader of rule files gives them, and each table has a cell, as `declare` gives them. A chained rule, and an item of another application, count
-/// for nothing.
+/// The items are whole, as the reader of rule files gives them, and each table has a cell, as `declare` gives them. A chained
+/// rule, and an item of another application, count for nothing.
 pub fn expand(
     alloc: Global,
     items: &[Item],
@@ -136,12 +136,11 @@ fn take_items(
     let mut definitions = Vec::new(alloc);
     let mut conditions = Vec::new(alloc);
     take_each(
-        alloc,
         &mut words,
+        letters.as_mut_slice(),
         symbols,
         items,
         application,
-        letters.as_mut_slice(),
         &mut definitions,
         &mut conditions,
     )?;
@@ -152,12 +151,11 @@ fn take_items(
 }
 
 fn take_each(
-    alloc: Global,
     words: &mut Words<'_>,
+    letters: &mut [Option<Name>],
     symbols: &Symbols,
     items: &[Item],
     application: &[u8],
-    letters: &mut [Option<Name>],
     definitions: &mut Vec<Definition>,
     conditions: &mut Vec<Condition>,
 ) -> Result<(), ExpandFault>
@@ -174,11 +172,10 @@ fn take_each(
     for item in items {
         if counts_in(item, application) {
             count = take_item(
-                alloc,
                 words,
+                letters,
                 symbols,
                 item,
-                letters,
                 definitions,
                 conditions,
                 count,
@@ -189,11 +186,10 @@ fn take_each(
 }
 
 fn take_item(
-    alloc: Global,
     words: &mut Words<'_>,
+    letters: &mut [Option<Name>],
     symbols: &Symbols,
     item: &Item,
-    letters: &mut [Option<Name>],
     definitions: &mut Vec<Definition>,
     conditions: &mut Vec<Condition>,
     total: u64,
@@ -210,17 +206,16 @@ fn take_item(
     match item {
         Item::Rule(rule) => {
             take_formulas(
-                alloc,
                 words,
+                letters,
                 symbols,
                 rule.place,
                 rule.formulas.as_slice(),
-                letters,
                 definitions,
                 total,
             )
         }
-        Item::Verif(verif) => take_checks(alloc, words, verif, letters, conditions, total),
+        Item::Verif(verif) => take_checks(words, letters, verif, conditions, total),
         Item::Variable(_) => Ok(total),
         Item::Error(_) => Ok(total),
         Item::Silent(_) => Ok(total),
@@ -228,12 +223,11 @@ fn take_item(
 }
 
 fn take_formulas(
-    alloc: Global,
     words: &mut Words<'_>,
-    symbols: &Symbols,
-    item: Place,
-    formulas: &[Formula],
     letters: &mut [Option<Name>],
+    symbols: &Symbols,
+    rule: Place,
+    formulas: &[Formula],
     definitions: &mut Vec<Definition>,
     total: u64,
 ) -> Result<u64, ExpandFault>
@@ -243,30 +237,20 @@ fn take_formulas(
     ensures outcome { Outcome ExpandFault.Memory result
         (λ after. IsTaken definitions.old.items definitions.new.items
         (flat_map (formula_definitions symbols.now) formulas.now) (sum_by (formula_parts symbols.now) formulas.now) total after)
-        (λ fault. IsTooMuch (sum_by (formula_parts symbols.now) formulas.now) total item fault) }
+        (λ fault. IsTooMuch (sum_by (formula_parts symbols.now) formulas.now) total rule fault) }
     ensures letters { OnOk result (letters.new ≡ letters.old) }
 {
     let mut count = total;
     for formula in formulas {
-        count = take_formula(
-            alloc,
-            words,
-            symbols,
-            item,
-            formula,
-            letters,
-            definitions,
-            count,
-        )?;
+        count = take_formula(words, letters, symbols, rule, formula, definitions, count)?;
     }
     Ok(count)
 }
 
 fn take_checks(
-    alloc: Global,
     words: &mut Words<'_>,
-    verif: &VerifItem,
     letters: &mut [Option<Name>],
+    verif: &VerifItem,
     conditions: &mut Vec<Condition>,
     total: u64,
 ) -> Result<u64, ExpandFault>
@@ -278,23 +262,20 @@ fn take_checks(
         (λ fault. IsTooMuch (sum_by check_parts verif.now.checks) total verif.now.place fault) }
     ensures letters { OnOk result (letters.new ≡ letters.old) }
 {
-    let number = SharedName::new(alloc, verif.number.copy(alloc)?)?;
+    let number = SharedName::new(words.alloc, verif.number.copy(words.alloc)?)?;
     let mut count = total;
     for check in verif.checks.as_slice() {
-        count = take_check(
-            alloc, words, verif, &number, check, letters, conditions, count,
-        )?;
+        count = take_check(words, letters, verif, &number, check, conditions, count)?;
     }
     Ok(count)
 }
 
 fn take_check(
-    alloc: Global,
     words: &mut Words<'_>,
+    letters: &mut [Option<Name>],
     verif: &VerifItem,
     number: &SharedName,
     check: &CheckItem,
-    letters: &mut [Option<Name>],
     conditions: &mut Vec<Condition>,
     total: u64,
 ) -> Result<u64, ExpandFault>
@@ -311,8 +292,8 @@ fn take_check(
     if count > MOST {
         return Err(ExpandFault::TooManyParts(verif.place));
     }
-    let term = expanded(alloc, words, letters, None, &check.condition)?;
-    push_condition(alloc, number, check, term, conditions)?;
+    let term = expanded(words, letters, None, &check.condition)?;
+    push_condition(words.alloc, number, check, term, conditions)?;
     Ok(count)
 }
 

@@ -4,12 +4,14 @@
 //! This crate stands on loops as lists of instances and on the declared names, and knows nothing of cells' numbers.
 #![tactic(auto)]
 
+mod build;
 mod definitions;
 mod fault;
 mod faults;
 mod formulas;
 mod items;
 mod parts;
+mod template;
 mod terms;
 mod words;
 

@@ -1,25 +1,28 @@
 //! Terms without their loops.
-ghost use Rattle.std.specs.Prelude.{◌≡◌, ◌∷◌, ◌++◌, ◌<◌, ◌≤◌, All, IfOk, OnOk, IsTrue, length, map, take};
-ghost use Rattle.std.specs.Bool.{OnTrue};
-ghost use Rattle.m_fixed.specs.Text.{only_digits};
-ghost use Rattle.plain_rules.specs.View.{syntax_of};
+ghost use Rattle.std.specs.Prelude.{◌≡◌, ◌∷◌, ◌++◌, ◌<◌, ◌≤◌, All, IfOk, OnOk, length, map, take};
+ghost use Rattle.m_ast.specs.Syntax as tree;
+ghost use Rattle.m_ast.specs.View.{terms_of, links_of, members_of};
 ghost use Rattle.loop_values.specs.Headers.{IsSingle, instances};
-ghost use Rattle.loop_values.specs.Letters.{bind, replaced};
+ghost use Rattle.loop_values.specs.Letters.{bind};
 ghost use Rattle.index_expand.specs.Terms as spec;
-ghost use Rattle.index_expand.specs.inner.Operands.{link_expanded, member_expanded, instance_link, links_sum, chain_of};
+ghost use Rattle.index_expand.specs.inner.Operands.{link_expanded, member_expanded, instance_link};
 
+use crate::build::{
+    add_link, add_member, add_term, boxed, boxed_value, boxed_word, boxed_x, summed, without,
+    word_with,
+};
+use crate::template::Binding;
 use crate::words::Words;
-use loop_values::{bound_by, index_values, is_digits, number, replaced, single_count};
-use m_ast::{Index, Link, Member, Node, Term};
-use m_fixed::{Amount, Op, Value};
-use m_places::{Name, Place, SharedName};
-use plain_rules::{PLink, PMember, PNode, PTerm, plain};
-use std::alloc::{AllocError, Global};
+use loop_values::{bound_by, index_values, single_count};
+use m_ast::{Header, Index, Link, Member, Node, Term};
+use m_fixed::Op;
+use m_places::{Name, Place};
+use plain_rules::{PLink, PMember, PNode, PTerm};
+use std::alloc::AllocError;
 use std::mem::replace;
 
 /// A term where letters stand for words, and `X` for the number of a cell, if it does. Its only error is running out of memory.
 pub(crate) fn expanded(
-    alloc: Global,
     words: &mut Words<'_>,
     letters: &mut [Option<Name>],
     cell: Option<u32>,
@@ -29,78 +32,12 @@ pub(crate) fn expanded(
     ensures term { IfOk result (λ t. t ≡ spec.expanded cell letters.old term.now) }
     ensures letters { OnOk result (letters.new ≡ letters.old) }
 {
-    let term = expanded_box(alloc, words, letters, cell, term)?;
+    let term = expanded_box(words, letters, cell, term)?;
     Ok(Box::into_inner(term))
-}
-
-// A node in a box.
-fn boxed(alloc: Global, node: PNode) -> Result<Box<PTerm>, AllocError>
-    ensures { IfOk result (λ t. t.value ≡ syntax_of node) }
-{
-    Ok(Box::new(alloc, plain(node))?)
-}
-
-// A literal of so many whole units.
-fn number_node(n: u64) -> PNode
-    requires { n < 1000000000000 }
-    ensures { syntax_of result ≡ spec.number_term n }
-{
-    match Amount::new(n as i128 * 1_000_000) {
-        Some(amount) => PNode::Lit(Value::Num(amount)),
-        None => unreachable!(),
-    }
-}
-
-// What a word without letters is.
-fn word_node(
-    alloc: Global,
-    words: &mut Words<'_>,
-    word: &[u8],
-    place: Place,
-) -> Result<PNode, AllocError>
-    ensures { IfOk result (λ node. syntax_of node ≡ spec.word_term word.now place) }
-{
-    if is_number_word(word) {
-        Ok(number_node(number(word)))
-    } else {
-        Ok(PNode::Named(words.shared(alloc, word)?, place))
-    }
-}
-
-/// A word where letters stand for words. Its only error is running out of memory.
-pub(crate) fn word_with(
-    alloc: Global,
-    words: &mut Words<'_>,
-    letters: &[Option<Name>],
-    word: &Name,
-) -> Result<SharedName, AllocError>
-    requires { length letters.now ≡ 256 }
-    ensures { IfOk result (λ name. name ≡ replaced letters.now word.now) }
-{
-    let word = replaced(alloc, letters, word.bytes())?;
-    words.shared(alloc, word.bytes())
-}
-
-fn is_number_word(word: &[u8]) -> bool
-    ensures test { result ≡ spec.is_number_word word.now }
-    ensures short { OnTrue result (length word.now ≤ 12) }
-    ensures digits { OnTrue result (IsTrue (only_digits word.now)) }
-{
-    is_digits(word) && word.len() <= 12
-}
-
-fn x_node(cell: Option<u32>, place: Place) -> PNode
-    ensures { syntax_of result ≡ spec.x_term cell place }
-{
-    match cell {
-        Some(k) => number_node(k as u64),
-        None => PNode::X(place),
-    }
 }
 
 #[cycle(expanded)]
 fn expanded_box(
-    alloc: Global,
     words: &mut Words<'_>,
     letters: &mut [Option<Name>],
     cell: Option<u32>,
@@ -111,52 +48,126 @@ fn expanded_box(
     ensures letters { OnOk result (letters.new ≡ letters.old) }
 {
     match &term.node {
-        Node::Lit(value) => boxed(alloc, PNode::Lit(*value)),
-        Node::Named(word, place) => {
-            let word = replaced(alloc, letters, word.bytes())?;
-            let node = word_node(alloc, words, word.bytes(), *place)?;
-            boxed(alloc, node)
-        }
-        Node::X(place) => boxed(alloc, x_node(cell, *place)),
-        Node::Cell(word, index, place) => {
-            let index = expanded_box(alloc, words, letters, cell, index)?;
-            let word = word_with(alloc, words, letters, word)?;
-            boxed(alloc, PNode::Cell(word, index, *place))
-        }
-        Node::Apply(op, arguments) => boxed(
-            alloc,
-            PNode::Apply(*op, expanded_terms(alloc, words, letters, cell, arguments)?),
-        ),
-        Node::Chain(first, links) => {
-            let first = expanded_box(alloc, words, letters, cell, first)?;
-            boxed(
-                alloc,
-                PNode::Chain(first, expanded_links(alloc, words, letters, cell, links)?),
-            )
-        }
+        Node::Lit(value) => boxed_value(words.alloc, value),
+        Node::Named(word, place) => boxed_word(words, letters, word, *place),
+        Node::X(place) => boxed_x(words.alloc, cell, *place),
+        Node::Cell(word, index, place) => expanded_cell(words, letters, cell, word, index, *place),
+        Node::Apply(op, arguments) => expanded_apply(words, letters, cell, *op, arguments),
+        Node::Chain(first, links) => expanded_chain(words, letters, cell, first, links),
         Node::Among(negated, first, members) => {
-            let first = expanded_box(alloc, words, letters, cell, first)?;
-            boxed(
-                alloc,
-                PNode::Among(
-                    *negated,
-                    first,
-                    expanded_members(alloc, words, letters, cell, members)?,
-                ),
-            )
+            expanded_among(words, letters, cell, *negated, first, members)
         }
-        Node::Loop(header, body) => {
-            let mut links = Vec::new(alloc);
-            let indexes = header.indexes.as_slice();
-            expand_instances(alloc, words, letters, cell, indexes, body, &mut links)?;
-            summed(alloc, links)
-        }
+        Node::Loop(header, body) => expanded_loop(words, letters, cell, header, body),
+    }
+}
+
+// The read of a table's cell.
+#[inline(never)]
+#[cycle(expanded)]
+fn expanded_cell(
+    words: &mut Words<'_>,
+    letters: &mut [Option<Name>],
+    cell: Option<u32>,
+    word: &Name,
+    index: &Term,
+    place: Place,
+) -> Result<Box<PTerm>, AllocError>
+    requires { length letters.old ≡ 256 }
+    ensures term { IfOk result (λ t. t.value ≡ spec.expanded cell letters.old (tree.cell word.now index.now place)) }
+    ensures letters { OnOk result (letters.new ≡ letters.old) }
+{
+    let index = expanded_box(words, letters, cell, index)?;
+    match word_with(words, letters, word) {
+        Ok(word) => boxed(words.alloc, PNode::Cell(word, index, place)),
+        Err(error) => Err(without(index, error)),
+    }
+}
+
+// An operator on terms.
+#[inline(never)]
+#[cycle(expanded)]
+fn expanded_apply(
+    words: &mut Words<'_>,
+    letters: &mut [Option<Name>],
+    cell: Option<u32>,
+    op: Op,
+    arguments: &[Term],
+) -> Result<Box<PTerm>, AllocError>
+    requires { length letters.old ≡ 256 }
+    ensures term { IfOk result (λ t. t.value ≡ spec.expanded cell letters.old (tree.apply op (terms_of arguments.now))) }
+    ensures letters { OnOk result (letters.new ≡ letters.old) }
+{
+    let arguments = expanded_terms(words, letters, cell, arguments)?;
+    boxed(words.alloc, PNode::Apply(op, arguments))
+}
+
+// A first operand and what is joined to it.
+#[inline(never)]
+#[cycle(expanded)]
+fn expanded_chain(
+    words: &mut Words<'_>,
+    letters: &mut [Option<Name>],
+    cell: Option<u32>,
+    first: &Term,
+    links: &[Link],
+) -> Result<Box<PTerm>, AllocError>
+    requires { length letters.old ≡ 256 }
+    ensures term { IfOk result (λ t. t.value ≡ spec.expanded cell letters.old (tree.chain first.now (links_of links.now))) }
+    ensures letters { OnOk result (letters.new ≡ letters.old) }
+{
+    let first = expanded_box(words, letters, cell, first)?;
+    match expanded_links(words, letters, cell, links) {
+        Ok(links) => boxed(words.alloc, PNode::Chain(first, links)),
+        Err(error) => Err(without(first, error)),
+    }
+}
+
+// A membership.
+#[inline(never)]
+#[cycle(expanded)]
+fn expanded_among(
+    words: &mut Words<'_>,
+    letters: &mut [Option<Name>],
+    cell: Option<u32>,
+    negated: bool,
+    first: &Term,
+    members: &[Member],
+) -> Result<Box<PTerm>, AllocError>
+    requires { length letters.old ≡ 256 }
+    ensures term { IfOk result (λ t. t.value ≡ spec.expanded cell letters.old (tree.among negated first.now (members_of members.now))) }
+    ensures letters { OnOk result (letters.new ≡ letters.old) }
+{
+    let first = expanded_box(words, letters, cell, first)?;
+    match expanded_members(words, letters, cell, members) {
+        Ok(members) => boxed(words.alloc, PNode::Among(negated, first, members)),
+        Err(error) => Err(without(first, error)),
+    }
+}
+
+// A loop: the sum of its instances.
+#[inline(never)]
+#[cycle(expanded)]
+fn expanded_loop(
+    words: &mut Words<'_>,
+    letters: &mut [Option<Name>],
+    cell: Option<u32>,
+    header: &Header,
+    body: &Term,
+) -> Result<Box<PTerm>, AllocError>
+    requires { length letters.old ≡ 256 }
+    ensures term { IfOk result (λ t. t.value ≡ spec.expanded cell letters.old (tree.loop header.now body.now)) }
+    ensures letters { OnOk result (letters.new ≡ letters.old) }
+{
+    let mut links = Vec::new(words.alloc);
+    let indexes = header.indexes.as_slice();
+    match expand_instances(words, letters, cell, indexes, body, &mut links) {
+        Ok(()) => summed(words.alloc, links),
+        Err(error) => Err(without(links, error)),
     }
 }
 
 #[cycle(expanded)]
 fn expanded_terms(
-    alloc: Global,
     words: &mut Words<'_>,
     letters: &mut [Option<Name>],
     cell: Option<u32>,
@@ -166,17 +177,22 @@ fn expanded_terms(
     ensures terms { IfOk result (λ v. v.items ≡ map (spec.expanded cell letters.old) terms.now) }
     ensures letters { OnOk result (letters.new ≡ letters.old) }
 {
-    let mut copies = Vec::with_capacity(alloc, terms.len())?;
+    let mut copies = Vec::with_capacity(words.alloc, terms.len())?;
     for term in terms {
-        let copy = expanded_box(alloc, words, letters, cell, term)?;
-        copies.push(Box::into_inner(copy))?;
+        let copy = match expanded_box(words, letters, cell, term) {
+            Ok(copy) => copy,
+            Err(error) => return Err(without(copies, error)),
+        };
+        match add_term(&mut copies, copy) {
+            Ok(()) => {}
+            Err(error) => return Err(without(copies, error)),
+        }
     }
     Ok(copies)
 }
 
 #[cycle(expanded)]
 fn expanded_links(
-    alloc: Global,
     words: &mut Words<'_>,
     letters: &mut [Option<Name>],
     cell: Option<u32>,
@@ -186,20 +202,22 @@ fn expanded_links(
     ensures links { IfOk result (λ v. v.items ≡ map (link_expanded cell letters.old) links.now) }
     ensures letters { OnOk result (letters.new ≡ letters.old) }
 {
-    let mut copies = Vec::with_capacity(alloc, links.len())?;
+    let mut copies = Vec::with_capacity(words.alloc, links.len())?;
     for link in links {
-        let term = expanded_box(alloc, words, letters, cell, &link.term)?;
-        copies.push(PLink {
-            op: link.op,
-            term: Box::into_inner(term),
-        })?;
+        let term = match expanded_box(words, letters, cell, &link.term) {
+            Ok(term) => term,
+            Err(error) => return Err(without(copies, error)),
+        };
+        match add_link(&mut copies, link.op, term) {
+            Ok(()) => {}
+            Err(error) => return Err(without(copies, error)),
+        }
     }
     Ok(copies)
 }
 
 #[cycle(expanded)]
 fn expanded_members(
-    alloc: Global,
     words: &mut Words<'_>,
     letters: &mut [Option<Name>],
     cell: Option<u32>,
@@ -209,14 +227,20 @@ fn expanded_members(
     ensures members { IfOk result (λ v. v.items ≡ map (member_expanded cell letters.old) members.now) }
     ensures letters { OnOk result (letters.new ≡ letters.old) }
 {
-    let mut copies = Vec::with_capacity(alloc, members.len())?;
+    let mut copies = Vec::with_capacity(words.alloc, members.len())?;
     for member in members {
-        let low = expanded_box(alloc, words, letters, cell, &member.low)?;
-        let high = expanded_box(alloc, words, letters, cell, &member.high)?;
-        copies.push(PMember {
-            low: Box::into_inner(low),
-            high: Box::into_inner(high),
-        })?;
+        let low = match expanded_box(words, letters, cell, &member.low) {
+            Ok(low) => low,
+            Err(error) => return Err(without(copies, error)),
+        };
+        let high = match expanded_box(words, letters, cell, &member.high) {
+            Ok(high) => high,
+            Err(error) => return Err(without((copies, low), error)),
+        };
+        match add_member(&mut copies, low, high) {
+            Ok(()) => {}
+            Err(error) => return Err(without(copies, error)),
+        }
     }
     Ok(copies)
 }
@@ -224,7 +248,6 @@ fn expanded_members(
 // Puts the instances of a loop's body after the operands of a sum.
 #[cycle(expanded)]
 fn expand_instances(
-    alloc: Global,
     words: &mut Words<'_>,
     letters: &mut [Option<Name>],
     cell: Option<u32>,
@@ -239,26 +262,22 @@ fn expand_instances(
 {
     let singles = single_count(indexes);
     if singles > 1 {
-        return expand_singles(alloc, words, letters, cell, singles, indexes, body, links);
+        return expand_singles(words, letters, cell, singles, indexes, body, links);
     }
     match indexes {
         [] => {
-            let term = expanded_box(alloc, words, letters, cell, body)?;
-            links.push(PLink {
-                op: Op::Add,
-                term: Box::into_inner(term),
-            })?;
+            let term = expanded_box(words, letters, cell, body)?;
+            add_link(links, Op::Add, term)
         }
-        [index, rest @ ..] => expand_index(alloc, words, letters, cell, index, rest, body, links)?,
+        [index, rest @ ..] => expand_index(words, letters, cell, index, rest, body, links),
     }
-    Ok(())
 }
 
 // The same where several indexes of one value come first. Their letters are bound together, so that a header of many of these
 // is no deeper than one of a single index.
+#[inline(never)]
 #[cycle(expanded)]
 fn expand_singles(
-    alloc: Global,
     words: &mut Words<'_>,
     letters: &[Option<Name>],
     cell: Option<u32>,
@@ -274,16 +293,15 @@ fn expand_singles(
     ensures { OnOk result (links.new.items
         ≡ links.old.items ++ map (instance_link cell body.now) (instances indexes.now letters.now)) }
 {
-    let mut inner = bound_by(alloc, letters, &indexes[..singles])?;
+    let mut inner = bound_by(words.alloc, letters, &indexes[..singles])?;
     let rest = &indexes[singles..];
-    expand_instances(alloc, words, inner.as_mut_slice(), cell, rest, body, links)?;
+    expand_instances(words, inner.as_mut_slice(), cell, rest, body, links)?;
     Ok(())
 }
 
 // The same for each value of an index, which is slower than these.
 #[cycle(expanded)]
 fn expand_index(
-    alloc: Global,
     words: &mut Words<'_>,
     letters: &mut [Option<Name>],
     cell: Option<u32>,
@@ -297,19 +315,13 @@ fn expand_index(
         ≡ links.old.items ++ map (instance_link cell body.now) (instances (index.now ∷ indexes.now) letters.old)) }
     ensures letters { OnOk result (letters.new ≡ letters.old) }
 {
-    let values = index_values(alloc, index)?;
+    let values = index_values(words.alloc, index)?;
     for value in &values {
-        expand_bound(
-            alloc,
-            words,
-            letters,
-            cell,
-            index.letter,
+        let binding = Binding {
+            letter: index.letter,
             value,
-            indexes,
-            body,
-            links,
-        )?;
+        };
+        expand_bound(words, letters, cell, &binding, indexes, body, links)?;
     }
     Ok(())
 }
@@ -317,48 +329,22 @@ fn expand_index(
 // The same where a letter stands for a value. What it stood for outside of the loop is put back.
 #[cycle(expanded)]
 fn expand_bound(
-    alloc: Global,
     words: &mut Words<'_>,
     letters: &mut [Option<Name>],
     cell: Option<u32>,
-    letter: u8,
-    value: &Name,
+    binding: &Binding<'_>,
     indexes: &[Index],
     body: &Term,
     links: &mut Vec<PLink>,
 ) -> Result<(), AllocError>
     requires { length letters.old ≡ 256 }
     ensures links { OnOk result (links.new.items
-        ≡ links.old.items ++ map (instance_link cell body.now) (instances indexes.now (bind letters.old letter value.now))) }
+        ≡ links.old.items ++ map (instance_link cell body.now) (instances indexes.now (bind letters.old binding.now.letter binding.now.value.now))) }
     ensures letters { OnOk result (letters.new ≡ letters.old) }
 {
-    let value = value.copy(alloc)?;
-    let outer = replace(&mut letters[letter as usize], Some(value));
-    expand_instances(alloc, words, letters, cell, indexes, body, links)?;
-    letters[letter as usize] = outer;
+    let value = binding.value.copy(words.alloc)?;
+    let outer = replace(&mut letters[binding.letter as usize], Some(value));
+    expand_instances(words, letters, cell, indexes, body, links)?;
+    letters[binding.letter as usize] = outer;
     Ok(())
-}
-
-// The sum of terms in order, each of which is a further operand: one term is that term itself.
-fn summed(alloc: Global, links: Vec<PLink>) -> Result<Box<PTerm>, AllocError>
-    ensures { IfOk result (λ t. t.value ≡ links_sum links.items) }
-{
-    let mut links = links;
-    if links.is_empty() {
-        return boxed(alloc, PNode::Lit(Value::Undef));
-    }
-    let first = links.remove(0);
-    let first = Box::new(alloc, first.term)?;
-    with_links(alloc, first, links)
-}
-
-// A chain, or its first operand where there are no more.
-fn with_links(alloc: Global, first: Box<PTerm>, links: Vec<PLink>) -> Result<Box<PTerm>, AllocError>
-    ensures { IfOk result (λ t. t.value ≡ chain_of first.value links.items) }
-{
-    if links.is_empty() {
-        Ok(first)
-    } else {
-        boxed(alloc, PNode::Chain(first, links))
-    }
 }

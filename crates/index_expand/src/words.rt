@@ -9,6 +9,8 @@ use std::alloc::{AllocError, Global};
 /// a valid source take in memory is bounded by its declarations, however many instances its loops have.
 #[derive(Drop)]
 pub(crate) struct Words<'a> {
+    /// Where all that an expansion makes takes its memory.
+    pub(crate) alloc: Global,
     symbols: &'a Symbols,
     /// For each variable its name, once it is needed.
     names: Vec<Option<SharedName>>,
@@ -22,14 +24,19 @@ impl<'a> Words<'a> {
         for _ in 0..count {
             names.push(None)?;
         }
-        Ok(Words { symbols, names })
+        Ok(Words {
+            alloc,
+            symbols,
+            names,
+        })
     }
 
     /// A word, in one copy with the other words of these bytes where a variable has the name. Its only error is running out of
     /// memory.
-    pub(crate) fn shared(&mut self, alloc: Global, word: &[u8]) -> Result<SharedName, AllocError>
+    pub(crate) fn shared(&mut self, word: &[u8]) -> Result<SharedName, AllocError>
         ensures { IfOk result (λ name. name ≡ word.now) }
     {
+        let alloc = self.alloc;
         let Some(number) = self.symbols.find(word) else {
             return own(alloc, word);
         };

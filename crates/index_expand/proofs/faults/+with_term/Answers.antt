@@ -1,22 +1,22 @@
 use Rattle.std.proofs.Common.{arith, ap, sym, refl, drop, ◌+◌, ◌++◌, ◌∙◌}
-use Rattle.m_ast.specs.inner.Falls.{sizes_fall_terms, sizes_fall_links, sizes_fall_members}
-use Rattle.m_ast.specs.Syntax.{nodes}
+use Rattle.m_ast.specs.Syntax.{loop}
 use Rattle.m_ast.specs.View.{syntax_of, terms_of, links_of, members_of}
 use Rattle.index_expand.specs.LoopFaults.{least, term_faults, terms_faults, links_faults, members_faults, header_faults, scope_within}
 use Rattle.index_expand.proofs.FaultLemmas.{drop_next, least_next, least_both}
+use Rattle.index_expand.proofs.TermLemmas.{term_below, link_below, low_below, high_below}
 use Rattle.index_expand.proofs.faults.+with_term.Goals as goal
 
-pub with_term-with_terms-requires : goal.with_term-with_terms-requires
-with_term-with_terms-requires t c =
-    rw c.deref-in-Apply.ensures.value (omega (arith, sizes_fall_terms c.in-Apply.arguments.items, ap nodes c.term.view_is, ap (λ n. nodes (syntax_of n)) c.in-Apply.is), tt)
+pub with_terms-with_term-first-requires : goal.with_terms-with_term-first-requires
+with_terms-with_term-first-requires t c = (omega (arith, term_below c.args.terms.now c.loop-term.term-index c.term-item.result c.loop-term-test.true c.term-item.is), tt)
 
-pub with_term-with_links-requires : goal.with_term-with_links-requires
-with_term-with_links-requires t c =
-    rw c.deref-in-Chain-2.ensures.value (omega (arith, sizes_fall_links c.in-Chain.links.items, ap nodes c.term.view_is, ap (λ n. nodes (syntax_of n)) c.in-Chain.is), tt)
+pub with_links-with_term-first-requires : goal.with_links-with_term-first-requires
+with_links-with_term-first-requires t c = (omega (arith, link_below c.args.links.now c.loop-link.link-index c.link-item.result c.loop-link-test.true c.link-item.is), tt)
 
-pub with_term-with_members-requires : goal.with_term-with_members-requires
-with_term-with_members-requires t c =
-    rw c.deref-in-Among-2.ensures.value (omega (arith, sizes_fall_members c.in-Among.members.items, ap nodes c.term.view_is, ap (λ n. nodes (syntax_of n)) c.in-Among.is), tt)
+pub with_members-with_term-first-requires : goal.with_members-with_term-first-requires
+with_members-with_term-first-requires t c = (omega (arith, low_below c.args.members.now c.loop-member.member-index c.member-item.result c.loop-member-test.true c.member-item.is), tt)
+
+pub with_members-with_term-first-requires-in-loop-member : goal.with_members-with_term-first-requires-in-loop-member
+with_members-with_term-first-requires-in-loop-member t c = (omega (arith, high_below c.args.members.now c.loop-member.member-index c.member-item.result c.loop-member-test.true c.member-item.is), tt)
 
 pub with_terms-loop-term-preserved : goal.with_terms-loop-term-preserved
 with_terms-loop-term-preserved t c =
@@ -60,9 +60,12 @@ with_term-returns-in-Among t c =
 
 pub with_term-returns-in-Loop : goal.with_term-returns-in-Loop
 with_term-returns-in-Loop t c =
-    let e = sym c.term.view_is ∙ ap syntax_of c.in-Loop.is in
+    let whole = sym (ap syntax_of c.in-Loop.is) ∙ c.term.view_is in
+    c.with_loop.ensures ∙ ap (λ a. least c.args.first (term_faults c.args.scope.now a)) (ap (loop c.in-Loop.header) c.deref-in-Loop.ensures ∙ whole)
+
+pub with_loop-returns : goal.with_loop-returns
+with_loop-returns t c =
     let inner = c.scope_within.ensures ∙ ap (λ is. scope_within is c.args.scope.now) c.as_slice.ensures in
-    least_both c.args.first c.with_header-first.result c.with_term-in-Loop.result (header_faults c.in-Loop.header) (term_faults (scope_within c.in-Loop.header.indexes c.args.scope.now) c.in-Loop.body.value)
+    least_both c.args.first c.with_header-first.result c.with_term.result (header_faults c.args.header.now) (term_faults (scope_within c.args.header.now.indexes c.args.scope.now) c.args.body.now)
     c.with_header-first.ensures
-    (c.with_term-in-Loop.ensures ∙ (λ k. least c.with_header-first.result (term_faults (inner k) (c.deref-in-Loop.ensures k))))
-    ∙ ap (λ a. least c.args.first (term_faults c.args.scope.now a)) (sym e)
+    (c.with_term.ensures ∙ (λ k. least c.with_header-first.result (term_faults (inner k) c.args.body.now)))

@@ -1,8 +1,8 @@
 use Rattle.std.proofs.Common.{◌≡◌, arith, ap, sym, subst, ◌∙◌, length, ◌++◌, map}
 use Rattle.std.proofs.Math.ListN.{set}
 use Rattle.std.specs.Prelude.{IfOk}
-use Rattle.m_ast.specs.Syntax.{Syntax, apply, chain, among}
-use Rattle.m_ast.specs.View.{syntax_of, terms_of}
+use Rattle.m_ast.specs.Syntax.{Syntax, apply, chain, among, loop}
+use Rattle.m_ast.specs.View.{syntax_of, terms_of, links_of, members_of}
 use Rattle.plain_rules.specs.View.{links_of as plain_links_of, members_of as plain_members_of}
 use Rattle.loop_values.specs.Headers.{instances}
 use Rattle.loop_values.specs.Letters.{bind}
@@ -13,8 +13,8 @@ use Rattle.index_expand.proofs.terms.+expanded.Goals as goal
 
 pub expand_bound-returns-clause-letters : goal.expand_bound-returns-clause-letters
 expand_bound-returns-clause-letters t c =
-    ap (λ ls. set ls c.args.letter c.replace-outer.result) c.in_ok-expand_instances.ensures.letters
-    ∙ put_back c.args.letters.now c.args.letter _ c.replace-outer.result c.index-letters-letter.result c.replace-outer.ensures.value
+    ap (λ ls. set ls c.args.binding.now.letter c.replace-outer.result) c.in_ok-expand_instances.ensures.letters
+    ∙ put_back c.args.letters.now c.args.binding.now.letter _ c.replace-outer.result c.index-letters-binding.result c.replace-outer.ensures.value
 
 pub expand_index-loop-value-preserved : goal.expand_index-loop-value-preserved
 expand_index-loop-value-preserved t c = record {
@@ -26,46 +26,63 @@ expand_index-loop-value-preserved t c = record {
       ∙ ap (λ ls. c.loop-value.links.items ++ map (instance_link c.args.cell c.args.body.now) (instances c.args.indexes.now (bind ls c.args.index.now.letter c.value-item.result))) c.loop-value.invariant.letters);
 }
 
-pub expanded_box-returns-in_ok-expanded_terms-in-Apply-clause-term : goal.expanded_box-returns-in_ok-expanded_terms-in-Apply-clause-term
-expanded_box-returns-in_ok-expanded_terms-in-Apply-clause-term t c =
-    let cell = c.args.cell in
-    let letters = c.args.letters.now in
+pub expanded_box-returns-in-Apply-clause-term : goal.expanded_box-returns-in-Apply-clause-term
+expanded_box-returns-in-Apply-clause-term t c =
     let whole = sym (ap syntax_of c.in-Apply.is) ∙ c.term.view_is in
-    let items = c.in_ok-expanded_terms-in-Apply.ensures.terms ∙ ap (map (expanded cell letters)) c.deref-in-Apply.ensures.value in
-    let P : Syntax → Type 0 = λ s. IfOk c.boxed-in-Apply.result (λ made. made.value ≡ s) in
-    subst P (ap (λ xs. apply c.in-Apply.op (terms_of xs)) items ∙ ap (apply c.in-Apply.op) (terms_map cell letters c.in-Apply.arguments.items) ∙ ap (expanded cell letters) whole) c.boxed-in-Apply.ensures
+    let P : Syntax → Type 0 = λ s. IfOk c.expanded_apply.result (λ made. made.value ≡ expanded c.args.cell c.args.letters.now s) in
+    subst P (ap (λ xs. apply c.in-Apply.op (terms_of xs)) c.deref-in-Apply.ensures.value ∙ whole) c.expanded_apply.ensures.term
 
-pub expanded_box-returns-in_ok-expanded_links-in-Chain-clause-term : goal.expanded_box-returns-in_ok-expanded_links-in-Chain-clause-term
-expanded_box-returns-in_ok-expanded_links-in-Chain-clause-term t c =
-    let cell = c.args.cell in
-    let letters = c.args.letters.now in
+pub expanded_box-returns-in-Chain-clause-term : goal.expanded_box-returns-in-Chain-clause-term
+expanded_box-returns-in-Chain-clause-term t c =
     let whole = sym (ap syntax_of c.in-Chain.is) ∙ c.term.view_is in
-    let first = c.in_ok-first-in-Chain.ensures.term ∙ ap (expanded cell letters) c.deref-in-Chain.ensures in
-    let items = c.in_ok-expanded_links-in-Chain.ensures.links ∙ (λ k. map (link_expanded cell (c.in_ok-first-in-Chain.ensures.letters k)) (c.deref-in-Chain-2.ensures.value k)) in
-    let rest = ap plain_links_of items ∙ links_map cell letters c.in-Chain.links.items in
-    let P : Syntax → Type 0 = λ s. IfOk c.boxed-in-Chain.result (λ made. made.value ≡ s) in
-    subst P ((λ k. chain (first k) (rest k)) ∙ ap (expanded cell letters) whole) c.boxed-in-Chain.ensures
+    let P : Syntax → Type 0 = λ s. IfOk c.expanded_chain.result (λ made. made.value ≡ expanded c.args.cell c.args.letters.now s) in
+    subst P ((λ k. chain (c.deref-in-Chain.ensures k) (links_of (c.deref-in-Chain-2.ensures.value k))) ∙ whole) c.expanded_chain.ensures.term
 
-pub expanded_box-returns-in_ok-expanded_members-in-Among-clause-term : goal.expanded_box-returns-in_ok-expanded_members-in-Among-clause-term
-expanded_box-returns-in_ok-expanded_members-in-Among-clause-term t c =
-    let cell = c.args.cell in
-    let letters = c.args.letters.now in
+pub expanded_box-returns-in-Among-clause-term : goal.expanded_box-returns-in-Among-clause-term
+expanded_box-returns-in-Among-clause-term t c =
     let whole = sym (ap syntax_of c.in-Among.is) ∙ c.term.view_is in
-    let first = c.in_ok-first-in-Among.ensures.term ∙ ap (expanded cell letters) c.deref-in-Among.ensures in
-    let items = c.in_ok-expanded_members-in-Among.ensures.members ∙ (λ k. map (member_expanded cell (c.in_ok-first-in-Among.ensures.letters k)) (c.deref-in-Among-2.ensures.value k)) in
-    let rest = ap plain_members_of items ∙ members_map cell letters c.in-Among.members.items in
-    let P : Syntax → Type 0 = λ s. IfOk c.boxed-in-Among.result (λ made. made.value ≡ s) in
-    subst P ((λ k. among c.in-Among.negated (first k) (rest k)) ∙ ap (expanded cell letters) whole) c.boxed-in-Among.ensures
+    let P : Syntax → Type 0 = λ s. IfOk c.expanded_among.result (λ made. made.value ≡ expanded c.args.cell c.args.letters.now s) in
+    subst P ((λ k. among c.in-Among.negated (c.deref-in-Among.ensures k) (members_of (c.deref-in-Among-2.ensures.value k))) ∙ whole) c.expanded_among.ensures.term
 
-pub expanded_box-returns-in_ok-expand_instances-in-Loop-clause-term : goal.expanded_box-returns-in_ok-expand_instances-in-Loop-clause-term
-expanded_box-returns-in_ok-expand_instances-in-Loop-clause-term t c =
+pub expanded_box-returns-in-Loop-clause-term : goal.expanded_box-returns-in-Loop-clause-term
+expanded_box-returns-in-Loop-clause-term t c =
+    let whole = sym (ap syntax_of c.in-Loop.is) ∙ c.term.view_is in
+    let P : Syntax → Type 0 = λ s. IfOk c.expanded_loop.result (λ made. made.value ≡ expanded c.args.cell c.args.letters.now s) in
+    subst P (ap (loop c.in-Loop.header) c.deref-in-Loop.ensures ∙ whole) c.expanded_loop.ensures.term
+
+pub expanded_apply-returns-clause-term : goal.expanded_apply-returns-clause-term
+expanded_apply-returns-clause-term t c =
     let cell = c.args.cell in
     let letters = c.args.letters.now in
-    let whole = sym (ap syntax_of c.in-Loop.is) ∙ c.term.view_is in
-    let operands = c.in_ok-expand_instances-in-Loop.ensures.links
-    ∙ (λ k. c.new-links.ensures.items k ++ map (instance_link cell (c.deref-in-Loop.ensures k)) (instances (c.as_slice-indexes.ensures k) letters)) in
+    let P : Syntax → Type 0 = λ s. IfOk c.boxed.result (λ made. made.value ≡ s) in
+    subst P (ap (λ xs. apply c.args.op (terms_of xs)) c.in_ok-arguments.ensures.terms ∙ ap (apply c.args.op) (terms_map cell letters c.args.arguments.now)) c.boxed.ensures
+
+pub expanded_chain-returns-in-Ok-clause-term : goal.expanded_chain-returns-in-Ok-clause-term
+expanded_chain-returns-in-Ok-clause-term t c =
+    let cell = c.args.cell in
+    let letters = c.args.letters.now in
+    let items = c.in-Ok.ensures.links ∙ ap (λ ls. map (link_expanded cell ls) c.args.links.now) c.in_ok-first.ensures.letters in
+    let rest = ap plain_links_of items ∙ links_map cell letters c.args.links.now in
+    let P : Syntax → Type 0 = λ s. IfOk c.boxed.result (λ made. made.value ≡ s) in
+    subst P (λ k. chain (c.in_ok-first.ensures.term k) (rest k)) c.boxed.ensures
+
+pub expanded_among-returns-in-Ok-clause-term : goal.expanded_among-returns-in-Ok-clause-term
+expanded_among-returns-in-Ok-clause-term t c =
+    let cell = c.args.cell in
+    let letters = c.args.letters.now in
+    let items = c.in-Ok.ensures.members ∙ ap (λ ls. map (member_expanded cell ls) c.args.members.now) c.in_ok-first.ensures.letters in
+    let rest = ap plain_members_of items ∙ members_map cell letters c.args.members.now in
+    let P : Syntax → Type 0 = λ s. IfOk c.boxed.result (λ made. made.value ≡ s) in
+    subst P (λ k. among c.args.negated (c.in_ok-first.ensures.term k) (rest k)) c.boxed.ensures
+
+pub expanded_loop-returns-in-Ok-clause-term : goal.expanded_loop-returns-in-Ok-clause-term
+expanded_loop-returns-in-Ok-clause-term t c =
+    let cell = c.args.cell in
+    let letters = c.args.letters.now in
+    let operands = c.in-Ok.ensures.links
+    ∙ (λ k. c.new-links.ensures.items k ++ map (instance_link cell c.args.body.now) (instances (c.as_slice-indexes.ensures k) letters)) in
     let P : Syntax → Type 0 = λ s. IfOk c.summed.result (λ made. made.value ≡ s) in
-    subst P (ap links_sum operands ∙ sum_is cell c.in-Loop.body.value (instances c.in-Loop.header.indexes letters) ∙ ap (expanded cell letters) whole) c.summed.ensures
+    subst P (ap links_sum operands ∙ sum_is cell c.args.body.now (instances c.args.header.now.indexes letters)) c.summed.ensures
 
 pub expanded_terms-expanded_box-requires : goal.expanded_terms-expanded_box-requires
 expanded_terms-expanded_box-requires t c = (
@@ -88,5 +105,5 @@ expanded_members-expanded_box-requires t c = (
 pub expanded_members-expanded_box-requires-in-loop-member : goal.expanded_members-expanded_box-requires-in-loop-member
 expanded_members-expanded_box-requires-in-loop-member t c = (
   omega (arith, high_below c.args.members.now c.loop-member.member-index c.member-item.result c.loop-member-test.true c.member-item.is),
-  ap length (c.in_ok-low.ensures.letters ∙ c.loop-member.invariant.letters) ∙ c.requires,
+  ap length (c.in-Ok.ensures.letters ∙ c.loop-member.invariant.letters) ∙ c.requires,
 )

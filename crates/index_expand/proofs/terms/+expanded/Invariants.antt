@@ -11,6 +11,21 @@ use Rattle.index_expand.proofs.terms.+expanded.Given as goal
 abbrev pub decreases-expanded_box : goal.decreases-expanded_box
 decreases-expanded_box l = load l.term.now
 
+abbrev pub decreases-expanded_cell : goal.decreases-expanded_cell
+decreases-expanded_cell l = load l.index.now + 1
+
+abbrev pub decreases-expanded_apply : goal.decreases-expanded_apply
+decreases-expanded_apply l = terms_load (terms_of l.arguments.now) + 1
+
+abbrev pub decreases-expanded_chain : goal.decreases-expanded_chain
+decreases-expanded_chain l = load l.first.now + links_load (links_of l.links.now) + 1
+
+abbrev pub decreases-expanded_among : goal.decreases-expanded_among
+decreases-expanded_among l = load l.first.now + members_load (members_of l.members.now) + 1
+
+abbrev pub decreases-expanded_loop : goal.decreases-expanded_loop
+decreases-expanded_loop l = load l.body.now + 3 * length l.header.now.indexes + 2
+
 abbrev pub decreases-expanded_terms : goal.decreases-expanded_terms
 decreases-expanded_terms l = terms_load (terms_of l.terms.now)
 

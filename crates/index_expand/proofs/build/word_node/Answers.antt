@@ -1,7 +1,7 @@
-use Rattle.std.proofs.Common.{arith, length, ap, ◌≤◌, ◌^◌}
+use Rattle.std.proofs.Common.{arith, length, ◌≤◌, ◌^◌}
 use Rattle.std.proofs.Math.Nat.{pow-le-pow_right}
 use Rattle.std.proofs.lemmas.Bool.{OnTrue_at}
-use Rattle.index_expand.proofs.terms.word_node.Goals as goal
+use Rattle.index_expand.proofs.build.word_node.Goals as goal
 
 pub number_node-requires : goal.number_node-requires
 number_node-requires c =
