@@ -22,7 +22,7 @@ pub fn give_fault<K: Sink>(fault: Fault<'_>, out: &mut K) -> Result<(), Failed>
 {
     match fault {
         Fault::Usage => give_words(out, USAGE, b""),
-        Fault::ListLine(line) => give_number(out, b"refused list line ", line.into(), b"", b""),
+        Fault::ListLine(line) => give_number(out, b"refused list line ", line.into()),
         Fault::TooManyFiles => give_words(out, b"refused too many files", b""),
         Fault::FileTooLong(name) => give_words(out, b"refused file too long ", name),
         Fault::AtPlace(file, place, fault) => give_place(out, file, place, fault.words(), b""),
@@ -31,53 +31,25 @@ pub fn give_fault<K: Sink>(fault: Fault<'_>, out: &mut K) -> Result<(), Failed>
         }
         Fault::Cycle(names) => give_names(out, b"refused cycle", names),
         Fault::DriverLine(line, fault) => {
-            give_number(
-                out,
-                b"refused driver line ",
-                line.into(),
-                b": ",
-                fault.words(),
-            )
+            give_cause(out, b"refused driver line ", line, fault.words())
         }
         Fault::DriverName(line, fault, name) => give_driver_name(out, line, fault.words(), name),
         Fault::NoMain => give_words(out, b"refused driver: no main", b""),
         Fault::DriverRecursion(names) => give_names(out, b"refused driver recursion", names),
-        Fault::DriverTooLarge(weight) => {
-            give_number(out, b"refused driver too large ", weight, b"", b"")
-        }
-        Fault::RequestLine(line) => {
-            give_number(out, b"refused requests line ", line.into(), b"", b"")
-        }
+        Fault::DriverTooLarge(weight) => give_number(out, b"refused driver too large ", weight),
+        Fault::RequestLine(line) => give_number(out, b"refused requests line ", line.into()),
         Fault::TooManyRequests => give_words(out, b"refused too many requests", b""),
         Fault::HouseholdHeader => give_words(out, b"refused household: bad header", b""),
         Fault::TooManyRows => give_words(out, b"refused household: too many rows", b""),
         Fault::HouseholdLine(line, fault) => {
-            give_number(
-                out,
-                b"refused household line ",
-                line.into(),
-                b": ",
-                fault.words(),
-            )
+            give_cause(out, b"refused household line ", line, fault.words())
         }
         Fault::CodeHeader => give_words(out, b"refused code: bad header", b""),
         Fault::CodeLine(line, fault) => {
-            give_number(
-                out,
-                b"refused code line ",
-                line.into(),
-                b": ",
-                fault.words(),
-            )
+            give_cause(out, b"refused code line ", line, fault.words())
         }
         Fault::ReportLine(line, fault) => {
-            give_number(
-                out,
-                b"refused report line ",
-                line.into(),
-                b": ",
-                fault.words(),
-            )
+            give_cause(out, b"refused report line ", line, fault.words())
         }
         Fault::InputTooLong => give_words(out, b"refused input too long", b""),
         Fault::Unreadable(name) => give_words(out, b"unreadable ", name),
@@ -91,33 +63,35 @@ fn give_words<K: Sink>(out: &mut K, words: &[u8], name: &[u8]) -> Result<(), Fai
     give_pieces(out, &[words, name, b"\n"])
 }
 
-// A line with a number, and after it what the fault is.
-fn give_number<K: Sink>(
-    out: &mut K,
-    words: &[u8],
-    number: u64,
-    behind: &[u8],
-    fault: &[u8],
-) -> Result<(), Failed>
-    ensures { Gives K.written K.faults out.old out.new result
-        (joined (words.now ∷ decimal number ∷ behind.now ∷ fault.now ∷ new_line ∷ [])) }
+// A line that ends with a number.
+fn give_number<K: Sink>(out: &mut K, words: &[u8], number: u64) -> Result<(), Failed>
+    ensures { Gives K.written K.faults out.old out.new result (joined (words.now ∷ decimal number ∷ new_line ∷ [])) }
 {
     let mut buffer = Buffer::new();
     let digits = buffer.format(number).as_bytes();
-    give_five(out, words, digits, behind, fault)
+    give_words(out, words, digits)
 }
 
-fn give_five<'a, K: Sink>(
+// A line with a line's number, and after it what its fault is.
+fn give_cause<K: Sink>(out: &mut K, words: &[u8], line: u32, cause: &[u8]) -> Result<(), Failed>
+    ensures { Gives K.written K.faults out.old out.new result
+        (joined (words.now ∷ decimal line ∷ codes ": " ∷ cause.now ∷ new_line ∷ [])) }
+{
+    let mut buffer = Buffer::new();
+    let digits = buffer.format(line).as_bytes();
+    give_caused(out, words, digits, cause)
+}
+
+fn give_caused<'a, K: Sink>(
     out: &mut K,
     words: &'a [u8],
     digits: &'a [u8],
-    behind: &'a [u8],
-    fault: &'a [u8],
+    cause: &'a [u8],
 ) -> Result<(), Failed>
     ensures { Gives K.written K.faults out.old out.new result
-        (joined (words.now ∷ digits.now ∷ behind.now ∷ fault.now ∷ new_line ∷ [])) }
+        (joined (words.now ∷ digits.now ∷ codes ": " ∷ cause.now ∷ new_line ∷ [])) }
 {
-    give_pieces(out, &[words, digits, behind, fault, b"\n"])
+    give_pieces(out, &[words, digits, b": ", cause, b"\n"])
 }
 
 fn give_driver_name<K: Sink>(
@@ -163,7 +137,8 @@ fn give_at<'a, K: Sink>(
     name: &'a [u8],
 ) -> Result<(), Failed>
     ensures { Gives K.written K.faults out.old out.new result
-        (joined (codes "refused " ∷ file.now ∷ codes " line " ∷ line.now ∷ codes " byte " ∷ byte.now ∷ codes ": " ∷ fault.now ∷ name.now ∷ new_line ∷ [])) }
+        (joined (codes "refused " ∷ file.now ∷ codes " line " ∷ line.now ∷ codes " byte " ∷ byte.now
+        ∷ codes ": " ∷ fault.now ∷ name.now ∷ new_line ∷ [])) }
 {
     give_pieces(
         out,

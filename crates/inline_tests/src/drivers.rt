@@ -5,7 +5,6 @@ ghost use Rattle.micro_m.specs.Bases.{IsValidBase};
 ghost use Rattle.flat_code.specs.Runs.{IsFlat};
 
 use driver_core::{CCommand, CCommandNode, CNode, CTerm, Core};
-use driver_weight::weight;
 use flat_code::{Flat, run_flat};
 use input_kinds::{KindCells, KindIndex};
 use m_ast::{Item, Role, VariableItem};
@@ -99,7 +98,7 @@ fn kind(alloc: Global) -> Option<KindCells> {
 }
 
 // A base without rules.
-fn no_rules(alloc: Global, cells: u32) -> Base
+pub fn no_rules(alloc: Global, cells: u32) -> Base
     ensures valid { IsValidBase result }
     ensures cells { result.cells ≡ cells }
     ensures labels { result.labels ≡ [] }
@@ -115,7 +114,7 @@ fn no_rules(alloc: Global, cells: u32) -> Base
 
 // What a run tells: the value of C, a stop, or nothing where the call gave up.
 #[derive(Clone, Copy, PartialEq, Eq)]
-enum Told {
+pub enum Told {
     Value(Value),
     Stopped,
     Nothing,
@@ -272,7 +271,7 @@ fn main_of(alloc: Global, driver: u32) -> Vec<CCommand> {
 }
 
 // A driver of three cells whose functions have these bodies.
-fn core_of(alloc: Global, bodies: Vec<Seq<CCommand>>, main: u32) -> Core {
+pub fn core_of(alloc: Global, bodies: Vec<Seq<CCommand>>, main: u32) -> Core {
     Core {
         cells: 3,
         names: Seq::from_vec(Vec::new(alloc)),
@@ -303,7 +302,7 @@ fn told_over(alloc: Global, core: &Core, all: &[Item], a: Value) -> Told {
     }
 }
 
-fn found(alloc: Global, core: &Core, a: Value) -> Told {
+pub fn found(alloc: Global, core: &Core, a: Value) -> Told {
     match items(alloc, None) {
         Ok(all) => told_over(alloc, core, &all, a),
         Err(_) => Told::Nothing,
@@ -325,7 +324,7 @@ const ROWS: [(u32, i64, i64); 11] = [
     (7, 5, 7),
 ];
 
-fn wanted(c: i64) -> Told {
+pub fn wanted(c: i64) -> Told {
     if c == 0 {
         Told::Value(Value::Undef)
     } else {
@@ -359,81 +358,4 @@ fn conditions_stop(rt: HostRuntime) {
     assert!(rt; is_found(rt.alloc(), 0, Value::Over, Told::Stopped));
     assert!(rt; is_found(rt.alloc(), 1, units(9), Told::Stopped));
     assert!(rt; is_found(rt.alloc(), 1, Value::Undef, wanted(0)));
-}
-
-fn weighs(alloc: Global, core: &Core, wanted: u64) -> bool {
-    match weight(alloc, core, &no_rules(alloc, 3)) {
-        Ok(cost) => cost == wanted,
-        Err(_) => false,
-    }
-}
-
-// Adds a function. Where there is no memory it isn't there, so the driver has another weight.
-fn add_function(alloc: Global, bodies: &mut Vec<Seq<CCommand>>, command: CCommand) {
-    let _added = bodies.push(Seq::from_vec(one(alloc, command)));
-}
-
-// Four functions, of which each calls the next, and the last the first.
-fn ring(alloc: Global) -> Core {
-    let mut bodies = Vec::new(alloc);
-    for next in [1, 2, 3, 0] {
-        add_function(alloc, &mut bodies, call(alloc, 1, &[2], next));
-    }
-    core_of(alloc, bodies, 0)
-}
-
-// Each level of calls costs 3, and there are as many as functions, and one more.
-#[test]
-fn a_ring_of_functions_is_weighed(rt: HostRuntime) {
-    assert!(rt; weighs(rt.alloc(), &ring(rt.alloc()), 15));
-}
-
-// 300,000 functions, of which each calls the next, and one that sets C.
-fn chain(alloc: Global) -> Core {
-    let mut bodies = Vec::new(alloc);
-    for n in 0..300_000_u32 {
-        add_function(alloc, &mut bodies, call(alloc, 1, &[2], n + 1));
-    }
-    add_function(alloc, &mut bodies, set(2, 9));
-    core_of(alloc, bodies, 0)
-}
-
-// The calls weigh 3 each, and the assignment 1.
-#[test]
-fn a_chain_of_functions_is_weighed(rt: HostRuntime) {
-    assert!(rt; weighs(rt.alloc(), &chain(rt.alloc()), 900_001));
-}
-
-// A function of 1,000 calls of the rules.
-fn first_body(alloc: Global) -> Seq<CCommand> {
-    let mut block = Vec::new(alloc);
-    for _ in 0..1000 {
-        add(&mut block, rules(alloc, 1, &[2]));
-    }
-    Seq::from_vec(block)
-}
-
-// A function of two calls of this one.
-fn doubled_body(alloc: Global, function: u32) -> Seq<CCommand> {
-    let mut block = one(alloc, call(alloc, 1, &[2], function));
-    add(&mut block, call(alloc, 1, &[2], function));
-    Seq::from_vec(block)
-}
-
-// A driver that comes to 2^18 calls of a function with 1,000 calls of the rules.
-fn many_rules(alloc: Global) -> Core {
-    let mut bodies = Vec::new(alloc);
-    let _first = bodies.push(first_body(alloc));
-    for n in 0..18 {
-        let _next = bodies.push(doubled_body(alloc, n));
-    }
-    core_of(alloc, bodies, 18)
-}
-
-// Over a base without rules 262,144,000 calls of the rules weigh nothing, and the 524,286 calls of functions 3 each.
-#[test]
-fn calls_of_no_rules_cost_nothing(rt: HostRuntime) {
-    let core = many_rules(rt.alloc());
-    assert!(rt; weighs(rt.alloc(), &core, 1_572_858));
-    assert!(rt; found(rt.alloc(), &core, units(5)) == wanted(0));
 }

@@ -6,3 +6,5 @@
 mod drivers;
 #[cfg(test)]
 mod notes;
+#[cfg(test)]
+mod weights;

@@ -4,6 +4,7 @@
 #![tactic(auto)]
 
 mod chain;
+mod checks;
 mod clear;
 mod moment;
 mod room;

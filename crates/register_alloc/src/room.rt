@@ -1,25 +1,25 @@
 //! Registers and slots, and the code that fills them.
 
-ghost use Rattle.std.specs.Prelude.{◌≡◌, ℕ, suc, ◌+◌, ◌-◌, ◌*◌, ◌<◌, ◌≤◌, ◌↔◌, ◌⊎◌, ◌==◌, ◌&&◌, length, count_by, IsTrue, IfSome, IfNone, IfOk, OnOk, Some, None, true, false, is_some, slice_index_or, List, Option};
-ghost use Rattle.std.specs.List.{list_any};
+ghost use Rattle.std.specs.Prelude.{◌≡◌, ℕ, suc, ◌+◌, ◌-◌, ◌<◌, ◌≤◌, ◌==◌, ◌&&◌, length, IfSome, IfNone, IfOk, OnOk, Some, None, true, false, List, Option};
 ghost use Rattle.flat_code.specs.Entries.{node_at};
 ghost use Rattle.flat_code.specs.Tidy.{IsNormal};
 ghost use Rattle.reg_machine.specs.Flow.{loads_of};
-ghost use Rattle.register_alloc.specs.Width.{reads, check_reads, width_of, reads_by, tests_by, one_if};
-ghost use Rattle.register_alloc.specs.inner.Tables.{look, In, is_live, is_busy};
+ghost use Rattle.register_alloc.specs.Width.{reads, width_of, reads_by, one_if};
+ghost use Rattle.register_alloc.specs.inner.Tables.{look, is_live, is_busy};
 ghost use Rattle.register_alloc.specs.inner.Valid.{IsValid};
-ghost use Rattle.register_alloc.specs.inner.Sound.{IsSound, live_at, AllBusy, IsKept, IsSpare, HasSources, instr_of, Order, Cleared, IsSoundWith, given_before, given_part, IsSettled, nodes_read, checks_read, count_given, IsShort};
+ghost use Rattle.register_alloc.specs.inner.Sound.{IsSound, IsSoundWith, live_at, AllBusy, IsKept, IsSpare, IsSettled, IsShort};
+ghost use Rattle.register_alloc.specs.inner.Sound.{HasSources, instr_of, given_before, nodes_read, count_given};
 
-use crate::clear::{clear_arguments, clear_tested};
+use crate::clear::clear_arguments;
 use crate::moment::Moment;
 use crate::slots::Slots;
 use crate::sources::{Sources, instr_of, other_than};
 use crate::table::find;
 use crate::task::Task;
-use flat_code::{Check, Node};
+use flat_code::Node;
 use m_fixed::arity;
 use reg_machine::{CodeBuilder, Instr, REGISTERS};
-use std::alloc::{AllocError, Global};
+use std::alloc::AllocError;
 
 /// The code so far, and which node each register and each slot stands for.
 #[derive(Drop)]
@@ -171,7 +171,7 @@ impl Room {
     }
 
     /// The register of a live node, which is loaded into one other than these two, if need be.
-    fn fetch(
+    pub(crate) fn fetch(
         &mut self,
         flat: &Task,
         at: Moment,
@@ -357,50 +357,5 @@ impl Room {
         };
         self.give(flat, next, passed.made, register)?;
         Ok(next)
-    }
-
-    /// The next check, whose nodes are made.
-    fn test(&mut self, flat: &Task, at: Moment, check: Check) -> Result<Moment, AllocError>
-        requires sound { IsSound flat.now at self.old }
-        requires next { at.checked < length flat.now.checks }
-        requires check { check ≡ slice_index_or flat.now.checks at.checked check }
-        requires guard { check.guard < at.made }
-        requires condition { check.condition < at.made }
-        requires few { length self.old.code.instrs + 5 < 4294967295 }
-        ensures sound { IfOk result (λ next. IsSound flat.now next self.new) }
-        ensures next { IfOk result (λ next. next ≡ record at { checked = suc at.checked }) }
-        ensures counts { OnOk result (self.new.code.counts ≡ self.old.code.counts) }
-        ensures len { OnOk result (length self.new.code.instrs ≤ length self.old.code.instrs + 5) }
-        ensures loads { OnOk result ((y : ℕ) → loads_of y self.new.code ≤ loads_of y self.old.code + tests_by y check) }
-    {
-        let guard = self.fetch(flat, at, check.guard as usize, REGISTERS, REGISTERS)?;
-        let condition = self.fetch(flat, at, check.condition as usize, guard, REGISTERS)?;
-        self.code.add(Instr::Check(guard, condition, check.over_only, check.label))?;
-        let next = Moment {
-            made: at.made,
-            read: at.read,
-            checked: at.checked + 1,
-        };
-        clear_tested(&mut self.slots, flat, next, check)?;
-        Ok(next)
-    }
-
-    /// The checks of this moment.
-    pub fn settle(&mut self, flat: &Task, start: Moment) -> Result<Moment, AllocError>
-        requires sound { IsSound flat.now start self.old }
-        requires short { IsShort flat.now start self.old.code.instrs }
-        ensures sound { IfOk result (λ at. IsSound flat.now at self.new) }
-        ensures same { IfOk result (λ at. at ≡ record start { checked = at.checked }) }
-        ensures settled { IfOk result (λ at. IsSettled flat.now at.made at.checked) }
-        ensures counts { OnOk result (self.new.code.counts ≡ self.old.code.counts) }
-        ensures short { IfOk result (λ at. IsShort flat.now at self.new.code.instrs) }
-        ensures loads { IfOk result (λ at. (y : ℕ) → loads_of y self.new.code + checks_read flat.now start.checked y
-            ≤ loads_of y self.old.code + checks_read flat.now at.checked y) }
-    {
-        let mut at = start;
-        while let Some(check) = flat.ready(at) {
-            at = self.test(flat, at, check)?;
-        }
-        Ok(at)
     }
 }

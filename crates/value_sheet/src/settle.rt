@@ -1,5 +1,5 @@
 //! From the inputs that were put to the values of all nodes.
-ghost use Rattle.std.specs.Prelude.{◌≡◌, ℕ, ◌+◌, ◌<◌, ◌≤◌, ◌^◌, ◌==◌, ◌&&◌, ◌||◌, true, false, [], length, replicate, count_by, slice_set, slice_index_or};
+ghost use Rattle.std.specs.Prelude.{◌≡◌, ℕ, ◌+◌, ◌<◌, ◌^◌, ◌==◌, ◌&&◌, ◌||◌, true, false, [], length, replicate, count_by, slice_set, slice_index_or};
 ghost use Rattle.dirty_set.specs.Members.{is_member};
 ghost use Rattle.flat_code.specs.Runs.{IsNode, AreNodes, entry_of, values_for, node_values, value_at};
 ghost use Rattle.flat_code.specs.Touched.{differs, some_argument, of_put, is_touched};
@@ -12,64 +12,71 @@ use m_fixed::Value;
 use std::sync::ledger::Ledger;
 use steps::Steps;
 
+/// A program with its edges: of each node those that read it, and of each input its nodes.
+#[derive(Drop)]
+pub(crate) struct Graph<'a> {
+    pub(crate) nodes: &'a [Node],
+    pub(crate) readers: &'a Rows,
+    pub(crate) input_rows: &'a Rows,
+}
+
 /// Makes the values of all nodes those for these inputs, of which some were put since the values were right, and takes one step for
 /// each node that is touched. The marks are empty before and after. It takes no memory.
 pub(crate) fn settle_all<L: Ledger>(
-    nodes: &[Node],
+    graph: &Graph,
     inputs: &[Value],
     puts: &Bits,
-    readers: &Rows,
-    input_rows: &Rows,
     kept: &mut [Value],
     marks: &mut Bits,
     steps: &mut Steps<L>,
 )
-    requires valid { AreNodes (length inputs.now) 0 nodes.now }
-    requires many { length nodes.now < 2 ^ 32 }
+    requires valid { AreNodes (length inputs.now) 0 graph.now.nodes.now }
+    requires many { length graph.now.nodes.now < 2 ^ 32 }
     requires puts { length puts.now ≡ length inputs.now }
-    requires readers { IsReaders readers.now nodes.now }
-    requires input_rows { IsInputRows input_rows.now nodes.now (length inputs.now) }
-    requires room { length kept.old ≡ length nodes.now }
-    requires right { (k : ℕ) → k < length nodes.now → of_put puts.now (node_at nodes.now k) ≡ false
-        → value_at kept.old k ≡ entry_of (values_for inputs.now) kept.old (node_at nodes.now k) }
-    requires marks { marks.old ≡ replicate (length nodes.now) false }
-    ensures values { kept.new ≡ node_values inputs.now nodes.now }
-    ensures marks { marks.new ≡ replicate (length nodes.now) false }
-    ensures cost { steps.new ≡ steps.old + count_by (is_touched puts.now kept.old (node_values inputs.now nodes.now)) nodes.now }
+    requires readers { IsReaders graph.now.readers.now graph.now.nodes.now }
+    requires input_rows { IsInputRows graph.now.input_rows.now graph.now.nodes.now (length inputs.now) }
+    requires room { length kept.old ≡ length graph.now.nodes.now }
+    requires right { (k : ℕ) → k < length graph.now.nodes.now → of_put puts.now (node_at graph.now.nodes.now k) ≡ false
+        → value_at kept.old k ≡ entry_of (values_for inputs.now) kept.old (node_at graph.now.nodes.now k) }
+    requires marks { marks.old ≡ replicate (length graph.now.nodes.now) false }
+    ensures values { kept.new ≡ node_values inputs.now graph.now.nodes.now }
+    ensures marks { marks.new ≡ replicate (length graph.now.nodes.now) false }
+    ensures cost { steps.new ≡ steps.old
+        + count_by (is_touched puts.now kept.old (node_values inputs.now graph.now.nodes.now)) graph.now.nodes.now }
 {
-    mark_put(puts, input_rows, marks);
+    mark_put(puts, graph.input_rows, marks);
     let mut p = 0;
     while let Some(k) = marks.next_from(p) {
-        turn(nodes, inputs, readers, kept, marks, k, steps);
+        turn(graph, inputs, kept, marks, k, steps);
         p = k + 1;
     }
 }
 
 // Evaluates a node anew, and marks the nodes that read it where its value differs.
 fn turn<L: Ledger>(
-    nodes: &[Node],
+    graph: &Graph,
     inputs: &[Value],
-    readers: &Rows,
     kept: &mut [Value],
     marks: &mut Bits,
     k: u32,
     steps: &mut Steps<L>,
 )
-    requires node { IsNode (length inputs.now) k (node_at nodes.now k) }
-    requires within { k < length nodes.now }
-    requires room { length kept.old ≡ length nodes.now }
-    requires marks { length marks.old ≡ length nodes.now }
-    requires readers { IsReaders readers.now nodes.now }
-    ensures value { kept.new ≡ slice_set kept.old k (entry_of (values_for inputs.now) kept.old (node_at nodes.now k)) }
+    requires node { IsNode (length inputs.now) k (node_at graph.now.nodes.now k) }
+    requires within { k < length graph.now.nodes.now }
+    requires room { length kept.old ≡ length graph.now.nodes.now }
+    requires marks { length marks.old ≡ length graph.now.nodes.now }
+    requires readers { IsReaders graph.now.readers.now graph.now.nodes.now }
+    ensures value { kept.new ≡ slice_set kept.old k (entry_of (values_for inputs.now) kept.old (node_at graph.now.nodes.now k)) }
     ensures marks { (j : ℕ) → is_member marks.new j ≡ (is_member (slice_set marks.old k false) j
-        || (differs (value_at kept.old k) (entry_of (values_for inputs.now) kept.old (node_at nodes.now k)) && some_argument (λ i. i == k) (node_at nodes.now j))) }
+        || (differs (value_at kept.old k) (entry_of (values_for inputs.now) kept.old (node_at graph.now.nodes.now k))
+        && some_argument (λ i. i == k) (node_at graph.now.nodes.now j))) }
     ensures many { length marks.new ≡ length marks.old }
     ensures step { steps.new ≡ steps.old + 1 }
 {
     steps.tick();
     marks.remove(k);
-    let changed = renew(nodes[k as usize], inputs, kept, k as usize);
-    mark_where(changed, readers.row(k), marks);
+    let changed = renew(graph.nodes[k as usize], inputs, kept, k as usize);
+    mark_where(changed, graph.readers.row(k), marks);
 }
 
 // Writes the value of a node over its old one, and tells whether they differ.
@@ -118,7 +125,8 @@ fn mark_put(puts: &Bits, input_rows: &Rows, marks: &mut Bits)
     requires rows { length input_rows.now ≡ length puts.now }
     requires within { (p k : ℕ) → p < length puts.now → has (slice_index_or input_rows.now p []) k ≡ true → k < length marks.old }
     requires none { (k : ℕ) → is_member marks.old k ≡ false }
-    ensures sound { (k : ℕ) → is_member marks.new k ≡ true → (p : ℕ) × (p < length puts.now) × (is_member puts.now p ≡ true) × (has (slice_index_or input_rows.now p []) k ≡ true) }
+    ensures sound { (k : ℕ) → is_member marks.new k ≡ true
+        → (p : ℕ) × (p < length puts.now) × (is_member puts.now p ≡ true) × (has (slice_index_or input_rows.now p []) k ≡ true) }
     ensures complete { (p k : ℕ) → is_member puts.now p ≡ true → has (slice_index_or input_rows.now p []) k ≡ true → is_member marks.new k ≡ true }
     ensures many { length marks.new ≡ length marks.old }
 {

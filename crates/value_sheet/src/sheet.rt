@@ -7,7 +7,7 @@ ghost use Rattle.value_sheet.specs.Held.{fresh, output_value};
 
 use crate::build::{input_rows_of, readers_of};
 use crate::program::{checks_of, inputs_of, nodes_of, outputs_of};
-use crate::settle::settle_all;
+use crate::settle::{Graph, settle_all};
 use dirty_set::Bits;
 use edge_rows::Rows;
 use flat_code::{Tidy, stop_among, values_of};
@@ -93,12 +93,15 @@ impl Sheet {
         ensures after { self.new ≡ record self.old { settled = self.old.now; put = replicate (length self.old.put) false } }
         ensures cost { steps.new ≡ steps.old + touched self.old.flat.nodes self.old.put self.old.settled self.old.now }
     {
+        let graph = Graph {
+            nodes: nodes_of(&self.tidy),
+            readers: &self.readers,
+            input_rows: &self.input_rows,
+        };
         settle_all(
-            nodes_of(&self.tidy),
+            &graph,
             &self.inputs,
             &self.puts,
-            &self.readers,
-            &self.input_rows,
             &mut self.kept,
             &mut self.marks,
             steps,

@@ -22,7 +22,7 @@ pub returns-in-Cycle : goal.returns-in-Cycle
 returns-in-Cycle g c = rw c.in-Cycle.is c.give_names.ensures
 
 pub returns-in-DriverLine : goal.returns-in-DriverLine
-returns-in-DriverLine g c = rw c.in-DriverLine.is (rw (c.into-in-DriverLine.ensures, c.words-in-DriverLine.ensures) at c.give_number-in-DriverLine.ensures)
+returns-in-DriverLine g c = rw c.in-DriverLine.is (rw c.words-in-DriverLine.ensures at c.give_cause.ensures)
 
 pub returns-in-DriverName : goal.returns-in-DriverName
 returns-in-DriverName g c = rw c.in-DriverName.is (rw c.words-in-DriverName.ensures at c.give_driver_name.ensures)
@@ -49,13 +49,13 @@ pub returns-in-TooManyRows : goal.returns-in-TooManyRows
 returns-in-TooManyRows g c = rw c.in-TooManyRows.is c.give_words-in-TooManyRows.ensures
 
 pub returns-in-HouseholdLine : goal.returns-in-HouseholdLine
-returns-in-HouseholdLine g c = rw c.in-HouseholdLine.is (rw (c.into-in-HouseholdLine.ensures, c.words-in-HouseholdLine.ensures) at c.give_number-in-HouseholdLine.ensures)
+returns-in-HouseholdLine g c = rw c.in-HouseholdLine.is (rw c.words-in-HouseholdLine.ensures at c.give_cause-in-HouseholdLine.ensures)
 
 pub returns-in-CodeHeader : goal.returns-in-CodeHeader
 returns-in-CodeHeader g c = rw c.in-CodeHeader.is c.give_words-in-CodeHeader.ensures
 
 pub returns-in-CodeLine : goal.returns-in-CodeLine
-returns-in-CodeLine g c = rw c.in-CodeLine.is (rw (c.into-in-CodeLine.ensures, c.words-in-CodeLine.ensures) at c.give_number-in-CodeLine.ensures)
+returns-in-CodeLine g c = rw c.in-CodeLine.is (rw c.words-in-CodeLine.ensures at c.give_cause-in-CodeLine.ensures)
 
 pub returns-in-InputTooLong : goal.returns-in-InputTooLong
 returns-in-InputTooLong g c = rw c.in-InputTooLong.is c.give_words-in-InputTooLong.ensures
@@ -67,4 +67,4 @@ pub returns-in-UnreadableInput : goal.returns-in-UnreadableInput
 returns-in-UnreadableInput g c = rw c.in-UnreadableInput.is c.give_words-in-UnreadableInput.ensures
 
 pub returns-in-ReportLine : goal.returns-in-ReportLine
-returns-in-ReportLine g c = rw c.in-ReportLine.is (rw (c.into-in-ReportLine.ensures, c.words-in-ReportLine.ensures) at c.give_number-in-ReportLine.ensures)
+returns-in-ReportLine g c = rw c.in-ReportLine.is (rw c.words-in-ReportLine.ensures at c.give_cause-in-ReportLine.ensures)
