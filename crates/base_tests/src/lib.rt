@@ -16,7 +16,11 @@ mod operators;
 #[cfg(test)]
 mod ports;
 #[cfg(test)]
+mod rows;
+#[cfg(test)]
 mod shared;
+#[cfg(test)]
+mod system;
 #[cfg(test)]
 mod texts;
 #[cfg(test)]

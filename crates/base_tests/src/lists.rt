@@ -1,8 +1,9 @@
 //! List files that are read and refused.
+use crate::rows::other_at;
 use m_list::{ListFault, read_list};
 use m_places::Name;
 use m_places::limits::FILE_BYTES;
-use std::alloc::{AllocError, Global};
+use std::alloc::Global;
 use std::test::Fail;
 
 /// The fault of a list, if it has one.
@@ -13,17 +14,38 @@ fn fault_of(alloc: Global, bytes: &[u8]) -> Option<ListFault> {
     read_list(alloc, bytes).err()
 }
 
-/// A list of so many files.
-fn many_files(alloc: Global, count: u32) -> Result<Vec<u8>, AllocError> {
-    let mut bytes = b"iliad\n".to_vec(alloc)?;
+/// Whether a list has no fault but this.
+fn has_fault(alloc: Global, bytes: &[u8], wanted: Option<ListFault>) -> bool {
+    fault_of(alloc, bytes) == wanted
+}
+
+/// Adds bytes so many times. Where there is no memory some are missing, so the list isn't what was wanted.
+fn add_times(text: &mut Vec<u8>, bytes: &[u8], count: u32) {
     for _ in 0..count {
-        bytes.extend_from_slice(b"a.m\n")?;
+        let _added = text.extend_from_slice(bytes);
     }
-    Ok(bytes)
+}
+
+/// A list of iliad with these bytes so many times.
+fn list_with(alloc: Global, bytes: &[u8], count: u32) -> Vec<u8> {
+    let mut text = Vec::new(alloc);
+    add_times(&mut text, b"iliad\n", 1);
+    add_times(&mut text, bytes, count);
+    text
+}
+
+// The tables, out of reach of the proofs of what goes over them.
+
+fn all_lists() -> &'static [(&'static [u8], &'static [u8], &'static [&'static [u8]])] {
+    &LISTS
+}
+
+fn all_faults() -> &'static [(&'static [u8], u32)] {
+    &FAULTS
 }
 
 /// Lists, their application and their names.
-const LISTS: [(&[u8], &[u8], &[&[u8]]); 6] = [
+static LISTS: [(&[u8], &[u8], &[&[u8]]); 6] = [
     (b"iliad\r\na.m\r\n", b"iliad", &[b"a.m"]),
     (b"iliad", b"iliad", &[]),
     (b"iliad\n\n\na.m\n\r\nb.m", b"iliad", &[b"a.m", b"b.m"]),
@@ -59,17 +81,17 @@ fn is_read_as(alloc: Global, bytes: &[u8], application: &[u8], names: &[&[u8]]) 
 }
 
 #[test]
-fn lists(rt: HostRuntime) {
-    for (bytes, application, names) in LISTS {
-        assert!(rt;
-            is_read_as(rt.alloc(), bytes, application, names),
-            "{bytes:?}"
-        );
+fn lists(rt: HostRuntime) -> Result<(), Fail> {
+    for (bytes, application, names) in all_lists() {
+        if !is_read_as(rt.alloc(), bytes, application, names) {
+            return Err(other_at(rt.alloc(), bytes));
+        }
     }
+    Ok(())
 }
 
 /// Lists that are refused, and at which line.
-const FAULTS: [(&[u8], u32); 9] = [
+static FAULTS: [(&[u8], u32); 9] = [
     (b"", 1),
     (b"\na.m\n", 1),
     (b"iliad\r", 1),
@@ -82,34 +104,29 @@ const FAULTS: [(&[u8], u32); 9] = [
 ];
 
 #[test]
-fn faults(rt: HostRuntime) {
-    for (bytes, line) in FAULTS {
-        assert_eq!(rt;
-            fault_of(rt.alloc(), bytes),
-            Some(ListFault::BadLine(line)),
-            "{bytes:?}"
-        );
+fn faults(rt: HostRuntime) -> Result<(), Fail> {
+    for (bytes, line) in all_faults() {
+        if !has_fault(rt.alloc(), bytes, Some(ListFault::BadLine(*line))) {
+            return Err(other_at(rt.alloc(), bytes));
+        }
     }
+    Ok(())
 }
 
 #[test]
-fn limits(rt: HostRuntime) -> Result<(), Fail> {
-    let mut long = b"iliad\n".to_vec(rt.alloc())?;
-    for _ in 0..4_096 {
-        long.push(b'm')?;
-    }
-    assert_eq!(rt; fault_of(rt.alloc(), &long), None);
-    long.push(b'm')?;
-    assert_eq!(rt; fault_of(rt.alloc(), &long), Some(ListFault::BadLine(2)));
+fn long_names(rt: HostRuntime) {
+    let mut long = list_with(rt.alloc(), b"m", 4_096);
+    assert!(rt; long.len() == 4_102 && has_fault(rt.alloc(), &long, None));
+    add_times(&mut long, b"m", 1);
+    assert!(rt; has_fault(rt.alloc(), &long, Some(ListFault::BadLine(2))));
+}
 
-    let mut many = many_files(rt.alloc(), 1_024)?;
-    assert_eq!(rt; fault_of(rt.alloc(), &many), None);
-    many.extend_from_slice(b"a.m\n")?;
-    assert_eq!(rt; fault_of(rt.alloc(), &many), Some(ListFault::TooManyFiles));
-    many.extend_from_slice(b"\xff\n")?;
-    assert_eq!(rt;
-        fault_of(rt.alloc(), &many),
-        Some(ListFault::BadLine(1_027))
-    );
-    Ok(())
+#[test]
+fn many_files(rt: HostRuntime) {
+    let mut many = list_with(rt.alloc(), b"a.m\n", 1_024);
+    assert!(rt; many.len() == 4_102 && has_fault(rt.alloc(), &many, None));
+    add_times(&mut many, b"a.m\n", 1);
+    assert!(rt; has_fault(rt.alloc(), &many, Some(ListFault::TooManyFiles)));
+    add_times(&mut many, b"\xff\n", 1);
+    assert!(rt; has_fault(rt.alloc(), &many, Some(ListFault::BadLine(1_027))));
 }

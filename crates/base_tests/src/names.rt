@@ -1,13 +1,13 @@
 //! Names of the lengths around which they take memory of their own, names that are added twice and
 //! found, and lists of names.
+use crate::rows::other_at;
 use m_names::{Names, NamesFault, has_name};
 use m_places::Name;
-use std::alloc::Global;
-use std::process::Abort;
+use std::alloc::{AllocError, Global};
 use std::test::Fail;
 
 /// What is looked for, and its number.
-const FOUND: [(&str, Option<u32>); 4] = [
+static FOUND: [(&str, Option<u32>); 4] = [
     ("REV", Some(0)),
     ("SEUIL", Some(1)),
     ("", Some(2)),
@@ -15,18 +15,48 @@ const FOUND: [(&str, Option<u32>); 4] = [
 ];
 
 /// Names that are added, and whether they weren't there.
-const ADDED: [(&str, bool); 4] = [("REV", true), ("SEUIL", true), ("REV", false), ("", true)];
+static ADDED: [(&str, bool); 4] = [("REV", true), ("SEUIL", true), ("REV", false), ("", true)];
 
-fn add_each(rt: &impl Abort, alloc: Global, names: &mut Names) -> Result<(), Fail> {
-    for (name, fresh) in ADDED {
-        assert!(rt; names.add(alloc, name.as_bytes())? == fresh, "{name}");
+// The tables, out of reach of the proofs of what goes over them.
+
+fn all_found() -> &'static [(&'static str, Option<u32>)] {
+    &FOUND
+}
+
+fn all_added() -> &'static [(&'static str, bool)] {
+    &ADDED
+}
+
+fn all_again() -> &'static [(&'static str, u32, Option<NamesFault>)] {
+    &AGAIN
+}
+
+fn lengths() -> &'static [(&'static [u8], u32)] {
+    &LENGTHS
+}
+
+/// Whether a name is added, and wasn't there where it is to be fresh.
+fn is_added(alloc: Global, names: &mut Names, name: &[u8], fresh: bool) -> bool {
+    match names.add(alloc, name) {
+        Ok(added) => added == fresh,
+        Err(_) => false,
+    }
+}
+
+fn add_each(alloc: Global, names: &mut Names) -> Result<(), Fail> {
+    for (name, fresh) in all_added() {
+        if !is_added(alloc, names, name.as_bytes(), *fresh) {
+            return Err(other_at(alloc, name.as_bytes()));
+        }
     }
     Ok(())
 }
 
-fn find_each(rt: &impl Abort, names: &Names) -> Result<(), Fail> {
-    for (name, number) in FOUND {
-        assert!(rt; names.find(name.as_bytes()) == number, "{name}");
+fn find_each(alloc: Global, names: &Names) -> Result<(), Fail> {
+    for (name, number) in all_found() {
+        if names.find(name.as_bytes()) != *number {
+            return Err(other_at(alloc, name.as_bytes()));
+        }
     }
     Ok(())
 }
@@ -34,13 +64,13 @@ fn find_each(rt: &impl Abort, names: &Names) -> Result<(), Fail> {
 #[test]
 fn finds_names_by_their_bytes(rt: HostRuntime) -> Result<(), Fail> {
     let mut names = Names::new(rt.alloc());
-    add_each(&rt, rt.alloc(), &mut names)?;
-    assert_eq!(rt; names.len(), 3);
-    find_each(&rt, &names)
+    add_each(rt.alloc(), &mut names)?;
+    assert!(rt; names.len() == 3);
+    find_each(rt.alloc(), &names)
 }
 
 /// The words of a line as names.
-fn names_of(alloc: Global, line: &[u8]) -> Result<Vec<Name>, Fail> {
+fn names_of(alloc: Global, line: &[u8]) -> Result<Vec<Name>, AllocError> {
     let mut names = Vec::new(alloc);
     for word in line.split(|byte| *byte == b' ') {
         names.push(Name::new(alloc, word)?)?;
@@ -48,17 +78,24 @@ fn names_of(alloc: Global, line: &[u8]) -> Result<Vec<Name>, Fail> {
     Ok(names)
 }
 
-/// How many names a line has, or what is wrong with them.
-fn told(alloc: Global, line: &[u8]) -> Result<(u32, Option<NamesFault>), Fail> {
-    let names = names_of(alloc, line)?;
-    match Names::of(alloc, &names) {
-        Ok(known) => Ok((known.len(), None)),
-        Err(fault) => Ok((0, Some(fault))),
+/// Whether these are so many names, or have this fault.
+fn are_told(alloc: Global, names: &[Name], count: u32, wanted: Option<NamesFault>) -> bool {
+    match Names::of(alloc, names) {
+        Ok(known) => known.len() == count && wanted.is_none(),
+        Err(fault) => count == 0 && wanted == Some(fault),
+    }
+}
+
+/// Whether a line has so many names, or this is wrong with them.
+fn is_told(alloc: Global, line: &[u8], count: u32, wanted: Option<NamesFault>) -> bool {
+    match names_of(alloc, line) {
+        Ok(names) => are_told(alloc, &names, count, wanted),
+        Err(_) => false,
     }
 }
 
 /// Names in a line, how many they are, and the first that stands again.
-const AGAIN: [(&str, u32, Option<NamesFault>); 5] = [
+static AGAIN: [(&str, u32, Option<NamesFault>); 5] = [
     ("A", 1, None),
     ("REV SEUIL R REVE", 4, None),
     ("A B A B", 0, Some(NamesFault::Repeated(0, 2))),
@@ -68,12 +105,10 @@ const AGAIN: [(&str, u32, Option<NamesFault>); 5] = [
 
 #[test]
 fn tells_the_first_name_that_stands_again(rt: HostRuntime) -> Result<(), Fail> {
-    for (line, count, fault) in AGAIN {
-        assert_eq!(rt;
-            told(rt.alloc(), line.as_bytes())?,
-            (count, fault),
-            "{line}"
-        );
+    for (line, count, fault) in all_again() {
+        if !is_told(rt.alloc(), line.as_bytes(), *count, *fault) {
+            return Err(other_at(rt.alloc(), line.as_bytes()));
+        }
     }
     Ok(())
 }
@@ -81,8 +116,7 @@ fn tells_the_first_name_that_stands_again(rt: HostRuntime) -> Result<(), Fail> {
 #[test]
 fn a_name_is_among_names_by_its_bytes(rt: HostRuntime) -> Result<(), Fail> {
     let names = names_of(rt.alloc(), b"REV SEUIL")?;
-    assert!(rt; has_name(&names, b"SEUIL"));
-    assert!(rt; !has_name(&names, b"SEUI"));
+    assert!(rt; has_name(&names, b"SEUIL") && !has_name(&names, b"SEUI"));
     Ok(())
 }
 
@@ -96,21 +130,35 @@ static LENGTHS: [(&[u8], u32); 4] = [
 ];
 
 /// Whether a copy of a name has its bytes, and is added as new.
-fn copy_is_new(alloc: Global, names: &mut Names, bytes: &[u8]) -> Result<bool, Fail> {
-    let copy = Name::new(alloc, bytes)?.copy(alloc)?;
-    Ok(copy.bytes() == bytes && names.add(alloc, copy.bytes())?)
+fn copy_is_new(alloc: Global, names: &mut Names, name: &Name, bytes: &[u8]) -> bool {
+    match name.copy(alloc) {
+        Ok(copy) => copy.bytes() == bytes && is_added(alloc, names, copy.bytes(), true),
+        Err(_) => false,
+    }
 }
 
-fn add_lengths(rt: &impl Abort, alloc: Global, names: &mut Names) -> Result<(), Fail> {
-    for (bytes, _) in LENGTHS {
-        assert!(rt; copy_is_new(alloc, names, bytes)?);
+/// The same of the name of these bytes.
+fn is_new(alloc: Global, names: &mut Names, bytes: &[u8]) -> bool {
+    match Name::new(alloc, bytes) {
+        Ok(name) => copy_is_new(alloc, names, &name, bytes),
+        Err(_) => false,
+    }
+}
+
+fn add_lengths(alloc: Global, names: &mut Names) -> Result<(), Fail> {
+    for (bytes, _) in lengths() {
+        if !is_new(alloc, names, bytes) {
+            return Err(other_at(alloc, bytes));
+        }
     }
     Ok(())
 }
 
-fn find_lengths(rt: &impl Abort, names: &Names) -> Result<(), Fail> {
-    for (bytes, number) in LENGTHS {
-        assert!(rt; names.find(bytes) == Some(number));
+fn find_lengths(alloc: Global, names: &Names) -> Result<(), Fail> {
+    for (bytes, number) in lengths() {
+        if names.find(bytes) != Some(*number) {
+            return Err(other_at(alloc, bytes));
+        }
     }
     Ok(())
 }
@@ -118,6 +166,6 @@ fn find_lengths(rt: &impl Abort, names: &Names) -> Result<(), Fail> {
 #[test]
 fn names_of_each_length_keep_their_bytes(rt: HostRuntime) -> Result<(), Fail> {
     let mut names = Names::new(rt.alloc());
-    add_lengths(&rt, rt.alloc(), &mut names)?;
-    find_lengths(&rt, &names)
+    add_lengths(rt.alloc(), &mut names)?;
+    find_lengths(rt.alloc(), &names)
 }

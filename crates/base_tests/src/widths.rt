@@ -1,6 +1,9 @@
 //! Operators where the quick ways end, with expected values by hand: products by 2^64 and 2^108,
 //! quotients by 2^53 and where the guess is wrong, whole units by 2^63.
+use crate::rows::other_at_row;
 use m_fixed::{Amount, Op, Value, apply};
+use std::alloc::Global;
+use std::test::Fail;
 
 /// What an operator gives of two amounts in millionths, and `None` where it is over.
 fn given(op: Op, x: i128, y: i128) -> Option<i128> {
@@ -103,23 +106,64 @@ static UNITS: [(i128, i128, i128); 5] = [
     ),
 ];
 
-#[test]
-fn products_and_quotients(rt: HostRuntime) {
-    for (x, y, gives) in PRODUCTS {
-        assert!(rt; given(Op::Mul, x, y) == gives, "{x} * {y}");
+// The tables, out of reach of the proofs of what goes over them.
+
+fn products() -> &'static [(i128, i128, Option<i128>)] {
+    &PRODUCTS
+}
+
+fn quotients() -> &'static [(i128, i128, Option<i128>)] {
+    &QUOTIENTS
+}
+
+fn units() -> &'static [(i128, i128, i128)] {
+    &UNITS
+}
+
+/// The first row of which an operator gives something else.
+fn first_other(op: Op, rows: &[(i128, i128, Option<i128>)]) -> Option<usize> {
+    for (row, (x, y, gives)) in rows.iter().enumerate() {
+        if given(op, *x, *y) != *gives {
+            return Some(row);
+        }
     }
-    for (x, y, gives) in QUOTIENTS {
-        assert!(rt; given(Op::Div, x, y) == gives, "{x} / {y}");
+    None
+}
+
+/// The first row with other whole units.
+fn first_other_units() -> Option<usize> {
+    for (row, (x, inf, arr)) in units().iter().enumerate() {
+        if given(Op::Inf, *x, 0) != Some(*inf) || given(Op::Arr, *x, 0) != Some(*arr) {
+            return Some(row);
+        }
+    }
+    None
+}
+
+fn check(alloc: Global, other: Option<usize>) -> Result<(), Fail> {
+    match other {
+        Some(row) => Err(other_at_row(alloc, row)),
+        None => Ok(()),
     }
 }
 
 #[test]
-fn whole_units(rt: HostRuntime) {
-    for (x, inf, arr) in UNITS {
-        assert!(rt; given(Op::Inf, x, 0) == Some(inf), "inf of {x}");
-        assert!(rt; given(Op::Arr, x, 0) == Some(arr), "arr of {x}");
-    }
+fn products_are_rounded(rt: HostRuntime) -> Result<(), Fail> {
+    check(rt.alloc(), first_other(Op::Mul, products()))
+}
+
+#[test]
+fn quotients_are_rounded(rt: HostRuntime) -> Result<(), Fail> {
+    check(rt.alloc(), first_other(Op::Div, quotients()))
+}
+
+#[test]
+fn whole_units(rt: HostRuntime) -> Result<(), Fail> {
+    check(rt.alloc(), first_other_units())
+}
+
+#[test]
+fn the_greatest_amounts(rt: HostRuntime) {
     let top = 10_000_000_000_000_000_000;
-    assert_eq!(rt; given(Op::At, -top, top), Some(0));
-    assert_eq!(rt; given(Op::Arr, -top, 0), Some(-top));
+    assert!(rt; given(Op::At, -top, top) == Some(0) && given(Op::Arr, -top, 0) == Some(-top));
 }

@@ -1,15 +1,16 @@
 //! Declarations that are read, with their trees as texts, and texts that begin with none.
+use crate::texts::{add, add_number, add_word, add_words, other_at, tokens_of};
 use declaration_items::{ItemFault, read_applications, read_declaration};
 use m_ast::{ErrorItem, Item, Role, VariableItem};
 use m_fixed::Amount;
-use m_lexer::{Token, lex};
+use m_lexer::Token;
 use m_places::{ErrorKind, Name, Place};
-use std::alloc::{AllocError, Global};
+use std::alloc::Global;
 use std::test::Fail;
 
 // Texts that begin with a declaration; the declaration as `add_item` shows it; the byte and the line of its first token;
 // and how many tokens it has.
-const DECLARATIONS: [(&[u8], &[u8], u32, u32, usize); 21] = [
+static DECLARATIONS: [(&[u8], &[u8], u32, u32, usize); 21] = [
     (
         b"REV : saisie revenu classe = 0 alias 1AJ : \"s\" ;",
         b"REV input 1AJ revenu classe=0",
@@ -112,7 +113,7 @@ const DECLARATIONS: [(&[u8], &[u8], u32, u32, usize); 21] = [
 ];
 
 // Texts that begin with none.
-const NONE: [&[u8]; 41] = [
+static NONE: [&[u8]; 41] = [
     b"",
     b";",
     b"A = 1 ;",
@@ -157,14 +158,14 @@ const NONE: [&[u8]; 41] = [
 ];
 
 // Texts and the applications at their start, with the number of their tokens.
-const APPLICATIONS: [(&[u8], &[u8], usize); 3] = [
+static APPLICATIONS: [(&[u8], &[u8], usize); 3] = [
     (b"application : iliad ;", b" iliad", 3),
     (b"application : iliad , batch ;", b" iliad batch", 5),
     (b"application : A", b" A", 3),
 ];
 
 // Texts with none, or with a comma after them.
-const NO_APPLICATIONS: [&[u8]; 5] = [
+static NO_APPLICATIONS: [&[u8]; 5] = [
     b"",
     b"application iliad ;",
     b"application : ;",
@@ -172,80 +173,66 @@ const NO_APPLICATIONS: [&[u8]; 5] = [
     b"application : 1 ;",
 ];
 
-fn add_word(text: &mut Vec<u8>, word: &[u8]) -> Result<(), AllocError> {
-    text.push(b' ')?;
-    text.extend_from_slice(word)?;
-    Ok(())
+// The tables, out of reach of the proofs of what goes over them.
+
+fn all_declarations() -> &'static [(&'static [u8], &'static [u8], u32, u32, usize)] {
+    &DECLARATIONS
 }
 
-fn add_words(text: &mut Vec<u8>, words: &[Name]) -> Result<(), AllocError> {
-    for word in words {
-        add_word(text, word.bytes())?;
-    }
-    Ok(())
+fn all_without() -> &'static [&'static [u8]] {
+    &NONE
 }
 
-fn add_number(alloc: Global, text: &mut Vec<u8>, number: i128) -> Result<(), AllocError> {
-    let digits = format!(in alloc; "{number}")?;
-    text.extend_from_slice(digits.as_bytes())?;
-    Ok(())
+fn all_applications() -> &'static [(&'static [u8], &'static [u8], usize)] {
+    &APPLICATIONS
 }
 
-fn add_pairs(
-    alloc: Global,
-    text: &mut Vec<u8>,
-    pairs: &[(Name, Amount)],
-) -> Result<(), AllocError> {
+fn all_without_applications() -> &'static [&'static [u8]] {
+    &NO_APPLICATIONS
+}
+
+fn add_pairs(alloc: Global, text: &mut Vec<u8>, pairs: &[(Name, Amount)]) {
     for (name, amount) in pairs {
-        add_word(text, name.bytes())?;
-        text.push(b'=')?;
-        add_number(alloc, text, amount.millionths())?;
+        add_word(text, name.bytes());
+        add(text, b"=");
+        add_number(alloc, text, amount.millionths());
     }
-    Ok(())
 }
 
-fn add_texts(text: &mut Vec<u8>, texts: &[Name]) -> Result<(), AllocError> {
+fn add_texts(text: &mut Vec<u8>, texts: &[Name]) {
     for one in texts {
-        text.extend_from_slice(b" <")?;
-        text.extend_from_slice(one.bytes())?;
-        text.push(b'>')?;
+        add(text, b" <");
+        add(text, one.bytes());
+        add(text, b">");
     }
-    Ok(())
 }
 
-fn add_role(alloc: Global, text: &mut Vec<u8>, role: &Role) -> Result<(), AllocError> {
+fn add_role(alloc: Global, text: &mut Vec<u8>, role: &Role) {
     match role {
         Role::Input(code) => {
-            text.extend_from_slice(b" input")?;
-            add_word(text, code.bytes())
+            add(text, b" input");
+            add_word(text, code.bytes());
         }
         Role::Computed(None) => add_word(text, b"computed"),
         Role::Computed(Some(size)) => {
-            text.extend_from_slice(b" table ")?;
-            add_number(alloc, text, *size as i128)
+            add(text, b" table ");
+            add_number(alloc, text, *size as i128);
         }
         Role::Constant(amount) => {
-            text.extend_from_slice(b" constant ")?;
-            add_number(alloc, text, amount.millionths())
+            add(text, b" constant ");
+            add_number(alloc, text, amount.millionths());
         }
     }
 }
 
-fn add_variable(
-    alloc: Global,
-    text: &mut Vec<u8>,
-    variable: &VariableItem,
-) -> Result<(), AllocError> {
-    text.extend_from_slice(variable.name.bytes())?;
-    add_role(alloc, text, &variable.role)?;
-    add_words(text, variable.words.as_slice())?;
-    add_pairs(alloc, text, variable.pairs.as_slice())?;
-    match &variable.value_word {
-        Some(word) => {
-            text.extend_from_slice(b" type")?;
-            add_word(text, word.bytes())
-        }
-        None => Ok(()),
+fn add_variable(alloc: Global, text: &mut Vec<u8>, variable: &VariableItem) {
+    add(text, variable.name.bytes());
+    add_role(alloc, text, &variable.role);
+    add_words(text, variable.words.as_slice());
+    add_pairs(alloc, text, variable.pairs.as_slice());
+    if let Some(word) = &variable.value_word {
+        add(text, b" type");
+        add_word(text, word.bytes());
     }
 }
 
@@ -257,19 +244,19 @@ fn kind_word(kind: ErrorKind) -> &'static [u8] {
     }
 }
 
-fn add_error(text: &mut Vec<u8>, error: &ErrorItem) -> Result<(), AllocError> {
-    text.extend_from_slice(error.name.bytes())?;
-    add_word(text, kind_word(error.kind))?;
-    add_texts(text, error.texts.as_slice())
+fn add_error(text: &mut Vec<u8>, error: &ErrorItem) {
+    add(text, error.name.bytes());
+    add_word(text, kind_word(error.kind));
+    add_texts(text, error.texts.as_slice());
 }
 
 // An item as a text: a variable's name, role, attributes without and with a number in millionths, and type.
-fn add_item(alloc: Global, text: &mut Vec<u8>, item: &Item) -> Result<(), AllocError> {
+fn add_item(alloc: Global, text: &mut Vec<u8>, item: &Item) {
     match item {
         Item::Variable(variable) => add_variable(alloc, text, variable),
         Item::Error(error) => add_error(text, error),
-        Item::Silent(_) => text.extend_from_slice(b"silent"),
-        _ => text.extend_from_slice(b"no declaration"),
+        Item::Silent(_) => add(text, b"silent"),
+        _ => add(text, b"no declaration"),
     }
 }
 
@@ -283,64 +270,95 @@ fn place_of(item: &Item) -> Place {
     }
 }
 
-fn is_shown(alloc: Global, item: &Item, wanted: &[u8]) -> bool {
+// Whether an item is shown so, and its first token stands at this byte of the file 7 and on this line.
+fn is_item(alloc: Global, item: &Item, wanted: &[u8], byte: u32, line: u32) -> bool {
+    let place = place_of(item);
     let mut text = Vec::new(alloc);
-    add_item(alloc, &mut text, item).is_ok() && text.as_slice() == wanted
+    add_item(alloc, &mut text, item);
+    text.as_slice() == wanted && place.file == 7 && place.byte == byte && place.line == line
 }
 
-fn is_read(alloc: Global, tokens: &[Token], wanted: &[u8], place: Place, count: usize) -> bool {
+fn is_read(
+    alloc: Global,
+    tokens: &[Token],
+    wanted: &[u8],
+    byte: u32,
+    line: u32,
+    count: usize,
+) -> bool {
     match read_declaration(alloc, tokens) {
-        Ok((item, end)) => {
-            end == count && place_of(&item) == place && is_shown(alloc, &item, wanted)
-        }
+        Ok((item, end)) => end == count && is_item(alloc, &item, wanted, byte, line),
         Err(_) => false,
+    }
+}
+
+fn is_no_item(alloc: Global, tokens: &[Token]) -> bool {
+    match read_declaration(alloc, tokens) {
+        Ok(_) => false,
+        Err(fault) => fault == ItemFault::NoItem,
     }
 }
 
 #[test]
 fn declarations(rt: HostRuntime) -> Result<(), Fail> {
-    for (text, wanted, byte, line, count) in DECLARATIONS {
-        assert!(rt; text.len() < 4_096);
-        let tokens = lex(rt.alloc(), text, 7)?;
-        let place = Place {
-            file: 7,
-            byte,
-            line,
-        };
-        assert!(rt;
-            is_read(rt.alloc(), &tokens, wanted, place, count),
-            "in {text:?}"
-        );
+    for (text, wanted, byte, line, count) in all_declarations() {
+        match tokens_of(rt.alloc(), text, 7) {
+            Some(tokens) if is_read(rt.alloc(), &tokens, wanted, *byte, *line, *count) => {}
+            _ => return Err(other_at(rt.alloc(), text)),
+        }
     }
     Ok(())
 }
 
 #[test]
 fn no_declarations(rt: HostRuntime) -> Result<(), Fail> {
-    for text in NONE {
-        assert!(rt; text.len() < 4_096);
-        let tokens = lex(rt.alloc(), text, 7)?;
-        let fault = read_declaration(rt.alloc(), &tokens).err();
-        assert!(rt; fault == Some(ItemFault::NoItem), "in {text:?}");
+    for text in all_without() {
+        match tokens_of(rt.alloc(), text, 7) {
+            Some(tokens) if is_no_item(rt.alloc(), &tokens) => {}
+            _ => return Err(other_at(rt.alloc(), text)),
+        }
+    }
+    Ok(())
+}
+
+fn are_names(alloc: Global, names: &[Name], wanted: &[u8]) -> bool {
+    let mut found = Vec::new(alloc);
+    add_words(&mut found, names);
+    found.as_slice() == wanted
+}
+
+fn are_applications(alloc: Global, tokens: &[Token], wanted: &[u8], count: usize) -> bool {
+    match read_applications(alloc, tokens) {
+        Ok((names, end)) => end == count && are_names(alloc, names.as_slice(), wanted),
+        Err(_) => false,
+    }
+}
+
+fn are_no_applications(alloc: Global, tokens: &[Token]) -> bool {
+    match read_applications(alloc, tokens) {
+        Ok(_) => false,
+        Err(fault) => fault == ItemFault::NoItem,
+    }
+}
+
+#[test]
+fn lists_of_applications(rt: HostRuntime) -> Result<(), Fail> {
+    for (text, wanted, count) in all_applications() {
+        match tokens_of(rt.alloc(), text, 7) {
+            Some(tokens) if are_applications(rt.alloc(), &tokens, wanted, *count) => {}
+            _ => return Err(other_at(rt.alloc(), text)),
+        }
     }
     Ok(())
 }
 
 #[test]
-fn lists_of_applications(rt: HostRuntime) -> Result<(), Fail> {
-    for (text, wanted, count) in APPLICATIONS {
-        assert!(rt; text.len() < 4_096);
-        let tokens = lex(rt.alloc(), text, 7)?;
-        let (names, end) = read_applications(rt.alloc(), &tokens)?;
-        let mut found = Vec::new(rt.alloc());
-        add_words(&mut found, names.as_slice())?;
-        assert!(rt; found.as_slice() == wanted && end == count, "in {text:?}");
-    }
-    for text in NO_APPLICATIONS {
-        assert!(rt; text.len() < 4_096);
-        let tokens = lex(rt.alloc(), text, 7)?;
-        let fault = read_applications(rt.alloc(), &tokens).err();
-        assert!(rt; fault == Some(ItemFault::NoItem), "in {text:?}");
+fn no_applications(rt: HostRuntime) -> Result<(), Fail> {
+    for text in all_without_applications() {
+        match tokens_of(rt.alloc(), text, 7) {
+            Some(tokens) if are_no_applications(rt.alloc(), &tokens) => {}
+            _ => return Err(other_at(rt.alloc(), text)),
+        }
     }
     Ok(())
 }

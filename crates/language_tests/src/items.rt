@@ -1,14 +1,15 @@
 //! Whole lists of items with their trees as texts, and the first faults of others with their places.
+use crate::texts::{add, add_number, add_word, add_words, other_at, tokens_of};
 use m_ast::{CheckItem, Formula, Header, Item, Node, RuleItem, Slot, Term, VerifItem};
 use m_fixed::Value;
 use m_items::{ParseFault, parse};
-use m_lexer::{Token, lex};
-use m_places::{Name, Place};
-use std::alloc::{AllocError, Global};
+use m_lexer::Token;
+use m_places::Place;
+use std::alloc::Global;
 use std::test::Fail;
 
 // Texts that are lists of items. Each item is shown by a line, as `add_item` says; a place as its byte and its line.
-const LISTS: [(&[u8], &[u8]); 14] = [
+static LISTS: [(&[u8], &[u8]); 14] = [
     (b"", b""),
     (b"# nothing\n", b""),
     (b"REV : saisie alias 1AJ : \"s\" ;", b"variable REV 0:1"),
@@ -56,7 +57,7 @@ const LISTS: [(&[u8], &[u8]); 14] = [
 ];
 
 // Texts with a fault, and the byte and the line of its token.
-const FAULTS: [(&[u8], u32, u32); 38] = [
+static FAULTS: [(&[u8], u32, u32); 38] = [
     (b"regle 11", 0, 1),
     (b"A : calculee : \"a\" ;\nregle 11", 21, 2),
     (b"application iliad ; 12", 20, 1),
@@ -137,168 +138,144 @@ const FAULTS: [(&[u8], u32, u32); 38] = [
     (b"# c\n)", 4, 2),
 ];
 
-fn add_word(text: &mut Vec<u8>, word: &[u8]) -> Result<(), AllocError> {
-    text.push(b' ')?;
-    text.extend_from_slice(word)?;
-    Ok(())
+// The tables, out of reach of the proofs of what goes over them.
+
+fn all_lists() -> &'static [(&'static [u8], &'static [u8])] {
+    &LISTS
 }
 
-fn add_number(alloc: Global, text: &mut Vec<u8>, number: i128) -> Result<(), AllocError> {
-    let digits = format!(in alloc; "{number}")?;
-    text.extend_from_slice(digits.as_bytes())?;
-    Ok(())
+fn all_faults() -> &'static [(&'static [u8], u32, u32)] {
+    &FAULTS
 }
 
 // The byte and the line of a place.
-fn add_place(alloc: Global, text: &mut Vec<u8>, place: Place) -> Result<(), AllocError> {
-    text.push(b' ')?;
-    add_number(alloc, text, place.byte as i128)?;
-    text.push(b':')?;
-    add_number(alloc, text, place.line as i128)
+fn add_place(alloc: Global, text: &mut Vec<u8>, place: Place) {
+    add(text, b" ");
+    add_number(alloc, text, place.byte as i128);
+    add(text, b":");
+    add_number(alloc, text, place.line as i128);
 }
 
-fn add_placed(
-    alloc: Global,
-    text: &mut Vec<u8>,
-    name: &[u8],
-    place: Place,
-) -> Result<(), AllocError> {
-    add_word(text, name)?;
-    add_place(alloc, text, place)
-}
-
-fn add_words(text: &mut Vec<u8>, words: &[Name]) -> Result<(), AllocError> {
-    for word in words {
-        add_word(text, word.bytes())?;
-    }
-    Ok(())
+fn add_placed(alloc: Global, text: &mut Vec<u8>, name: &[u8], place: Place) {
+    add_word(text, name);
+    add_place(alloc, text, place);
 }
 
 // A literal in millionths, a name or `X`; of any other term that it is one.
-fn add_term(alloc: Global, text: &mut Vec<u8>, term: &Term) -> Result<(), AllocError> {
-    text.extend_from_slice(b" = ")?;
+fn add_term(alloc: Global, text: &mut Vec<u8>, term: &Term) {
+    add(text, b" = ");
     match &term.node {
         Node::Lit(Value::Num(amount)) => add_number(alloc, text, amount.millionths()),
-        Node::Named(name, _) => text.extend_from_slice(name.bytes()),
-        Node::X(_) => text.extend_from_slice(b"X"),
-        _ => text.extend_from_slice(b"term"),
+        Node::Named(name, _) => add(text, name.bytes()),
+        Node::X(_) => add(text, b"X"),
+        _ => add(text, b"term"),
     }
 }
 
 // Each loop as `pour` and the number of its indexes.
-fn add_loops(alloc: Global, text: &mut Vec<u8>, loops: &[Header]) -> Result<(), AllocError> {
+fn add_loops(alloc: Global, text: &mut Vec<u8>, loops: &[Header]) {
     for header in loops {
-        text.extend_from_slice(b" pour")?;
-        add_number(alloc, text, header.indexes.as_slice().len() as i128)?;
+        add(text, b" pour");
+        add_number(alloc, text, header.indexes.as_slice().len() as i128);
     }
-    Ok(())
 }
 
-fn add_slot(alloc: Global, text: &mut Vec<u8>, slot: Slot) -> Result<(), AllocError> {
+fn add_slot(alloc: Global, text: &mut Vec<u8>, slot: Slot) {
     match slot {
-        Slot::Whole => Ok(()),
-        Slot::Every => text.extend_from_slice(b" [X]"),
+        Slot::Whole => {}
+        Slot::Every => add(text, b" [X]"),
         Slot::Cell(number) => {
-            text.extend_from_slice(b" [")?;
-            add_number(alloc, text, number as i128)?;
-            text.extend_from_slice(b"]")
+            add(text, b" [");
+            add_number(alloc, text, number as i128);
+            add(text, b"]");
         }
     }
 }
 
-fn add_formula(alloc: Global, text: &mut Vec<u8>, formula: &Formula) -> Result<(), AllocError> {
-    text.extend_from_slice(b" |")?;
-    add_loops(alloc, text, formula.loops.as_slice())?;
-    add_placed(alloc, text, formula.target.bytes(), formula.place)?;
-    add_slot(alloc, text, formula.slot)?;
-    add_term(alloc, text, &formula.term)
+fn add_formula(alloc: Global, text: &mut Vec<u8>, formula: &Formula) {
+    add(text, b" |");
+    add_loops(alloc, text, formula.loops.as_slice());
+    add_placed(alloc, text, formula.target.bytes(), formula.place);
+    add_slot(alloc, text, formula.slot);
+    add_term(alloc, text, &formula.term);
 }
 
-fn add_rule(alloc: Global, text: &mut Vec<u8>, rule: &RuleItem) -> Result<(), AllocError> {
-    text.extend_from_slice(b"rule")?;
-    add_placed(alloc, text, rule.number.bytes(), rule.place)?;
-    add_words(text, rule.applications.as_slice())?;
-    if rule.chained {
-        text.extend_from_slice(b" chained")?;
+fn add_chained(text: &mut Vec<u8>, chained: bool) {
+    if chained {
+        add(text, b" chained");
     }
+}
+
+fn add_rule(alloc: Global, text: &mut Vec<u8>, rule: &RuleItem) {
+    add(text, b"rule");
+    add_placed(alloc, text, rule.number.bytes(), rule.place);
+    add_words(text, rule.applications.as_slice());
+    add_chained(text, rule.chained);
     for formula in rule.formulas.as_slice() {
-        add_formula(alloc, text, formula)?;
+        add_formula(alloc, text, formula);
     }
-    Ok(())
 }
 
-fn add_check(alloc: Global, text: &mut Vec<u8>, check: &CheckItem) -> Result<(), AllocError> {
-    text.extend_from_slice(b" |")?;
-    add_placed(alloc, text, check.error.bytes(), check.place)?;
-    add_term(alloc, text, &check.condition)
+fn add_check(alloc: Global, text: &mut Vec<u8>, check: &CheckItem) {
+    add(text, b" |");
+    add_placed(alloc, text, check.error.bytes(), check.place);
+    add_term(alloc, text, &check.condition);
 }
 
-fn add_verification(
-    alloc: Global,
-    text: &mut Vec<u8>,
-    verification: &VerifItem,
-) -> Result<(), AllocError> {
-    text.extend_from_slice(b"verif")?;
-    add_placed(alloc, text, verification.number.bytes(), verification.place)?;
-    add_words(text, verification.applications.as_slice())?;
+fn add_verification(alloc: Global, text: &mut Vec<u8>, verification: &VerifItem) {
+    add(text, b"verif");
+    add_placed(alloc, text, verification.number.bytes(), verification.place);
+    add_words(text, verification.applications.as_slice());
     for check in verification.checks.as_slice() {
-        add_check(alloc, text, check)?;
+        add_check(alloc, text, check);
     }
-    Ok(())
 }
 
 // A declaration as its kind, name and place. A rule as its number, place and applications, whether it is chained, and its
 // formulas: loops, target, place, index and term. A verification as its number, place and applications, and its checks:
 // error, place and condition.
-fn add_item(alloc: Global, text: &mut Vec<u8>, item: &Item) -> Result<(), AllocError> {
+fn add_item(alloc: Global, text: &mut Vec<u8>, item: &Item) {
     match item {
         Item::Variable(variable) => {
-            text.extend_from_slice(b"variable")?;
-            add_placed(alloc, text, variable.name.bytes(), variable.place)
+            add(text, b"variable");
+            add_placed(alloc, text, variable.name.bytes(), variable.place);
         }
         Item::Error(error) => {
-            text.extend_from_slice(b"error")?;
-            add_placed(alloc, text, error.name.bytes(), error.place)
+            add(text, b"error");
+            add_placed(alloc, text, error.name.bytes(), error.place);
         }
         Item::Silent(place) => {
-            text.extend_from_slice(b"silent")?;
-            add_place(alloc, text, *place)
+            add(text, b"silent");
+            add_place(alloc, text, *place);
         }
         Item::Rule(rule) => add_rule(alloc, text, rule),
         Item::Verif(verification) => add_verification(alloc, text, verification),
     }
 }
 
-fn shown(alloc: Global, items: &[Item]) -> Result<Vec<u8>, AllocError> {
+fn are_shown(alloc: Global, items: &[Item], wanted: &[u8]) -> bool {
     let mut text = Vec::new(alloc);
     for item in items {
         if !text.is_empty() {
-            text.push(b'\n')?;
+            add(&mut text, b"\n");
         }
-        add_item(alloc, &mut text, item)?;
+        add_item(alloc, &mut text, item);
     }
-    Ok(text)
+    text.as_slice() == wanted
 }
 
 fn is_list(alloc: Global, tokens: &[Token], wanted: &[u8]) -> bool {
     match parse(alloc, tokens) {
-        Ok(items) => shown(alloc, items.as_slice()).is_ok_and(|text| text.as_slice() == wanted),
+        Ok(items) => are_shown(alloc, items.as_slice(), wanted),
         Err(_) => false,
     }
 }
 
-// A rule with one formula, whose term stands in so many brackets.
-fn bracketed(alloc: Global, count: usize) -> Result<Vec<u8>, AllocError> {
-    let mut text = Vec::from_slice(alloc, b"regle 1 : application : iliad ; A = ")?;
-    for _ in 0..count {
-        text.push(b'(')?;
+fn is_fault(alloc: Global, tokens: &[Token], wanted: ParseFault) -> bool {
+    match parse(alloc, tokens) {
+        Ok(_) => false,
+        Err(fault) => fault == wanted,
     }
-    text.push(b'1')?;
-    for _ in 0..count {
-        text.push(b')')?;
-    }
-    text.extend_from_slice(b" ;")?;
-    Ok(text)
 }
 
 fn place_at(byte: u32, line: u32) -> Place {
@@ -311,48 +288,66 @@ fn place_at(byte: u32, line: u32) -> Place {
 
 #[test]
 fn lists_of_items(rt: HostRuntime) -> Result<(), Fail> {
-    for (text, wanted) in LISTS {
-        assert!(rt; text.len() < 4_096);
-        let tokens = lex(rt.alloc(), text, 3)?;
-        assert!(rt; is_list(rt.alloc(), &tokens, wanted), "in {text:?}");
+    for (text, wanted) in all_lists() {
+        match tokens_of(rt.alloc(), text, 3) {
+            Some(tokens) if is_list(rt.alloc(), &tokens, wanted) => {}
+            _ => return Err(other_at(rt.alloc(), text)),
+        }
     }
     Ok(())
 }
 
 #[test]
 fn first_faults(rt: HostRuntime) -> Result<(), Fail> {
-    for (text, byte, line) in FAULTS {
-        assert!(rt; text.len() < 4_096);
-        let tokens = lex(rt.alloc(), text, 3)?;
-        let fault = parse(rt.alloc(), &tokens).err();
-        assert!(rt;
-            fault == Some(ParseFault::Syntax(place_at(byte, line))),
-            "in {text:?}"
-        );
+    for (text, byte, line) in all_faults() {
+        let wanted = ParseFault::Syntax(place_at(*byte, *line));
+        match tokens_of(rt.alloc(), text, 3) {
+            Some(tokens) if is_fault(rt.alloc(), &tokens, wanted) => {}
+            _ => return Err(other_at(rt.alloc(), text)),
+        }
     }
     Ok(())
 }
 
+fn add_times(text: &mut Vec<u8>, bytes: &[u8], count: usize) {
+    for _ in 0..count {
+        add(text, bytes);
+    }
+}
+
+// A rule with one formula, whose term stands in so many brackets.
+fn bracketed(alloc: Global, count: usize) -> Vec<u8> {
+    let mut text = Vec::new(alloc);
+    add(&mut text, b"regle 1 : application : iliad ; A = ");
+    add_times(&mut text, b"(", count);
+    add(&mut text, b"1");
+    add_times(&mut text, b")", count);
+    add(&mut text, b" ;");
+    text
+}
+
+fn is_shallow(alloc: Global, text: &[u8]) -> bool {
+    match tokens_of(alloc, text, 3) {
+        Some(tokens) => is_list(alloc, &tokens, b"rule 1 0:1 iliad | A 32:1 = 1000000"),
+        None => false,
+    }
+}
+
+fn is_deep(alloc: Global, text: &[u8]) -> bool {
+    match tokens_of(alloc, text, 3) {
+        Some(tokens) => is_fault(alloc, &tokens, ParseFault::TooDeep(place_at(292, 1))),
+        None => false,
+    }
+}
+
 // 256 brackets are read; of 257 the last opening one is too deep, and that comes before a fault of syntax.
 #[test]
-fn depth(rt: HostRuntime) -> Result<(), Fail> {
-    let text = bracketed(rt.alloc(), 256)?;
-    assert!(rt; text.len() < 4_096);
-    let tokens = lex(rt.alloc(), &text, 3)?;
-    assert!(rt;
-        is_list(rt.alloc(), &tokens, b"rule 1 0:1 iliad | A 32:1 = 1000000"),
-        "256 brackets"
-    );
-    let mut text = bracketed(rt.alloc(), 257)?;
-    text.push(b';')?;
-    assert!(rt; text.len() < 4_096);
-    let tokens = lex(rt.alloc(), &text, 3)?;
-    let fault = parse(rt.alloc(), &tokens).err();
-    assert!(rt;
-        fault == Some(ParseFault::TooDeep(place_at(292, 1))),
-        "257 brackets"
-    );
-    Ok(())
+fn depth(rt: HostRuntime) {
+    let text = bracketed(rt.alloc(), 256);
+    assert!(rt; is_shallow(rt.alloc(), &text));
+    let mut text = bracketed(rt.alloc(), 257);
+    add(&mut text, b";");
+    assert!(rt; is_deep(rt.alloc(), &text));
 }
 
 fn crosses_threads<T: Send + Sync>() {}

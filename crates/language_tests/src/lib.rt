@@ -7,6 +7,10 @@ mod declarations;
 #[cfg(test)]
 mod items;
 #[cfg(test)]
+mod texts;
+#[cfg(test)]
 mod threads;
+#[cfg(test)]
+mod token_faults;
 #[cfg(test)]
 mod tokens;

@@ -1,10 +1,12 @@
-//! Tokens at the edges, first faults, and words and numbers of great length.
-use m_lexer::{Key, Kind, LexFault, Sign, Token, lex};
-use m_places::Place;
+//! Tokens at the edges.
+use crate::texts::{other_at, tokens_of};
+use m_lexer::{Key, Kind, Sign, Token};
+use std::alloc::Global;
 use std::test::Fail;
 
+/// What a token is to be. A number has its millionths and its digits.
 #[derive(Clone, Copy)]
-enum Want<'a> {
+pub enum Want<'a> {
     Word(&'a [u8]),
     Number(i128, &'a [u8]),
     Text(&'a [u8]),
@@ -13,7 +15,7 @@ enum Want<'a> {
 }
 
 // Texts that have tokens, each with its byte and line.
-const LISTS: [(&[u8], &[(Want<'static>, u32, u32)]); 21] = [
+static LISTS: [(&[u8], &[(Want<'static>, u32, u32)]); 21] = [
     (b"", &[]),
     (b"# to the end", &[]),
     (b" \t\r\n# a\n", &[]),
@@ -192,146 +194,6 @@ const LISTS: [(&[u8], &[(Want<'static>, u32, u32)]); 21] = [
     ),
 ];
 
-// Texts that have none, each with its first fault.
-const FAULTS: [(&[u8], LexFault); 17] = [
-    (
-        b"1.",
-        LexFault::BadByte(Place {
-            file: 7,
-            byte: 1,
-            line: 1,
-        }),
-    ),
-    (
-        b"!",
-        LexFault::BadByte(Place {
-            file: 7,
-            byte: 0,
-            line: 1,
-        }),
-    ),
-    (
-        b".",
-        LexFault::BadByte(Place {
-            file: 7,
-            byte: 0,
-            line: 1,
-        }),
-    ),
-    (
-        b"a.b",
-        LexFault::BadByte(Place {
-            file: 7,
-            byte: 1,
-            line: 1,
-        }),
-    ),
-    (
-        b"a !b",
-        LexFault::BadByte(Place {
-            file: 7,
-            byte: 2,
-            line: 1,
-        }),
-    ),
-    (
-        b"12.5.3",
-        LexFault::BadByte(Place {
-            file: 7,
-            byte: 4,
-            line: 1,
-        }),
-    ),
-    (
-        b"\xe9",
-        LexFault::BadByte(Place {
-            file: 7,
-            byte: 0,
-            line: 1,
-        }),
-    ),
-    (
-        b"a \n\xc3\xa9",
-        LexFault::BadByte(Place {
-            file: 7,
-            byte: 3,
-            line: 2,
-        }),
-    ),
-    (
-        b"# \xe9\n~ \"",
-        LexFault::BadByte(Place {
-            file: 7,
-            byte: 4,
-            line: 2,
-        }),
-    ),
-    (
-        b"\"abc",
-        LexFault::OpenString(Place {
-            file: 7,
-            byte: 0,
-            line: 1,
-        }),
-    ),
-    (
-        b"a\n \"b\nc",
-        LexFault::OpenString(Place {
-            file: 7,
-            byte: 3,
-            line: 2,
-        }),
-    ),
-    (
-        b"\"a\n\" \"",
-        LexFault::OpenString(Place {
-            file: 7,
-            byte: 5,
-            line: 2,
-        }),
-    ),
-    (
-        b"\" 99999999999999",
-        LexFault::OpenString(Place {
-            file: 7,
-            byte: 0,
-            line: 1,
-        }),
-    ),
-    (
-        b"99999999999999",
-        LexFault::NumberTooGreat(Place {
-            file: 7,
-            byte: 0,
-            line: 1,
-        }),
-    ),
-    (
-        b"10000000000000.0000005",
-        LexFault::NumberTooGreat(Place {
-            file: 7,
-            byte: 0,
-            line: 1,
-        }),
-    ),
-    (
-        b"a\n99999999999999 \"",
-        LexFault::NumberTooGreat(Place {
-            file: 7,
-            byte: 2,
-            line: 2,
-        }),
-    ),
-    (
-        b"REV : saisie revenu classe = 0 alias 1AJ : \"s",
-        LexFault::OpenString(Place {
-            file: 7,
-            byte: 43,
-            line: 1,
-        }),
-    ),
-];
-
 fn is_kind(kind: &Kind, want: Want<'_>) -> bool {
     match (kind, want) {
         (Kind::Word(name), Want::Word(bytes)) => name.bytes() == bytes,
@@ -345,60 +207,53 @@ fn is_kind(kind: &Kind, want: Want<'_>) -> bool {
     }
 }
 
-fn is_token(token: &Token, want: (Want<'_>, u32, u32)) -> bool {
-    let place = Place {
-        file: 7,
-        byte: want.1,
-        line: want.2,
-    };
-    token.place == place && is_kind(&token.kind, want.0)
+// Whether a token of the file 7 is this, and stands at this byte and on this line.
+fn is_token(token: &Token, want: Want<'_>, byte: u32, line: u32) -> bool {
+    let place = token.place;
+    place.file == 7 && place.byte == byte && place.line == line && is_kind(&token.kind, want)
+}
+
+// The table, out of reach of the proof of what goes over it.
+fn all_lists() -> &'static [(&'static [u8], &'static [(Want<'static>, u32, u32)])] {
+    &LISTS
+}
+
+fn are_tokens(tokens: &[Token], wanted: &[(Want<'static>, u32, u32)]) -> bool {
+    if tokens.len() != wanted.len() {
+        return false;
+    }
+    for (token, (want, byte, line)) in tokens.iter().zip(wanted) {
+        if !is_token(token, *want, *byte, *line) {
+            return false;
+        }
+    }
+    true
+}
+
+fn is_list(alloc: Global, source: &[u8], wanted: &[(Want<'static>, u32, u32)]) -> bool {
+    match tokens_of(alloc, source, 7) {
+        Some(tokens) => are_tokens(&tokens, wanted),
+        None => false,
+    }
+}
+
+/// Whether a text has one token, which is this.
+pub fn is_one(alloc: Global, source: &[u8], want: Want<'_>) -> bool {
+    match tokens_of(alloc, source, 7) {
+        Some(tokens) => match tokens.as_slice() {
+            [token] => is_token(token, want, 0, 1),
+            _ => false,
+        },
+        None => false,
+    }
 }
 
 #[test]
 fn tokens_at_the_edges(rt: HostRuntime) -> Result<(), Fail> {
-    for (source, wanted) in LISTS {
-        assert!(rt; source.len() < 4_096);
-        let tokens = lex(rt.alloc(), source, 7)?;
-        assert_eq!(rt; tokens.len(), wanted.len(), "in {source:?}");
-        for (token, want) in tokens.iter().zip(wanted) {
-            let at = want.1;
-            assert!(rt; is_token(token, *want), "at {at} in {source:?}");
+    for (source, wanted) in all_lists() {
+        if !is_list(rt.alloc(), source, wanted) {
+            return Err(other_at(rt.alloc(), source));
         }
     }
-    Ok(())
-}
-
-#[test]
-fn first_faults(rt: HostRuntime) {
-    for (source, wanted) in FAULTS {
-        assert_eq!(rt;
-            lex(rt.alloc(), source, 7).err(),
-            Some(wanted),
-            "in {source:?}"
-        );
-    }
-}
-
-#[test]
-fn large_words_and_numbers(rt: HostRuntime) -> Result<(), Fail> {
-    let word = vec![in rt.alloc(); b'A'; 16_777_216]?;
-    let tokens = lex(rt.alloc(), &word, 7)?;
-    assert_eq!(rt; tokens.len(), 1);
-    assert!(rt; is_token(&tokens[0], (Want::Word(&word), 0, 1)));
-    let mut number = vec![in rt.alloc(); b'0'; 9_999]?;
-    number.push(b'7')?;
-    let tokens = lex(rt.alloc(), &number, 7)?;
-    assert_eq!(rt; tokens.len(), 1);
-    assert!(rt; is_token(&tokens[0], (Want::Number(7_000_000, &number), 0, 1)));
-    let nines = vec![in rt.alloc(); b'9'; 10_000]?;
-    let start = Place {
-        file: 7,
-        byte: 0,
-        line: 1,
-    };
-    assert_eq!(rt;
-        lex(rt.alloc(), &nines, 7).err(),
-        Some(LexFault::NumberTooGreat(start))
-    );
     Ok(())
 }

@@ -2,7 +2,7 @@
 //! square of REV is.
 ghost use Rattle.std.specs.Prelude.{◌≡◌, ◌≤◌, ◌<◌, IfOk, length};
 ghost use Rattle.std.specs.List.{AllByRecursion};
-ghost use Rattle.flat_code.specs.Runs.{IsFlat};
+ghost use Rattle.flat_code.specs.Runs.{AreNodes, IsCheck, IsFlat};
 
 use dead_rules::tidy;
 use flat_code::{Check, Flat, Node, Tidy};
@@ -26,10 +26,9 @@ pub(crate) fn number(millionths: i128) -> Value {
     }
 }
 
-fn program(alloc: Global) -> Result<Flat, AllocError>
-    ensures valid { IfOk result (λ flat. IsFlat flat) }
-    ensures sizes { IfOk result (λ flat. (flat.inputs ≡ 1) × (length flat.nodes ≡ 5) × (length flat.outputs ≡ 1)) }
-    ensures labels { IfOk result (λ flat. AllByRecursion (λ check. check.label < 1) flat.checks) }
+// Two literals and what is made of them and the input.
+fn nodes(alloc: Global) -> Result<Seq<Node>, AllocError>
+    ensures { IfOk result (λ nodes. AreNodes 1 0 nodes × (length nodes ≡ 5)) }
 {
     let thousand = number(1_000_000_000);
     let one = number(1_000_000);
@@ -40,6 +39,12 @@ fn program(alloc: Global) -> Result<Flat, AllocError>
         Node::Lit(one),
         Node::Do(Op::Mul, 0, 0, 0),
     ]?;
+    Ok(Seq::from_vec(nodes))
+}
+
+fn one_check(alloc: Global) -> Result<Seq<Check>, AllocError>
+    ensures { IfOk result (λ checks. AllByRecursion (IsCheck 5) checks × AllByRecursion (λ check. check.label < 1) checks) }
+{
     let checks = vec![in alloc;
         Check {
             guard: 3,
@@ -48,12 +53,29 @@ fn program(alloc: Global) -> Result<Flat, AllocError>
             label: 0
         },
     ]?;
+    Ok(Seq::from_vec(checks))
+}
+
+fn one_output(alloc: Global) -> Result<Seq<u32>, AllocError>
+    ensures { IfOk result (λ outputs. AllByRecursion (λ output. output < 5) outputs × (length outputs ≡ 1)) }
+{
     let outputs = vec![in alloc; 2]?;
+    Ok(Seq::from_vec(outputs))
+}
+
+fn program(alloc: Global) -> Result<Flat, AllocError>
+    ensures valid { IfOk result (λ flat. IsFlat flat) }
+    ensures sizes { IfOk result (λ flat. (flat.inputs ≡ 1) × (length flat.nodes ≡ 5) × (length flat.outputs ≡ 1)) }
+    ensures labels { IfOk result (λ flat. AllByRecursion (λ check. check.label < 1) flat.checks) }
+{
+    let nodes = nodes(alloc)?;
+    let checks = one_check(alloc)?;
+    let outputs = one_output(alloc)?;
     Ok(Flat {
         inputs: 1,
-        nodes: Seq::from_vec(nodes),
-        checks: Seq::from_vec(checks),
-        outputs: Seq::from_vec(outputs),
+        nodes,
+        checks,
+        outputs,
     })
 }
 
