@@ -5,7 +5,7 @@ ghost use Rattle.household.specs.Household.{inputs_of};
 ghost use Rattle.m_batch.specs.Batch.{HasInputsBelow};
 
 use crate::two_threads::number;
-use household::{Household, Row};
+use household::{Household, Pair, Row};
 use m_batch::{run_batch, run_household};
 use m_fixed::{Amount, Op};
 use m_places::{Name, Open, Seq};
@@ -38,18 +38,22 @@ fn code(alloc: Global) -> Result<Code, Fail>
     }
 }
 
-fn amount(units: u32) -> Amount {
-    Amount::new(i128::from(units) * 1_000_000).unwrap_or(Amount::zero())
+// The pair of an input and so many units.
+fn pair(input: u32, units: u32) -> Pair
+    ensures { result.0 ≡ input }
+{
+    let amount = Amount::new(i128::from(units) * 1_000_000).unwrap_or(Amount::zero());
+    Pair::new(input, amount)
 }
 
-fn pairs(alloc: Global, k: u32) -> Result<Vec<(u32, Amount)>, AllocError>
+fn pairs(alloc: Global, k: u32) -> Result<Vec<Pair>, AllocError>
     ensures { IfOk result (λ pairs. AllByRecursion (λ input. input < 9) (inputs_of pairs.items)) }
 {
     let pairs = match k % 5 {
-        0 => vec![in alloc; (3, amount(k)), (7, amount(1))]?,
-        1 => vec![in alloc; (5, amount(0)), (8, amount(2)), (3, amount(k))]?,
-        2 => vec![in alloc; (5, amount(k)), (3, amount(4))]?,
-        3 => vec![in alloc; (0, amount(9)), (3, amount(4_000_000_000))]?,
+        0 => vec![in alloc; pair(3, k), pair(7, 1)]?,
+        1 => vec![in alloc; pair(5, 0), pair(8, 2), pair(3, k)]?,
+        2 => vec![in alloc; pair(5, k), pair(3, 4)]?,
+        3 => vec![in alloc; pair(0, 9), pair(3, 4_000_000_000)]?,
         _ => Vec::new(alloc),
     };
     Ok(pairs)

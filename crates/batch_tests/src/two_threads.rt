@@ -3,7 +3,7 @@ ghost use Rattle.std.specs.Prelude.{◌≡◌, IfOk};
 ghost use Rattle.std.specs.List.{AllByRecursion};
 ghost use Rattle.m_batch.specs.Batch.{HasInputsBelow};
 
-use household::{Household, Row};
+use household::{Household, Pair, Row};
 use m_batch::run_batch;
 use m_fixed::{Amount, Op, Value};
 use m_places::{Gate, Name, Open, Seq};
@@ -80,7 +80,7 @@ fn row(alloc: Global, k: u32) -> Result<Row, AllocError>
     ensures { IfOk result (HasInputsBelow 1) }
 {
     let amount = Amount::new(i128::from(k) * 10_000_000).unwrap_or(Amount::zero());
-    let pairs = vec![in alloc; (0, amount)]?;
+    let pairs = vec![in alloc; Pair::new(0, amount)]?;
     Ok(Row {
         label: Name::new(alloc, b"h")?,
         household: Household {

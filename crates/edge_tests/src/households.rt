@@ -3,8 +3,8 @@ ghost use Rattle.std.specs.Prelude.{◌≡◌, IfOk};
 ghost use Rattle.observables.specs.Inputs.{codes_of};
 
 use crate::rows::other_at;
-use household::{Codes, HouseholdFault, read_household, values, values_into};
-use m_fixed::{Amount, Value};
+use household::{Codes, HouseholdFault, Pair, read_household, values, values_into};
+use m_fixed::Value;
 use m_names::Names;
 use m_places::Name;
 use observables::{Coded, InputType};
@@ -79,7 +79,7 @@ fn codes(rt: HostRuntime) -> Result<(), Fail> {
 }
 
 /// Households, and the inputs and millionths of their pairs.
-static HOUSEHOLDS: [(&[u8], &[(u32, i128)]); 14] = [
+static HOUSEHOLDS: [(&[u8], &[(u32, i128)]); 15] = [
     (b"code,amount\n1AJ,2500.5\n", &[(0, 2_500_500_000)]),
     (b"code,amount", &[]),
     (b"code,amount\n", &[]),
@@ -92,6 +92,10 @@ static HOUSEHOLDS: [(&[u8], &[(u32, i128)]); 14] = [
         &[(1, 10_000_000_000_000_000_000)],
     ),
     (b"code,amount\nC08,-0", &[(1, 0)]),
+    (
+        b"code,amount\nC08,-10000000000000.0000004",
+        &[(1, -10_000_000_000_000_000_000)],
+    ),
     (b"code,amount\r\n1AJ,1\r\n", &[(0, 1_000_000)]),
     (b"code,amount\r1AJ,1\r", &[(0, 1_000_000)]),
     (b"\n\ncode,amount\n\n1AJ,1\n\n", &[(0, 1_000_000)]),
@@ -116,12 +120,12 @@ fn all_refused() -> &'static [(&'static [u8], HouseholdFault)] {
 }
 
 /// Whether these are the inputs and the millionths of the pairs.
-fn are_pairs(read: &[(u32, Amount)], pairs: &[(u32, i128)]) -> bool {
+fn are_pairs(read: &[Pair], pairs: &[(u32, i128)]) -> bool {
     if read.len() != pairs.len() {
         return false;
     }
     for (pair, wanted) in read.iter().zip(pairs) {
-        if pair.0 != wanted.0 || pair.1.millionths() != wanted.1 {
+        if pair.input() != wanted.0 || pair.amount().millionths() != wanted.1 {
             return false;
         }
     }

@@ -12,6 +12,8 @@ mod households;
 #[cfg(test)]
 mod large;
 #[cfg(test)]
+mod pairs;
+#[cfg(test)]
 mod parts;
 mod records;
 #[cfg(test)]

@@ -69,7 +69,7 @@ fn is_row(alloc: Global, k: usize, row: &Row) -> bool {
     };
     row.label.bytes() == label.as_bytes()
         && match row.household.pairs.as_slice() {
-            [pair] => pair.1.millionths() == k as i128 * 1_000_000,
+            [pair] => pair.amount().millionths() == k as i128 * 1_000_000,
             _ => false,
         }
 }

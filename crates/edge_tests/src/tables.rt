@@ -1,15 +1,14 @@
 //! Tables that are read and refused.
 use crate::households::three_codes;
 use crate::rows::other_at;
-use household::{Codes, HouseholdFault, Row, read_table};
-use m_fixed::Amount;
+use household::{Codes, HouseholdFault, Pair, Row, read_table};
 use std::alloc::Global;
 use std::test::Fail;
 use std::thread::Threads;
 
 /// Adds a pair, as ` INPUT=MILLIONTHS`. Where there is no memory nothing is added, so it isn't what was wanted.
-fn add_pair(alloc: Global, pair: &(u32, Amount), text: &mut Vec<u8>) {
-    if let Ok(shown) = format!(in alloc; " {}={}", pair.0, pair.1.millionths()) {
+fn add_pair(alloc: Global, pair: &Pair, text: &mut Vec<u8>) {
+    if let Ok(shown) = format!(in alloc; " {}={}", pair.input(), pair.amount().millionths()) {
         let _added = text.extend_from_slice(shown.as_bytes());
     }
 }

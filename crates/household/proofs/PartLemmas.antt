@@ -7,6 +7,7 @@ use Rattle.std.proofs.lemmas.Bool.Decides.{nat_tests}
 use Rattle.std.proofs.Math.Nat.{mul_comm, mul_assoc, div-add-mod}
 use native.Mathlib.Nat.{suc-mul, zero-mul}
 use Rattle.std.specs.Prelude.{IsErrAnd}
+use Rattle.std.specs.Vec.{vec_len}
 use Rattle.m_places.specs.Refusals.{Outcome}
 use Rattle.m_places.specs.declared.limits.TheConstants.{ROWS}
 use Rattle.observables.specs.declared.inputs.Coded.{Coded}
@@ -186,7 +187,7 @@ all_given inputs columns size records parts (Err fault) far each h = λ n. sym (
 
 -- what a worker's closure gave
 pub given_at : (inputs : List Coded) (columns : List ℕ) (records : List Record) (many n at place : ℕ) (part : Given) → at ≡ n * (many * BETWEEN) → place ≡ 0 + at
-    → SaysPart inputs columns records (n * many * BETWEEN) (many * BETWEEN) part
+    → SaysPart inputs columns (drop (n * many * BETWEEN) records) (n * many * BETWEEN) (many * BETWEEN) part
     → Outcome Memory part (λ rows. in_turn (table_row_behind inputs columns place) [] (take (many * BETWEEN) (drop at records)) ≡ Ok rows.items)
     (λ fault. in_turn (table_row_behind inputs columns place) [] (take (many * BETWEEN) (drop at records)) ≡ Err fault)
 given_at inputs columns records many n at place part a p said =
@@ -194,7 +195,7 @@ given_at inputs columns records many n at place part a p said =
     let there : at ≡ place = omega (arith, p) in
     subst (λ k. Outcome Memory part (λ rows. in_turn (table_row_behind inputs columns k) [] (take (many * BETWEEN) (drop at records)) ≡ Ok rows.items)
     (λ fault. in_turn (table_row_behind inputs columns k) [] (take (many * BETWEEN) (drop at records)) ≡ Err fault)) there
-    (subst (λ k. SaysPart inputs columns records k (many * BETWEEN) part) here said)
+    (subst (λ k. SaysPart inputs columns (drop k records) k (many * BETWEEN) part) here said)
 
 -- so many parts, the last one perhaps short, reach to the end
 reach_by : (len size q r n : ℕ) → size * q + r ≡ len → r < size → n ≡ q + min 1 r → len ≤ n * size
@@ -241,8 +242,18 @@ next_is true old new fields is e = is
 next_is false old new fields is e = absurd (cc)
 
 -- so many cuts have room for one more row
-pub below_end : (many rows : ℕ) → rows / BETWEEN < many → rows < many * BETWEEN
+below_end : (many rows : ℕ) → rows / BETWEEN < many → rows < many * BETWEEN
 below_end many rows h = omega (arith, h)
+
+-- the row that is next is one of its part, and stands at this line
+pub has_room : (start many first second line : ℕ) (rows : Vec Row Global) → first ≡ vec_len rows → second ≡ vec_len rows → first / BETWEEN < many
+    → (start * BETWEEN + second < ROWS) × (line ≡ line_behind (start * BETWEEN + second))
+    → (length rows.items < many * BETWEEN) × (start * BETWEEN + length rows.items < ROWS) × (line ≡ line_behind (start * BETWEEN + length rows.items))
+has_room start many first second line rows f s some at =
+    let counted : first ≡ length rows.items = omega (arith, f, rows.ok) in
+    let same : second ≡ length rows.items = omega (arith, s, rows.ok) in
+    let below = below_end many first some in
+    (omega (arith, below, counted), subst (λ k. start * BETWEEN + k < ROWS) same at.0, subst (λ k. line ≡ line_behind (start * BETWEEN + k)) same at.1)
 
 -- what the record that is next says, where it is not one too many
 here_says : (inputs : List Coded) (columns : List ℕ) (more line : ℕ) (rows : List Row) (fields : Record) → more + length rows < ROWS → line ≡ line_behind (more + length rows)

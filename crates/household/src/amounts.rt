@@ -40,6 +40,6 @@ fn put_amounts(household: &Household, values: &mut [Value])
     while left > 0 {
         left -= 1;
         let pair = pairs[left];
-        values[pair.0 as usize] = Value::Num(pair.1);
+        values[pair.input() as usize] = Value::Num(pair.amount());
     }
 }

@@ -4,6 +4,7 @@ ghost use Rattle.observables.specs.Inputs.{codes_of, is_of_type};
 ghost use Rattle.household.specs.Household.{input_type};
 ghost use Rattle.household.specs.Table.{are_fitting};
 
+use crate::Pair;
 use m_fixed::Amount;
 use m_names::{Key, Names, NamesDigest};
 use observables::{Coded, InputType, is_of_type};
@@ -68,11 +69,11 @@ impl Codes {
     }
 
     /// Whether each of these amounts is of the type of its input. Takes no memory.
-    pub fn all_fit(&self, pairs: &[(u32, Amount)]) -> bool
+    pub fn all_fit(&self, pairs: &[Pair]) -> bool
         ensures { result ≡ are_fitting self.now pairs.now }
     {
         for pair in pairs {
-            if !self.fits(pair.0, pair.1) {
+            if !self.fits(pair.input(), pair.amount()) {
                 return false;
             }
         }

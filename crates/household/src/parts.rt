@@ -1,13 +1,13 @@
 //! The rows of a table, read by several workers at once: each reads those of some cuts that stand side by side.
-ghost use Rattle.std.specs.Prelude.{◌≡◌, ◌+◌, ◌*◌, ◌<◌, ◌≤◌, [], drop, length, take, MatchResult, Ok, Err};
+ghost use Rattle.std.specs.Prelude.{◌≡◌, ◌+◌, ◌*◌, ◌<◌, ◌≤◌, [], drop, length, MatchResult, Ok, Err};
 ghost use Rattle.m_places.specs.Refusals.{Outcome};
 ghost use Rattle.m_places.specs.declared.limits.TheConstants.{ROWS};
 ghost use Rattle.household.specs.InTurn.{in_turn};
 ghost use Rattle.household.specs.Household.{line_behind};
 ghost use Rattle.household.specs.Table.{table_row};
 ghost use Rattle.household.specs.Reader.{left_of};
-ghost use Rattle.household.specs.inner.Cuts.{AreCuts, left_at};
-ghost use Rattle.household.specs.inner.Parts.{AreCutsFrom, SaysPart, joined, table_row_behind};
+ghost use Rattle.household.specs.inner.Cuts.{left_at};
+ghost use Rattle.household.specs.inner.Parts.{AreCutsFrom, SaysPart, joined};
 ghost use Rattle.household.specs.declared.cuts.TheConstants.{BETWEEN};
 ghost use Rattle.household.specs.declared.fault.HouseholdFault.TheVariants.{Memory, TooManyRows};
 
@@ -41,7 +41,7 @@ pub(crate) fn read_rows<R: Threads + Sync>(
         many,
         &|start: usize, cuts: &[Cut]| -> Result<Vec<Row>, HouseholdFault>
             requires { (0 < length cuts.now) × AreCutsFrom bytes.now (left_at bytes.now first) start cuts.now }
-            ensures { SaysPart codes.entry.now columns.entry.now (left_at bytes.entry.now first) (start * BETWEEN) (many * BETWEEN) result }
+            ensures { SaysPart codes.entry.now columns.entry.now (drop (start * BETWEEN) (left_at bytes.entry.now first)) (start * BETWEEN) (many * BETWEEN) result }
         {
             let _ = &first;
             read_part(alloc, bytes, cuts[0], start, many, columns, codes)
@@ -70,8 +70,7 @@ fn read_part(
     columns: &[u32],
     codes: &Codes,
 ) -> Result<Vec<Row>, HouseholdFault>
-    ensures { Outcome Memory result (λ rows. in_turn (table_row_behind codes.now columns.now (start * BETWEEN)) [] (take (many * BETWEEN) (left_at bytes.now first)) ≡ Ok rows.items)
-        (λ fault. in_turn (table_row_behind codes.now columns.now (start * BETWEEN)) [] (take (many * BETWEEN) (left_at bytes.now first)) ≡ Err fault) }
+    ensures { SaysPart codes.now columns.now (left_at bytes.now first) (start * BETWEEN) (many * BETWEEN) result }
 {
     let mut records = reader_at(alloc, bytes, first);
     let mut row = ByteRecord::new(alloc);

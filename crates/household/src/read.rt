@@ -8,7 +8,7 @@ ghost use Rattle.household.specs.declared.fault.HouseholdFault.TheVariants.{Memo
 
 use crate::marks::mark;
 use crate::records::{Records, field_at, next_line, next_record, records_of};
-use crate::{Codes, HouseholdFault};
+use crate::{Codes, HouseholdFault, Pair};
 use csv::ByteRecord;
 use m_fixed::{Amount, read_amount};
 use m_places::Seq;
@@ -17,9 +17,8 @@ use std::alloc::Global;
 /// The amounts of a household.
 #[derive(Drop)]
 pub struct Household {
-    /// The number of an input and its amount, in whole millionths, in the order of the file. No input
-    /// stands twice.
-    pub pairs: Seq<(u32, Amount)>,
+    /// The inputs and their amounts, in the order of the file. No input stands twice.
+    pub pairs: Seq<Pair>,
 }
 
 /// Reads a household: records set apart by commas, of which the first is `code,amount` and each other
@@ -62,7 +61,7 @@ fn read_rows(
     records: &mut Records<'_>,
     row: &mut ByteRecord,
     codes: &Codes,
-) -> Result<Vec<(u32, Amount)>, HouseholdFault>
+) -> Result<Vec<Pair>, HouseholdFault>
     ensures { Outcome Memory result (λ pairs. in_turn (row_of codes.now) [] (left_of records.old) ≡ Ok pairs.items) (λ fault. in_turn (row_of codes.now) [] (left_of records.old) ≡ Err fault) }
 {
     let mut marked = vec![in alloc; false; codes.len() as usize]?;
@@ -70,7 +69,7 @@ fn read_rows(
     while next_record(records, row)? {
         let line = next_line(pairs.len())?;
         let pair = read_pair(row, line, codes)?;
-        if !mark(&mut marked, pair.0) {
+        if !mark(&mut marked, pair.input()) {
             return Err(HouseholdFault::CodeTwice(line));
         }
         pairs.push(pair)?;
@@ -79,7 +78,7 @@ fn read_rows(
 }
 
 // The pair that the record with this number says.
-fn read_pair(row: &ByteRecord, line: u32, codes: &Codes) -> Result<(u32, Amount), HouseholdFault>
+fn read_pair(row: &ByteRecord, line: u32, codes: &Codes) -> Result<Pair, HouseholdFault>
     ensures pair { result ≡ pair_of codes.now line (fields_of row.now) }
     ensures known { IfOk result (λ pair. pair.0 < length codes.now) }
 {
@@ -101,11 +100,11 @@ fn fitting_pair(
     amount: Amount,
     line: u32,
     codes: &Codes,
-) -> Result<(u32, Amount), HouseholdFault>
+) -> Result<Pair, HouseholdFault>
     ensures { result ≡ fitting_pair codes.now line (input, amount) }
 {
     if codes.fits(input, amount) {
-        Ok((input, amount))
+        Ok(Pair::new(input, amount))
     } else {
         Err(HouseholdFault::NotOfType(line))
     }

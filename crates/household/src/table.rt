@@ -12,9 +12,9 @@ use crate::cuts::Cut;
 use crate::marks::mark;
 use crate::parts::read_rows;
 use crate::records::{field_at, next_record, records_of};
-use crate::{Codes, Household, HouseholdFault};
+use crate::{Codes, Household, HouseholdFault, Pair};
 use csv::ByteRecord;
-use m_fixed::{Amount, read_amount};
+use m_fixed::read_amount;
 use m_places::{Name, Seq};
 use std::alloc::Global;
 use std::thread::Threads;
@@ -126,7 +126,7 @@ fn read_pairs(
     line: u32,
     columns: &[u32],
     codes: &Codes,
-) -> Result<Vec<(u32, Amount)>, HouseholdFault>
+) -> Result<Vec<Pair>, HouseholdFault>
     requires { length (fields_of row.now) ≡ length columns.now + 1 }
     ensures { Outcome Memory result (λ pairs. pairs_read codes.now line columns.now (drop 1 (fields_of row.now)) ≡ Ok pairs.items) (λ fault. pairs_read codes.now line columns.now (drop 1 (fields_of row.now)) ≡ Err fault) }
 {
@@ -143,7 +143,7 @@ fn read_cells(
     row: &ByteRecord,
     line: u32,
     columns: &[u32],
-) -> Result<Vec<(u32, Amount)>, HouseholdFault>
+) -> Result<Vec<Pair>, HouseholdFault>
     requires { length (fields_of row.now) ≡ length columns.now + 1 }
     ensures { Outcome Memory result (λ pairs. cells_read line [] columns.now (drop 1 (fields_of row.now)) ≡ Ok pairs.items) (λ fault. cells_read line [] columns.now (drop 1 (fields_of row.now)) ≡ Err fault) }
 {
@@ -159,11 +159,11 @@ fn read_cells(
 
 /// The pair of a cell that isn't empty, below a column of this input, in the record with this number: its only fault is a bad
 /// amount. Whether the amount is of the input's type `Codes::fits` says. Takes no memory.
-pub fn read_cell(cell: &[u8], input: u32, line: u32) -> Result<(u32, Amount), HouseholdFault>
+pub fn read_cell(cell: &[u8], input: u32, line: u32) -> Result<Pair, HouseholdFault>
     ensures { result ≡ amount_said line input (amount_read (text_value cell.now)) }
 {
     match read_amount(cell) {
-        Ok(amount) => Ok((input, amount)),
+        Ok(amount) => Ok(Pair::new(input, amount)),
         Err(_) => Err(HouseholdFault::BadAmount(line)),
     }
 }

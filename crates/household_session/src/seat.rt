@@ -19,6 +19,6 @@ pub(crate) fn put_all(sheet: &mut Sheet, household: &Household)
     while left > 0 {
         left -= 1;
         let pair = pairs[left];
-        sheet.put(pair.0, Value::Num(pair.1));
+        sheet.put(pair.input(), Value::Num(pair.amount()));
     }
 }

@@ -47,7 +47,7 @@ fn place_row(household: &Household, places: &mut Places) -> Result<(), AllocErro
     ensures kept { OnOk result (KeepPlaces places.old places.new) }
 {
     for pair in household.pairs.as_slice() {
-        place_input(pair.0, places)?;
+        place_input(pair.input(), places)?;
     }
     Ok(())
 }

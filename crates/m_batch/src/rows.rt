@@ -51,7 +51,7 @@ fn put_pairs(household: &Household, places: &Places, row: &mut [Value])
     while left > 0 {
         left -= 1;
         let pair = pairs[left];
-        let place = places.of[pair.0 as usize];
-        row[place] = Value::Num(pair.1);
+        let place = places.of[pair.input() as usize];
+        row[place] = Value::Num(pair.amount());
     }
 }

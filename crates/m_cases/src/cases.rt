@@ -21,8 +21,8 @@ use crate::outputs::Outputs;
 use crate::{CasesFault, Expected};
 use csv::ByteRecord;
 use household::records::{Records, field_at, next_line, next_record, records_of};
-use household::{Codes, Household, Row, is_label, read_cell};
-use m_fixed::{Amount, Value, read_amount};
+use household::{Codes, Household, Pair, Row, is_label, read_cell};
+use m_fixed::{Value, read_amount};
 use m_places::{Name, Seq};
 use observables::Face;
 use std::alloc::{AllocError, Global};
@@ -150,7 +150,7 @@ fn read_pairs(
     line: u32,
     columns: &[Column],
     codes: &Codes,
-) -> Result<Seq<(u32, Amount)>, CasesFault>
+) -> Result<Seq<Pair>, CasesFault>
     requires { length (fields_of row.now) ≡ length columns.now + 1 }
     ensures { Outcome Memory result
         (λ pairs. pairs_read codes.now line (column_inputs columns.now) (input_cells columns.now (drop 1 (fields_of row.now))) ≡ Ok pairs)
@@ -169,7 +169,7 @@ fn read_amounts(
     row: &ByteRecord,
     line: u32,
     columns: &[Column],
-) -> Result<Vec<(u32, Amount)>, CasesFault>
+) -> Result<Vec<Pair>, CasesFault>
     requires { length (fields_of row.now) ≡ length columns.now + 1 }
     ensures { Outcome Memory result
         (λ pairs. cells_read line [] (column_inputs columns.now) (input_cells columns.now (drop 1 (fields_of row.now))) ≡ Ok pairs.items)
@@ -187,7 +187,7 @@ fn add_amount(
     cell: &[u8],
     column: Column,
     line: u32,
-    pairs: &mut Vec<(u32, Amount)>,
+    pairs: &mut Vec<Pair>,
 ) -> Result<(), CasesFault>
     ensures { Outcome Memory result
         (λ _. amounts_behind line pairs.old.items column cell.now ≡ Ok pairs.new.items)

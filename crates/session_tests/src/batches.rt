@@ -5,7 +5,7 @@ ghost use Rattle.std.specs.List.{AllByRecursion};
 ghost use Rattle.household.specs.Household.{inputs_of};
 
 use crate::sessions::{codes, number, one_input};
-use household::{Codes, Household, read_table};
+use household::{Codes, Household, Pair, read_table};
 use m_batch::{run_batch, run_household};
 use m_fixed::{Amount, Op, Value};
 use m_places::{Open, Seq};
@@ -124,7 +124,7 @@ fn batches(rt: HostRuntime) -> Result<(), Fail> {
 fn household(alloc: Global, amount: Amount) -> Result<Household, AllocError>
     ensures { IfOk result (λ household. AllByRecursion (λ input. input < 1) (inputs_of household.pairs)) }
 {
-    let pairs = vec![in alloc; (0, amount)]?;
+    let pairs = vec![in alloc; Pair::new(0, amount)]?;
     Ok(Household {
         pairs: Seq::from_vec(pairs),
     })

@@ -20,11 +20,11 @@ table_row_behind inputs columns more before fields = row_behind inputs columns (
 abbrev pub AreCutsFrom : List ℕ → List (List (List ℕ)) → ℕ → List Cut → Type 0
 AreCutsFrom bytes records start cuts = (n : ℕ) (d : Cut) → n < length cuts → left_at bytes (get_or cuts n d) ≡ drop ((start + n) * BETWEEN) records
 
--- What a worker gives: the rows of so many of these records, after so many of them, or their fault.
+-- What a worker gives: the rows of so many of these records, which stand after so many others, or their fault.
 abbrev pub SaysPart : List Coded → List ℕ → List (List (List ℕ)) → ℕ → ℕ → Result (Vec Row Global) HouseholdFault → Type 0
 SaysPart inputs columns records before size result =
-    Outcome Memory result (λ rows. in_turn (table_row_behind inputs columns before) [] (take size (drop before records)) ≡ Ok rows.items)
-    (λ fault. in_turn (table_row_behind inputs columns before) [] (take size (drop before records)) ≡ Err fault)
+    Outcome Memory result (λ rows. in_turn (table_row_behind inputs columns before) [] (take size records) ≡ Ok rows.items)
+    (λ fault. in_turn (table_row_behind inputs columns before) [] (take size records) ≡ Err fault)
 
 -- the rows after those of a part
 abbrev pub behind : List Row → Result (List Row) HouseholdFault → Result (List Row) HouseholdFault

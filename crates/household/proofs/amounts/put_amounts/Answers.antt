@@ -16,12 +16,12 @@ loop-left-init c =
       filled = c.requires.empty ∙ ap (λ ps. values_of ps (length c.args.values.now)) (sym (drop_all (length c.as_slice-pairs.result.now) c.as_slice-pairs.result.now (omega arith)));
     }
 
-pub bounds-values-pair : goal.bounds-values-pair
-bounds-values-pair c =
+pub bounds-values-input : goal.bounds-values-input
+bounds-values-input c =
     let n = length c.args.values.now in
     let next = values_of-next c.as_slice-pairs.result.now c.loop-left.values c.loop-left.left c.index-pairs-left.result n
     (in_range n c.as_slice-pairs.ensures c.requires.inputs) (omega arith) (omega arith) c.index-pairs-left.is c.loop-left.invariant.filled in
-    omega (arith, next.0, c.loop-left.invariant.counted)
+    omega (arith, next.0, c.input.ensures, c.loop-left.invariant.counted)
 
 pub loop-left-preserved : goal.loop-left-preserved
 loop-left-preserved c =
@@ -31,5 +31,5 @@ loop-left-preserved c =
     record {
       within = omega arith;
       counted = length-set c.loop-left.values _ _ ∙ c.loop-left.invariant.counted;
-      filled = next.1;
+      filled = rw (c.input.ensures, c.amount.ensures) next.1;
     }

@@ -17,7 +17,7 @@ put-requires c =
     let pairs = c.as_slice-pairs.result.now in
     let next = values_of-next pairs (values_of (drop c.loop-left.left pairs) n) c.loop-left.left c.index-pairs-left.result n
     (in_range n c.as_slice-pairs.ensures c.requires.inputs) (omega arith) c.loop-left.invariant.within c.index-pairs-left.is refl in
-    omega (arith, next.0, ap (λ (held : Held). held.flat.inputs) c.loop-left.invariant.sheet)
+    omega (arith, next.0, c.input.ensures, ap (λ (held : Held). held.flat.inputs) c.loop-left.invariant.sheet)
 
 pub loop-left-preserved : goal.loop-left-preserved
 loop-left-preserved c =
@@ -31,7 +31,7 @@ loop-left-preserved c =
     record {
       within = omega (arith, c.loop-left.invariant.within);
       sheet =
-          c.put.ensures
+          rw (c.input.ensures, c.amount.ensures) at c.put.ensures
           ∙ ap (λ (held : Held). record held { now = set held.now pair.0 (Num pair.1); put = set held.put pair.0 true }) c.loop-left.invariant.sheet
           ∙ ap (λ now. record first { now = now; put = set (noted_pairs (drop left pairs) first.put) pair.0 true }) next.1
           ∙ ap (λ put. record first { now = values_of (drop (left - 1) pairs) n; put = put })

@@ -16,6 +16,6 @@ loop-pair-preserved c =
     record {
       placing = gave.placing;
       placed = placed_next c.loop-pair.places c.place_input.new.places c.args.household.now.pairs c.as_slice-pair-items.result.now c.loop-pair.pair-index c.pair-item.result
-          c.loop-pair.invariant.placed gave.kept c.as_slice-pair-items.ensures c.loop-pair-test.true c.pair-item.is (omega (arith, below, c.loop-pair.invariant.kept.many)) gave.placed;
+          c.loop-pair.invariant.placed gave.kept c.as_slice-pair-items.ensures c.loop-pair-test.true c.pair-item.is (omega (arith, below, c.loop-pair.invariant.kept.many)) (rw c.input.ensures at gave.placed);
       kept = keep_trans c.args.places.now c.loop-pair.places c.place_input.new.places c.loop-pair.invariant.kept gave.kept;
     }
