@@ -1,20 +1,11 @@
 -- Texts that are held in memory.
 use Rattle.std.specs.Prelude.{ℕ, List, []}
 
--- a text that grows, and how often a call of it failed
-pub record Text : Type 0 where
-  pub bytes : List ℕ
-  pub faults : ℕ
-
 -- a text of a fixed room, and how often a call of it failed
 pub record TextIn : Type 0 where
   pub bytes : List ℕ
   pub room : ℕ
   pub faults : ℕ
-
--- the empty text, before any call
-abbrev pub no_text : Text
-no_text = record { bytes = []; faults = 0 }
 
 -- the empty text of this room, before any call
 abbrev pub no_text_in : ℕ → TextIn

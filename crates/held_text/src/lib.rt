@@ -1,13 +1,11 @@
-//! Texts that are held in memory and then given to an output in one call: outputs to which printers write as to any other, one
-//! that grows and one of a fixed room. And a buffer of a fixed room before an output, which gives a longer text in pieces.
+//! Outputs that hold in memory what is written to them: a text of a fixed room, which is given by one call, and a buffer before
+//! another output, which gives a text of any length in pieces of its room.
 //!
 //! This crate stands on the outputs of `m_ports`. It knows nothing of what a text says.
 #![tactic(auto)]
 
 mod buffered;
 mod fixed;
-mod growing;
 
 pub use buffered::{BufferedSink, Origin, Printed};
 pub use fixed::FixedText;
-pub use growing::HeldText;

@@ -28,14 +28,14 @@ pub fn compile_source<R: Threads + Sync, K: Sink>(
     ensures { IsAnswered (CompileReplies source.now) (output_view K.written K.faults out.old) (output_view K.written K.faults out.new) result }
 {
     match prepare_code(rt, alloc, source) {
-        Ok(loaded) => answer_compile(alloc, &loaded, out),
+        Ok(loaded) => answer_compile(&loaded, out),
         Err(fault) => tell_refusal(out, told_fault(source.texts.as_slice(), &fault)),
     }
 }
 
 /// Writes the code file of loaded code.
-fn answer_compile<K: Sink>(alloc: Global, loaded: &Loaded, out: &mut K) -> Status
+fn answer_compile<K: Sink>(loaded: &Loaded, out: &mut K) -> Status
     ensures { IsAnswered (IsFileOf loaded.now) (output_view K.written K.faults out.old) (output_view K.written K.faults out.new) result }
 {
-    printed(give_code(alloc, loaded, out), Status::Done)
+    printed(give_code(loaded, out), Status::Done)
 }

@@ -81,10 +81,7 @@ fn answer_lint<K: Sink>(alloc: Global, made: &RuleBase, compiled: &Compiled, out
         &compiled.tidy,
         &compiled.face,
     ) {
-        Ok(findings) => printed(
-            give_findings(alloc, made, findings.as_slice(), out),
-            Status::Done,
-        ),
+        Ok(findings) => printed(give_findings(made, findings.as_slice(), out), Status::Done),
         Err(AllocError) => Status::Memory,
     }
 }

@@ -1,6 +1,6 @@
 //! Lines that are printed into a text of a fixed room and given by one call; where they have no room there, they are printed to the
-//! output itself.
-ghost use Rattle.std.specs.Prelude.{◌≡◌, ◌≤◌, ◌++◌, IfOk, length};
+//! output itself. Texts that may be longer go through a buffer.
+ghost use Rattle.std.specs.Prelude.{◌≡◌, ◌<◌, ◌≤◌, ◌++◌, IfOk, length};
 ghost use Rattle.std.specs.List.{AllByRecursion};
 ghost use Rattle.text_pieces.specs.Giving.{Gives};
 ghost use Rattle.m_places.specs.declared.limits.TheConstants.{ROWS};
@@ -19,7 +19,7 @@ ghost use Rattle.m_work.specs.inner.CaseGroups.{compared_count, compared_lines, 
 use crate::case_groups::print_all_mismatches;
 use crate::large::print_large;
 use code_file::{Loaded, write_code};
-use held_text::{FixedText, HeldText};
+use held_text::{BufferedSink, FixedText, Origin, Printed};
 use household::Row;
 use m_cases::Expected;
 use m_lint::{Finding, print_findings};
@@ -27,7 +27,7 @@ use m_places::Seq;
 use m_ports::{Failed, Sink, give_all};
 use observables::{Answer, Face};
 use rule_base::RuleBase;
-use std::alloc::Global;
+use std::marker::Brand;
 use tax_print::print_answer;
 
 /// The room for the lines of one answer.
@@ -35,6 +35,9 @@ pub(crate) const ANSWER_ROOM: usize = 65_536;
 
 /// The room for the lines of cases that are computed at once.
 pub(crate) const CASES_ROOM: usize = 4_194_304;
+
+// The room of a buffer before the output, by which texts go that may be longer.
+const BUFFER_ROOM: usize = 65_536;
 
 /// Gives the lines of an answer.
 pub(crate) fn give_answer<K: Sink>(
@@ -105,22 +108,34 @@ fn with_count(given: Result<(), Failed>, count: u64) -> Result<u64, Failed>
     }
 }
 
-/// Gives the code file of loaded code. It is put together in memory as far as there is some; where there is none, it is written to the output
-/// itself.
-pub(crate) fn give_code<K: Sink>(alloc: Global, loaded: &Loaded, out: &mut K) -> Result<(), Failed>
+/// Gives the code file of loaded code, in pieces of one size. It takes no memory.
+pub(crate) fn give_code<K: Sink>(loaded: &Loaded, out: &mut K) -> Result<(), Failed>
     ensures { Gives K.written K.faults out.old out.new result (text_with loaded.now.code loaded.now.face) }
 {
-    let mut held = HeldText::new(alloc);
-    match write_code(loaded, &mut held) {
-        Ok(()) => give_all(out, held.text()),
-        Err(_) => write_code(loaded, out),
-    }
+    let mut room = [0; BUFFER_ROOM];
+    let printed = buffer_code::<K, Brand>(loaded, &mut room, out);
+    printed.result
 }
 
-/// Gives the lines of findings. They are put together in memory as far as there is some; where there is none, they are written to the output
-/// itself.
+// The same through this room.
+fn buffer_code<'a, K: Sink, O: Origin>(
+    loaded: &Loaded,
+    room: &'a mut [u8],
+    out: &'a mut K,
+) -> Printed<'a, K>
+    requires name { out.ghost_name ≡ O.name }
+    requires start { K.written out.old ≡ O.start }
+    requires some { 0 < length room.old }
+    ensures name { result.out.ghost_name ≡ out.entry.ghost_name }
+    ensures gives { Gives K.written K.faults out.old result.out.now result.result (text_with loaded.now.code loaded.now.face) }
+{
+    let mut buffered = BufferedSink::<'a, K, O>::new(out, room);
+    let printed = write_code(loaded, &mut buffered);
+    buffered.finish(printed)
+}
+
+/// Gives the lines of findings, in pieces of one size. It takes no memory.
 pub(crate) fn give_findings<K: Sink>(
-    alloc: Global,
     made: &RuleBase,
     findings: &[Finding],
     out: &mut K,
@@ -129,9 +144,27 @@ pub(crate) fn give_findings<K: Sink>(
     requires within { AreWithinCounts (length (owners_from 0 made.now.symbols.variables)) (length made.now.ordered.base.checks) (length (inputs_from 0 made.now.symbols.variables)) findings.now }
     ensures { Gives K.written K.faults out.old out.new result (findings_text made.now.symbols made.now.ordered.base findings.now) }
 {
-    let mut held = HeldText::new(alloc);
-    match print_findings(&made.symbols, &made.ordered.base, findings, &mut held) {
-        Ok(()) => give_all(out, held.text()),
-        Err(_) => print_findings(&made.symbols, &made.ordered.base, findings, out),
-    }
+    let mut room = [0; BUFFER_ROOM];
+    let printed = buffer_findings::<K, Brand>(made, findings, &mut room, out);
+    printed.result
+}
+
+// The same through this room.
+fn buffer_findings<'a, K: Sink, O: Origin>(
+    made: &RuleBase,
+    findings: &[Finding],
+    room: &'a mut [u8],
+    out: &'a mut K,
+) -> Printed<'a, K>
+    requires valid { IsValidBase made.now.ordered.base }
+    requires within { AreWithinCounts (length (owners_from 0 made.now.symbols.variables)) (length made.now.ordered.base.checks) (length (inputs_from 0 made.now.symbols.variables)) findings.now }
+    requires name { out.ghost_name ≡ O.name }
+    requires start { K.written out.old ≡ O.start }
+    requires some { 0 < length room.old }
+    ensures name { result.out.ghost_name ≡ out.entry.ghost_name }
+    ensures gives { Gives K.written K.faults out.old result.out.now result.result (findings_text made.now.symbols made.now.ordered.base findings.now) }
+{
+    let mut buffered = BufferedSink::<'a, K, O>::new(out, room);
+    let printed = print_findings(&made.symbols, &made.ordered.base, findings, &mut buffered);
+    buffered.finish(printed)
 }
