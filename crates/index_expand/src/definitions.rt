@@ -20,6 +20,7 @@ use plain_rules::Definition;
 
 /// Puts the definitions of one instance of a formula after definitions, where so many parts were counted before, and answers
 /// how many there are with these.
+#[inline(never)]
 pub(crate) fn take_instance(
     words: &mut Words<'_>,
     letters: &mut [Option<Name>],

@@ -39,16 +39,13 @@ fn no_scope() -> [bool; 256]
     [false; 256]
 }
 
-// Within a loop over these indexes.
-#[inline(never)]
-fn scope_within(indexes: &[Index], scope: &[bool; 256]) -> [bool; 256]
-    ensures { result ≡ spec.scope_within indexes.now scope.now }
+// Makes a scope that within a loop over these indexes.
+fn bind_letters(scope: &mut [bool; 256], indexes: &[Index])
+    ensures { scope.new ≡ spec.scope_within indexes.now scope.old }
 {
-    let mut inner = *scope;
     for index in indexes {
-        inner[index.letter as usize] = true;
+        scope[index.letter as usize] = true;
     }
-    inner
 }
 
 fn formula_scope(headers: &[Header]) -> [bool; 256]
@@ -56,7 +53,7 @@ fn formula_scope(headers: &[Header]) -> [bool; 256]
 {
     let mut scope = no_scope();
     for header in headers {
-        scope = scope_within(header.indexes.as_slice(), &scope);
+        bind_letters(&mut scope, header.indexes.as_slice());
     }
     scope
 }
@@ -239,7 +236,9 @@ fn with_loop(
     ensures { result ≡ spec.least first (spec.term_faults scope.now (tree.loop header.now body.now)) }
 {
     let first = with_header(first, header);
-    with_term(first, &scope_within(header.indexes.as_slice(), scope), body)
+    let mut inner = *scope;
+    bind_letters(&mut inner, header.indexes.as_slice());
+    with_term(first, &inner, body)
 }
 
 #[cycle(with_term)]

@@ -65,7 +65,7 @@ with_term-returns-in-Loop t c =
 
 pub with_loop-returns : goal.with_loop-returns
 with_loop-returns t c =
-    let inner = c.scope_within.ensures ∙ ap (λ is. scope_within is c.args.scope.now) c.as_slice.ensures in
+    let inner = c.bind_letters.ensures ∙ ap (λ is. scope_within is c.args.scope.now) c.as_slice.ensures in
     least_both c.args.first c.with_header-first.result c.with_term.result (header_faults c.args.header.now) (term_faults (scope_within c.args.header.now.indexes c.args.scope.now) c.args.body.now)
     c.with_header-first.ensures
     (c.with_term.ensures ∙ (λ k. least c.with_header-first.result (term_faults (inner k) c.args.body.now)))
