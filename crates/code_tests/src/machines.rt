@@ -1,9 +1,10 @@
 //! Code that is made, refused and run.
+ghost use Rattle.std.specs.Prelude.{◌≡◌, ◌<◌};
+
 use m_fixed::{Amount, Op, Value};
 use observables::Stop;
 use reg_machine::{Code, CodeWrong, Instr, Machine, make_code};
 use std::alloc::Global;
-use std::test::Fail;
 
 fn millionths(millionths: i128) -> Value {
     match Amount::new(millionths) {
@@ -13,94 +14,102 @@ fn millionths(millionths: i128) -> Value {
 }
 
 /// What a run of code with one input and one output answers.
-#[derive(Debug, Drop, PartialEq, Eq)]
+#[derive(Clone, Copy, PartialEq, Eq)]
 enum Told {
     Value(Value),
     Stopped(Stop),
     Wrong(CodeWrong),
 }
 
-// The first output of a run.
-fn ran(alloc: Global, code: &Code, input: Value) -> Result<Told, Fail> {
-    if code.inputs() != 1 || code.outputs() == 0 {
-        return Err(Fail::from("one input and an output"));
+// Whether this is what a run of the machine answers.
+fn is_run<'a>(machine: &mut Machine<'a>, input: Value, wanted: Told) -> bool
+    requires inputs { machine.old.code.counts.inputs ≡ 1 }
+    requires outputs { 0 < machine.old.code.counts.outputs }
+{
+    match machine.run(&[input]) {
+        Some(stop) => wanted == Told::Stopped(stop),
+        None => wanted == Told::Value(machine.output(0)),
     }
-    let mut machine = Machine::new(alloc, code)?;
-    Ok(match machine.run(&[input]) {
-        Some(stop) => Told::Stopped(stop),
-        None => Told::Value(machine.output(0)),
-    })
+}
+
+// Whether this is what a run of the code answers.
+fn runs_to(alloc: Global, code: &Code, input: Value, wanted: Told) -> bool {
+    if code.inputs() != 1 || code.outputs() == 0 {
+        return false;
+    }
+    match Machine::new(alloc, code) {
+        Ok(mut machine) => is_run(&mut machine, input, wanted),
+        Err(_) => false,
+    }
 }
 
 // The same of these instructions with one input, and a number of slots that is no room. No test has many of them.
-fn answered(alloc: Global, instrs: &[Instr], outputs: u32, input: Value) -> Result<Told, Fail> {
+fn answers(alloc: Global, instrs: &[Instr], outputs: u32, input: Value, wanted: Told) -> bool {
     if instrs.len() > 100 {
-        return Err(Fail::from("too many instructions"));
+        return false;
     }
     match make_code(alloc, 1, 4_294_967_295, 2, outputs, instrs) {
-        Ok(code) => ran(alloc, &code, input),
-        Err(wrong) => Ok(Told::Wrong(wrong)),
+        Ok(code) => runs_to(alloc, &code, input, wanted),
+        Err(wrong) => wanted == Told::Wrong(wrong),
     }
 }
 
 #[test]
-fn code_is_made_and_run(rt: HostRuntime) -> Result<(), Fail> {
+fn code_is_made_and_run(rt: HostRuntime) {
     let instrs = [
         Instr::Take(0, 0),
         Instr::Lit(1, millionths(1_000_000_000)),
         Instr::Do(Op::Sub, 0, 0, 1, 0),
         Instr::Output(0, 0),
     ];
-    let found = answered(rt.alloc(), &instrs, 1, millionths(2_500_500_000))?;
-    assert_eq!(rt; found, Told::Value(millionths(1_500_500_000)));
-    Ok(())
+    let wanted = Told::Value(millionths(1_500_500_000));
+    assert!(rt; answers(rt.alloc(), &instrs, 1, millionths(2_500_500_000), wanted));
 }
 
 #[test]
-fn nothing_is_read_before_it_is_written(rt: HostRuntime) -> Result<(), Fail> {
+fn nothing_is_read_before_it_is_written(rt: HostRuntime) {
     let instrs = [
         Instr::Lit(1, millionths(1_000_000_000)),
         Instr::Do(Op::Sub, 0, 0, 1, 0),
         Instr::Output(0, 0),
     ];
-    let found = answered(rt.alloc(), &instrs, 1, Value::Undef)?;
-    assert_eq!(rt; found, Told::Wrong(CodeWrong::BadOrder(1)));
-    Ok(())
+    let wanted = Told::Wrong(CodeWrong::BadOrder(1));
+    assert!(rt; answers(rt.alloc(), &instrs, 1, Value::Undef, wanted));
 }
 
 #[test]
-fn registers_are_sixteen(rt: HostRuntime) -> Result<(), Fail> {
+fn registers_are_sixteen(rt: HostRuntime) {
     let instrs = [
         Instr::Take(16, 0),
         Instr::Lit(1, millionths(1_000_000_000)),
         Instr::Do(Op::Sub, 0, 0, 1, 0),
         Instr::Output(0, 0),
     ];
-    let found = answered(rt.alloc(), &instrs, 1, Value::Undef)?;
-    assert_eq!(rt; found, Told::Wrong(CodeWrong::BadNumber(0)));
-    Ok(())
+    let wanted = Told::Wrong(CodeWrong::BadNumber(0));
+    assert!(rt; answers(rt.alloc(), &instrs, 1, Value::Undef, wanted));
 }
 
 #[test]
-fn outputs_are_given_once(rt: HostRuntime) -> Result<(), Fail> {
-    let alloc = rt.alloc();
+fn outputs_are_given(rt: HostRuntime) {
     let none = [
         Instr::Take(0, 0),
         Instr::Lit(1, millionths(1_000_000_000)),
         Instr::Do(Op::Sub, 0, 0, 1, 0),
     ];
-    let found = answered(alloc, &none, 1, Value::Undef)?;
-    assert_eq!(rt; found, Told::Wrong(CodeWrong::NoOutput));
+    let wanted = Told::Wrong(CodeWrong::NoOutput);
+    assert!(rt; answers(rt.alloc(), &none, 1, Value::Undef, wanted));
+}
+
+#[test]
+fn outputs_are_given_once(rt: HostRuntime) {
     let twice = [Instr::Take(0, 0), Instr::Output(0, 0), Instr::Output(0, 0)];
-    let found = answered(alloc, &twice, 1, Value::Undef)?;
-    assert_eq!(rt; found, Told::Wrong(CodeWrong::BadNumber(2)));
-    Ok(())
+    let wanted = Told::Wrong(CodeWrong::BadNumber(2));
+    assert!(rt; answers(rt.alloc(), &twice, 1, Value::Undef, wanted));
 }
 
 /// There are 4,294,967,295 slots and as many outputs: neither takes room.
 #[test]
-fn counts_take_no_room(rt: HostRuntime) -> Result<(), Fail> {
-    let alloc = rt.alloc();
+fn counts_take_no_room(rt: HostRuntime) {
     let instrs = [
         Instr::Take(0, 0),
         Instr::Store(4_294_967_294, 0),
@@ -109,17 +118,15 @@ fn counts_take_no_room(rt: HostRuntime) -> Result<(), Fail> {
         Instr::Load(5, 4_294_967_294),
         Instr::Output(0, 5),
     ];
-    let found = answered(alloc, &instrs, 1, millionths(3_000_000))?;
-    assert_eq!(rt; found, Told::Value(millionths(3_000_000)));
-    let found = answered(alloc, &instrs, 4_294_967_295, Value::Undef)?;
-    assert_eq!(rt; found, Told::Wrong(CodeWrong::NoOutput));
-    Ok(())
+    let wanted = Told::Value(millionths(3_000_000));
+    assert!(rt; answers(rt.alloc(), &instrs, 1, millionths(3_000_000), wanted));
+    let wanted = Told::Wrong(CodeWrong::NoOutput);
+    assert!(rt; answers(rt.alloc(), &instrs, 4_294_967_295, Value::Undef, wanted));
 }
 
 /// A check ends a run where its guard is 1, and a machine runs again as if it hadn't run before.
 #[test]
-fn runs_end_at_checks(rt: HostRuntime) -> Result<(), Fail> {
-    let alloc = rt.alloc();
+fn runs_end_at_checks(rt: HostRuntime) {
     let instrs = [
         Instr::Take(0, 0),
         Instr::Output(0, 0),
@@ -127,11 +134,17 @@ fn runs_end_at_checks(rt: HostRuntime) -> Result<(), Fail> {
         Instr::Check(1, 0, true, 0),
         Instr::Check(0, 1, false, 1),
     ];
-    let found = answered(alloc, &instrs, 1, Value::Over)?;
-    assert_eq!(rt; found, Told::Stopped(Stop::Over(0)));
-    let found = answered(alloc, &instrs, 1, millionths(1_000_000))?;
-    assert_eq!(rt; found, Told::Stopped(Stop::Failed(1)));
-    let found = answered(alloc, &instrs, 1, millionths(2_000_000))?;
-    assert_eq!(rt; found, Told::Value(millionths(2_000_000)));
-    Ok(())
+    assert!(rt;
+        answers(
+            rt.alloc(),
+            &instrs,
+            1,
+            Value::Over,
+            Told::Stopped(Stop::Over(0))
+        )
+    );
+    let one = millionths(1_000_000);
+    assert!(rt; answers(rt.alloc(), &instrs, 1, one, Told::Stopped(Stop::Failed(1))));
+    let wanted = Told::Value(millionths(2_000_000));
+    assert!(rt; answers(rt.alloc(), &instrs, 1, millionths(2_000_000), wanted));
 }

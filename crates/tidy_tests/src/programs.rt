@@ -1,13 +1,13 @@
 //! Programs written by hand, and their tidy form.
-ghost use Rattle.std.specs.Prelude.{◌≡◌, ◌<◌, [], IfOk, length};
-ghost use Rattle.flat_code.specs.Runs.{IsFlat};
+ghost use Rattle.std.specs.Prelude.{◌≡◌, ◌<◌, [], ◌∷◌, IfOk, length};
+ghost use Rattle.std.specs.List.{AllByRecursion};
+ghost use Rattle.flat_code.specs.Runs.{AreNodes, IsCheck, IsFlat};
 
 use dead_rules::tidy;
 use flat_code::{Check, Flat, Node};
 use m_fixed::{Amount, Op, Value};
 use m_places::Seq;
 use std::alloc::{AllocError, Global};
-use std::process::Abort;
 use std::test::Fail;
 
 // So many whole units.
@@ -18,22 +18,37 @@ fn units(n: i64) -> Value {
     }
 }
 
-// A program of these nodes, of one input, without checks, whose output is the last node.
-fn program(alloc: Global, nodes: Vec<Node>, outputs: Vec<u32>) -> Flat
-    ensures { result ≡ record { inputs = 1; nodes = nodes.items; checks = []; outputs = outputs.items } }
+// A list of one number.
+fn one_output(alloc: Global, number: u32) -> Result<Seq<u32>, AllocError>
+    ensures { IfOk result (λ outputs. outputs ≡ number ∷ []) }
 {
-    Flat {
-        inputs: 1,
-        nodes: Seq::from_vec(nodes),
-        checks: Seq::from_vec(Vec::new(alloc)),
-        outputs: Seq::from_vec(outputs),
-    }
+    let outputs = vec![in alloc; number]?;
+    Ok(Seq::from_vec(outputs))
 }
 
-// (input + 0) * 1 + 0
-fn sum(alloc: Global) -> Result<Flat, AllocError>
-    ensures valid { IfOk result IsFlat }
-    ensures few { IfOk result (λ flat. length flat.nodes ≡ 6) }
+fn no_checks(alloc: Global) -> Seq<Check>
+    ensures { result ≡ [] }
+{
+    Seq::from_vec(Vec::new(alloc))
+}
+
+// A list of one check.
+fn one_check(alloc: Global) -> Result<Seq<Check>, AllocError>
+    ensures { IfOk result (λ checks. AllByRecursion (IsCheck 4) checks) }
+{
+    let checks = vec![in alloc;
+        Check {
+            guard: 2,
+            condition: 0,
+            over_only: false,
+            label: 7
+        },
+    ]?;
+    Ok(Seq::from_vec(checks))
+}
+
+fn sum_nodes(alloc: Global) -> Result<Seq<Node>, AllocError>
+    ensures { IfOk result (λ nodes. AreNodes 1 0 nodes × (length nodes ≡ 6)) }
 {
     let zero = units(0);
     let one = units(1);
@@ -45,14 +60,26 @@ fn sum(alloc: Global) -> Result<Flat, AllocError>
         Node::Do(Op::Mul, 2, 3, 0),
         Node::Do(Op::Add, 4, 1, 0),
     ]?;
-    let outputs = vec![in alloc; 5]?;
-    Ok(program(alloc, nodes, outputs))
+    Ok(Seq::from_vec(nodes))
 }
 
-// present(10) * 5
-fn presence(alloc: Global) -> Result<Flat, AllocError>
+// (input + 0) * 1 + 0
+fn sum(alloc: Global) -> Result<Flat, AllocError>
     ensures valid { IfOk result IsFlat }
-    ensures few { IfOk result (λ flat. length flat.nodes ≡ 4) }
+    ensures few { IfOk result (λ flat. length flat.nodes ≡ 6) }
+{
+    let nodes = sum_nodes(alloc)?;
+    let outputs = one_output(alloc, 5)?;
+    Ok(Flat {
+        inputs: 1,
+        nodes,
+        checks: no_checks(alloc),
+        outputs,
+    })
+}
+
+fn presence_nodes(alloc: Global) -> Result<Seq<Node>, AllocError>
+    ensures { IfOk result (λ nodes. AreNodes 1 0 nodes × (length nodes ≡ 4)) }
 {
     let ten = units(10);
     let five = units(5);
@@ -62,8 +89,30 @@ fn presence(alloc: Global) -> Result<Flat, AllocError>
         Node::Lit(five),
         Node::Do(Op::Mul, 1, 2, 0),
     ]?;
-    let outputs = vec![in alloc; 3]?;
-    Ok(program(alloc, nodes, outputs))
+    Ok(Seq::from_vec(nodes))
+}
+
+// present(10) * 5
+fn presence(alloc: Global) -> Result<Flat, AllocError>
+    ensures valid { IfOk result IsFlat }
+    ensures few { IfOk result (λ flat. length flat.nodes ≡ 4) }
+{
+    let nodes = presence_nodes(alloc)?;
+    let outputs = one_output(alloc, 3)?;
+    Ok(Flat {
+        inputs: 1,
+        nodes,
+        checks: no_checks(alloc),
+        outputs,
+    })
+}
+
+fn product_nodes(alloc: Global) -> Result<Seq<Node>, AllocError>
+    ensures { IfOk result (λ nodes. AreNodes 1 0 nodes × (length nodes ≡ 3)) }
+{
+    let zero = units(0);
+    let nodes = vec![in alloc; Node::Input(0), Node::Lit(zero), Node::Do(Op::Mul, 0, 1, 0)]?;
+    Ok(Seq::from_vec(nodes))
 }
 
 // input * 0
@@ -71,16 +120,18 @@ fn product(alloc: Global) -> Result<Flat, AllocError>
     ensures valid { IfOk result IsFlat }
     ensures few { IfOk result (λ flat. length flat.nodes ≡ 3) }
 {
-    let zero = units(0);
-    let nodes = vec![in alloc; Node::Input(0), Node::Lit(zero), Node::Do(Op::Mul, 0, 1, 0)]?;
-    let outputs = vec![in alloc; 2]?;
-    Ok(program(alloc, nodes, outputs))
+    let nodes = product_nodes(alloc)?;
+    let outputs = one_output(alloc, 2)?;
+    Ok(Flat {
+        inputs: 1,
+        nodes,
+        checks: no_checks(alloc),
+        outputs,
+    })
 }
 
-// 1 where input > 3, and else 1
-fn choice(alloc: Global) -> Result<Flat, AllocError>
-    ensures valid { IfOk result IsFlat }
-    ensures few { IfOk result (λ flat. length flat.nodes ≡ 6) }
+fn choice_nodes(alloc: Global) -> Result<Seq<Node>, AllocError>
+    ensures { IfOk result (λ nodes. AreNodes 1 0 nodes × (length nodes ≡ 6)) }
 {
     let three = units(3);
     let one = units(1);
@@ -93,15 +144,26 @@ fn choice(alloc: Global) -> Result<Flat, AllocError>
         Node::Lit(other),
         Node::Do(Op::Choose, 2, 3, 4),
     ]?;
-    let outputs = vec![in alloc; 5]?;
-    Ok(program(alloc, nodes, outputs))
+    Ok(Seq::from_vec(nodes))
 }
 
-// A program of two inputs whose check reads the second, and its output the first; the opposite of the
-// second is read by nothing.
-fn checked(alloc: Global) -> Result<Flat, AllocError>
+// 1 where input > 3, and else 1
+fn choice(alloc: Global) -> Result<Flat, AllocError>
     ensures valid { IfOk result IsFlat }
-    ensures few { IfOk result (λ flat. length flat.nodes ≡ 4) }
+    ensures few { IfOk result (λ flat. length flat.nodes ≡ 6) }
+{
+    let nodes = choice_nodes(alloc)?;
+    let outputs = one_output(alloc, 5)?;
+    Ok(Flat {
+        inputs: 1,
+        nodes,
+        checks: no_checks(alloc),
+        outputs,
+    })
+}
+
+fn checked_nodes(alloc: Global) -> Result<Seq<Node>, AllocError>
+    ensures { IfOk result (λ nodes. AreNodes 2 0 nodes × (length nodes ≡ 4)) }
 {
     let one = units(1);
     let nodes = vec![in alloc;
@@ -110,33 +172,34 @@ fn checked(alloc: Global) -> Result<Flat, AllocError>
         Node::Lit(one),
         Node::Input(0),
     ]?;
-    let checks = vec![in alloc;
-        Check {
-            guard: 2,
-            condition: 0,
-            over_only: false,
-            label: 7
-        },
-    ]?;
-    let outputs = vec![in alloc; 3]?;
+    Ok(Seq::from_vec(nodes))
+}
+
+// A program of two inputs whose check reads the second, and its output the first; the opposite of the
+// second is read by nothing.
+fn checked(alloc: Global) -> Result<Flat, AllocError>
+    ensures valid { IfOk result IsFlat }
+    ensures few { IfOk result (λ flat. length flat.nodes ≡ 4) }
+{
+    let nodes = checked_nodes(alloc)?;
+    let checks = one_check(alloc)?;
+    let outputs = one_output(alloc, 3)?;
     Ok(Flat {
         inputs: 2,
-        nodes: Seq::from_vec(nodes),
-        checks: Seq::from_vec(checks),
-        outputs: Seq::from_vec(outputs),
+        nodes,
+        checks,
+        outputs,
     })
 }
 
-// Fails, naming the program, where its tidy form has other nodes.
-fn check_nodes(alloc: Global, name: &str, flat: &Flat, nodes: &[Node]) -> Result<(), Fail>
+// Whether the tidy form of a program has these nodes.
+fn has_nodes(alloc: Global, flat: &Flat, nodes: &[Node]) -> bool
     requires valid { IsFlat flat.now }
     requires few { length flat.now.nodes < 100 }
 {
-    let tidy = tidy(alloc, flat)?;
-    if tidy.flat().nodes.as_slice() == nodes {
-        Ok(())
-    } else {
-        Err(Fail::from(name))
+    match tidy(alloc, flat) {
+        Ok(tidy) => tidy.flat().nodes.as_slice() == nodes,
+        Err(_) => false,
     }
 }
 
@@ -147,13 +210,17 @@ fn a_sum_with_zero_stays(rt: HostRuntime) -> Result<(), Fail> {
         Node::Lit(units(0)),
         Node::Do(Op::Add, 0, 1, 0),
     ];
-    check_nodes(rt.alloc(), "sum", &sum(rt.alloc())?, &wanted)
+    let flat = sum(rt.alloc())?;
+    assert!(rt; has_nodes(rt.alloc(), &flat, &wanted));
+    Ok(())
 }
 
 #[test]
 fn a_constant_is_folded(rt: HostRuntime) -> Result<(), Fail> {
     let wanted = [Node::Lit(units(5))];
-    check_nodes(rt.alloc(), "presence", &presence(rt.alloc())?, &wanted)
+    let flat = presence(rt.alloc())?;
+    assert!(rt; has_nodes(rt.alloc(), &flat, &wanted));
+    Ok(())
 }
 
 #[test]
@@ -163,7 +230,9 @@ fn a_product_with_zero_stays(rt: HostRuntime) -> Result<(), Fail> {
         Node::Lit(units(0)),
         Node::Do(Op::Mul, 0, 1, 0),
     ];
-    check_nodes(rt.alloc(), "product", &product(rt.alloc())?, &wanted)
+    let flat = product(rt.alloc())?;
+    assert!(rt; has_nodes(rt.alloc(), &flat, &wanted));
+    Ok(())
 }
 
 #[test]
@@ -175,31 +244,45 @@ fn a_choice_that_may_be_undefined_stays(rt: HostRuntime) -> Result<(), Fail> {
         Node::Lit(units(1)),
         Node::Do(Op::Choose, 2, 3, 3),
     ];
-    check_nodes(rt.alloc(), "choice", &choice(rt.alloc())?, &wanted)
+    let flat = choice(rt.alloc())?;
+    assert!(rt; has_nodes(rt.alloc(), &flat, &wanted));
+    Ok(())
 }
 
 #[test]
 fn what_nothing_reads_is_removed(rt: HostRuntime) -> Result<(), Fail> {
     let wanted = [Node::Input(1), Node::Lit(units(1)), Node::Input(0)];
-    check_nodes(rt.alloc(), "checked", &checked(rt.alloc())?, &wanted)
+    let flat = checked(rt.alloc())?;
+    assert!(rt; has_nodes(rt.alloc(), &flat, &wanted));
+    Ok(())
 }
 
-#[test]
-fn checks_and_outputs_are_moved(rt: HostRuntime) -> Result<(), Fail> {
-    let alloc = rt.alloc();
-    let tidy = tidy(alloc, &checked(alloc)?)?;
-    let flat = tidy.flat();
+// Whether a program has two inputs, the check of its first node, and its third node as its output.
+fn is_moved(flat: &Flat) -> bool {
     let check = Check {
         guard: 1,
         condition: 0,
         over_only: false,
         label: 7,
     };
-    assert!(rt;
-        flat.checks.as_slice() == [check].as_slice(),
-        "another check"
-    );
-    assert!(rt; flat.outputs.as_slice() == [2].as_slice(), "another output");
-    assert_eq!(rt; flat.inputs, 2);
+    flat.inputs == 2
+        && flat.checks.as_slice() == [check].as_slice()
+        && flat.outputs.as_slice() == [2].as_slice()
+}
+
+fn is_form_moved(alloc: Global, flat: &Flat) -> bool
+    requires valid { IsFlat flat.now }
+    requires few { length flat.now.nodes < 100 }
+{
+    match tidy(alloc, flat) {
+        Ok(tidy) => is_moved(tidy.flat()),
+        Err(_) => false,
+    }
+}
+
+#[test]
+fn checks_and_outputs_are_moved(rt: HostRuntime) -> Result<(), Fail> {
+    let flat = checked(rt.alloc())?;
+    assert!(rt; is_form_moved(rt.alloc(), &flat));
     Ok(())
 }

@@ -1,0 +1,213 @@
+//! Code files with a fault, which is the first one.
+use crate::reads::example;
+use code_file::{CodeFault, read_code};
+use m_places::limits::CODE_FILE_BYTES;
+use std::alloc::Global;
+use std::test::Fail;
+
+/// What stands in place of a line of the example, the number of that line, and the first fault.
+static CHANGED: [(&[u8], u32, CodeFault); 12] = [
+    (b"mcode 2\n", 1, CodeFault::BadHeader),
+    (b"", 12, CodeFault::BadLine(12)),
+    (b"lit 01 1000000000\n", 7, CodeFault::BadLine(7)),
+    (b"input 1AJ\ninput 1AJ\n", 3, CodeFault::BadLine(4)),
+    (b"", 6, CodeFault::BadOrder(7)),
+    (b"ck 0 0 0\nend\n", 12, CodeFault::BadLine(12)),
+    (b"", 11, CodeFault::BadLine(11)),
+    (b"end\nend\n", 12, CodeFault::BadLine(13)),
+    (b"end\n\n", 12, CodeFault::BadLine(13)),
+    (
+        b"input 1AJ\ninput B\ninput 1AJ\nx\n",
+        3,
+        CodeFault::BadLine(5),
+    ),
+    (b"do 0 sub 0 5\n", 8, CodeFault::BadOrder(8)),
+    (b"out 0 0\nout 0 0\n", 11, CodeFault::BadLine(12)),
+];
+
+/// Lines that can't stand in place of the example's line of this number.
+static NO_LINES: [(&[u8], u32); 39] = [
+    (b"slots 4294967296\n", 2),
+    (b"slots 00\n", 2),
+    (b"slots -1\n", 2),
+    (b"slots 1 \n", 2),
+    (b"slots 1\r\n", 2),
+    (b"input regle\n", 3),
+    (b"input 12\n", 3),
+    (b"input 1AJ real\n", 3),
+    (b"input 1AJ whole \n", 3),
+    (b"label verif 2000 A20 anomalie\n", 3),
+    (b"label verif 2000 A20 anomalie \n", 3),
+    (b"label verif 2000 A20 anomalie 4\n", 3),
+    (b"label verif 2000 A20 anomalie 4A\n", 3),
+    (b"label verif 2000 a20 anomalie 41\n", 3),
+    (b"label verif 2000 X anomalie 41\n", 3),
+    (b"label verif 1234567890 A20 anomalie 41\n", 3),
+    (b"label driver 4294967296\n", 3),
+    (b"note 0\n", 3),
+    (b"output irn\n", 4),
+    (b"output X\n", 4),
+    (b"output T[1024]\n", 4),
+    (b"output T[01]\n", 4),
+    (b"output T[1] \n", 4),
+    (b"lit 1 10000000000000000001\n", 7),
+    (b"lit 1 -0\n", 7),
+    (b"lit 1 +1\n", 7),
+    (
+        b"lit 1 999999999999999999999999999999999999999999999999999999999999\n",
+        7,
+    ),
+    (b"lit 16 0\n", 7),
+    (b"lit 1  0\n", 7),
+    (b"lit 1\n", 7),
+    (b"in 0 1\n", 7),
+    (b"in 0 4294967296\n", 7),
+    (b"do 0 neg 0 0\n", 7),
+    (b"do 0 choose 0 0\n", 7),
+    (b"do 0 plus 0 0\n", 7),
+    (b"st 0 0\n", 7),
+    (b"out 1 0\n", 7),
+    (b"co 0 0 0\n", 7),
+    (b"code\n", 7),
+];
+
+/// Notes stand before names, and tell verifications.
+static NOTES: [(&[u8], u32, CodeFault); 3] = [
+    (
+        b"input 1AJ\nlabel driver 1\nlabel verif 1 A anomalie 41\nnote 1\n",
+        3,
+        CodeFault::BadLine(15),
+    ),
+    (
+        b"input 1AJ\nlabel driver 1\nnote 0\n",
+        3,
+        CodeFault::BadLine(5),
+    ),
+    (
+        b"input 1AJ\nlabel verif 1 A anomalie 41\noutput A\nnote 0\n",
+        3,
+        CodeFault::BadLine(6),
+    ),
+];
+
+// The tables, out of reach of the proofs of what goes over them.
+
+fn all_changed() -> &'static [(&'static [u8], u32, CodeFault)] {
+    &CHANGED
+}
+
+fn all_no_lines() -> &'static [(&'static [u8], u32)] {
+    &NO_LINES
+}
+
+fn all_notes() -> &'static [(&'static [u8], u32, CodeFault)] {
+    &NOTES
+}
+
+// Whether this is the fault of a text.
+fn has_fault(alloc: Global, bytes: &[u8], wanted: CodeFault) -> bool {
+    if bytes.len() as u64 > CODE_FILE_BYTES {
+        return false;
+    }
+    match read_code(alloc, bytes) {
+        Ok(_) => false,
+        Err(fault) => fault == wanted,
+    }
+}
+
+// Whether a text that ends in this line ends too early.
+fn ends_early(alloc: Global, bytes: &[u8], line: u32) -> bool {
+    if line == 1 {
+        has_fault(alloc, bytes, CodeFault::BadHeader)
+    } else {
+        has_fault(alloc, bytes, CodeFault::BadLine(line))
+    }
+}
+
+// The length of the first prefix with another fault.
+fn first_other(alloc: Global, text: &[u8]) -> Option<usize> {
+    let mut line = 1u32;
+    for end in 0..text.len() {
+        if !ends_early(alloc, &text[..end], line) {
+            return Some(end);
+        }
+        if text[end] == b'\n' {
+            line = line.saturating_add(1);
+        }
+    }
+    None
+}
+
+#[test]
+fn each_prefix_ends_early(rt: HostRuntime) {
+    assert!(rt; first_other(rt.alloc(), example()).is_none());
+}
+
+// Adds bytes. Where there is no memory the text stays as it is, so it has another fault.
+fn add(text: &mut Vec<u8>, bytes: &[u8]) {
+    let _added = text.extend_from_slice(bytes);
+}
+
+fn add_line(text: &mut Vec<u8>, line: &[u8]) {
+    if line.len() > 0 {
+        add(text, line);
+        add(text, b"\n");
+    }
+}
+
+// The example with these bytes in place of a line.
+fn with_line(alloc: Global, line: &[u8], at: u32) -> Vec<u8> {
+    let mut text = Vec::new(alloc);
+    let mut number = 1u32;
+    for old in example().split(|byte| *byte == b'\n') {
+        if number == at {
+            add(&mut text, line);
+        } else {
+            add_line(&mut text, old);
+        }
+        number = number.saturating_add(1);
+    }
+    text
+}
+
+// Whether the example has this fault where these bytes stand in place of a line.
+fn is_changed(alloc: Global, line: &[u8], at: u32, wanted: CodeFault) -> bool {
+    has_fault(alloc, &with_line(alloc, line, at), wanted)
+}
+
+// Fails at this line.
+fn other_at(alloc: Global, line: &[u8]) -> Fail {
+    match format!(in alloc; "another fault at {line:?}") {
+        Ok(told) => Fail::from(told),
+        Err(_) => Fail::from("another fault"),
+    }
+}
+
+fn check_all(alloc: Global, rows: &[(&'static [u8], u32, CodeFault)]) -> Result<(), Fail> {
+    for (line, at, wanted) in rows {
+        if !is_changed(alloc, line, *at, *wanted) {
+            return Err(other_at(alloc, line));
+        }
+    }
+    Ok(())
+}
+
+#[test]
+fn the_first_fault_is_told(rt: HostRuntime) -> Result<(), Fail> {
+    check_all(rt.alloc(), all_changed())
+}
+
+#[test]
+fn notes_stand_first(rt: HostRuntime) -> Result<(), Fail> {
+    check_all(rt.alloc(), all_notes())
+}
+
+#[test]
+fn forms_that_are_no_lines(rt: HostRuntime) -> Result<(), Fail> {
+    for (line, at) in all_no_lines() {
+        if !is_changed(rt.alloc(), line, *at, CodeFault::BadLine(*at)) {
+            return Err(other_at(rt.alloc(), line));
+        }
+    }
+    Ok(())
+}
