@@ -1,0 +1,14 @@
+pub mod Numerals
+pub mod Pieces
+pub mod Lines
+pub mod Items
+pub mod Names
+pub mod Variables
+pub mod Faultless
+pub mod Found
+pub mod Rules
+pub mod Base
+pub mod Order
+pub mod Asked
+pub mod Given
+pub mod Valid
