@@ -1,46 +1,22 @@
-//! Programs written by hand, and their code.
-ghost use Rattle.std.specs.Prelude.{◌≡◌, ◌<◌, [], All, IfOk, IsTrue, length};
-ghost use Rattle.flat_code.specs.Runs.{IsFlat};
+//! Programs written by hand, and their register code.
+ghost use Rattle.std.specs.Prelude.{◌≡◌, ◌<◌, All, IfOk, IsTrue, length};
+ghost use Rattle.std.specs.List.{AllByRecursion};
+ghost use Rattle.flat_code.specs.Runs.{AreNodes, IsCheck, IsFlat};
 
+use crate::programs::{no_checks, one_output, units};
 use dead_rules::tidy;
-use flat_code::{Check, Flat, Node};
-use m_fixed::{Amount, Op, Value};
+use flat_code::{Check, Flat, Node, Tidy};
+use m_fixed::Op;
 use m_places::Seq;
 use reg_machine::{Code, Instr};
 use register_alloc::allocate;
 use std::alloc::{AllocError, Global};
 use std::test::Fail;
 
-// So many whole units.
-fn units(n: i64) -> Value {
-    match Amount::new(n as i128 * 1_000_000) {
-        Some(amount) => Value::Num(amount),
-        None => Value::Over,
-    }
-}
-
-// input 0 + input 1
-fn sum(alloc: Global) -> Result<Flat, AllocError>
-    ensures valid { IfOk result IsFlat }
-    ensures few { IfOk result (λ flat. length flat.nodes ≡ 3) }
+// A list of one check.
+fn one_check(alloc: Global) -> Result<Seq<Check>, AllocError>
+    ensures { IfOk result (λ checks. AllByRecursion (IsCheck 3) checks) }
 {
-    let nodes = vec![in alloc; Node::Input(0), Node::Input(1), Node::Do(Op::Add, 0, 1, 0)]?;
-    let outputs = vec![in alloc; 2]?;
-    Ok(Flat {
-        inputs: 2,
-        nodes: Seq::from_vec(nodes),
-        checks: Seq::from_vec(Vec::new(alloc)),
-        outputs: Seq::from_vec(outputs),
-    })
-}
-
-// A program of two inputs whose check reads the second, and its output the first.
-fn checked(alloc: Global) -> Result<Flat, AllocError>
-    ensures valid { IfOk result IsFlat }
-    ensures few { IfOk result (λ flat. length flat.nodes ≡ 3) }
-{
-    let one = units(1);
-    let nodes = vec![in alloc; Node::Input(1), Node::Lit(one), Node::Input(0)]?;
     let checks = vec![in alloc;
         Check {
             guard: 1,
@@ -49,12 +25,52 @@ fn checked(alloc: Global) -> Result<Flat, AllocError>
             label: 7
         },
     ]?;
-    let outputs = vec![in alloc; 2]?;
+    Ok(Seq::from_vec(checks))
+}
+
+fn sum_nodes(alloc: Global) -> Result<Seq<Node>, AllocError>
+    ensures { IfOk result (λ nodes. AreNodes 2 0 nodes × (length nodes ≡ 3)) }
+{
+    let nodes = vec![in alloc; Node::Input(0), Node::Input(1), Node::Do(Op::Add, 0, 1, 0)]?;
+    Ok(Seq::from_vec(nodes))
+}
+
+// input 0 + input 1
+fn sum(alloc: Global) -> Result<Flat, AllocError>
+    ensures valid { IfOk result IsFlat }
+    ensures few { IfOk result (λ flat. length flat.nodes ≡ 3) }
+{
+    let nodes = sum_nodes(alloc)?;
+    let outputs = one_output(alloc, 2)?;
     Ok(Flat {
         inputs: 2,
-        nodes: Seq::from_vec(nodes),
-        checks: Seq::from_vec(checks),
-        outputs: Seq::from_vec(outputs),
+        nodes,
+        checks: no_checks(alloc),
+        outputs,
+    })
+}
+
+fn checked_nodes(alloc: Global) -> Result<Seq<Node>, AllocError>
+    ensures { IfOk result (λ nodes. AreNodes 2 0 nodes × (length nodes ≡ 3)) }
+{
+    let one = units(1);
+    let nodes = vec![in alloc; Node::Input(1), Node::Lit(one), Node::Input(0)]?;
+    Ok(Seq::from_vec(nodes))
+}
+
+// A program of two inputs whose check reads the second, and its output the first.
+fn checked(alloc: Global) -> Result<Flat, AllocError>
+    ensures valid { IfOk result IsFlat }
+    ensures few { IfOk result (λ flat. length flat.nodes ≡ 3) }
+{
+    let nodes = checked_nodes(alloc)?;
+    let checks = one_check(alloc)?;
+    let outputs = one_output(alloc, 2)?;
+    Ok(Flat {
+        inputs: 2,
+        nodes,
+        checks,
+        outputs,
     })
 }
 
@@ -70,23 +86,6 @@ fn are_below(checks: &[Check], labels: u32) -> bool
     true
 }
 
-// The code of a program's tidy form, with eight labels.
-fn code_of(alloc: Global, flat: &Flat) -> Result<Code, Fail>
-    requires valid { IsFlat flat.now }
-    requires few { length flat.now.nodes < 100 }
-{
-    let tidy = tidy(alloc, flat)?;
-    let flat = tidy.flat();
-    if flat.nodes.as_slice().len() > 100
-        || flat.checks.as_slice().len() > 100
-        || flat.outputs.as_slice().len() > 100
-        || !are_below(flat.checks.as_slice(), 8)
-    {
-        return Err(Fail::from("a small program"));
-    }
-    Ok(allocate(alloc, &tidy, 8)?)
-}
-
 // Whether code has these instructions, no slot and eight labels.
 fn is_code(code: &Code, wanted: &[Instr]) -> bool {
     if code.slots() != 0 || code.labels() != 8 || code.len() != wanted.len() {
@@ -100,22 +99,49 @@ fn is_code(code: &Code, wanted: &[Instr]) -> bool {
     true
 }
 
+// Whether a tidy form, which is small, has this code.
+fn is_form_code(alloc: Global, tidy: &Tidy, wanted: &[Instr]) -> bool {
+    let flat = tidy.flat();
+    if flat.nodes.as_slice().len() > 100
+        || flat.checks.as_slice().len() > 100
+        || flat.outputs.as_slice().len() > 100
+        || !are_below(flat.checks.as_slice(), 8)
+    {
+        return false;
+    }
+    match allocate(alloc, tidy, 8) {
+        Ok(code) => is_code(&code, wanted),
+        Err(_) => false,
+    }
+}
+
+// Whether a program's tidy form has this code, with eight labels.
+fn is_code_of(alloc: Global, flat: &Flat, wanted: &[Instr]) -> bool
+    requires valid { IsFlat flat.now }
+    requires few { length flat.now.nodes < 100 }
+{
+    match tidy(alloc, flat) {
+        Ok(tidy) => is_form_code(alloc, &tidy, wanted),
+        Err(_) => false,
+    }
+}
+
 #[test]
 fn a_sum_takes_two_registers(rt: HostRuntime) -> Result<(), Fail> {
-    let code = code_of(rt.alloc(), &sum(rt.alloc())?)?;
+    let flat = sum(rt.alloc())?;
     let wanted = [
         Instr::Take(0, 0),
         Instr::Take(1, 1),
         Instr::Do(Op::Add, 0, 0, 1, 0),
         Instr::Output(0, 0),
     ];
-    assert!(rt; is_code(&code, &wanted), "other code");
+    assert!(rt; is_code_of(rt.alloc(), &flat, &wanted));
     Ok(())
 }
 
 #[test]
 fn a_check_stands_right_after_its_nodes(rt: HostRuntime) -> Result<(), Fail> {
-    let code = code_of(rt.alloc(), &checked(rt.alloc())?)?;
+    let flat = checked(rt.alloc())?;
     let wanted = [
         Instr::Take(0, 1),
         Instr::Lit(1, units(1)),
@@ -123,6 +149,6 @@ fn a_check_stands_right_after_its_nodes(rt: HostRuntime) -> Result<(), Fail> {
         Instr::Take(0, 0),
         Instr::Output(0, 0),
     ];
-    assert!(rt; is_code(&code, &wanted), "other code");
+    assert!(rt; is_code_of(rt.alloc(), &flat, &wanted));
     Ok(())
 }
