@@ -7,6 +7,10 @@ mod declarations;
 #[cfg(test)]
 mod items;
 #[cfg(test)]
+mod nests;
+#[cfg(test)]
+mod terms;
+#[cfg(test)]
 mod texts;
 #[cfg(test)]
 mod threads;

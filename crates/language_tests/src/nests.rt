@@ -1,12 +1,12 @@
 //! How deep terms may stand inside of one another.
-use crate::terms::{other_at, tokens_of};
+use crate::texts::{other_at, tokens_of};
 use m_lexer::Token;
 use m_terms::{depth_fault, read_term};
 use std::alloc::{AllocError, Global};
 use std::test::Fail;
 
 // What opens a nest and what closes it, and the byte of the token that makes the 257th of them too deep.
-const NESTS: [(&[u8], &[u8], u32); 5] = [
+static NESTS: [(&[u8], &[u8], u32); 5] = [
     (b"(", b")", 256),
     (b"T[", b"]", 513),
     (b"si 1 alors ", b" finsi", 2_816),
@@ -43,7 +43,7 @@ fn is_read(alloc: Global, tokens: &[Token]) -> bool {
 
 // Whether a text of tokens is read, and no token is too deep.
 fn is_shallow(alloc: Global, text: &[u8]) -> bool {
-    match tokens_of(alloc, text) {
+    match tokens_of(alloc, text, 0) {
         Some(tokens) => depth_fault(&tokens).is_none() && is_read(alloc, &tokens),
         None => false,
     }
@@ -51,7 +51,7 @@ fn is_shallow(alloc: Global, text: &[u8]) -> bool {
 
 // Whether the first token of a text that is too deep is the one at this byte.
 fn is_deep(alloc: Global, text: &[u8], byte: u32) -> bool {
-    match tokens_of(alloc, text) {
+    match tokens_of(alloc, text, 0) {
         Some(tokens) => depth_fault(&tokens).is_some_and(|place| place.byte == byte),
         None => false,
     }

@@ -1,16 +1,16 @@
 //! Terms and headers, each form once with its tree written out by hand.
+use crate::texts::{add, other_at, tokens_of};
 use m_ast::{Header, Index, Link, Member, Node, Span, Term};
 use m_fixed::{Amount, Op, Value, write_amount};
-use m_lexer::{Token, lex};
-use m_places::limits::FILE_BYTES;
-use m_places::{Name, Place};
+use m_lexer::Token;
+use m_places::Place;
 use m_terms::{TermFault, read_header, read_term};
 use std::alloc::Global;
 use std::test::Fail;
 
 // Texts with the term at their start and the position after it. A term is shown as a text: a name with the byte at which it
 // stands, an operator before its arguments in round brackets, a chain in square ones, and a header in curly ones.
-const TERMS: [(&[u8], &[u8], usize); 39] = [
+static TERMS: [(&[u8], &[u8], usize); 39] = [
     (b"1.5 ;", b"1.5", 1),
     (b"A ;", b"A@0", 1),
     (b"X )", b"X@0", 1),
@@ -61,7 +61,7 @@ const TERMS: [(&[u8], &[u8], usize); 39] = [
 ];
 
 // Texts at whose start no term stands.
-const NO_TERMS: [&[u8]; 21] = [
+static NO_TERMS: [&[u8]; 21] = [
     b"",
     b"A",
     b"A :",
@@ -86,7 +86,7 @@ const NO_TERMS: [&[u8]; 21] = [
 ];
 
 // Texts with the header at their start and the position after it.
-const HEADERS: [(&[u8], &[u8], usize); 5] = [
+static HEADERS: [(&[u8], &[u8], usize); 5] = [
     (b"i = V,C :", b"{i@0 V..V C..C}", 5),
     (b"i=V..X,010;j=1..3:", b"{i@0 V..X 010..010}{j@11 1..3}", 13),
     (
@@ -99,7 +99,7 @@ const HEADERS: [(&[u8], &[u8], usize); 5] = [
 ];
 
 // Texts at whose start no header stands.
-const NO_HEADERS: [&[u8]; 11] = [
+static NO_HEADERS: [&[u8]; 11] = [
     b"",
     b"i = V",
     b"i = V ;",
@@ -129,11 +129,6 @@ fn headers() -> &'static [(&'static [u8], &'static [u8], usize)] {
 
 fn no_headers() -> &'static [&'static [u8]] {
     &NO_HEADERS
-}
-
-// Adds bytes. Where there is no memory the text stays as it is, so it isn't what was wanted.
-fn add(out: &mut Vec<u8>, bytes: &[u8]) {
-    let _added = out.extend_from_slice(bytes);
 }
 
 fn add_amount(out: &mut Vec<u8>, amount: Amount) {
@@ -265,14 +260,6 @@ fn add_members(alloc: Global, out: &mut Vec<u8>, members: &[Member]) {
     }
 }
 
-// The tokens of a text.
-pub fn tokens_of(alloc: Global, text: &[u8]) -> Option<Vec<Token>> {
-    if text.len() as u64 > FILE_BYTES {
-        return None;
-    }
-    lex(alloc, text, 0).ok()
-}
-
 // Whether a copy of the term is shown so.
 fn is_shown(alloc: Global, term: &Term, tree: &[u8]) -> bool {
     let Ok(copy) = term.copy(alloc) else {
@@ -323,18 +310,10 @@ fn is_no_header(alloc: Global, tokens: &[Token]) -> bool {
     }
 }
 
-// Fails at this text.
-pub fn other_at(alloc: Global, text: &[u8]) -> Fail {
-    match format!(in alloc; "another answer at {text:?}") {
-        Ok(told) => Fail::from(told),
-        Err(_) => Fail::from("another answer"),
-    }
-}
-
 #[test]
 fn each_form_of_term(rt: HostRuntime) -> Result<(), Fail> {
     for (text, tree, end) in terms() {
-        match tokens_of(rt.alloc(), text) {
+        match tokens_of(rt.alloc(), text, 0) {
             Some(tokens) if is_term(rt.alloc(), &tokens, tree, *end) => {}
             _ => return Err(other_at(rt.alloc(), text)),
         }
@@ -345,7 +324,7 @@ fn each_form_of_term(rt: HostRuntime) -> Result<(), Fail> {
 #[test]
 fn no_term_stands(rt: HostRuntime) -> Result<(), Fail> {
     for text in no_terms() {
-        match tokens_of(rt.alloc(), text) {
+        match tokens_of(rt.alloc(), text, 0) {
             Some(tokens) if is_no_term(rt.alloc(), &tokens) => {}
             _ => return Err(other_at(rt.alloc(), text)),
         }
@@ -356,7 +335,7 @@ fn no_term_stands(rt: HostRuntime) -> Result<(), Fail> {
 #[test]
 fn each_form_of_header(rt: HostRuntime) -> Result<(), Fail> {
     for (text, tree, end) in headers() {
-        match tokens_of(rt.alloc(), text) {
+        match tokens_of(rt.alloc(), text, 0) {
             Some(tokens) if is_header(rt.alloc(), &tokens, tree, *end) => {}
             _ => return Err(other_at(rt.alloc(), text)),
         }
@@ -367,7 +346,7 @@ fn each_form_of_header(rt: HostRuntime) -> Result<(), Fail> {
 #[test]
 fn no_header_stands(rt: HostRuntime) -> Result<(), Fail> {
     for text in no_headers() {
-        match tokens_of(rt.alloc(), text) {
+        match tokens_of(rt.alloc(), text, 0) {
             Some(tokens) if is_no_header(rt.alloc(), &tokens) => {}
             _ => return Err(other_at(rt.alloc(), text)),
         }

@@ -5,7 +5,7 @@ ghost use Rattle.m_symbols.specs.Declarations.{owners_from};
 ghost use Rattle.m_requests.specs.Placed.{IsPlaced};
 ghost use Rattle.micro_m.specs.Bases.{IsValidBase};
 
-use crate::rules::base_of;
+use crate::rules::{base_of, other_at, refused};
 use m_fixed::{Amount, Value};
 use m_places::limits::CODE_FILE_BYTES;
 use m_ports::{MemSink, Sink};
@@ -29,133 +29,124 @@ const INDEXED: &[u8] = b"IRN = T[A] ; T[X] = X + 5 ; A = REV - 1 ;";
 // The greatest amount that there is, in millionths.
 const GREATEST: i128 = 10_000_000_000_000_000_000;
 
-// Formulas, REV in millionths, a report, and what is found of it: `sound`, or the number from 1 of the first line that isn't.
-const JUDGED: [(&[u8], Option<i128>, &[u8], &[u8]); 26] = [
+// Formulas, REV in millionths, a report, and what is found of it: 0 where it is sound, or else the number from 1 of the first line that
+// isn't.
+static JUDGED: [(&[u8], Option<i128>, &[u8], u32); 26] = [
     (
         COPIED,
         Some(2_500_500_000),
         b"REV = 2500.5\nIRN = 2500.5\n",
-        b"sound",
+        0,
     ),
     (
         COPIED,
         Some(2_500_500_000),
         b"REV = 2500.50\nIRN = 002500.5\n.\n",
-        b"sound",
+        0,
     ),
     (
         COPIED,
         Some(2_500_500_000),
         b"IRN = 2500.5\nREV = 2500.5\n",
-        b"1",
+        1,
     ),
     (
         COPIED,
         Some(2_500_500_000),
         b"REV = 2500.5\nIRN = 2500\n",
-        b"2",
+        2,
     ),
-    (
-        COPIED,
-        Some(2_500_500_000),
-        b"REV = 2500\nIRN = 2500\n",
-        b"1",
-    ),
-    (COPIED, Some(2_500_500_000), b"IRN = 2500.5\n", b"1"),
+    (COPIED, Some(2_500_500_000), b"REV = 2500\nIRN = 2500\n", 1),
+    (COPIED, Some(2_500_500_000), b"IRN = 2500.5\n", 1),
     (
         COPIED,
         Some(2_500_500_000),
         b"REV = 2500.5\nREV = 2500.5\nIRN = 2500.5\n",
-        b"2",
+        2,
     ),
     (
         COPIED,
         Some(2_500_500_000),
         b"REV = 2500.5\nIRN = 2500.5\nIRN = 2500.5\n",
-        b"3",
+        3,
     ),
-    (COPIED, None, b"REV undefined\nIRN undefined\n", b"sound"),
-    (COPIED, None, b"REV = 0\n", b"1"),
-    (COPIED, None, b"REV undefined\nIRN = 0\n", b"2"),
-    (COPIED, None, b"", b"sound"),
-    (COPIED, None, b".", b"sound"),
-    (COPIED, None, b"SEUIL = 1000\nA undefined\n", b"sound"),
+    (COPIED, None, b"REV undefined\nIRN undefined\n", 0),
+    (COPIED, None, b"REV = 0\n", 1),
+    (COPIED, None, b"REV undefined\nIRN = 0\n", 2),
+    (COPIED, None, b"", 0),
+    (COPIED, None, b".", 0),
+    (COPIED, None, b"SEUIL = 1000\nA undefined\n", 0),
     (
         b"IRN = REV * REV ;",
         Some(GREATEST),
         b"REV = 10000000000000\nIRN over",
-        b"sound",
+        0,
     ),
     (
         b"IRN = REV * REV ;",
         Some(GREATEST),
         b"REV = 10000000000000\nIRN undefined",
-        b"2",
+        2,
     ),
     (
         INDEXED,
         Some(2_000_000),
         b"REV = 2\nA = 1\nT[2] = 7\nT[0] = 5\nT[1] = 6\nIRN = 6\n",
-        b"sound",
+        0,
     ),
     (
         INDEXED,
         Some(2_000_000),
         b"REV = 2\nA = 1\nT[0] = 5\nT[1] = 6\nIRN = 6\n",
-        b"5",
+        5,
     ),
     (
         INDEXED,
         Some(2_000_000),
         b"REV = 2\nT[0] = 5\nT[1] = 6\nT[2] = 7\nIRN = 6\n",
-        b"5",
+        5,
     ),
     (
         INDEXED,
         Some(4_000_000),
         b"T[0] = 5\nT[1] = 6\nT[2] = 7\nREV = 4\nA = 3\nIRN undefined\n",
-        b"sound",
+        0,
     ),
     (
         INDEXED,
         Some(0),
         b"T[0] = 5\nT[1] = 6\nT[2] = 7\nREV = 0\nA = -1\nIRN = 0\n",
-        b"sound",
+        0,
     ),
     (
         b"IRN = T[1] ; T[X] = X + 5 ;",
         None,
         b"T[1] = 6\nIRN = 6\n",
-        b"sound",
+        0,
     ),
-    (
-        b"IRN = T[3] ; T[X] = X + 5 ;",
-        None,
-        b"IRN undefined\n",
-        b"sound",
-    ),
+    (b"IRN = T[3] ; T[X] = X + 5 ;", None, b"IRN undefined\n", 0),
     (
         b"IRN = T[A] + T[A] ; B = T[A] ;",
         None,
         b"A undefined\nT[2] undefined\nT[1] undefined\nT[0] undefined\nIRN undefined\nB undefined\n",
-        b"sound",
+        0,
     ),
     (
         b"IRN = si REV > 0 alors 1 sinon A finsi ;",
         Some(1_000_000),
         b"REV = 1\nIRN = 1\n",
-        b"2",
+        2,
     ),
     (
         b"IRN = si REV > 0 alors 1 sinon A finsi ;",
         Some(1_000_000),
         b"REV = 1\nA undefined\nIRN = 1\n",
-        b"sound",
+        0,
     ),
 ];
 
 // Reports whose first bad line has this number.
-const BAD: [(&[u8], u32); 20] = [
+static BAD: [(&[u8], u32); 20] = [
     (b"\n", 1),
     (b"..\n", 1),
     (b".\nREV = 1\n", 1),
@@ -179,7 +170,7 @@ const BAD: [(&[u8], u32); 20] = [
 ];
 
 // Reports, and how they are printed once they are read.
-const PRINTED: [(&[u8], &[u8]); 5] = [
+static PRINTED: [(&[u8], &[u8]); 5] = [
     (b"", b""),
     (b".", b""),
     (b"REV = 02.50", b"REV = 2.5\n"),
@@ -195,7 +186,7 @@ const PRINTED: [(&[u8], &[u8]); 5] = [
 
 // The tables, out of reach of the proofs of what goes over them.
 
-fn all_judged() -> &'static [(&'static [u8], Option<i128>, &'static [u8], &'static [u8])] {
+fn all_judged() -> &'static [(&'static [u8], Option<i128>, &'static [u8], u32)] {
     &JUDGED
 }
 
@@ -205,14 +196,6 @@ fn all_bad() -> &'static [(&'static [u8], u32)] {
 
 fn all_printed() -> &'static [(&'static [u8], &'static [u8])] {
     &PRINTED
-}
-
-// Fails at this text.
-fn other_at(alloc: Global, text: &[u8]) -> Fail {
-    match format!(in alloc; "another answer at {text:?}") {
-        Ok(told) => Fail::from(told),
-        Err(_) => Fail::from("another answer"),
-    }
 }
 
 fn amount(millionths: i128) -> Value {
@@ -236,76 +219,69 @@ fn environment(alloc: Global, cells: u32, given: Option<i128>) -> Result<Vec<Val
     Ok(values)
 }
 
-// What is found of lines over a base: `sound`, or a number.
-fn found(
+// Whether this is found of lines over a base.
+fn is_found(
     alloc: Global,
     base: &Base,
     given: Option<i128>,
     lines: &[ReportLine],
-) -> Result<Vec<u8>, AllocError>
+    wanted: u32,
+) -> bool
     requires valid { IsValidBase base.now }
     requires cells { All (λ line. line.cell < base.now.cells) lines.now }
 {
-    let env = environment(alloc, base.cells, given)?;
-    match first_unsound(alloc, base, &env, lines)? {
-        None => Vec::from_slice(alloc, b"sound"),
-        Some(position) => {
-            let digits = format!(in alloc; "{}", position as u64 + 1)?;
-            Vec::from_slice(alloc, digits.as_bytes())
-        }
+    let Ok(env) = environment(alloc, base.cells, given) else {
+        return false;
+    };
+    match first_unsound(alloc, base, &env, lines) {
+        Ok(None) => wanted == 0,
+        Ok(Some(position)) => wanted > 0 && wanted - 1 == position,
+        Err(_) => false,
     }
 }
 
-fn bad_line(alloc: Global, fault: ReportFault) -> Result<Vec<u8>, AllocError> {
-    match fault {
-        ReportFault::BadLine(number) => {
-            let digits = format!(in alloc; "bad {number}")?;
-            Vec::from_slice(alloc, digits.as_bytes())
-        }
-        ReportFault::Memory => Vec::from_slice(alloc, b"memory"),
-    }
-}
-
-// What is found of a report over the rules.
-fn judged(
+// Whether this is found of a report over the rules.
+fn is_judged(
     alloc: Global,
     made: &RuleBase,
     given: Option<i128>,
     report: &[u8],
-) -> Result<Vec<u8>, AllocError>
+    wanted: u32,
+) -> bool
     requires valid { IsValidBase made.now.ordered.base }
     requires placed { IsPlaced made.now.symbols }
     requires cells { made.now.ordered.base.cells ≡ length (owners_from 0 made.now.symbols.variables) }
 {
     if report.len() as u64 > CODE_FILE_BYTES {
-        return Vec::from_slice(alloc, b"too long");
+        return false;
     }
     match read_report(alloc, report, &made.symbols) {
-        Ok(lines) => found(alloc, &made.ordered.base, given, lines.as_slice()),
-        Err(fault) => bad_line(alloc, fault),
+        Ok(lines) => is_found(alloc, &made.ordered.base, given, lines.as_slice(), wanted),
+        Err(_) => false,
     }
 }
 
 // Whether this is found of a report over the rule with these formulas.
-fn is_judged<R: Threads + Sync>(
+fn is_judged_of<R: Threads + Sync>(
     rt: &R,
     alloc: Global,
     formulas: &[u8],
     given: Option<i128>,
     report: &[u8],
-    wanted: &[u8],
-) -> Result<bool, Fail> {
-    let made = base_of(rt, alloc, formulas)?;
-    Ok(judged(alloc, &made, given, report)?.as_slice() == wanted)
+    wanted: u32,
+) -> bool {
+    match base_of(rt, alloc, formulas) {
+        Some(made) => is_judged(alloc, &made, given, report, wanted),
+        None => false,
+    }
 }
 
 #[test]
 fn sound_and_unsound(rt: HostRuntime) -> Result<(), Fail> {
     for (formulas, given, report, wanted) in all_judged() {
-        assert!(rt;
-            is_judged(&rt, rt.alloc(), formulas, *given, report, wanted)?,
-            "in {formulas:?} at {report:?}"
-        );
+        if !is_judged_of(&rt, rt.alloc(), formulas, *given, report, *wanted) {
+            return Err(other_at(rt.alloc(), report));
+        }
     }
     Ok(())
 }
@@ -336,35 +312,32 @@ fn all_are_bad(alloc: Global, symbols: &Symbols) -> Result<(), Fail>
 
 #[test]
 fn bad_lines(rt: HostRuntime) -> Result<(), Fail> {
-    let made = base_of(&rt, rt.alloc(), COPIED)?;
-    all_are_bad(rt.alloc(), &made.symbols)
-}
-
-// A report as it is printed once it is read.
-fn printed(alloc: Global, symbols: &Symbols, lines: &[ReportLine]) -> Result<Vec<u8>, AllocError>
-    requires { All (λ line. line.cell < length (owners_from 0 symbols.now.variables)) lines.now }
-{
-    let mut out = MemSink::new(alloc, 5, Vec::new(alloc))?;
-    match print_report(symbols, lines, &mut out) {
-        Ok(()) => Vec::from_slice(alloc, out.written()),
-        Err(_) => Vec::from_slice(alloc, b"failed"),
+    match base_of(&rt, rt.alloc(), COPIED) {
+        Some(made) => all_are_bad(rt.alloc(), &made.symbols),
+        None => Err(refused()),
     }
 }
 
-fn is_printed(
-    alloc: Global,
-    symbols: &Symbols,
-    report: &[u8],
-    wanted: &[u8],
-) -> Result<bool, AllocError>
+// Whether lines are printed so.
+fn are_printed(alloc: Global, symbols: &Symbols, lines: &[ReportLine], wanted: &[u8]) -> bool
+    requires { All (λ line. line.cell < length (owners_from 0 symbols.now.variables)) lines.now }
+{
+    match MemSink::new(alloc, 5, Vec::new(alloc)) {
+        Ok(mut out) => { print_report(symbols, lines, &mut out).is_ok() && out.written() == wanted }
+        Err(_) => false,
+    }
+}
+
+// Whether a report is printed so once it is read.
+fn is_printed(alloc: Global, symbols: &Symbols, report: &[u8], wanted: &[u8]) -> bool
     requires placed { IsPlaced symbols.now }
 {
     if report.len() as u64 > CODE_FILE_BYTES {
-        return Ok(false);
+        return false;
     }
     match read_report(alloc, report, symbols) {
-        Ok(lines) => Ok(printed(alloc, symbols, lines.as_slice())?.as_slice() == wanted),
-        Err(_) => Ok(false),
+        Ok(lines) => are_printed(alloc, symbols, lines.as_slice(), wanted),
+        Err(_) => false,
     }
 }
 
@@ -372,7 +345,7 @@ fn all_are_printed(alloc: Global, symbols: &Symbols) -> Result<(), Fail>
     requires { IsPlaced symbols.now }
 {
     for (report, wanted) in all_printed() {
-        if !is_printed(alloc, symbols, report, wanted)? {
+        if !is_printed(alloc, symbols, report, wanted) {
             return Err(other_at(alloc, report));
         }
     }
@@ -381,6 +354,8 @@ fn all_are_printed(alloc: Global, symbols: &Symbols) -> Result<(), Fail>
 
 #[test]
 fn read_and_printed(rt: HostRuntime) -> Result<(), Fail> {
-    let made = base_of(&rt, rt.alloc(), COPIED)?;
-    all_are_printed(rt.alloc(), &made.symbols)
+    match base_of(&rt, rt.alloc(), COPIED) {
+        Some(made) => all_are_printed(rt.alloc(), &made.symbols),
+        None => Err(refused()),
+    }
 }

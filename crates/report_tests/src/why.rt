@@ -5,14 +5,14 @@ ghost use Rattle.m_requests.specs.Placed.{IsPlaced};
 ghost use Rattle.micro_m.specs.Bases.{IsValidBase};
 ghost use Rattle.rule_order.specs.Orders.{IsOrder};
 
-use crate::rules::base_of;
+use crate::rules::{add, base_of, other_at};
 use m_fixed::{Amount, Value};
 use m_ports::{MemSink, Sink};
 use m_requests::find_request;
 use m_symbols::Symbols;
 use rule_base::RuleBase;
 use rule_order::Ordered;
-use std::alloc::{AllocError, Global};
+use std::alloc::Global;
 use std::test::Fail;
 use std::thread::Threads;
 use why_report::{ReportLine, Reporter, print_report};
@@ -27,7 +27,7 @@ const CHAIN: &[u8] = b"IRN = A + B ; A = B + SEUIL ; B = REV * 2 ;";
 
 // Formulas, two values of REV in millionths that are put one after the other, a cell that is asked for after each, and the lines that are
 // told.
-const TOLD: [(&[u8], Option<i128>, Option<i128>, &[u8], &[u8]); 13] = [
+static TOLD: [(&[u8], Option<i128>, Option<i128>, &[u8], &[u8]); 13] = [
     (
         COPIED,
         Some(2_500_500_000),
@@ -143,35 +143,25 @@ fn value_of(given: Option<i128>) -> Value {
 }
 
 // Adds the lines as they are printed.
-fn add_printed(
-    alloc: Global,
-    symbols: &Symbols,
-    lines: &[ReportLine],
-    told: &mut Vec<u8>,
-) -> Result<(), AllocError>
+fn add_printed(alloc: Global, symbols: &Symbols, lines: &[ReportLine], told: &mut Vec<u8>)
     requires { All (λ line. line.cell < length (owners_from 0 symbols.now.variables)) lines.now }
 {
-    let mut out = MemSink::new(alloc, 9, Vec::new(alloc))?;
-    match print_report(symbols, lines, &mut out) {
-        Ok(()) => {
-            told.extend_from_slice(out.written())?;
-        }
-        Err(_) => {
-            told.extend_from_slice(b"failed")?;
+    if let Ok(mut out) = MemSink::new(alloc, 9, Vec::new(alloc)) {
+        if print_report(symbols, lines, &mut out).is_ok() {
+            add(told, out.written());
         }
     }
-    Ok(())
 }
 
-// Adds the lines that are told of a cell, for one value and then for another.
-fn add_told(
+// Whether these lines are told of a cell, for one value and then for another.
+fn are_told(
     alloc: Global,
     ordered: Ordered,
     symbols: &Symbols,
     given: (Option<i128>, Option<i128>),
     cell: u32,
-    told: &mut Vec<u8>,
-) -> Result<(), AllocError>
+    wanted: &[u8],
+) -> bool
     requires valid { IsValidBase ordered.base }
     requires order { IsOrder ordered.base ordered.sequence }
     requires placed { IsPlaced symbols.now }
@@ -179,35 +169,39 @@ fn add_told(
     requires cell { cell < ordered.base.cells }
 {
     if symbols.inputs() == 0 {
-        return Ok(());
+        return false;
     }
-    let mut reporter = Reporter::new(alloc, ordered, symbols)?;
+    let Ok(mut reporter) = Reporter::new(alloc, ordered, symbols) else {
+        return false;
+    };
+    let mut told = Vec::new(alloc);
     reporter.put(0, value_of(given.0));
     reporter.why(cell);
-    add_printed(alloc, symbols, reporter.lines(), told)?;
+    add_printed(alloc, symbols, reporter.lines(), &mut told);
     reporter.put(0, value_of(given.1));
     reporter.why(cell);
-    add_printed(alloc, symbols, reporter.lines(), told)
+    add_printed(alloc, symbols, reporter.lines(), &mut told);
+    told.as_slice() == wanted
 }
 
-// What is told over a base.
-fn told_over(
+// Whether these lines are told over a base.
+fn are_told_over(
     alloc: Global,
     made: RuleBase,
     given: (Option<i128>, Option<i128>),
     name: &[u8],
-) -> Result<Vec<u8>, AllocError>
+    wanted: &[u8],
+) -> bool
     requires valid { IsValidBase made.ordered.base }
     requires order { IsOrder made.ordered.base made.ordered.sequence }
     requires placed { IsPlaced made.symbols }
     requires cells { made.ordered.base.cells ≡ length (owners_from 0 made.symbols.variables) }
 {
     let RuleBase { symbols, ordered } = made;
-    let mut told = Vec::new(alloc);
-    if let Some(cell) = find_request(&symbols, name) {
-        add_told(alloc, ordered, &symbols, given, cell, &mut told)?;
+    match find_request(&symbols, name) {
+        Some(cell) => are_told(alloc, ordered, &symbols, given, cell, wanted),
+        None => false,
     }
-    Ok(told)
 }
 
 fn is_told<R: Threads + Sync>(
@@ -217,18 +211,19 @@ fn is_told<R: Threads + Sync>(
     given: (Option<i128>, Option<i128>),
     name: &[u8],
     wanted: &[u8],
-) -> Result<bool, Fail> {
-    let made = base_of(rt, alloc, formulas)?;
-    Ok(told_over(alloc, made, given, name)?.as_slice() == wanted)
+) -> bool {
+    match base_of(rt, alloc, formulas) {
+        Some(made) => are_told_over(alloc, made, given, name, wanted),
+        None => false,
+    }
 }
 
 #[test]
 fn reasons(rt: HostRuntime) -> Result<(), Fail> {
     for (formulas, first, second, name, wanted) in all_told() {
-        assert!(rt;
-            is_told(&rt, rt.alloc(), formulas, (*first, *second), name, wanted)?,
-            "in {formulas:?} at {name:?}"
-        );
+        if !is_told(&rt, rt.alloc(), formulas, (*first, *second), name, wanted) {
+            return Err(other_at(rt.alloc(), formulas));
+        }
     }
     Ok(())
 }

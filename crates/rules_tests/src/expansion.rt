@@ -1,20 +1,23 @@
 //! Rules and verifications without loops, shown as texts, and faults of loops with their places.
-ghost use Rattle.std.specs.Prelude.{◌≤◌, IfSome, length};
+ghost use Rattle.std.specs.Prelude.{All, IfSome};
+ghost use Rattle.m_ast.specs.Whole.{IsWholeItem};
 ghost use Rattle.plain_rules.specs.Plain.{TablesHaveCells};
 
 use index_expand::{ExpandFault, expand};
 use m_ast::{Item, Slot};
 use m_fixed::Value;
 use m_items::parse;
-use m_lexer::lex;
+use m_lexer::{Token, lex};
+use m_places::Place;
+use m_places::limits::FILE_BYTES;
 use m_symbols::{Symbols, declare};
 use plain_rules::{Condition, Definition, PNode, PTerm, Plain};
-use std::alloc::{AllocError, Global};
+use std::alloc::Global;
 use std::test::Fail;
 
 // Items, and what the application iliad has of them. A number is shown as `#` and its whole units, `X` that stays as `?`, an
 // operator as brackets round its operands.
-const EXPANSIONS: [(&[u8], &[u8]); 23] = [
+static EXPANSIONS: [(&[u8], &[u8]); 23] = [
     (b"R = somme(i = 8..10 : i) ;", b"R = (#8,#9,#10)"),
     (b"R = somme(i = 08..10 : Ui) ;", b"R = (U08,U09,U10)"),
     (b"R = somme(i = 98..101 : Ui) ;", b"R = (U98,U99,U100,U101)"),
@@ -80,7 +83,7 @@ const EXPANSIONS: [(&[u8], &[u8]); 23] = [
 ];
 
 // Items with a fault, and how it is told. The first rule's formula begins at byte 32.
-const FAULTS: [(&[u8], &[u8]); 14] = [
+static FAULTS: [(&[u8], &[u8]); 14] = [
     (b"R = somme(i = 3..1 : 1) ;", b"bad range 42"),
     (b"R = somme(i = 1..X : 1) ;", b"bad range 42"),
     (b"R = somme(i = 1,AB..AC : 1) ;", b"bad range 42"),
@@ -109,137 +112,149 @@ const FAULTS: [(&[u8], &[u8]); 14] = [
     ),
 ];
 
-fn add_number(alloc: Global, text: &mut Vec<u8>, number: i128) -> Result<(), AllocError> {
-    let digits = format!(in alloc; "{number}")?;
-    text.extend_from_slice(digits.as_bytes())
+// The tables, out of reach of the proofs of what goes over them.
+
+fn all_expansions() -> &'static [(&'static [u8], &'static [u8])] {
+    &EXPANSIONS
 }
 
-fn add_value(alloc: Global, text: &mut Vec<u8>, value: Value) -> Result<(), AllocError> {
-    text.push(b'#')?;
+fn all_faults() -> &'static [(&'static [u8], &'static [u8])] {
+    &FAULTS
+}
+
+// Adds bytes. Where there is no memory the text stays as it is, so it isn't what was wanted.
+fn add(text: &mut Vec<u8>, bytes: &[u8]) {
+    let _added = text.extend_from_slice(bytes);
+}
+
+fn add_number(alloc: Global, text: &mut Vec<u8>, number: i128) {
+    if let Ok(digits) = format!(in alloc; "{number}") {
+        add(text, digits.as_bytes());
+    }
+}
+
+fn add_value(alloc: Global, text: &mut Vec<u8>, value: Value) {
+    add(text, b"#");
     match value {
         Value::Num(amount) => add_number(alloc, text, amount.millionths() / 1_000_000),
-        _ => text.extend_from_slice(b"undefined"),
+        _ => add(text, b"undefined"),
     }
 }
 
 #[cycle(add_term)]
-fn add_term(alloc: Global, text: &mut Vec<u8>, term: &PTerm) -> Result<(), AllocError> {
+fn add_term(alloc: Global, text: &mut Vec<u8>, term: &PTerm) {
     match &term.node {
         PNode::Lit(value) => add_value(alloc, text, *value),
-        PNode::Named(word, _) => text.extend_from_slice(word.bytes()),
-        PNode::X(_) => {
-            text.push(b'?')?;
-            Ok(())
-        }
+        PNode::Named(word, _) => add(text, word.bytes()),
+        PNode::X(_) => add(text, b"?"),
         PNode::Cell(word, index, _) => {
-            text.extend_from_slice(word.bytes())?;
-            text.push(b'[')?;
-            add_term(alloc, text, index)?;
-            text.push(b']')?;
-            Ok(())
+            add(text, word.bytes());
+            add(text, b"[");
+            add_term(alloc, text, index);
+            add(text, b"]");
         }
         PNode::Apply(_, arguments) => {
-            text.push(b'(')?;
+            add(text, b"(");
             for argument in arguments {
-                add_operand(alloc, text, argument)?;
+                add_operand(alloc, text, argument);
             }
-            text.push(b')')?;
-            Ok(())
+            add(text, b")");
         }
         PNode::Chain(first, links) => {
-            text.push(b'(')?;
-            add_term(alloc, text, first)?;
+            add(text, b"(");
+            add_term(alloc, text, first);
             for link in links {
-                add_operand(alloc, text, &link.term)?;
+                add_operand(alloc, text, &link.term);
             }
-            text.push(b')')?;
-            Ok(())
+            add(text, b")");
         }
-        PNode::Among(_, _, _) => text.extend_from_slice(b"among"),
+        PNode::Among(_, _, _) => add(text, b"among"),
     }
 }
 
 // An operand, and a comma before it where it isn't the first.
 #[cycle(add_term)]
-fn add_operand(alloc: Global, text: &mut Vec<u8>, term: &PTerm) -> Result<(), AllocError> {
+fn add_operand(alloc: Global, text: &mut Vec<u8>, term: &PTerm) {
     if text.last() != Some(&b'(') {
-        text.push(b',')?;
+        add(text, b",");
     }
-    add_term(alloc, text, term)
+    add_term(alloc, text, term);
 }
 
-fn add_definition(
-    alloc: Global,
-    text: &mut Vec<u8>,
-    definition: &Definition,
-) -> Result<(), AllocError> {
-    text.extend_from_slice(definition.target.bytes())?;
-    match definition.slot {
+fn add_slot(alloc: Global, text: &mut Vec<u8>, slot: Slot) {
+    match slot {
         Slot::Whole => {}
-        Slot::Every => text.extend_from_slice(b"[X]")?,
+        Slot::Every => add(text, b"[X]"),
         Slot::Cell(k) => {
-            text.push(b'[')?;
-            add_number(alloc, text, k as i128)?;
-            text.push(b']')?;
+            add(text, b"[");
+            add_number(alloc, text, k as i128);
+            add(text, b"]");
         }
     }
-    text.extend_from_slice(b" = ")?;
-    add_term(alloc, text, &definition.term)
 }
 
-fn add_condition(
-    alloc: Global,
-    text: &mut Vec<u8>,
-    condition: &Condition,
-) -> Result<(), AllocError> {
-    text.extend_from_slice(condition.verif.bytes())?;
-    text.push(b' ')?;
-    text.extend_from_slice(condition.error.bytes())?;
-    text.extend_from_slice(b" : ")?;
-    add_term(alloc, text, &condition.term)
+fn add_definition(alloc: Global, text: &mut Vec<u8>, definition: &Definition) {
+    add(text, definition.target.bytes());
+    add_slot(alloc, text, definition.slot);
+    add(text, b" = ");
+    add_term(alloc, text, &definition.term);
 }
 
-fn add_bar(text: &mut Vec<u8>) -> Result<(), AllocError> {
-    if text.is_empty() {
-        return Ok(());
+fn add_condition(alloc: Global, text: &mut Vec<u8>, condition: &Condition) {
+    add(text, condition.verif.bytes());
+    add(text, b" ");
+    add(text, condition.error.bytes());
+    add(text, b" : ");
+    add_term(alloc, text, &condition.term);
+}
+
+fn add_bar(text: &mut Vec<u8>) {
+    if !text.is_empty() {
+        add(text, b" | ");
     }
-    text.extend_from_slice(b" | ")
 }
 
-fn shown(alloc: Global, plain: &Plain) -> Result<Vec<u8>, AllocError> {
+// Whether rules are shown so, or are too long to be shown where that is wanted.
+fn are_shown(alloc: Global, plain: &Plain, wanted: &[u8]) -> bool {
     let mut text = Vec::new(alloc);
     for definition in plain.definitions.as_slice() {
-        add_bar(&mut text)?;
-        add_definition(alloc, &mut text, definition)?;
+        add_bar(&mut text);
+        add_definition(alloc, &mut text, definition);
     }
     for condition in plain.conditions.as_slice() {
-        add_bar(&mut text)?;
-        add_condition(alloc, &mut text, condition)?;
+        add_bar(&mut text);
+        add_condition(alloc, &mut text, condition);
     }
-    Ok(text)
+    text.as_slice() == wanted || (wanted == b"long".as_slice() && text.len() > 40_000)
 }
 
-fn told(alloc: Global, fault: ExpandFault) -> Result<Vec<u8>, AllocError> {
-    let (words, place): (&[u8], u32) = match fault {
-        ExpandFault::BadRange(place) => (b"bad range ", place.byte),
-        ExpandFault::LoopTooLarge(place) => (b"loop too large ", place.byte),
-        ExpandFault::UnboundIndex(place) => (b"unbound ", place.byte),
-        ExpandFault::TooManyParts(place) => (b"too many ", place.byte),
-        ExpandFault::Memory => (b"memory ", 0),
-    };
-    let mut text = Vec::from_slice(alloc, words)?;
-    add_number(alloc, &mut text, place as i128)?;
-    Ok(text)
+fn is_line(alloc: Global, words: &[u8], place: Place, wanted: &[u8]) -> bool {
+    let mut text = Vec::new(alloc);
+    add(&mut text, words);
+    add_number(alloc, &mut text, place.byte as i128);
+    text.as_slice() == wanted
+}
+
+fn is_told(alloc: Global, fault: ExpandFault, wanted: &[u8]) -> bool {
+    match fault {
+        ExpandFault::BadRange(place) => is_line(alloc, b"bad range ", place, wanted),
+        ExpandFault::LoopTooLarge(place) => is_line(alloc, b"loop too large ", place, wanted),
+        ExpandFault::UnboundIndex(place) => is_line(alloc, b"unbound ", place, wanted),
+        ExpandFault::TooManyParts(place) => is_line(alloc, b"too many ", place, wanted),
+        ExpandFault::Memory => false,
+    }
 }
 
 // A rule of iliad with these formulas, whatever stands after them, and the tables T of three cells and TA of two.
-fn source(alloc: Global, formulas: &[u8]) -> Result<Vec<u8>, AllocError> {
-    let mut text = Vec::from_slice(alloc, b"regle 1 : application : iliad ; ")?;
-    text.extend_from_slice(formulas)?;
-    text.extend_from_slice(
+fn source(alloc: Global, formulas: &[u8]) -> Vec<u8> {
+    let mut text = Vec::new(alloc);
+    add(&mut text, b"regle 1 : application : iliad ; ");
+    add(&mut text, formulas);
+    add(
+        &mut text,
         b" T : tableau[3] calculee : \"t\" ; TA : tableau[2] calculee : \"t\" ;",
-    )?;
-    Ok(text)
+    );
+    text
 }
 
 // What items declare, if they have no fault.
@@ -252,44 +267,72 @@ fn declared(alloc: Global, items: &[Item]) -> Option<Symbols>
     }
 }
 
-fn answer(alloc: Global, text: &[u8]) -> Result<Vec<u8>, Fail>
-    requires { length text.now ≤ 4096 }
+// Whether items over what they declare give this.
+fn are_expanded(alloc: Global, items: &[Item], symbols: &Symbols, wanted: &[u8]) -> bool
+    requires whole { All IsWholeItem items.now }
+    requires tables { TablesHaveCells symbols.now }
 {
-    let tokens = lex(alloc, text, 0)?;
-    let Ok(items) = parse(alloc, &tokens) else {
-        return Ok(Vec::from_slice(alloc, b"no items")?);
-    };
-    let Some(symbols) = declared(alloc, items.as_slice()) else {
-        return Ok(Vec::from_slice(alloc, b"not declared")?);
-    };
-    match expand(alloc, items.as_slice(), b"iliad", &symbols) {
-        Ok(plain) => Ok(shown(alloc, &plain)?),
-        Err(fault) => Ok(told(alloc, fault)?),
+    match expand(alloc, items, b"iliad", symbols) {
+        Ok(plain) => are_shown(alloc, &plain, wanted),
+        Err(fault) => is_told(alloc, fault, wanted),
     }
 }
 
-// Whether these formulas give this, or something that is too long to be shown.
-fn gives(alloc: Global, formulas: &[u8], wanted: &[u8]) -> Result<bool, Fail> {
-    let text = source(alloc, formulas)?;
-    if text.len() > 4_096 {
-        return Ok(false);
+fn items_give(alloc: Global, items: &[Item], wanted: &[u8]) -> bool
+    requires { All IsWholeItem items.now }
+{
+    match declared(alloc, items) {
+        Some(symbols) => are_expanded(alloc, items, &symbols, wanted),
+        None => false,
     }
-    let answer = answer(alloc, text.as_slice())?;
-    Ok(answer.as_slice() == wanted || (wanted == b"long".as_slice() && answer.len() > 40_000))
+}
+
+fn tokens_give(alloc: Global, tokens: &[Token], wanted: &[u8]) -> bool {
+    match parse(alloc, tokens) {
+        Ok(items) => items_give(alloc, items.as_slice(), wanted),
+        Err(_) => false,
+    }
+}
+
+fn text_gives(alloc: Global, text: &[u8], wanted: &[u8]) -> bool {
+    if text.len() as u64 > FILE_BYTES {
+        return false;
+    }
+    match lex(alloc, text, 0) {
+        Ok(tokens) => tokens_give(alloc, &tokens, wanted),
+        Err(_) => false,
+    }
+}
+
+// Whether these formulas give this.
+fn gives(alloc: Global, formulas: &[u8], wanted: &[u8]) -> bool {
+    text_gives(alloc, &source(alloc, formulas), wanted)
+}
+
+// Fails at the first formulas that give something else.
+fn check_all(alloc: Global, rows: &[(&'static [u8], &'static [u8])]) -> Result<(), Fail> {
+    for (formulas, wanted) in rows {
+        if !gives(alloc, formulas, wanted) {
+            return Err(other_at(alloc, formulas));
+        }
+    }
+    Ok(())
+}
+
+// Fails at these formulas.
+fn other_at(alloc: Global, formulas: &[u8]) -> Fail {
+    match format!(in alloc; "another answer at {formulas:?}") {
+        Ok(told) => Fail::from(told),
+        Err(_) => Fail::from("another answer"),
+    }
 }
 
 #[test]
 fn loops_become_their_instances(rt: HostRuntime) -> Result<(), Fail> {
-    for (formulas, wanted) in EXPANSIONS {
-        assert!(rt; gives(rt.alloc(), formulas, wanted)?, "in {formulas:?}");
-    }
-    Ok(())
+    check_all(rt.alloc(), all_expansions())
 }
 
 #[test]
 fn faults_of_loops(rt: HostRuntime) -> Result<(), Fail> {
-    for (formulas, wanted) in FAULTS {
-        assert!(rt; gives(rt.alloc(), formulas, wanted)?, "in {formulas:?}");
-    }
-    Ok(())
+    check_all(rt.alloc(), all_faults())
 }

@@ -3,8 +3,7 @@ use m_ast::{ErrorItem, Item, Role, VariableItem};
 use m_fixed::Amount;
 use m_places::{ErrorKind, Name, Place, Seq};
 use m_symbols::{DeclareFault, Symbols, declare};
-use std::alloc::{AllocError, Global};
-use std::process::Abort;
+use std::alloc::Global;
 use std::test::Fail;
 
 // The place of this byte.
@@ -16,52 +15,30 @@ fn at(byte: u32) -> Place {
     }
 }
 
-// A variable that is declared at this byte, with two pairs: `avfisc = 1` and then `avfisc = 2`.
-fn variable(alloc: Global, name: &[u8], byte: u32, role: Role) -> Result<Item, AllocError> {
-    let mut pairs = Vec::new(alloc);
-    for millionths in [1_000_000, 2_000_000] {
-        if let Some(amount) = Amount::new(millionths) {
-            pairs.push((Name::new(alloc, b"avfisc")?, amount))?;
-        }
-    }
-    Ok(Item::Variable(VariableItem {
-        name: Name::new(alloc, name)?,
-        place: at(byte),
-        role,
-        words: Seq::from_vec(Vec::new(alloc)),
-        pairs: Seq::from_vec(pairs),
-        value_word: None,
-    }))
+// What is declared: an input by its code, a table by its size.
+#[derive(Clone, Copy)]
+enum What {
+    Input(&'static [u8]),
+    Table(u32),
+    Single,
+    Constant,
+    Error,
+    Silent,
 }
 
-fn input(alloc: Global, code: &[u8]) -> Result<Role, AllocError> {
-    Ok(Role::Input(Name::new(alloc, code)?))
-}
-
-fn error(alloc: Global, name: &[u8], byte: u32) -> Result<Item, AllocError> {
-    Ok(Item::Error(ErrorItem {
-        name: Name::new(alloc, name)?,
-        place: at(byte),
-        kind: ErrorKind::Anomalie,
-        texts: Seq::from_vec(Vec::new(alloc)),
-    }))
-}
-
-// REV (1AJ), the table T of 3 cells, the constant SEUIL, IRN, REW (1BJ), and the error A20.
-fn declared(alloc: Global) -> Result<Vec<Item>, AllocError> {
-    let mut items = Vec::new(alloc);
-    items.push(variable(alloc, b"REV", 0, input(alloc, b"1AJ")?)?)?;
-    items.push(variable(alloc, b"T", 10, Role::Computed(Some(3)))?)?;
-    items.push(variable(alloc, b"SEUIL", 20, Role::Constant(Amount::zero()))?)?;
-    items.push(Item::Silent(at(25)))?;
-    items.push(variable(alloc, b"IRN", 30, Role::Computed(None))?)?;
-    items.push(variable(alloc, b"REW", 40, input(alloc, b"1BJ")?)?)?;
-    items.push(error(alloc, b"A20", 50)?)?;
-    Ok(items)
-}
+// Names, the bytes at which they are declared, and what they are.
+static DECLARED: [(&[u8], u32, What); 7] = [
+    (b"REV", 0, What::Input(b"1AJ")),
+    (b"T", 10, What::Table(3)),
+    (b"SEUIL", 20, What::Constant),
+    (b"", 25, What::Silent),
+    (b"IRN", 30, What::Single),
+    (b"REW", 40, What::Input(b"1BJ")),
+    (b"A20", 50, What::Error),
+];
 
 // Which fault refuses the items, with the byte of the earlier declaration and that of this one.
-#[derive(Clone, Copy, Debug, PartialEq, Eq)]
+#[derive(Clone, Copy, PartialEq, Eq)]
 enum Told {
     Nothing,
     DeclaredTwice(u32, u32),
@@ -71,55 +48,21 @@ enum Told {
     Memory,
 }
 
-fn fault_of(alloc: Global, items: &[Item]) -> Told {
-    match declare(alloc, items) {
-        Ok(_) => Told::Nothing,
-        Err(DeclareFault::DeclaredTwice(_, earlier, here)) => Told::DeclaredTwice(
-            earlier.byte,
-            here.byte,
-        ),
-        Err(DeclareFault::AliasTwice(_, earlier, here)) => Told::AliasTwice(
-            earlier.byte,
-            here.byte,
-        ),
-        Err(DeclareFault::TableSize(here)) => Told::TableSize(here.byte),
-        Err(DeclareFault::TooManyCells(here)) => Told::TooManyCells(here.byte),
-        Err(DeclareFault::Memory) => Told::Memory,
-    }
-}
-
-// What is told of the items above with one more at byte 99.
-fn fault_with(alloc: Global, item: Item) -> Result<Told, AllocError> {
-    let mut items = declared(alloc)?;
-    items.push(item)?;
-    Ok(fault_of(alloc, items.as_slice()))
-}
-
-fn check_numbers(rt: &impl Abort, symbols: &Symbols) {
-    assert_eq!(rt; symbols.count(), 5);
-    assert_eq!(rt; symbols.cells(), 7);
-    assert_eq!(rt; symbols.inputs(), 2);
-    assert_eq!(rt; symbols.errors(), 1);
-}
-
-fn check_cells(rt: &impl Abort, symbols: &Symbols) {
-    let owners = [0, 1, 1, 1, 2, 3, 4];
-    for (cell, owner) in owners.iter().enumerate() {
-        let cell = cell as u32;
-        if cell < symbols.cells() {
-            assert_eq!(rt; symbols.owner(cell), *owner);
-        }
-    }
-    if symbols.count() > 4 && symbols.inputs() > 1 {
-        assert_eq!(rt; symbols.variable(1).first_cell, 1);
-        assert_eq!(rt; symbols.variable(1).cells, 3);
-        assert_eq!(rt; symbols.variable(4).first_cell, 6);
-        assert_eq!(rt; symbols.input(1), 4);
-    }
-}
+// What is declared at byte 99 after these, and what is told: a variable named as an error, a name and a code twice, an error twice, a
+// code twice, and tables of several sizes.
+static MORE: [(&[u8], What, Told); 8] = [
+    (b"A20", What::Single, Told::Nothing),
+    (b"SEUIL", What::Input(b"1AJ"), Told::DeclaredTwice(20, 99)),
+    (b"A20", What::Error, Told::DeclaredTwice(50, 99)),
+    (b"NEW", What::Input(b"1BJ"), Told::AliasTwice(40, 99)),
+    (b"NEW", What::Table(0), Told::TableSize(99)),
+    (b"NEW", What::Table(1), Told::Nothing),
+    (b"NEW", What::Table(1024), Told::Nothing),
+    (b"NEW", What::Table(1025), Told::TableSize(99)),
+];
 
 /// Names, and the numbers of their variables.
-const NAMES: [(&[u8], Option<u32>); 6] = [
+static NAMES: [(&[u8], Option<u32>); 6] = [
     (b"REV", Some(0)),
     (b"T", Some(1)),
     (b"REW", Some(4)),
@@ -129,87 +72,235 @@ const NAMES: [(&[u8], Option<u32>); 6] = [
 ];
 
 /// Codes, and the numbers of their inputs.
-const CODES: [(&[u8], Option<u32>); 3] = [(b"1AJ", Some(0)), (b"1BJ", Some(1)), (b"REV", None)];
+static CODES: [(&[u8], Option<u32>); 3] = [(b"1AJ", Some(0)), (b"1BJ", Some(1)), (b"REV", None)];
 
-fn check_names(rt: &impl Abort, symbols: &Symbols) {
-    for (name, number) in NAMES {
-        assert_eq!(rt; symbols.find(name), number);
+/// Cells, and the variables that own them.
+static OWNERS: [(u32, u32); 7] = [(0, 0), (1, 1), (2, 1), (3, 1), (4, 2), (5, 3), (6, 4)];
+
+// The tables, out of reach of the proofs of what goes over them.
+
+fn all_declared() -> &'static [(&'static [u8], u32, What)] {
+    &DECLARED
+}
+
+fn all_more() -> &'static [(&'static [u8], What, Told)] {
+    &MORE
+}
+
+fn all_names() -> &'static [(&'static [u8], Option<u32>)] {
+    &NAMES
+}
+
+fn all_codes() -> &'static [(&'static [u8], Option<u32>)] {
+    &CODES
+}
+
+fn all_owners() -> &'static [(u32, u32)] {
+    &OWNERS
+}
+
+// Adds a pair of `avfisc`. Where there is no memory it is missing.
+fn add_pair(alloc: Global, pairs: &mut Vec<(Name, Amount)>, millionths: i128) {
+    let Some(amount) = Amount::new(millionths) else {
+        return;
+    };
+    if let Ok(name) = Name::new(alloc, b"avfisc") {
+        let _added = pairs.push((name, amount));
     }
-    for (code, number) in CODES {
-        assert_eq!(rt; symbols.by_alias(code), number);
+}
+
+// Two pairs: `avfisc = 1` and then `avfisc = 2`.
+fn pairs(alloc: Global) -> Vec<(Name, Amount)> {
+    let mut pairs = Vec::new(alloc);
+    add_pair(alloc, &mut pairs, 1_000_000);
+    add_pair(alloc, &mut pairs, 2_000_000);
+    pairs
+}
+
+fn variable(alloc: Global, name: Name, byte: u32, role: Role) -> Item {
+    Item::Variable(VariableItem {
+        name,
+        place: at(byte),
+        role,
+        words: Seq::from_vec(Vec::new(alloc)),
+        pairs: Seq::from_vec(pairs(alloc)),
+        value_word: None,
+    })
+}
+
+fn error(alloc: Global, name: Name, byte: u32) -> Item {
+    Item::Error(ErrorItem {
+        name,
+        place: at(byte),
+        kind: ErrorKind::Anomalie,
+        texts: Seq::from_vec(Vec::new(alloc)),
+    })
+}
+
+fn input(alloc: Global, name: Name, byte: u32, code: &[u8]) -> Item {
+    match Name::new(alloc, code) {
+        Ok(code) => variable(alloc, name, byte, Role::Input(code)),
+        Err(_) => Item::Silent(at(byte)),
     }
-    assert_eq!(rt; symbols.find_error(b"A20".as_slice()), Some(0));
-    assert_eq!(rt; symbols.find_error(b"REV".as_slice()), None);
+}
+
+fn item(alloc: Global, name: Name, byte: u32, what: What) -> Item {
+    match what {
+        What::Input(code) => input(alloc, name, byte, code),
+        What::Table(size) => variable(alloc, name, byte, Role::Computed(Some(size))),
+        What::Single => variable(alloc, name, byte, Role::Computed(None)),
+        What::Constant => variable(alloc, name, byte, Role::Constant(Amount::zero())),
+        What::Error => error(alloc, name, byte),
+        What::Silent => Item::Silent(at(byte)),
+    }
+}
+
+// Adds what is declared at this byte. Where there is no memory it is missing, so something else is told.
+fn add(alloc: Global, items: &mut Vec<Item>, name: &[u8], byte: u32, what: What) {
+    if let Ok(name) = Name::new(alloc, name) {
+        let _added = items.push(item(alloc, name, byte, what));
+    }
+}
+
+// REV (1AJ), the table T of 3 cells, the constant SEUIL, IRN, REW (1BJ), and the error A20.
+fn declared(alloc: Global) -> Vec<Item> {
+    let mut items = Vec::new(alloc);
+    for (name, byte, what) in all_declared() {
+        add(alloc, &mut items, name, *byte, *what);
+    }
+    items
+}
+
+fn fault_told(fault: &DeclareFault) -> Told {
+    match fault {
+        DeclareFault::DeclaredTwice(_, earlier, here) => Told::DeclaredTwice(
+            earlier.byte,
+            here.byte,
+        ),
+        DeclareFault::AliasTwice(_, earlier, here) => Told::AliasTwice(earlier.byte, here.byte),
+        DeclareFault::TableSize(here) => Told::TableSize(here.byte),
+        DeclareFault::TooManyCells(here) => Told::TooManyCells(here.byte),
+        DeclareFault::Memory => Told::Memory,
+    }
+}
+
+fn is_told(alloc: Global, items: &[Item], wanted: Told) -> bool {
+    match declare(alloc, items) {
+        Ok(_) => wanted == Told::Nothing,
+        Err(fault) => wanted == fault_told(&fault),
+    }
+}
+
+fn has_numbers(symbols: &Symbols) -> bool {
+    symbols.count() == 5 && symbols.cells() == 7 && symbols.inputs() == 2 && symbols.errors() == 1
+}
+
+fn has_owners(symbols: &Symbols) -> bool {
+    for (cell, owner) in all_owners() {
+        if *cell >= symbols.cells() || symbols.owner(*cell) != *owner {
+            return false;
+        }
+    }
+    true
+}
+
+// Whether the table T has the cells 1 to 3, and REW the cell 6.
+fn has_places(symbols: &Symbols) -> bool {
+    symbols.count() > 4
+        && symbols.variable(1).first_cell == 1
+        && symbols.variable(1).cells == 3
+        && symbols.variable(4).first_cell == 6
+}
+
+fn has_input(symbols: &Symbols) -> bool {
+    symbols.inputs() > 1 && symbols.input(1) == 4
+}
+
+fn has_names(symbols: &Symbols) -> bool {
+    for (name, number) in all_names() {
+        if symbols.find(name) != *number {
+            return false;
+        }
+    }
+    true
+}
+
+fn has_codes(symbols: &Symbols) -> bool {
+    for (code, number) in all_codes() {
+        if symbols.by_alias(code) != *number {
+            return false;
+        }
+    }
+    true
+}
+
+fn has_error(symbols: &Symbols) -> bool {
+    symbols.find_error(b"A20".as_slice()) == Some(0)
+        && symbols.find_error(b"REV".as_slice()) == None
+}
+
+fn check(symbols: &Symbols) -> Result<(), Fail> {
+    if !has_numbers(symbols) {
+        return Err(Fail::from("numbers"));
+    }
+    if !has_owners(symbols) || !has_places(symbols) || !has_input(symbols) {
+        return Err(Fail::from("cells"));
+    }
+    if !has_names(symbols) || !has_codes(symbols) || !has_error(symbols) {
+        return Err(Fail::from("names"));
+    }
+    Ok(())
 }
 
 #[test]
 fn declarations_are_numbered_and_found(rt: HostRuntime) -> Result<(), Fail> {
-    let alloc = rt.alloc();
-    let items = declared(alloc)?;
-    let symbols = match declare(alloc, items.as_slice()) {
-        Ok(symbols) => symbols,
-        Err(_) => {
-            assert!(rt; false, "refused");
-            return Ok(());
-        }
-    };
-    check_numbers(&rt, &symbols);
-    check_cells(&rt, &symbols);
-    check_names(&rt, &symbols);
-    Ok(())
+    match declare(rt.alloc(), &declared(rt.alloc())) {
+        Ok(symbols) => check(&symbols),
+        Err(_) => Err(Fail::from("refused")),
+    }
+}
+
+// Whether this is told of the items above with one more.
+fn is_told_with(alloc: Global, name: &[u8], what: What, wanted: Told) -> bool {
+    let mut items = declared(alloc);
+    add(alloc, &mut items, name, 99, what);
+    is_told(alloc, &items, wanted)
 }
 
 #[test]
 fn each_fault_has_its_places(rt: HostRuntime) -> Result<(), Fail> {
-    let alloc = rt.alloc();
-    let more = variable(alloc, b"A20", 99, Role::Computed(None))?;
-    assert_eq!(rt;
-        fault_with(alloc, more)?,
-        Told::Nothing,
-        "a variable named as an error"
-    );
-    let more = variable(alloc, b"SEUIL", 99, input(alloc, b"1AJ")?)?;
-    assert_eq!(rt;
-        fault_with(alloc, more)?,
-        Told::DeclaredTwice(20, 99),
-        "a name and a code twice"
-    );
-    let more = error(alloc, b"A20", 99)?;
-    assert_eq!(rt;
-        fault_with(alloc, more)?,
-        Told::DeclaredTwice(50, 99),
-        "an error twice"
-    );
-    let more = variable(alloc, b"NEW", 99, input(alloc, b"1BJ")?)?;
-    assert_eq!(rt;
-        fault_with(alloc, more)?,
-        Told::AliasTwice(40, 99),
-        "a code twice"
-    );
-    for (size, wanted) in [
-        (0, Told::TableSize(99)),
-        (1, Told::Nothing),
-        (1024, Told::Nothing),
-        (1025, Told::TableSize(99)),
-    ] {
-        let more = variable(alloc, b"NEW", 99, Role::Computed(Some(size)))?;
-        assert_eq!(rt; fault_with(alloc, more)?, wanted, "a table of {size} cells");
+    for (row, (name, what, wanted)) in all_more().iter().enumerate() {
+        if !is_told_with(rt.alloc(), name, *what, *wanted) {
+            return Err(other_at(rt.alloc(), row));
+        }
     }
     Ok(())
 }
 
+// Fails at the row of this number.
+fn other_at(alloc: Global, row: usize) -> Fail {
+    match format!(in alloc; "another fault in row {row}") {
+        Ok(told) => Fail::from(told),
+        Err(_) => Fail::from("another fault"),
+    }
+}
+
+// Adds a table of 1,024 cells with a name of its own.
+fn add_table(alloc: Global, items: &mut Vec<Item>, number: u32) {
+    if let Ok(name) = format!(in alloc; "T{number}") {
+        add(alloc, items, name.as_bytes(), number, What::Table(1024));
+    }
+}
+
 // 976 tables of 1,024 cells are 999,424; one of 576 more makes 1,000,000, and any more are too many.
 #[test]
-fn cells_are_counted(rt: HostRuntime) -> Result<(), Fail> {
-    let alloc = rt.alloc();
-    let mut items = Vec::new(alloc);
-    for number in 0..976_u32 {
-        let name = format!(in alloc; "T{number}")?;
-        items.push(variable(alloc, name.as_bytes(), number, Role::Computed(Some(1024)))?)?;
+fn cells_are_counted(rt: HostRuntime) {
+    let mut items = Vec::new(rt.alloc());
+    for number in 0..976 {
+        add_table(rt.alloc(), &mut items, number);
     }
-    items.push(variable(alloc, b"LAST", 976, Role::Computed(Some(576)))?)?;
-    assert_eq!(rt; fault_of(alloc, items.as_slice()), Told::Nothing);
-    items.push(variable(alloc, b"MORE", 977, Role::Constant(Amount::zero()))?)?;
-    assert_eq!(rt; fault_of(alloc, items.as_slice()), Told::TooManyCells(977));
-    Ok(())
+    add(rt.alloc(), &mut items, b"LAST", 976, What::Table(576));
+    assert!(rt; items.len() == 977 && is_told(rt.alloc(), &items, Told::Nothing));
+    add(rt.alloc(), &mut items, b"MORE", 977, What::Constant);
+    assert!(rt; is_told(rt.alloc(), &items, Told::TooManyCells(977)));
 }

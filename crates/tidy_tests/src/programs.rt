@@ -11,7 +11,7 @@ use std::alloc::{AllocError, Global};
 use std::test::Fail;
 
 // So many whole units.
-fn units(n: i64) -> Value {
+pub fn units(n: i64) -> Value {
     match Amount::new(n as i128 * 1_000_000) {
         Some(amount) => Value::Num(amount),
         None => Value::Over,
@@ -19,14 +19,14 @@ fn units(n: i64) -> Value {
 }
 
 // A list of one number.
-fn one_output(alloc: Global, number: u32) -> Result<Seq<u32>, AllocError>
+pub fn one_output(alloc: Global, number: u32) -> Result<Seq<u32>, AllocError>
     ensures { IfOk result (λ outputs. outputs ≡ number ∷ []) }
 {
     let outputs = vec![in alloc; number]?;
     Ok(Seq::from_vec(outputs))
 }
 
-fn no_checks(alloc: Global) -> Seq<Check>
+pub fn no_checks(alloc: Global) -> Seq<Check>
     ensures { result ≡ [] }
 {
     Seq::from_vec(Vec::new(alloc))

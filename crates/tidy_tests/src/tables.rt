@@ -1,18 +1,11 @@
 //! Numbers of nodes, and nodes that are pushed.
 ghost use Rattle.std.specs.Prelude.{◌≡◌};
 
+use crate::programs::units;
 use common_terms::NodeTable;
 use flat_code::Node;
 use fold_terms::Builder;
-use m_fixed::{Amount, Op, Value};
-
-// So many whole units.
-fn units(n: i64) -> Value {
-    match Amount::new(n as i128 * 1_000_000) {
-        Some(amount) => Value::Num(amount),
-        None => Value::Over,
-    }
-}
+use m_fixed::Op;
 
 // Whether a node has this number.
 fn is_found(table: &mut NodeTable, node: Node, wanted: u32) -> bool {

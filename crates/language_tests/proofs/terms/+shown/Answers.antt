@@ -2,7 +2,7 @@ use Rattle.std.proofs.Common.{arith, ap}
 use Rattle.m_ast.specs.inner.Falls.{sizes_fall_terms, sizes_fall_links, sizes_fall_members}
 use Rattle.m_ast.specs.Syntax.{nodes}
 use Rattle.m_ast.specs.View.{syntax_of}
-use Rattle.term_tests.proofs.terms.+shown.Goals as goal
+use Rattle.language_tests.proofs.terms.+shown.Goals as goal
 
 pub add_term-add_terms-requires : goal.add_term-add_terms-requires
 add_term-add_terms-requires t c =
