@@ -10,17 +10,18 @@ ghost use Rattle.driver_core.specs.Meaning.{called};
 ghost use Rattle.driver_core.specs.Weights.{formula_weight, weight_of};
 ghost use Rattle.mpp_inline.specs.declared.builder.Builder.{Builder};
 ghost use Rattle.mpp_inline.specs.inner.Growth.{Ready, calls, rules_in_turn};
-ghost use Rattle.mpp_inline.specs.inner.Work.{Standing, Kept, Moves, Step, Whole, ahead, block_ahead, done, point, does, whole_of};
-ghost use Rattle.mpp_inline.specs.inner.Sizes.{load, body_size, action_size, block_size, work_weight, left_weight, body_turns, action_turns, block_turns, work_turns, left_turns};
+ghost use Rattle.mpp_inline.specs.inner.Work.{Standing, Kept, Moves, Step, Whole, ahead, block_ahead, done, point, does, whole_of, whole_by};
+ghost use Rattle.mpp_inline.specs.inner.Sizes.{load, body_size, action_size, block_size, work_weight, left_weight};
+ghost use Rattle.mpp_inline.specs.inner.Sizes.{body_turns, action_turns, block_turns, work_turns, left_turns};
 
 use crate::branches::open_branches;
 use crate::builder::{Builder, ONE, UNDEF};
 use crate::cells::{blank, pick_cells, write};
 use crate::formulas::emit_formula;
 use crate::rules::emit_rules;
-use crate::work::Work;
+use crate::work::{Choice, Driver, Frame, Work};
 use crate::writes::assign_under;
-use driver_core::{CCommand, CCommandNode, CTerm, Core};
+use driver_core::{CCommand, CCommandNode, Core};
 use input_kinds::KindCells;
 use rule_order::Ordered;
 use std::alloc::{AllocError, Global};
@@ -48,30 +49,26 @@ fn begin_if<'a>(
     alloc: Global,
     b: &mut Builder,
     env: &[u32],
-    guard: u32,
     left: &mut Vec<Work<'a>>,
-    depth: usize,
-    line: u32,
-    condition: &CTerm,
-    first: &'a [CCommand],
-    second: &'a [CCommand],
+    frame: Frame,
+    choice: &Choice<'a>,
 ) -> Result<u32, AllocError>
-    requires { load b.old + formula_weight condition.now + 5 < 2 ^ 32 }
-    ensures step { IfOk result (λ g. (whole : Whole) → Standing whole b.old env.now guard left.old.items
+    requires { load b.old + formula_weight choice.now.condition.now + 5 < 2 ^ 32 }
+    ensures step { IfOk result (λ g. (whole : Whole) → Standing whole b.old env.now frame.guard left.old.items
         → Moves whole b.old b.new env.now g left.old.items left.new.items
-        (λ inputs. ahead whole b.old inputs env.now guard depth
-        (branch line condition.now (block_of first.now) (block_of second.now)))) }
+        (λ inputs. ahead whole b.old inputs env.now frame.guard frame.depth
+        (branch choice.now.line choice.now.condition.now (block_of choice.now.first.now) (block_of choice.now.second.now)))) }
     ensures size { OnOk result ((whole : Whole) → load b.new + 6 * left_weight whole left.new.items
-        ≤ load b.old + formula_weight condition.now + 5 + 6 * (left_weight whole left.old.items
-        + block_size whole depth (block_of first.now) + block_size whole depth (block_of second.now))) }
+        ≤ load b.old + formula_weight choice.now.condition.now + 5 + 6 * (left_weight whole left.old.items
+        + block_size whole frame.depth (block_of choice.now.first.now) + block_size whole frame.depth (block_of choice.now.second.now))) }
     ensures turns { OnOk result ((whole : Whole) → left_turns whole left.new.items ≡ left_turns whole left.old.items
-        + block_turns whole depth (block_of first.now) + block_turns whole depth (block_of second.now) + 2) }
+        + block_turns whole frame.depth (block_of choice.now.first.now) + block_turns whole frame.depth (block_of choice.now.second.now) + 2) }
 {
-    let branches = open_branches(alloc, b, env, guard, line, condition)?;
-    left.push(Work::Under(guard))?;
-    left.push(Work::Run(depth, second))?;
+    let branches = open_branches(alloc, b, env, frame.guard, choice.line, choice.condition)?;
+    left.push(Work::Under(frame.guard))?;
+    left.push(Work::Run(frame.depth, choice.second))?;
     left.push(Work::Under(branches.second))?;
-    left.push(Work::Run(depth, first))?;
+    left.push(Work::Run(frame.depth, choice.first))?;
     Ok(branches.first)
 }
 
@@ -129,12 +126,10 @@ fn begin_call<'a>(
     core: &'a Core,
     left: &mut Vec<Work<'a>>,
     depth: usize,
-    line: u32,
-    names: u64,
     cells: &'a [u32],
     function: u32,
 ) -> Result<(), AllocError>
-    ensures step { OnOk result ((ordered : Ordered) (b : Builder) (guard : ℕ)
+    ensures step { OnOk result ((line names : ℕ) (ordered : Ordered) (b : Builder) (guard : ℕ)
         → Standing (whole_of core.now ordered) b env.now guard left.old.items
         → Moves (whole_of core.now ordered) b b env.now guard left.old.items left.new.items
         (λ inputs. ahead (whole_of core.now ordered) b inputs env.now guard depth (call line names cells.now function))) }
@@ -155,62 +150,62 @@ fn begin_command<'a>(
     alloc: Global,
     b: &mut Builder,
     env: &mut [u32],
-    guard: u32,
-    core: &'a Core,
-    ordered: &Ordered,
+    driver: &Driver<'a>,
     left: &mut Vec<Work<'a>>,
-    depth: usize,
+    frame: Frame,
     command: &'a CCommand,
 ) -> Result<u32, AllocError>
-    requires valid { IsValidBase ordered.now.base }
-    requires order { IsOrder ordered.now.base ordered.now.sequence }
-    requires room { load b.old + 6 * action_size (whole_of core.now ordered.now) depth command.now < 2 ^ 32 }
-    ensures step { IfOk result (λ g. Standing (whole_of core.now ordered.now) b.old env.old guard left.old.items
-        → Moves (whole_of core.now ordered.now) b.old b.new env.new g left.old.items left.new.items
-        (λ inputs. ahead (whole_of core.now ordered.now) b.old inputs env.old guard depth command.now)) }
-    ensures size { OnOk result (load b.new + 6 * left_weight (whole_of core.now ordered.now) left.new.items
-        ≤ load b.old + 6 * (left_weight (whole_of core.now ordered.now) left.old.items
-        + action_size (whole_of core.now ordered.now) depth command.now)) }
-    ensures turns { OnOk result (left_turns (whole_of core.now ordered.now) left.new.items
-        ≤ left_turns (whole_of core.now ordered.now) left.old.items
-        + action_turns (whole_of core.now ordered.now) depth command.now) }
+    requires valid { IsValidBase driver.now.ordered.now.base }
+    requires order { IsOrder driver.now.ordered.now.base driver.now.ordered.now.sequence }
+    requires room { load b.old + 6 * action_size (whole_by driver.now) frame.depth command.now < 2 ^ 32 }
+    ensures step { IfOk result (λ g. Standing (whole_by driver.now) b.old env.old frame.guard left.old.items
+        → Moves (whole_by driver.now) b.old b.new env.new g left.old.items left.new.items
+        (λ inputs. ahead (whole_by driver.now) b.old inputs env.old frame.guard frame.depth command.now)) }
+    ensures size { OnOk result (load b.new + 6 * left_weight (whole_by driver.now) left.new.items
+        ≤ load b.old + 6 * (left_weight (whole_by driver.now) left.old.items
+        + action_size (whole_by driver.now) frame.depth command.now)) }
+    ensures turns { OnOk result (left_turns (whole_by driver.now) left.new.items
+        ≤ left_turns (whole_by driver.now) left.old.items
+        + action_turns (whole_by driver.now) frame.depth command.now) }
 {
     match &command.node {
         CCommandNode::Set(_, cell, term) => {
             let number = emit_formula(alloc, b, env, term)?;
-            assign_under(b, env, guard, *cell, number)?;
-            Ok(guard)
+            assign_under(b, env, frame.guard, *cell, number)?;
+            Ok(frame.guard)
         }
         CCommandNode::Del(_, cell) => {
-            assign_under(b, env, guard, *cell, UNDEF)?;
-            Ok(guard)
+            assign_under(b, env, frame.guard, *cell, UNDEF)?;
+            Ok(frame.guard)
         }
         CCommandNode::If(line, condition, first, second) => {
-            begin_if(
-                alloc, b, env, guard, left, depth, *line, condition, first, second,
-            )
+            let choice = Choice {
+                line: *line,
+                condition,
+                first,
+                second,
+            };
+            begin_if(alloc, b, env, left, frame, &choice)
         }
         CCommandNode::Partition(line, cells, block) => {
-            begin_kind(alloc, env, left, depth, *line, cells, block)?;
-            Ok(guard)
+            begin_kind(alloc, env, left, frame.depth, *line, cells, block)?;
+            Ok(frame.guard)
         }
-        CCommandNode::Call(line, names, cells, function) => {
+        CCommandNode::Call(_, _, cells, function) => {
             begin_call(
                 alloc,
                 env,
-                core,
+                driver.core,
                 left,
-                depth,
-                *line,
-                *names,
+                frame.depth,
                 cells.as_slice(),
                 *function,
             )?;
-            Ok(guard)
+            Ok(frame.guard)
         }
         CCommandNode::Rules(_, _, cells) => {
-            emit_rules(alloc, b, env, guard, ordered, cells.as_slice())?;
-            Ok(guard)
+            emit_rules(alloc, b, env, frame.guard, driver.ordered, cells.as_slice())?;
+            Ok(frame.guard)
         }
     }
 }
@@ -220,32 +215,30 @@ fn begin_block<'a>(
     alloc: Global,
     b: &mut Builder,
     env: &mut [u32],
-    guard: u32,
-    core: &'a Core,
-    ordered: &Ordered,
+    driver: &Driver<'a>,
     left: &mut Vec<Work<'a>>,
-    depth: usize,
+    frame: Frame,
     block: &'a [CCommand],
 ) -> Result<u32, AllocError>
-    requires valid { IsValidBase ordered.now.base }
-    requires order { IsOrder ordered.now.base ordered.now.sequence }
-    requires room { load b.old + 6 * block_size (whole_of core.now ordered.now) depth (block_of block.now) < 2 ^ 32 }
-    ensures step { IfOk result (λ g. Standing (whole_of core.now ordered.now) b.old env.old guard left.old.items
-        → Moves (whole_of core.now ordered.now) b.old b.new env.new g left.old.items left.new.items
-        (λ inputs. block_ahead (whole_of core.now ordered.now) b.old inputs env.old guard depth block.now)) }
-    ensures size { OnOk result (load b.new + 6 * left_weight (whole_of core.now ordered.now) left.new.items
-        ≤ load b.old + 6 * (left_weight (whole_of core.now ordered.now) left.old.items
-        + block_size (whole_of core.now ordered.now) depth (block_of block.now))) }
-    ensures turns { OnOk result (left_turns (whole_of core.now ordered.now) left.new.items
-        < left_turns (whole_of core.now ordered.now) left.old.items
-        + block_turns (whole_of core.now ordered.now) depth (block_of block.now)) }
+    requires valid { IsValidBase driver.now.ordered.now.base }
+    requires order { IsOrder driver.now.ordered.now.base driver.now.ordered.now.sequence }
+    requires room { load b.old + 6 * block_size (whole_by driver.now) frame.depth (block_of block.now) < 2 ^ 32 }
+    ensures step { IfOk result (λ g. Standing (whole_by driver.now) b.old env.old frame.guard left.old.items
+        → Moves (whole_by driver.now) b.old b.new env.new g left.old.items left.new.items
+        (λ inputs. block_ahead (whole_by driver.now) b.old inputs env.old frame.guard frame.depth block.now)) }
+    ensures size { OnOk result (load b.new + 6 * left_weight (whole_by driver.now) left.new.items
+        ≤ load b.old + 6 * (left_weight (whole_by driver.now) left.old.items
+        + block_size (whole_by driver.now) frame.depth (block_of block.now))) }
+    ensures turns { OnOk result (left_turns (whole_by driver.now) left.new.items
+        < left_turns (whole_by driver.now) left.old.items
+        + block_turns (whole_by driver.now) frame.depth (block_of block.now)) }
 {
     match block.split_first() {
         Some((first, rest)) => {
-            left.push(Work::Run(depth, rest))?;
-            begin_command(alloc, b, env, guard, core, ordered, left, depth, first)
+            left.push(Work::Run(frame.depth, rest))?;
+            begin_command(alloc, b, env, driver, left, frame, first)
         }
-        None => Ok(guard),
+        None => Ok(frame.guard),
     }
 }
 
@@ -255,27 +248,27 @@ fn advance<'a>(
     b: &mut Builder,
     env: &mut Vec<u32>,
     guard: u32,
-    core: &'a Core,
-    ordered: &Ordered,
+    driver: &Driver<'a>,
     left: &mut Vec<Work<'a>>,
     work: Work<'a>,
 ) -> Result<u32, AllocError>
-    requires valid { IsValidBase ordered.now.base }
-    requires order { IsOrder ordered.now.base ordered.now.sequence }
-    requires room { load b.old + 6 * work_weight (whole_of core.now ordered.now) work < 2 ^ 32 }
-    ensures step { IfOk result (λ g. Standing (whole_of core.now ordered.now) b.old env.old.items guard left.old.items
+    requires valid { IsValidBase driver.now.ordered.now.base }
+    requires order { IsOrder driver.now.ordered.now.base driver.now.ordered.now.sequence }
+    requires room { load b.old + 6 * work_weight (whole_by driver.now) work < 2 ^ 32 }
+    ensures step { IfOk result (λ g. Standing (whole_by driver.now) b.old env.old.items guard left.old.items
         → Kept b.old work.entry
-        → Moves (whole_of core.now ordered.now) b.old b.new env.new.items g left.old.items left.new.items
-        (λ inputs. done (whole_of core.now ordered.now) b.old inputs work.entry (point b.old inputs env.old.items guard))) }
-    ensures size { OnOk result (load b.new + 6 * left_weight (whole_of core.now ordered.now) left.new.items
-        ≤ load b.old + 6 * (left_weight (whole_of core.now ordered.now) left.old.items
-        + work_weight (whole_of core.now ordered.now) work.entry)) }
-    ensures turns { OnOk result (left_turns (whole_of core.now ordered.now) left.new.items
-        < left_turns (whole_of core.now ordered.now) left.old.items + work_turns (whole_of core.now ordered.now) work.entry) }
+        → Moves (whole_by driver.now) b.old b.new env.new.items g left.old.items left.new.items
+        (λ inputs. done (whole_by driver.now) b.old inputs work.entry (point b.old inputs env.old.items guard))) }
+    ensures size { OnOk result (load b.new + 6 * left_weight (whole_by driver.now) left.new.items
+        ≤ load b.old + 6 * (left_weight (whole_by driver.now) left.old.items
+        + work_weight (whole_by driver.now) work.entry)) }
+    ensures turns { OnOk result (left_turns (whole_by driver.now) left.new.items
+        < left_turns (whole_by driver.now) left.old.items + work_turns (whole_by driver.now) work.entry) }
 {
     match work {
         Work::Run(depth, block) => {
-            let next = begin_block(alloc, b, env, guard, core, ordered, left, depth, block)?;
+            let frame = Frame { depth, guard };
+            let next = begin_block(alloc, b, env, driver, left, frame, block)?;
             Ok(next)
         }
         Work::Under(next) => Ok(next),
@@ -308,12 +301,13 @@ pub fn emit_all(
         → Step b.old b.new 2 env.old.items env.new.items
         (called (rules_in_turn ordered.now.base ordered.now.sequence) core.now.bodies (length core.now.bodies + 1) core.now.main)) }
 {
+    let driver = Driver { core, ordered };
     let mut left = Vec::new(alloc);
     let main = body_at(core, core.bodies.as_slice().len() + 1, core.main);
     left.push(Work::Run(core.bodies.as_slice().len(), main))?;
     let mut guard = ONE;
     while let Some(work) = left.pop() {
-        guard = advance(alloc, b, env, guard, core, ordered, &mut left, work)?;
+        guard = advance(alloc, b, env, guard, &driver, &mut left, work)?;
     }
     Ok(())
 }

@@ -12,6 +12,7 @@ use Rattle.micro_m.specs.Values.{environment}
 use Rattle.rule_order.specs.declared.ordered.Ordered.{Ordered}
 use Rattle.mpp_inline.specs.inner.Cells.{written}
 use Rattle.mpp_inline.specs.declared.builder.Builder.{Builder}
+use Rattle.mpp_inline.specs.declared.work.Driver.{Driver}
 use Rattle.mpp_inline.specs.declared.work.Work.{Work}
 use Rattle.mpp_inline.specs.declared.work.Work.TheVariants.{Run, Under, Restore, Return}
 use Rattle.mpp_inline.specs.inner.Growth.{at, denoted, run, entries, IsUsable, Known, Held, Ready, Longer, means, means_one}
@@ -35,6 +36,9 @@ pub record Whole : Type 0 where
 
 abbrev pub whole_of : Core → Ordered → Whole
 whole_of core ordered = record { core = core; ordered = ordered }
+
+abbrev pub whole_by : Driver → Whole
+whole_by driver = whole_of driver.core.now driver.ordered.now
 
 -- what commands do, where the definitions are computed one after the other
 abbrev pub does : Whole → ℕ → List Action → Env → RunState

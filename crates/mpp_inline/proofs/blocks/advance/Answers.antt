@@ -9,7 +9,7 @@ use Rattle.mpp_inline.proofs.blocks.advance.Goals as goal
 
 pub returns-in_ok-next-in-Run-clause-step : goal.returns-in_ok-next-in-Run-clause-step
 returns-in_ok-next-in-Run-clause-step c =
-    let whole = whole_of c.args.core.now c.args.ordered.now in
+    let whole = whole_of c.args.driver.now.core.now c.args.driver.now.ordered.now in
     let b = c.args.b.now in
     let d = c.begin_block.new.b in
     let e = c.args.env.now.items in
@@ -26,7 +26,7 @@ returns-in_ok-next-in-Run-clause-step c =
 
 pub returns-in-Restore-clause-step : goal.returns-in-Restore-clause-step
 returns-in-Restore-clause-step c =
-    let whole = whole_of c.args.core.now c.args.ordered.now in
+    let whole = whole_of c.args.driver.now.core.now c.args.driver.now.ordered.now in
     let b = c.args.b.now in
     let e = c.args.env.now.items in
     let g = c.args.guard in
@@ -41,7 +41,7 @@ returns-in-Restore-clause-step c =
 
 pub returns-in_ok-given-in-Return-clause-step : goal.returns-in_ok-given-in-Return-clause-step
 returns-in_ok-given-in-Return-clause-step c =
-    let whole = whole_of c.args.core.now c.args.ordered.now in
+    let whole = whole_of c.args.driver.now.core.now c.args.driver.now.ordered.now in
     let b = c.args.b.now in
     let e = c.args.env.now.items in
     let g = c.args.guard in

@@ -15,12 +15,12 @@ nothing (x ∷ xs) h = absurd (omega arith)
 
 pub returns-in_ok-push-in-Some-clause-step : goal.returns-in_ok-push-in-Some-clause-step
 returns-in_ok-push-in-Some-clause-step c =
-    let whole = whole_of c.args.core.now c.args.ordered.now in
+    let whole = whole_of c.args.driver.now.core.now c.args.driver.now.ordered.now in
     let b = c.args.b.now in
     let d = c.begin_command.new.b in
     let e = c.args.env.now in
-    let g = c.args.guard in
-    let depth = c.args.depth in
+    let g = c.args.frame.guard in
+    let depth = c.args.frame.depth in
     let ws = c.args.left.now.items in
     let ws' = c.begin_command.new.left.items in
     let a = c.in-Some.first.now in
@@ -33,22 +33,22 @@ returns-in_ok-push-in-Some-clause-step c =
     c.begin_command.ensures.step
 
 pub returns-in-None-clause-step : goal.returns-in-None-clause-step
-returns-in-None-clause-step c = λ s. none-moves c.args.depth c.args.block.now (nothing c.args.block.now c.in-None.ensures.cases) s
+returns-in-None-clause-step c = λ s. none-moves c.args.frame.depth c.args.block.now (nothing c.args.block.now c.in-None.ensures.cases) s
 
 pub begin_command-requires : goal.begin_command-requires
 begin_command-requires c =
-    let whole = whole_of c.args.core.now c.args.ordered.now in
+    let whole = whole_of c.args.driver.now.core.now c.args.driver.now.ordered.now in
     let is : c.args.block.now ≡ c.in-Some.first.now ∷ c.in-Some.rest.now = c.in-Some.ensures.cases.0 in
     record {
       valid = c.requires.valid;
       order = c.requires.order;
-      room = omega (arith, c.requires.room, ap (λ l. block_size whole c.args.depth (block_of l)) is);
+      room = omega (arith, c.requires.room, ap (λ l. block_size whole c.args.frame.depth (block_of l)) is);
     }
 
 pub returns-in_ok-push-in-Some-clause-size : goal.returns-in_ok-push-in-Some-clause-size
 returns-in_ok-push-in-Some-clause-size c =
-    let whole = whole_of c.args.core.now c.args.ordered.now in
-    let depth = c.args.depth in
+    let whole = whole_of c.args.driver.now.core.now c.args.driver.now.ordered.now in
+    let depth = c.args.frame.depth in
     let ws = c.args.left.now.items in
     let is : c.args.block.now ≡ c.in-Some.first.now ∷ c.in-Some.rest.now = c.in-Some.ensures.cases.0 in
     on_ok_weaker c.begin_command.result
@@ -59,8 +59,8 @@ returns-in_ok-push-in-Some-clause-size c =
 
 pub returns-in_ok-push-in-Some-clause-turns : goal.returns-in_ok-push-in-Some-clause-turns
 returns-in_ok-push-in-Some-clause-turns c =
-    let whole = whole_of c.args.core.now c.args.ordered.now in
-    let depth = c.args.depth in
+    let whole = whole_of c.args.driver.now.core.now c.args.driver.now.ordered.now in
+    let depth = c.args.frame.depth in
     let ws = c.args.left.now.items in
     let is : c.args.block.now ≡ c.in-Some.first.now ∷ c.in-Some.rest.now = c.in-Some.ensures.cases.0 in
     on_ok_weaker c.begin_command.result
@@ -70,4 +70,4 @@ returns-in_ok-push-in-Some-clause-turns c =
     c.begin_command.ensures.turns
 
 pub returns-in-None-clause-turns : goal.returns-in-None-clause-turns
-returns-in-None-clause-turns c = omega (arith, block-some (whole_of c.args.core.now c.args.ordered.now) c.args.depth (block_of c.args.block.now))
+returns-in-None-clause-turns c = omega (arith, block-some (whole_of c.args.driver.now.core.now c.args.driver.now.ordered.now) c.args.frame.depth (block_of c.args.block.now))

@@ -16,11 +16,11 @@ returns-clause-step c =
     let deep = c.saturating_sub.result in
     let last = Run deep c.body_at-body.result in
     let items : c.push-2.new.self.items ≡ (ws ++ Return c.args.cells c.in_ok-outer.outer ∷ []) ++ last ∷ [] = c.in_ok-push-2.ensures.items ∙ ap (λ l. l ++ last ∷ []) c.in_ok-push.ensures.items in
-    λ ordered b g s.
+    λ line names ordered b g s.
     let whole = whole_of core ordered in
     let body : does whole deep c.body_at-body.result.now ≡ calls core ordered.base ordered.sequence c.args.depth c.args.function = ap (λ n. does whole n c.body_at-body.result.now) c.saturating_sub.ensures ∙ c.body_at-body.ensures.means ordered in
-    subst (λ l. Moves whole b b c.args.env.now g ws l (λ inputs. ahead whole b inputs c.args.env.now g c.args.depth (call c.args.line c.args.names c.args.cells.now c.args.function))) (sym items)
-    (call-moves c.args.depth c.args.line c.args.names deep c.args.function c.args.cells c.in_ok-outer.outer c.body_at-body.result (c.in_ok-outer.ensures.items_if_clones_equal (λ x y p. p)) body s)
+    subst (λ l. Moves whole b b c.args.env.now g ws l (λ inputs. ahead whole b inputs c.args.env.now g c.args.depth (call line names c.args.cells.now c.args.function))) (sym items)
+    (call-moves c.args.depth line names deep c.args.function c.args.cells c.in_ok-outer.outer c.body_at-body.result (c.in_ok-outer.ensures.items_if_clones_equal (λ x y p. p)) body s)
 
 pub returns-clause-size : goal.returns-clause-size
 returns-clause-size c =

@@ -13,24 +13,24 @@ returns-clause-step c =
     let b = c.args.b.now in
     let d = c.open_branches.new.b in
     let e = c.args.env.now in
-    let g = c.args.guard in
+    let g = c.args.frame.guard in
     let ws = c.args.left.now.items in
     let r = c.in_ok-branches.branches in
-    let items : c.push-4.new.self.items ≡ (((ws ++ Under g ∷ []) ++ Run c.args.depth c.args.second ∷ []) ++ Under r.second ∷ []) ++ Run c.args.depth c.args.first ∷ [] =
+    let items : c.push-4.new.self.items ≡ (((ws ++ Under g ∷ []) ++ Run c.args.frame.depth c.args.choice.now.second ∷ []) ++ Under r.second ∷ []) ++ Run c.args.frame.depth c.args.choice.now.first ∷ [] =
     c.in_ok-push-4.ensures.items
-    ∙ ap (λ l. l ++ Run c.args.depth c.args.first ∷ []) (c.in_ok-push-3.ensures.items
+    ∙ ap (λ l. l ++ Run c.args.frame.depth c.args.choice.now.first ∷ []) (c.in_ok-push-3.ensures.items
     ∙ ap (λ l. l ++ Under r.second ∷ []) (c.in_ok-push-2.ensures.items
-    ∙ ap (λ l. l ++ Run c.args.depth c.args.second ∷ []) c.in_ok-push.ensures.items)) in
-    λ whole s. subst (λ l. Moves whole b d e r.first ws l (λ inputs. ahead whole b inputs e g c.args.depth (branch c.args.line c.args.condition.now (block_of c.args.first.now) (block_of c.args.second.now)))) (sym items)
-    (if-moves c.args.condition.now c.args.depth c.args.first c.args.second c.in_ok-branches.ensures.step s)
+    ∙ ap (λ l. l ++ Run c.args.frame.depth c.args.choice.now.second ∷ []) c.in_ok-push.ensures.items)) in
+    λ whole s. subst (λ l. Moves whole b d e r.first ws l (λ inputs. ahead whole b inputs e g c.args.frame.depth (branch c.args.choice.now.line c.args.choice.now.condition.now (block_of c.args.choice.now.first.now) (block_of c.args.choice.now.second.now)))) (sym items)
+    (if-moves c.args.choice.now.condition.now c.args.frame.depth c.args.choice.now.first c.args.choice.now.second c.in_ok-branches.ensures.step s)
 
 pub returns-clause-size : goal.returns-clause-size
 returns-clause-size c =
     let ws = c.args.left.now.items in
-    let w1 = Under c.args.guard in
-    let w2 = Run c.args.depth c.args.second in
+    let w1 = Under c.args.frame.guard in
+    let w2 = Run c.args.frame.depth c.args.choice.now.second in
     let w3 = Under c.in_ok-branches.branches.second in
-    let w4 = Run c.args.depth c.args.first in
+    let w4 = Run c.args.frame.depth c.args.choice.now.first in
     λ whole. omega (
       arith,
       c.in_ok-branches.ensures.size,
@@ -47,10 +47,10 @@ returns-clause-size c =
 pub returns-clause-turns : goal.returns-clause-turns
 returns-clause-turns c =
     let ws = c.args.left.now.items in
-    let w1 = Under c.args.guard in
-    let w2 = Run c.args.depth c.args.second in
+    let w1 = Under c.args.frame.guard in
+    let w2 = Run c.args.frame.depth c.args.choice.now.second in
     let w3 = Under c.in_ok-branches.branches.second in
-    let w4 = Run c.args.depth c.args.first in
+    let w4 = Run c.args.frame.depth c.args.choice.now.first in
     λ whole. omega (
       arith,
       ap (left_turns whole) c.in_ok-push.ensures.items,
