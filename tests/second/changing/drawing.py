@@ -1,5 +1,6 @@
 """What changes draw from, and changes of any text: of its pieces, lines and bytes."""
 
+import random as numbers
 import re
 
 from reading.texts import NUMBER, WORD
@@ -29,6 +30,30 @@ SORTS = [
 PIECE = re.compile(
     rb'[ \t\r\n]+|#[^\n]*|"[^"]*"|' + WORD + rb"|" + NUMBER + rb"|\.\.|<-|==|!=|<=|>=|.", re.DOTALL
 )
+
+
+class Draw(numbers.Random):
+    """A generator that gives what `random.Random` gives, and sooner: of whole numbers without a step, and of lists."""
+
+    def randrange(self, start, stop=None):
+        first, count = (0, start) if stop is None else (start, stop - start)
+        if count <= 0:
+            return super().randrange(start, stop)
+        draw, bits = self.getrandbits, count.bit_length()
+        number = draw(bits)
+        while number >= count:
+            number = draw(bits)
+        return first + number
+
+    def choice(self, seq):
+        count = len(seq)
+        if not count:
+            return super().choice(seq)
+        draw, bits = self.getrandbits, count.bit_length()
+        number = draw(bits)
+        while number >= count:
+            number = draw(bits)
+        return seq[number]
 
 
 def chance(random, percent):

@@ -1,7 +1,10 @@
 """What the files of a row name, as far as patterns find it."""
 
+import functools
 import re
 from typing import Dict, List, NamedTuple
+
+DECLARED = re.compile(rb"([0-9A-Z_]+)\s*:\s*(saisie|calculee|const|tableau|anomalie|discordance|informative)")
 
 
 class Row(NamedTuple):
@@ -19,18 +22,27 @@ def listed(row):
 
 
 class Names:
-    """The names of a source: variables by their sorts, errors, codes, attributes with numbers, functions."""
+    """The names of a source: variables by their sorts, errors, codes, attributes with numbers, functions. No list of these is changed."""
 
     def __init__(self, row):
-        rules = b"\n".join(row.files[name] for name in listed(row))
-        driver = row.files.get(row.words[2], b"") if len(row.words) > 2 else b""
-        self.inputs = re.findall(rb"([0-9A-Z_]+)\s*:\s*saisie", rules)
-        self.computed = re.findall(rb"([0-9A-Z_]+)\s*:\s*calculee", rules)
-        self.constants = re.findall(rb"([0-9A-Z_]+)\s*:\s*const", rules)
-        self.tables = re.findall(rb"([0-9A-Z_]+)\s*:\s*tableau", rules)
-        self.errors = re.findall(rb"([0-9A-Z_]+)\s*:\s*(?:anomalie|discordance|informative)", rules)
-        self.codes = sorted(set(re.findall(rb"alias\s+([0-9A-Za-z_]+)", rules)))
-        self.attributes = re.findall(rb"([a-z]+)\s*=\s*[0-9]", rules)
-        self.functions = re.findall(rb"(?m)^([A-Za-z_]+)\(\)", driver)
-        self.plain = self.inputs + self.constants + self.computed
-        self.all = self.plain + self.tables
+        names = names_of_rules(b"\n".join(row.files[name] for name in listed(row)))
+        self.inputs, self.computed, self.constants, self.tables, self.errors, self.codes, self.attributes, self.plain, self.all = names
+        self.functions = functions_of(row.files.get(row.words[2], b"") if len(row.words) > 2 else b"")
+
+
+@functools.lru_cache(4_096)
+def names_of_rules(rules):
+    """The names in rule files. Changes begin with the same texts over and over, so they are kept."""
+    found = {word: [] for word in (b"saisie", b"calculee", b"const", b"tableau", b"anomalie")}
+    for name, word in DECLARED.findall(rules):
+        found[b"anomalie" if word in (b"discordance", b"informative") else word].append(name)
+    inputs, computed, constants, tables, errors = found.values()
+    codes = sorted(set(re.findall(rb"alias\s+([0-9A-Za-z_]+)", rules)))
+    plain = inputs + constants + computed
+    return inputs, computed, constants, tables, errors, codes, re.findall(rb"([a-z]+)\s*=\s*[0-9]", rules), plain, plain + tables
+
+
+@functools.lru_cache(4_096)
+def functions_of(driver):
+    """The functions of a driver."""
+    return re.findall(rb"(?m)^([A-Za-z_]+)\(\)", driver)
