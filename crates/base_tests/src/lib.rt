@@ -1,10 +1,12 @@
 //! Tests of the crates that the language stands on, through their public calls: amounts, facts, names,
-//! places, lines, lists, and the files and streams of the outside. They stand apart from those crates, so that
+//! places, lines, lists, the files and streams of the outside, and buffers. They stand apart from those crates, so that
 //! a crate isn't proved a second time with its tests.
 #![tactic(auto)]
 
 #[cfg(test)]
 mod amounts;
+#[cfg(test)]
+mod buffers;
 #[cfg(test)]
 mod facts;
 #[cfg(test)]

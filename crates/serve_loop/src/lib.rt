@@ -3,6 +3,7 @@
 //! This crate knows how an input is cut into lines while it comes in pieces. It doesn't know what a line says, and takes no memory.
 #![tactic(auto)]
 
+mod buffer;
 mod lines;
 mod pieces;
 mod replier;

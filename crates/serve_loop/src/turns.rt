@@ -5,6 +5,7 @@ ghost use Rattle.serve_loop.specs.Serving.{Counts, Ends};
 ghost use Rattle.serve_loop.specs.inner.Going.{Finished, Turned};
 
 use crate::Replier;
+use crate::buffer::Buffering;
 use crate::lines::do_ended;
 use crate::pieces::{MOST_HELD, keep, take_piece};
 use m_places::limits::INPUT_BYTES;
@@ -30,9 +31,12 @@ pub enum ServeEnd {
 // them.
 const ROOM: usize = 8_193;
 
+// How many bytes of a reply are given at a time.
+const REPLY_ROOM: usize = 65_536;
+
 /// Does the lines of an input one after another, each as `Replier::reply` does, until the input ends, a read or a write
 /// fails, or `INPUT_BYTES` bytes were taken. Of a line that is too long no more than its first bytes are held. A last line may
-/// lack its line feed. It takes no memory.
+/// lack its line feed. A reply is given when it is whole, before the next line is done, in pieces of 65,536 bytes. It takes no memory.
 pub fn serve<R: Replier, S: Source, K: Sink, L: Ledger>(
     replier: &mut R,
     input: &mut S,
@@ -43,7 +47,12 @@ pub fn serve<R: Replier, S: Source, K: Sink, L: Ledger>(
     ensures counts { Counts (S.faults input.old) (S.faults input.new) (K.faults out.old) (K.faults out.new) result }
 {
     let mut room = [0; ROOM];
-    serve_in(replier, input, out, &mut room, steps)
+    let mut replies = [0; REPLY_ROOM];
+    let mut buffering = Buffering {
+        replier,
+        room: &mut replies,
+    };
+    serve_in(&mut buffering, input, out, &mut room, steps)
 }
 
 // The same with this room.

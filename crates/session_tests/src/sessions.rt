@@ -269,3 +269,53 @@ fn served(rt: HostRuntime) -> Result<(), Fail> {
     }
     Ok(())
 }
+
+/// The call that fails of an output that takes all that a call gives, how the loop ends, and how many bytes of the above are written: each
+/// reply is given by one call, and the empty line has none.
+const GIVEN: [(u64, ServeEnd, usize); 6] = [
+    (1, ServeEnd::WriteFault, 0),
+    (2, ServeEnd::WriteFault, 3),
+    (3, ServeEnd::WriteFault, 18),
+    (4, ServeEnd::WriteFault, 40),
+    (5, ServeEnd::WriteFault, 43),
+    (6, ServeEnd::Done, 57),
+];
+
+fn given() -> &'static [(u64, ServeEnd, usize)] {
+    &GIVEN
+}
+
+fn gives_to(
+    alloc: Global,
+    session: &mut Session,
+    input: &mut MemSource,
+    row: &(u64, ServeEnd, usize),
+) -> Result<bool, AllocError> {
+    let failing = vec![in alloc; row.0]?;
+    let mut out = MemSink::new(alloc, 1_000_000, failing)?;
+    Ok(ends::<Brand>(session, input, &mut out, row.1, row.2, Blank::new(1)))
+}
+
+fn gives_in(
+    alloc: Global,
+    session: &mut Session,
+    row: &(u64, ServeEnd, usize),
+) -> Result<bool, AllocError> {
+    let mut input = input(alloc, 4_096, 0)?;
+    gives_to(alloc, session, &mut input, row)
+}
+
+fn gives(alloc: Global, row: &(u64, ServeEnd, usize)) -> Result<bool, AllocError> {
+    let mut session = started(alloc)?;
+    gives_in(alloc, &mut session, row)
+}
+
+#[test]
+fn whole_replies(rt: HostRuntime) -> Result<(), Fail> {
+    for (row, wanted) in given().iter().enumerate() {
+        if !gives(rt.alloc(), wanted)? {
+            return Err(Fail::from(format!(in rt.alloc(); "row {row}")?));
+        }
+    }
+    Ok(())
+}
