@@ -39,20 +39,58 @@ for crate in $crates household; do
     copy "$crate"
 done
 driver=$work/repository/crates/bench_household
-mkdir -p "$driver/src"
-echo 'bench_household: household m_names m_places anyhow' >>"$work/repository/crates.txt"
+mkdir -p "$driver/src" "$driver/proofs/inputs_of"
+echo 'bench_household: household m_names m_places observables anyhow' >>"$work/repository/crates.txt"
 cp "$root/HANDLES" "$work/repository/"
+cat >"$driver/proofs/inputs_of/Invariants.antt" <<'INVARIANTS'
+use Rattle.std.proofs.Common.{◌≡◌, take}
+use Rattle.observables.specs.Inputs.{codes_of}
+use Rattle.bench_household.proofs.inputs_of.Given as goal
+
+abbrev pub invariant-loop-name : goal.invariant-loop-name
+invariant-loop-name l = codes_of l.inputs.items ≡ take l.name-index l.names
+INVARIANTS
 cat >"$driver/src/main.rt" <<'DRIVER'
 //! Reads a household or a table five times, and prints the count of rows and the microseconds.
 #![tactic(auto)]
+
+ghost use Rattle.std.specs.Prelude.{◌≡◌, IfOk};
+ghost use Rattle.observables.specs.Inputs.{codes_of};
 
 use anyhow::Result;
 use household::{Codes, read_household, read_table};
 use m_names::Names;
 use m_places::Name;
-use std::alloc::Global;
+use observables::{Coded, InputType};
+use std::alloc::{AllocError, Global};
+use std::thread::Threads;
 use std::time::Instant;
 use std::{env, fs};
+
+/// Inputs with these codes, which take each amount.
+fn inputs_of(alloc: Global, names: &[Name]) -> Result<Vec<Coded>, AllocError>
+    ensures { IfOk result (λ inputs. codes_of inputs.items ≡ names.now) }
+{
+    let mut inputs = Vec::new(alloc);
+    for name in names {
+        inputs.push(Coded {
+            code: name.copy(alloc)?,
+            kind: InputType::Any,
+        })?;
+    }
+    Ok(inputs)
+}
+
+/// The codes of these names, and none where a name stands twice.
+fn codes_of_names(alloc: Global, names: &[Name]) -> Result<Option<Codes>> {
+    match Names::of(alloc, names) {
+        Ok(_) => {
+            let inputs = inputs_of(alloc, names)?;
+            Ok(Some(Codes::new(alloc, &inputs)?))
+        }
+        Err(_) => Ok(None),
+    }
+}
 
 /// The codes C0 to C99999.
 fn many_codes(alloc: Global) -> Result<Option<Codes>> {
@@ -61,21 +99,24 @@ fn many_codes(alloc: Global) -> Result<Option<Codes>> {
         let code = format!(in alloc; "C{k}")?;
         names.push(Name::new(alloc, code.as_bytes())?)?;
     }
-    match Names::of(alloc, &names) {
-        Ok(names) => Ok(Some(Codes::new(names))),
-        Err(_) => Ok(None),
-    }
+    codes_of_names(alloc, &names)
 }
 
 /// How many rows a household or a table has, and none where it is refused.
-fn count_rows(alloc: Global, kind: &str, bytes: &[u8], codes: &Codes) -> usize {
+fn count_rows<R: Threads + Sync>(
+    rt: &R,
+    alloc: Global,
+    kind: &str,
+    bytes: &[u8],
+    codes: &Codes,
+) -> usize {
     if kind == "household" {
         match read_household(alloc, bytes, codes) {
             Ok(household) => household.pairs.as_slice().len(),
             Err(_) => 0,
         }
     } else {
-        match read_table(alloc, bytes, codes) {
+        match read_table(rt, alloc, bytes, codes) {
             Ok(rows) => rows.as_slice().len(),
             Err(_) => 0,
         }
@@ -93,7 +134,7 @@ fn main(rt: HostRuntime) -> Result<()> {
     };
     for _ in 0..5 {
         let start = Instant::now(&rt)?;
-        let count = count_rows(rt.alloc(), kind.as_str(), &bytes, &codes);
+        let count = count_rows(&rt, rt.alloc(), kind.as_str(), &bytes, &codes);
         let took = start.elapsed(&rt)?.as_micros();
         println!(rt; "{count} {took}")?;
     }

@@ -1,5 +1,5 @@
-//! What no plain row can have: fetches and writes that fail, running out of memory, files past their limits, the names that
-//! are tried, and each prefix of a rule file.
+//! What no plain row can have: fetches and writes that fail, running out of memory, files past their limits, and the names that
+//! are tried.
 use m_commands::{Status, m_tax};
 use m_places::limits::FILE_BYTES;
 use m_places::{Name, Word};
@@ -68,14 +68,14 @@ pub(crate) fn other_at(alloc: Global, row: &str) -> Fail {
 }
 
 /// The base and the formula of its rule.
-fn whole_rules(alloc: Global) -> Vec<u8> {
+pub(crate) fn whole_rules(alloc: Global) -> Vec<u8> {
     let mut rules = copied(alloc, base());
     let _formula = rules.extend_from_slice(b"IRN = REV - SEUIL ;\n");
     rules
 }
 
 /// Adds the files of a run of these rules on a household.
-fn add_run_files(
+pub(crate) fn add_run_files(
     alloc: Global,
     files: &mut Vec<(Name, Vec<u8>)>,
     rules: Vec<u8>,
@@ -155,9 +155,9 @@ pub(crate) fn does<R: Threads + Sync>(
 }
 
 /// All files of a run.
-const ALL: &str = "l.txt a.m h.csv ";
+pub(crate) const ALL: &str = "l.txt a.m h.csv ";
 
-const RUN: &str = "run l.txt - - h.csv";
+pub(crate) const RUN: &str = "run l.txt - - h.csv";
 
 /// A list of one rule file.
 const LIST: &str = "iliad\na.m\n";
@@ -247,7 +247,7 @@ fn all_writes() -> &'static [(&'static str, &'static str, Status)] {
 }
 
 /// The status of a command that prints this.
-fn status_by(text: &str) -> Status {
+pub(crate) fn status_by(text: &str) -> Status {
     match text.as_bytes() {
         [b'u', ..] => Status::ReadFault,
         [b'r', ..] => Status::Refused,
@@ -368,86 +368,4 @@ fn fails_to_write(rt: HostRuntime) -> Result<(), Fail> {
         }
     }
     Ok(())
-}
-
-/// What prefixes of the rules of `prefixes` print without rows, by how many bytes they have.
-static FRONTS: [(usize, &str); 13] = [
-    // whole items, without the last line feed and with it
-    (0, ""),
-    (48, ""),
-    (49, ""),
-    (71, ""),
-    (72, ""),
-    (104, "IRN undefined\n"),
-    (105, "IRN undefined\n"),
-    (157, "IRN = -1000\n"),
-    (158, "IRN = -1000\n"),
-    // within a text
-    (44, "refused a.m line 1 byte 43: open string\n"),
-    (45, "refused a.m line 1 byte 43: open string\n"),
-    (100, "refused a.m line 3 byte 99: open string\n"),
-    (101, "refused a.m line 3 byte 99: open string\n"),
-];
-
-/// What a prefix prints whose last item isn't whole, where it has fewer bytes than this: the fault stands where the item
-/// begins.
-static ITEMS: [(usize, &str); 4] = [
-    (48, "refused a.m line 1 byte 0: syntax\n"),
-    (71, "refused a.m line 2 byte 49: syntax\n"),
-    (104, "refused a.m line 3 byte 72: syntax\n"),
-    (157, "refused a.m line 4 byte 105: syntax\n"),
-];
-
-/// What the first so many bytes of the rules of `prefixes` print without rows.
-fn prefix_text(bytes: usize) -> &'static str {
-    for (front, text) in FRONTS.iter() {
-        if *front == bytes {
-            return *text;
-        }
-    }
-    for (end, text) in ITEMS.iter() {
-        if bytes < *end {
-            return *text;
-        }
-    }
-    ""
-}
-
-/// Whether so many bytes of the rules print what they are to.
-fn is_prefix<R: Threads + Sync>(rt: &R, alloc: Global, whole: &[u8], bytes: usize) -> bool {
-    if bytes > whole.len() {
-        return false;
-    }
-    let mut files = Vec::new(alloc);
-    add_run_files(
-        alloc,
-        &mut files,
-        copied(alloc, &whole[..bytes]),
-        b"code,amount\n",
-    );
-    let mut files = MemFiles::new(alloc, files, Vec::new(alloc));
-    let text = prefix_text(bytes);
-    let want = Wanted {
-        text,
-        status: status_by(text),
-        tried: ALL,
-    };
-    does(rt, alloc, RUN, &mut files, want)
-}
-
-/// The first number of bytes of the rules that prints anything else.
-fn first_other<R: Threads + Sync>(rt: &R, alloc: Global, whole: &[u8]) -> Option<usize> {
-    for bytes in 0..159 {
-        if !is_prefix(rt, alloc, whole, bytes) {
-            return Some(bytes);
-        }
-    }
-    None
-}
-
-#[test]
-fn prefixes(rt: HostRuntime) {
-    let whole = whole_rules(rt.alloc());
-    assert!(rt; whole.len() == 158);
-    assert!(rt; first_other(&rt, rt.alloc(), &whole).is_none());
 }

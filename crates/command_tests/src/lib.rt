@@ -11,4 +11,6 @@ mod commands;
 #[cfg(test)]
 mod inputs;
 #[cfg(test)]
+mod prefixes;
+#[cfg(test)]
 mod shows;
