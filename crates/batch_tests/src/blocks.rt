@@ -13,6 +13,7 @@ use observables::Answer;
 use reg_machine::{Code, Instr, make_code};
 use std::alloc::{AllocError, Global};
 use std::test::Fail;
+use std::thread::Threads;
 
 // Input 7 and twice input 3, of nine inputs. It stops where input 5 is a number other than 0, or where input 3 squared is over.
 fn code(alloc: Global) -> Result<Code, Fail>
@@ -97,26 +98,37 @@ fn rows(alloc: Global) -> Result<Vec<Row>, AllocError>
     Ok(rows)
 }
 
+// Whether the answer is that of a household alone.
+fn is_answer(alloc: Global, code: &Code, household: &Household, answer: &Answer) -> bool
+    requires { AllByRecursion (λ input. input < code.now.counts.inputs) (inputs_of household.now.pairs) }
+{
+    match run_household(alloc, code, household) {
+        Ok(alone) => is_same(&alone, answer),
+        Err(_) => false,
+    }
+}
+
 // Whether the answer is that of row k alone.
-fn is_alone(alloc: Global, code: &Code, k: u32, answer: &Answer) -> Result<bool, Fail>
+fn is_alone(alloc: Global, code: &Code, k: u32, answer: &Answer) -> bool
     requires { code.now.counts.inputs ≡ 9 }
 {
-    let row = row(alloc, k)?;
-    let alone = run_household(alloc, code, &row.household)?;
-    Ok(is_same(&alone, answer))
+    match row(alloc, k) {
+        Ok(row) => is_answer(alloc, code, &row.household, answer),
+        Err(_) => false,
+    }
 }
 
 // How many answers aren't those of the rows alone.
-fn wrong(alloc: Global, code: &Code, answers: &[Answer]) -> Result<usize, Fail>
+fn wrong(alloc: Global, code: &Code, answers: &[Answer]) -> usize
     requires { code.now.counts.inputs ≡ 9 }
 {
     let mut count: usize = 0;
     for (k, answer) in answers.iter().enumerate() {
-        if !is_alone(alloc, code, u32::try_from(k).unwrap_or(0), answer)? {
+        if !is_alone(alloc, code, u32::try_from(k).unwrap_or(0), answer) {
             count = count.saturating_add(1);
         }
     }
-    Ok(count)
+    count
 }
 
 // How many answers are stops.
@@ -130,14 +142,24 @@ fn stopped(answers: &[Answer]) -> usize {
     count
 }
 
+// Whether so many rows are answered what each of them is alone, and 80 of them stop.
+fn are_alone<R: Threads + Sync>(rt: &R, alloc: Global, code: &Code, rows: &[Row]) -> bool
+    requires code { code.now.counts.inputs ≡ 9 }
+    requires rows { AllByRecursion (HasInputsBelow 9) rows.now }
+{
+    match run_batch(rt, alloc, code, rows, &Open) {
+        Ok(answers) => {
+            let answers = answers.as_slice();
+            answers.len() == 200 && stopped(answers) == 80 && wrong(alloc, code, answers) == 0
+        }
+        Err(_) => false,
+    }
+}
+
 #[test]
 fn rows_alone(rt: HostRuntime) -> Result<(), Fail> {
-    let alloc = rt.alloc();
-    let code = code(alloc)?;
-    let rows = rows(alloc)?;
-    let answers = run_batch(&rt, alloc, &code, &rows, &Open)?;
-    assert_eq!(rt; answers.as_slice().len(), ROWS as usize);
-    assert_eq!(rt; stopped(answers.as_slice()), 80);
-    assert_eq!(rt; wrong(alloc, &code, answers.as_slice())?, 0);
+    let code = code(rt.alloc())?;
+    let rows = rows(rt.alloc())?;
+    assert!(rt; are_alone(&rt, rt.alloc(), &code, &rows));
     Ok(())
 }

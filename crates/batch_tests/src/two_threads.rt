@@ -12,6 +12,7 @@ use reg_machine::{Code, Instr, make_code};
 use std::alloc::{AllocError, Global};
 use std::sync::atomic::{AtomicU64, Ordering};
 use std::test::Fail;
+use std::thread::Threads;
 
 // Each flag is 1 once its row's worker has come, and each answer once it has seen the other's flag.
 #[derive(Drop)]
@@ -122,25 +123,43 @@ fn wrong(answers: &[Answer]) -> usize {
     count
 }
 
+fn have_met(gate: &Both) -> bool {
+    gate.first_saw.load(Ordering::SeqCst) == 1 && gate.last_saw.load(Ordering::SeqCst) == 1
+}
+
+// Whether the rows are answered what is wanted of so many.
+fn are_answered<R: Threads + Sync, G: Gate + Sync>(
+    rt: &R,
+    alloc: Global,
+    code: &Code,
+    rows: &[Row],
+    gate: &G,
+) -> bool
+    requires code { code.now.counts.inputs ≡ 1 }
+    requires rows { AllByRecursion (HasInputsBelow 1) rows.now }
+{
+    match run_batch(rt, alloc, code, rows, gate) {
+        Ok(answers) => {
+            let answers = answers.as_slice();
+            answers.len() == rows.len() && wrong(answers) == 0
+        }
+        Err(_) => false,
+    }
+}
+
 #[test]
 fn two_workers_meet(rt: HostRuntime) -> Result<(), Fail> {
-    let alloc = rt.alloc();
     let gate = new_gate();
-    let code = code(alloc)?;
-    let rows = rows(alloc)?;
-    let answers = run_batch(&rt, alloc, &code, &rows, &gate)?;
-    assert_eq!(rt; gate.first_saw.load(Ordering::SeqCst), 1);
-    assert_eq!(rt; gate.last_saw.load(Ordering::SeqCst), 1);
-    assert_eq!(rt; answers.as_slice().len(), 256);
-    assert_eq!(rt; wrong(answers.as_slice()), 0);
+    let code = code(rt.alloc())?;
+    let rows = rows(rt.alloc())?;
+    assert!(rt; rows.len() == 256 && are_answered(&rt, rt.alloc(), &code, &rows, &gate));
+    assert!(rt; have_met(&gate));
     Ok(())
 }
 
 #[test]
 fn no_rows(rt: HostRuntime) -> Result<(), Fail> {
-    let alloc = rt.alloc();
-    let code = code(alloc)?;
-    let answers = run_batch(&rt, alloc, &code, &[], &Open)?;
-    assert_eq!(rt; answers.as_slice().len(), 0);
+    let code = code(rt.alloc())?;
+    assert!(rt; are_answered(&rt, rt.alloc(), &code, &[], &Open));
     Ok(())
 }

@@ -1,6 +1,7 @@
 //! A sheet of a program written by hand: the first input less 1000, and the second input times 2; a check of the difference.
 ghost use Rattle.std.specs.Prelude.{◌≡◌, ◌≤◌, ◌<◌, IfOk, length};
-ghost use Rattle.flat_code.specs.Runs.{IsFlat};
+ghost use Rattle.std.specs.List.{AllByRecursion};
+ghost use Rattle.flat_code.specs.Runs.{AreNodes, IsCheck, IsFlat};
 
 use dead_rules::tidy;
 use flat_code::{Check, Flat, Node, Tidy};
@@ -21,9 +22,9 @@ fn number(units: i128) -> Value {
     }
 }
 
-fn program(alloc: Global) -> Result<Flat, AllocError>
-    ensures valid { IfOk result (λ flat. IsFlat flat) }
-    ensures sizes { IfOk result (λ flat. (flat.inputs ≡ 2) × (length flat.nodes ≡ 7) × (length flat.outputs ≡ 2)) }
+// Three literals and what is made of them and the two inputs.
+fn nodes(alloc: Global) -> Result<Seq<Node>, AllocError>
+    ensures { IfOk result (λ nodes. AreNodes 2 0 nodes × (length nodes ≡ 7)) }
 {
     let thousand = number(1_000);
     let two = number(2);
@@ -37,6 +38,12 @@ fn program(alloc: Global) -> Result<Flat, AllocError>
         Node::Do(Op::Mul, 3, 4, 3),
         Node::Lit(one),
     ]?;
+    Ok(Seq::from_vec(nodes))
+}
+
+fn one_check(alloc: Global) -> Result<Seq<Check>, AllocError>
+    ensures { IfOk result (λ checks. AllByRecursion (IsCheck 7) checks) }
+{
     let checks = vec![in alloc;
         Check {
             guard: 6,
@@ -45,12 +52,28 @@ fn program(alloc: Global) -> Result<Flat, AllocError>
             label: 3
         },
     ]?;
+    Ok(Seq::from_vec(checks))
+}
+
+fn two_outputs(alloc: Global) -> Result<Seq<u32>, AllocError>
+    ensures { IfOk result (λ outputs. AllByRecursion (λ output. output < 7) outputs × (length outputs ≡ 2)) }
+{
     let outputs = vec![in alloc; 2, 5]?;
+    Ok(Seq::from_vec(outputs))
+}
+
+fn program(alloc: Global) -> Result<Flat, AllocError>
+    ensures valid { IfOk result (λ flat. IsFlat flat) }
+    ensures sizes { IfOk result (λ flat. (flat.inputs ≡ 2) × (length flat.nodes ≡ 7) × (length flat.outputs ≡ 2)) }
+{
+    let nodes = nodes(alloc)?;
+    let checks = one_check(alloc)?;
+    let outputs = two_outputs(alloc)?;
     Ok(Flat {
         inputs: 2,
-        nodes: Seq::from_vec(nodes),
-        checks: Seq::from_vec(checks),
-        outputs: Seq::from_vec(outputs),
+        nodes,
+        checks,
+        outputs,
     })
 }
 
