@@ -77,8 +77,8 @@ lint_command (word ∷ list ∷ driver ∷ requests ∷ []) =
     then (if list_all is_utf8 (list ∷ driver ∷ requests ∷ []) then Some (Lint (record { list = list; driver = driver; requests = requests })) else None) else None
 lint_command _ = None
 
--- The command that the words are, if they are the form of one: `large N`; `exec` over a code file and a household; `compile` or `lint` over a source; `check` over a
--- list, a household and a report; or `run`, `serve`, `batch` or `cases` over a source and one more file.
+-- The command that the words are, if they are the form of one: `large N`; `exec` over a code file and a household; `compile` or `lint` over
+-- a source; `check` over a list, a household and a report; or `run`, `serve`, `batch` or `cases` over a source and one more file.
 abbrev pub command_of : List (List ℕ) → Option Command
 command_of words = option_or (large_command words) (option_or (exec_command words) (option_or (compile_command words) (option_or (check_command words) (option_or (lint_command words) (source_command words)))))
 

@@ -65,7 +65,8 @@ pub fn m_tax<R: Threads + Sync, F: Files, S: Source, K: Sink>(
         (output_view K.written K.faults out.old) (output_view K.written K.faults out.new) result }
 
     // The attempts on files are those of `fetches_of`, at most the last of them failed, and a read fault
-    // is told only there or where a read of the input failed. All files together give at most one byte past the limit for each that was tried.
+    // is told only there or where a read of the input failed. All files together give at most one byte past
+    // the limit for each that was tried.
     ensures reading { ReadsInOrder words.now (files_view F.told F.attempts F.taken files.old) (files_view F.told F.attempts F.taken files.new)
         (input_view S.left S.faults input.old) (input_view S.left S.faults input.new)
         (output_view K.written K.faults out.old) (output_view K.written K.faults out.new) result }
@@ -85,7 +86,8 @@ pub fn m_tax<R: Threads + Sync, F: Files, S: Source, K: Sink>(
     ensures write_fault { result ≡ Status.WriteFault → Rose (K.faults out.old) (K.faults out.new) }
     ensures write_told { K.faults out.old < K.faults out.new → result ≡ Status.WriteFault }
     ensures writing { WritesFront words.now (files_view F.told F.attempts F.taken files.old) (files_view F.told F.attempts F.taken files.new)
-        (input_view S.left S.faults input.old) (input_view S.left S.faults input.new) (output_view K.written K.faults out.old) (output_view K.written K.faults out.new) result }
+        (input_view S.left S.faults input.old) (input_view S.left S.faults input.new)
+        (output_view K.written K.faults out.old) (output_view K.written K.faults out.new) result }
 
     // Without memory nothing was written, but by a command that writes in parts, which has written the prefix of an output. Nothing was
     // taken from the input then.
@@ -105,9 +107,9 @@ pub fn m_tax<R: Threads + Sync, F: Files, S: Source, K: Sink>(
     perform(rt, alloc, words, files, input, out)
 }
 
-/// The same words, files and input have one output: one text and one status, but for which of several cycles or recursions a
-/// error shows, for the code that `compile` writes, and for what `lint` finds, which are each by one of those that the source is compiled to. It
-/// holds of each command.
+/// The same words, files and input have one output: one text and one status. Left open are which of several cycles or recursions
+/// an error shows; what a source is compiled to, from which `compile` has its code and `lint` its findings; and in which order the
+/// lines of a reason stand that a session tells. It holds of each command.
 pub fn one_output()
     ensures { (words : List (List ℕ)) (disk : Disk) (typed one other : List ℕ) (status outcome : Status) →
         Output words disk typed one status → Output words disk typed other outcome → AreOneOutput one status other outcome }

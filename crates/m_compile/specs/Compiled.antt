@@ -32,10 +32,10 @@ pub record IsRunnable (face : Face) (flat : Flat) : Type 0 where
   pub distinct : AreDistinct (codes_of face.inputs)
   pub nodes_fit : length flat.nodes ≤ most_nodes
 
--- The source is valid, and it is compiled to this: for every list of values that the inputs may have, the answer of the tidy program, read through its face,
--- is the answer of the source. The face has the inputs with their types, the labels of the base's checks before all others, and the names of what is asked for, each
--- in its order, and each note is that of a check of the base. A code file can spell all words of the face. The code spells the tidy program, with a label for each of the face,
--- in the registers and slots of its width.
+-- The source is valid, and it is compiled to this: for every list of values that the inputs may have, the answer of the tidy program, read
+-- through its face, is the answer of the source. The face has the inputs with their types, the labels of the base's checks before all
+-- others, and the names of what is asked for, each in its order, and each note is that of a check of the base. A code file can spell all
+-- words of the face. The code spells the tidy program, with a label for each of the face, in the registers and slots of its width.
 pub record IsCompiled (source : Source) (compiled : Compiled) : Type 0 where
   pub declared : Declared
   pub base : Base

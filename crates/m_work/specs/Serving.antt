@@ -11,8 +11,9 @@ use Rattle.m_plan.specs.declared.status.Status.{Status}
 use Rattle.m_plan.specs.declared.status.Status.TheVariants.{Done, ReadFault, Refused, WriteFault}
 
 -- An input was replied to, until it ended, or a read failed, or as much was taken as may be, or a write failed. No end takes more, and the
--- input's end and a failed read come while less was taken. `whole` gives the replies to all lines of an input, and `ended` those to the lines that have their line feed. Where a read failed or too much was taken a line says so after
--- the replies. Where a write failed, what was written is a prefix of a text: the replies to all of the input, or one of those two texts.
+-- input's end and a failed read come while less was taken. `whole` gives the replies to all lines of an input, and `ended` those to the
+-- lines that have their line feed. Where a read failed or too much was taken a line says so after the replies. Where a write failed, what
+-- was written is a prefix of a text: the replies to all of the input, or one of those two texts.
 pub data Served (whole ended : List ℕ → List ℕ) (heard told : InputView) (old new : OutputView) (status : Status) : Type 0 where
   to_its_end : (taken : List ℕ) → heard.left ≡ prepend_known taken told.left → length taken < INPUT_BYTES → IsAtEnd told.left → told.faults ≡ heard.faults
       → Appends (whole taken) old new → status ≡ Done → Served whole ended heard told old new status

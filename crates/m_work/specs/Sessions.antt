@@ -11,8 +11,8 @@ use Rattle.m_work.specs.Schemes.{Scheme}
 abbrev pub scheme_showing : Scheme → Showing
 scheme_showing scheme = record { inputs = scheme.inputs; text = λ values. told_lines scheme.names (scheme.tells values) }
 
--- The replies to lines, where a session begins with these pairs and tells this of names that it is asked about. Of the pair of `1AJ` and 5, to `set 1AJ x` and `clear 1AJ` the
--- lines `refused bad amount` and `ok`.
+-- The replies to lines, where a session begins with these pairs and tells this of names that it is asked about. Of the pair of `1AJ`
+-- and 5, to `set 1AJ x` and `clear 1AJ` the lines `refused bad amount` and `ok`.
 abbrev pub replies_by : Scheme → Explaining → List (ℕ × ℤ) → List (List ℕ) → List ℕ
 replies_by scheme explains pairs lines = explained_replies (scheme_showing scheme) explains (values_of pairs (length scheme.inputs)) lines
 
