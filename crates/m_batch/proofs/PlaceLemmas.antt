@@ -71,24 +71,6 @@ rows_next inputs old new rows k row are placing keep lt at has = record {
   placed = subst (AllByRecursion (RowHasPlaces new)) (ap (λ (r : Row). take k rows ++ r ∷ []) at ∙ sym (take_more rows k row lt)) (rows_push old new (take k rows) row keep are.placed has);
 }
 
--- what holds of rows holds of some of them
-all_dropped : {X : Type 0} (P : X → Type 0) (n : ℕ) (xs : List X) → AllByRecursion P xs → AllByRecursion P (drop n xs)
-all_dropped P zero xs all = all
-all_dropped P (suc n) [] all = tt
-all_dropped P (suc n) (x ∷ xs) all = all_dropped P n xs all.1
-
-all_taken : {X : Type 0} (P : X → Type 0) (n : ℕ) (xs : List X) → AllByRecursion P xs → AllByRecursion P (take n xs)
-all_taken P zero xs all = tt
-all_taken P (suc n) [] all = tt
-all_taken P (suc n) (x ∷ xs) all = (all.0, all_taken P n xs all.1)
-
-pub placed_part : (inputs : ℕ) (places : Places) (rows : List Row) (from many : ℕ) → ArePlaced inputs places rows → ArePlaced inputs places (take many (drop from rows))
-placed_part inputs places rows from many are = record {
-  many = are.many;
-  placing = are.placing;
-  placed = all_taken (RowHasPlaces places) many (drop from rows) (all_dropped (RowHasPlaces places) from rows are.placed);
-}
-
 -- ---- lists of values
 
 -- what stands for a place past the end doesn't matter within

@@ -1,7 +1,7 @@
 -- Rows, from one to the next.
-use Rattle.std.proofs.Common.{◌≡◌, ℕ, ◌+◌, ◌-◌, ◌<◌, ◌≤◌, length, get_or, take, drop, List, [], ◌∷◌, ◌++◌, sym, ◌∙◌, ap, arith, append_assoc}
+use Rattle.std.proofs.Common.{◌≡◌, ℕ, ◌+◌, ◌<◌, length, get_or, take, List, [], ◌∷◌, ◌++◌, sym, ◌∙◌, ap, append_assoc}
 use Rattle.std.specs.List.{AllByRecursion}
-use Rattle.std.proofs.lemmas.List.{take_more, map-append, take-take, drop-take, take-append-drop}
+use Rattle.std.proofs.lemmas.List.{take_more, map-append}
 use Rattle.observables.specs.declared.answer.Answer.{Answer}
 use Rattle.reg_machine.specs.Flow.{Listing}
 use Rattle.household.specs.declared.table.Row.{Row}
@@ -18,19 +18,6 @@ answers_added code rows i first answers new answer h is before more =
     ∙ append_assoc first (answers_of code (take i rows)) (answer ∷ [])
     ∙ ap (λ a. first ++ (answers_of code (take i rows) ++ a ∷ [])) (is d)
     ∙ ap (λ given. first ++ given) (sym (map-append (row_answer code) (take i rows) (get_or rows i d ∷ [])) ∙ ap (answers_of code) (sym (take_more rows i d h)))
-
--- a block's answers more
-pub block_next : (code : Listing) (rows : List Row) (from end : ℕ) (before new : List Answer) → from ≤ end → end ≤ length rows
-    → before ≡ answers_of code (take from rows) → new ≡ before ++ answers_of code (take (end - from) (drop from rows)) → new ≡ answers_of code (take end rows)
-block_next code rows from end before new h within so_far more =
-    let sum : from + (end - from) ≡ end = omega (arith, h) in
-    let both : take from rows ++ take (end - from) (drop from rows) ≡ take end rows =
-    ap (λ (front : List _). front ++ take (end - from) (drop from rows)) (sym (take-take from (from + (end - from)) rows (omega arith)))
-    ∙ ap (λ (back : List _). take from (take (from + (end - from)) rows) ++ back) (sym (drop-take from (end - from) rows))
-    ∙ take-append-drop from (take (from + (end - from)) rows) ∙ ap (λ (n : ℕ). take n rows) sum in
-    more ∙ ap (λ (b : List Answer). b ++ answers_of code (take (end - from) (drop from rows))) so_far
-    ∙ sym (map-append (row_answer code) (take from rows) (take (end - from) (drop from rows)))
-    ∙ ap (answers_of code) both
 
 -- the rows of a table have no other inputs than the table's codes
 pub rows_below : (inputs : ℕ) (rows : List Row) → AllByRecursion (λ row. AreInputs inputs row.household.pairs) rows → AllByRecursion (HasInputsBelow inputs) rows

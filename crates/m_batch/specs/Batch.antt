@@ -18,3 +18,8 @@ row_answer code row = machine_run code (values_of row.household.pairs code.count
 -- The answers of rows, in their order.
 abbrev pub answers_of : Listing → List Row → List Answer
 answers_of code rows = map (row_answer code) rows
+
+-- rows that are left to be computed by code
+pub record Left : Type 0 where
+  pub code : Listing
+  pub rows : List Row

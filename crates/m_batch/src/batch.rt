@@ -2,11 +2,9 @@
 ghost use Rattle.std.specs.Prelude.{◌≡◌, ◌+◌, ◌^◌, ◌<◌, ◌≤◌, IfOk, length};
 ghost use Rattle.std.specs.List.{AllByRecursion};
 ghost use Rattle.m_batch.specs.Batch.{HasInputsBelow, answers_of};
-ghost use Rattle.m_batch.specs.inner.Places.{ArePlaced};
 
 use crate::chunk::answers_of_chunk;
 use crate::parts::joined;
-use crate::places::place_inputs;
 use household::Row;
 use m_places::{Gate, Seq};
 use observables::Answer;
@@ -30,7 +28,6 @@ pub fn run_batch<R: Threads + Sync, G: Gate + Sync>(
     requires { AllByRecursion (HasInputsBelow code.now.counts.inputs) rows.now }
     ensures { IfOk result (λ answers. answers ≡ answers_of code.now rows.now) }
 {
-    let places = place_inputs(alloc, code.inputs() as usize, rows)?;
     let size = chunk_size(workers(rt), rows.len());
     let parts = thread::map_chunks(
         rt,
@@ -38,9 +35,9 @@ pub fn run_batch<R: Threads + Sync, G: Gate + Sync>(
         rows,
         size,
         &|start: usize, chunk: &[Row]| -> Result<Vec<Answer>, AllocError>
-            requires { ArePlaced code.now.counts.inputs places chunk.now × (start + length chunk.now < 2 ^ 64) }
+            requires { AllByRecursion (HasInputsBelow code.now.counts.inputs) chunk.now × (start + length chunk.now < 2 ^ 64) }
             ensures { IfOk result (λ answers. answers.items ≡ answers_of code.entry.now chunk.entry.now) }
-        { answers_of_chunk(alloc, gate, start, code, &places, chunk) },
+        { answers_of_chunk(alloc, gate, start, code, chunk) },
     )?;
     let answers = joined(alloc, parts)?;
     Ok(Seq::from_vec(answers))

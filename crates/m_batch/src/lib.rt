@@ -5,6 +5,7 @@
 #![tactic(auto)]
 
 mod batch;
+mod blocks;
 mod chunk;
 mod one;
 mod parts;
@@ -12,4 +13,5 @@ mod places;
 mod rows;
 
 pub use batch::run_batch;
+pub use blocks::{Answered, Blocks};
 pub use one::run_household;

@@ -1,16 +1,17 @@
 -- Rows of a table, one after another and group after group.
-use Rattle.std.proofs.Common.{◌≡◌, ℕ, zero, suc, ◌+◌, ◌-◌, ◌*◌, ◌<◌, ◌≤◌, min, length, get_or, take, drop, List, [], ◌∷◌, ◌++◌, Option, None, Some, Result, Ok, Err, refl, sym, ◌∙◌, ap, subst, append_assoc, append-nil, arith}
+use Rattle.std.proofs.Common.{◌≡◌, ℕ, zero, suc, ◌+◌, ◌-◌, ◌*◌, ◌<◌, ◌≤◌, length, get_or, take, drop, List, [], ◌∷◌, ◌++◌, Option, None, Some, Result, Ok, Err, refl, sym, ◌∙◌, ap, subst, append_assoc, append-nil, arith}
 use Rattle.std.specs.Prelude.{codes}
 use Rattle.std.specs.Fork.{slice_chunk}
 use native.Mathlib.Nat.{suc-mul}
 use Rattle.std.specs.List.{AllByRecursion}
 use Rattle.std.specs.Io.KnownBytes.{append_known}
-use Rattle.std.proofs.lemmas.List.{drop_more, drop_all, take-append-drop, drop-drop, length-take, length-drop}
+use Rattle.std.proofs.lemmas.List.{drop_more, drop_all, take-append-drop, drop-drop}
 use Rattle.m_ports.specs.Counts.{Rose}
 use Rattle.m_ports.specs.Sink.{AppendsPrefix}
 use Rattle.m_ports.proofs.SinkLemmas.{AppendsPrefix-after, AppendsPrefix-before}
 use Rattle.text_pieces.specs.Pieces.{joined}
 use Rattle.text_pieces.proofs.GivingLemmas.{Given}
+use Rattle.reg_machine.specs.Flow.{Listing}
 use Rattle.reg_machine.specs.Machine.{machine_run}
 use Rattle.code_file.specs.declared.loaded.Loaded.{Loaded}
 use Rattle.observables.specs.declared.answer.Answer.{Answer}
@@ -28,18 +29,6 @@ use Rattle.m_work.specs.declared.groups.GroupFault.{GroupFault}
 use Rattle.m_work.specs.declared.groups.GroupFault.TheVariants.{Memory, Failed}
 use Rattle.m_work.specs.Prepared.{IsRunnableCode, Shows}
 use Rattle.m_work.proofs.Shown.{answer_within, lines_told}
-
--- ---- what holds of all holds of a part
-
-pub all_dropped : {X : Type 0} (P : X → Type 0) (n : ℕ) (xs : List X) → AllByRecursion P xs → AllByRecursion P (drop n xs)
-all_dropped P zero xs all = all
-all_dropped P (suc n) [] all = tt
-all_dropped P (suc n) (x ∷ xs) all = all_dropped P n xs all.1
-
-pub all_taken : {X : Type 0} (P : X → Type 0) (n : ℕ) (xs : List X) → AllByRecursion P xs → AllByRecursion P (take n xs)
-all_taken P zero xs all = tt
-all_taken P (suc n) [] all = tt
-all_taken P (suc n) (x ∷ xs) all = (all.0, all_taken P n xs all.1)
 
 -- ---- the lines of rows
 
@@ -92,50 +81,19 @@ answered_at face rows answers k row d answer e rows_in answers_in is_row is_answ
 pub answered_end : (face : Face) (rows : List Row) (answers : List Answer) (k : ℕ) → length rows ≤ k → answered_lines face (drop k rows) (drop k answers) ≡ []
 answered_end face rows answers k h = ap (λ left. answered_lines face left (drop k answers)) (drop_all k rows h)
 
--- some rows with their answers, and then others
-answered_append : (face : Face) (one other : List Row) (first second : List Answer) → length one ≡ length first
-    → answered_lines face (one ++ other) (first ++ second) ≡ answered_lines face one first ++ answered_lines face other second
-answered_append face [] other [] second same = refl
-answered_append face [] other (answer ∷ first) second same = absurd (cc same)
-answered_append face (row ∷ one) other [] second same = absurd (cc same)
-answered_append face (row ∷ one) other (answer ∷ first) second same =
-    ap (λ rest. household_lines row.label face answer ++ rest) (answered_append face one other first second (omega (arith, same)))
-    ∙ sym (append_assoc (household_lines row.label face answer) (answered_lines face one first) (answered_lines face other second))
-
--- ---- rows and their answers, cut into parts of one size
-
--- a part has as many answers as rows
-pub part_many : (rows : List Row) (answers : List Answer) (size n : ℕ) → length answers ≡ length rows → length (slice_chunk answers size n) ≡ length (slice_chunk rows size n)
-part_many rows answers size n many =
-    length-take size (drop (n * size) answers)
-    ∙ ap (min size) (length-drop (n * size) answers ∙ ap (λ k. k - n * size) many ∙ sym (length-drop (n * size) rows))
-    ∙ sym (length-take size (drop (n * size) rows))
-
--- and each of them is within the face
-pub part_within : (face : Face) (answers : List Answer) (size n : ℕ) → AllByRecursion (AnswerIsWithin face) answers → AllByRecursion (AnswerIsWithin face) (slice_chunk answers size n)
-part_within face answers size n all = all_taken (AnswerIsWithin face) size (drop (n * size) answers) (all_dropped (AnswerIsWithin face) (n * size) answers all)
+-- ---- rows that are cut into parts of one size
 
 -- the rows that are left begin with a part
-part_first : (face : Face) (rows : List Row) (answers : List Answer) (size n : ℕ) → length answers ≡ length rows
-    → answered_lines face (drop (n * size) rows) (drop (n * size) answers)
-    ≡ answered_lines face (slice_chunk rows size n) (slice_chunk answers size n) ++ answered_lines face (drop ((n + 1) * size) rows) (drop ((n + 1) * size) answers)
-part_first face rows answers size n many =
+pub part_next : (loaded : Loaded) (rows part : List Row) (size n : ℕ) → part ≡ slice_chunk rows size n
+    → program_lines loaded (drop (n * size) rows) ≡ program_lines loaded part ++ program_lines loaded (drop ((n + 1) * size) rows)
+part_next loaded rows part size n is =
     let from = n * size in
     let there : from + size ≡ (n + 1) * size =
     (let one : n + 1 ≡ suc n = omega arith in let turned = ap (λ k. k * size) one in let more = suc-mul n size in omega (arith, turned, more)) in
-    ap (λ left. answered_lines face left (drop from answers)) (sym (take-append-drop size (drop from rows)))
-    ∙ ap (answered_lines face (take size (drop from rows) ++ drop size (drop from rows))) (sym (take-append-drop size (drop from answers)))
-    ∙ answered_append face (take size (drop from rows)) (drop size (drop from rows)) (take size (drop from answers)) (drop size (drop from answers)) (sym (part_many rows answers size n many))
-    ∙ ap (λ left. answered_lines face (take size (drop from rows)) (take size (drop from answers)) ++ answered_lines face left (drop size (drop from answers))) (drop-drop size from rows ∙ ap (λ k. drop k rows) there)
-    ∙ ap (λ left. answered_lines face (take size (drop from rows)) (take size (drop from answers)) ++ answered_lines face (drop ((n + 1) * size) rows) left) (drop-drop size from answers ∙ ap (λ k. drop k answers) there)
-
--- the same of a part that was cut
-pub part_next : (face : Face) (rows part : List Row) (answers told : List Answer) (size n : ℕ) → length answers ≡ length rows → part ≡ slice_chunk rows size n → told ≡ slice_chunk answers size n
-    → answered_lines face (drop (n * size) rows) (drop (n * size) answers) ≡ answered_lines face part told ++ answered_lines face (drop ((n + 1) * size) rows) (drop ((n + 1) * size) answers)
-part_next face rows part answers told size n many is_part is_told =
-    part_first face rows answers size n many
-    ∙ ap (λ left. answered_lines face left (slice_chunk answers size n) ++ answered_lines face (drop ((n + 1) * size) rows) (drop ((n + 1) * size) answers)) (sym is_part)
-    ∙ ap (λ left. answered_lines face part left ++ answered_lines face (drop ((n + 1) * size) rows) (drop ((n + 1) * size) answers)) (sym is_told)
+    ap (program_lines loaded) (sym (take-append-drop size (drop from rows)))
+    ∙ program_append loaded (take size (drop from rows)) (drop size (drop from rows))
+    ∙ ap (λ left. program_lines loaded left ++ program_lines loaded (drop size (drop from rows))) (sym is)
+    ∙ ap (λ left. program_lines loaded part ++ program_lines loaded left) (drop-drop size from rows ∙ ap (λ k. drop k rows) there)
 
 -- ---- answers are within the face
 
@@ -199,3 +157,19 @@ gave_all written faults old new text whole value is all none = record {
 -- answers that are those of code are its lines
 pub program_answered : (loaded : Loaded) (rows : List Row) (answers : List Answer) → answers ≡ answers_of loaded.code rows → answered_lines loaded.face rows answers ≡ program_lines loaded rows
 program_answered loaded rows answers is = ap (answered_lines loaded.face rows) is ∙ answered_all loaded rows
+
+-- ---- rows and their answers, a block after the other
+
+-- the rows that are left begin with a block
+pub block_next : (loaded : Loaded) (left part rest : List Row) (code : Listing) (answers : List Answer) → left ≡ part ++ rest → code ≡ loaded.code → answers ≡ answers_of code part
+    → program_lines loaded left ≡ answered_lines loaded.face part answers ++ program_lines loaded rest
+block_next loaded left part rest code answers is same are =
+    ap (program_lines loaded) is
+    ∙ program_append loaded part rest
+    ∙ ap (λ text. text ++ program_lines loaded rest) (sym (program_answered loaded part answers (are ∙ ap (λ c. answers_of c part) same)))
+
+-- its answers are within the face
+pub block_within : (loaded : Loaded) (part : List Row) (code : Listing) (answers : List Answer) → IsRunnableCode loaded → code ≡ loaded.code → answers ≡ answers_of code part
+    → AllByRecursion (AnswerIsWithin loaded.face) answers
+block_within loaded part code answers is same are =
+    subst (AllByRecursion (AnswerIsWithin loaded.face)) (sym (are ∙ ap (λ c. answers_of c part) same)) (answers_within loaded part is)

@@ -11,8 +11,6 @@ ghost use Rattle.m_work.specs.declared.groups.GroupFault.TheVariants.{Memory as 
 use crate::parts::give_rows;
 use code_file::Loaded;
 use household::Row;
-use m_batch::run_batch;
-use m_places::Open;
 use m_ports::{Failed, Sink};
 use observables::{Answer, Face};
 use std::alloc::{AllocError, Global};
@@ -20,11 +18,11 @@ use std::thread::Threads;
 use tax_print::print_household;
 
 // How many rows are computed before they are written, at most, and at least where there are so many.
-const WINDOW: usize = 8_192;
+const WINDOW: usize = 32_768;
 
 const FEWEST: usize = 256;
 
-// How many values the answers of a window may have, where it has more rows than the fewest.
+// How many values a window may be answered, where it has more rows than the fewest.
 const VALUES: usize = 262_144;
 
 /// Why rows are not written to their end.
@@ -68,14 +66,14 @@ pub(crate) fn print_rows<R: Threads + Sync, K: Sink>(
     let mut from = 0;
     while from < rows.len() {
         let end = window_end(from, rows.len(), size);
-        print_window(rt, alloc, loaded, &rows[from..end], out)?;
+        give_rows(rt, alloc, loaded, &rows[from..end], out)?;
         from = end;
     }
     Ok(())
 }
 
-/// How many rows are computed at once of code with so many outputs: some hundred at least, so that their answers take no more than some 10 MB
-/// or the room of so many.
+/// How many rows are computed at once of code with so many outputs: some hundred at least, so that their lines or answers take no more than
+/// some 10 MB or the room of so many.
 pub(crate) fn window_for(outputs: u32) -> usize
     ensures { 0 < result }
 {
@@ -97,22 +95,6 @@ pub(crate) fn window_end(from: usize, count: usize, size: usize) -> usize
     } else {
         from + size
     }
-}
-
-// Computes rows, and then writes them.
-fn print_window<R: Threads + Sync, K: Sink>(
-    rt: &R,
-    alloc: Global,
-    loaded: &Loaded,
-    rows: &[Row],
-    out: &mut K,
-) -> Result<(), GroupFault>
-    requires runnable { IsRunnableCode loaded.now }
-    requires inputs { AllByRecursion (HasInputsBelow loaded.now.code.counts.inputs) rows.now }
-    ensures { WritesGroups K.written K.faults out.old out.new result (program_lines loaded.now rows.now) }
-{
-    let answers = run_batch(rt, alloc, &loaded.code, rows, &Open)?;
-    give_rows(rt, alloc, &loaded.face, rows, answers.as_slice(), out)
 }
 
 /// Prints the rows with their answers.

@@ -1,38 +1,39 @@
-//! The lines of rows with their answers: each worker prints those of a part into a text of its own, and the texts are given in order by one call each.
+//! Rows that several workers compute and print at once: each computes those of a part and prints their lines into a text of its own, and the
+//! texts are given in order by one call each.
 ghost use Rattle.std.specs.Prelude.{◌≡◌, ◌*◌, ◌<◌, ◌≤◌, IfSome, length};
 ghost use Rattle.std.specs.Fork.{slice_chunk};
 ghost use Rattle.std.specs.List.{AllByRecursion};
-ghost use Rattle.text_pieces.specs.Giving.{Gives};
-ghost use Rattle.tax_print.specs.Lines.{AnswerIsWithin};
-ghost use Rattle.m_work.specs.inner.Groups.{AreTexts, WritesGroups, answered_lines};
+ghost use Rattle.m_batch.specs.Batch.{HasInputsBelow};
+ghost use Rattle.m_work.specs.Prepared.{IsRunnableCode};
+ghost use Rattle.m_work.specs.inner.Groups.{AreTexts, WritesGroups, program_lines};
 
 use crate::groups::{GroupFault, print_answers};
+use code_file::Loaded;
 use held_text::FixedText;
 use household::Row;
-use m_ports::{Failed, Sink, give_all};
-use observables::{Answer, Face};
+use m_batch::Blocks;
+use m_ports::{Sink, give_all};
 use std::alloc::Global;
 use std::thread;
 use std::thread::Threads;
 
-// How many rows one worker prints alone.
+// How many rows one worker computes alone.
 const ALONE: usize = 256;
 
 // How many bytes the texts have room for that are held at once.
 const ROOM: usize = 33_554_432;
 
-/// Gives the lines of rows with their answers. Several workers print them, each those of a part.
+/// Computes rows and gives their lines. Several workers do so at once, each with the rows of a part.
 pub(crate) fn give_rows<R: Threads + Sync, K: Sink>(
     rt: &R,
     alloc: Global,
-    face: &Face,
+    loaded: &Loaded,
     rows: &[Row],
-    answers: &[Answer],
     out: &mut K,
 ) -> Result<(), GroupFault>
-    requires many { length answers.now ≡ length rows.now }
-    requires within { AllByRecursion (AnswerIsWithin face.now) answers.now }
-    ensures { WritesGroups K.written K.faults out.old out.new result (answered_lines face.now rows.now answers.now) }
+    requires runnable { IsRunnableCode loaded.now }
+    requires inputs { AllByRecursion (HasInputsBelow loaded.now.code.counts.inputs) rows.now }
+    ensures { WritesGroups K.written K.faults out.old out.new result (program_lines loaded.now rows.now) }
 {
     let parts = part_count(rt, rows.len());
     let size = rows.len().div_ceil(parts);
@@ -42,12 +43,11 @@ pub(crate) fn give_rows<R: Threads + Sync, K: Sink>(
         alloc,
         parts,
         &|n: usize| -> Option<FixedText>
-            requires { (length answers.now ≡ length rows.now) × AllByRecursion (AnswerIsWithin face.now) answers.now }
-            ensures { IfSome result (λ text. text.bytes ≡ answered_lines face.entry.now (slice_chunk rows.entry.now size n) (slice_chunk answers.entry.now size n)) }
-        { text_of_part(alloc, room, face, rows, answers, size, n) },
+            requires { IsRunnableCode loaded.now × AllByRecursion (HasInputsBelow loaded.now.code.counts.inputs) rows.now }
+            ensures { IfSome result (λ text. text.bytes ≡ program_lines loaded.entry.now (slice_chunk rows.entry.now size n)) }
+        { text_of(alloc, room, loaded, part_at(rows, size, n)) },
     )?;
-    give_parts(face, rows, answers, size, texts.as_slice(), out)?;
-    Ok(())
+    give_parts(alloc, loaded, rows, size, texts.as_slice(), out)
 }
 
 // How many parts rows have: one for each processor, or one where there are few rows.
@@ -72,45 +72,16 @@ fn part_at<T>(all: &[T], size: usize, n: usize) -> &[T]
     &all[from..end]
 }
 
-// The lines of a part, or none where they have no room, or there is no memory for it.
-fn text_of_part(
-    alloc: Global,
-    room: usize,
-    face: &Face,
-    rows: &[Row],
-    answers: &[Answer],
-    size: usize,
-    n: usize,
-) -> Option<FixedText>
-    requires many { length answers.now ≡ length rows.now }
-    requires within { AllByRecursion (AnswerIsWithin face.now) answers.now }
-    ensures { IfSome result (λ text. text.bytes ≡ answered_lines face.now (slice_chunk rows.now size n) (slice_chunk answers.now size n)) }
-{
-    text_of(
-        alloc,
-        room,
-        face,
-        part_at(rows, size, n),
-        part_at(answers, size, n),
-    )
-}
-
-// The lines of rows with their answers, or none where they have no room, or there is no memory for it.
-fn text_of(
-    alloc: Global,
-    room: usize,
-    face: &Face,
-    rows: &[Row],
-    answers: &[Answer],
-) -> Option<FixedText>
-    requires many { length answers.now ≡ length rows.now }
-    requires within { AllByRecursion (AnswerIsWithin face.now) answers.now }
-    ensures { IfSome result (λ text. text.bytes ≡ answered_lines face.now rows.now answers.now) }
+// The lines of rows, or none where they have no room, or there is no memory.
+fn text_of(alloc: Global, room: usize, loaded: &Loaded, rows: &[Row]) -> Option<FixedText>
+    requires runnable { IsRunnableCode loaded.now }
+    requires inputs { AllByRecursion (HasInputsBelow loaded.now.code.counts.inputs) rows.now }
+    ensures { IfSome result (λ text. text.bytes ≡ program_lines loaded.now rows.now) }
 {
     let Ok(mut text) = FixedText::new(alloc, room) else {
         return None;
     };
-    match print_answers(face, rows, answers, &mut text) {
+    match print_part(alloc, loaded, rows, &mut text) {
         Ok(()) => Some(text),
         Err(_) => None,
     }
@@ -118,42 +89,59 @@ fn text_of(
 
 // Gives the lines of each part in order.
 fn give_parts<K: Sink>(
-    face: &Face,
+    alloc: Global,
+    loaded: &Loaded,
     rows: &[Row],
-    answers: &[Answer],
     size: usize,
     texts: &[Option<FixedText>],
     out: &mut K,
-) -> Result<(), Failed>
-    requires many { length answers.now ≡ length rows.now }
-    requires within { AllByRecursion (AnswerIsWithin face.now) answers.now }
+) -> Result<(), GroupFault>
+    requires runnable { IsRunnableCode loaded.now }
+    requires inputs { AllByRecursion (HasInputsBelow loaded.now.code.counts.inputs) rows.now }
     requires all { length rows.now ≤ length texts.now * size }
-    requires texts { AreTexts face.now rows.now answers.now size texts.now }
-    ensures { Gives K.written K.faults out.old out.new result (answered_lines face.now rows.now answers.now) }
+    requires texts { AreTexts loaded.now rows.now size texts.now }
+    ensures { WritesGroups K.written K.faults out.old out.new result (program_lines loaded.now rows.now) }
 {
     for (n, text) in texts.iter().enumerate() {
-        let part = part_at(rows, size, n);
-        let told = part_at(answers, size, n);
-        give_part(face, part, told, text, out)?;
+        give_part(alloc, loaded, part_at(rows, size, n), text, out)?;
     }
     Ok(())
 }
 
 // Gives the lines of a part: its text, or where there is none they are printed to the output itself.
 fn give_part<K: Sink>(
-    face: &Face,
+    alloc: Global,
+    loaded: &Loaded,
     rows: &[Row],
-    answers: &[Answer],
     text: &Option<FixedText>,
     out: &mut K,
-) -> Result<(), Failed>
-    requires many { length answers.now ≡ length rows.now }
-    requires within { AllByRecursion (AnswerIsWithin face.now) answers.now }
-    requires text { IfSome text.now (λ text. text.bytes ≡ answered_lines face.now rows.now answers.now) }
-    ensures { Gives K.written K.faults out.old out.new result (answered_lines face.now rows.now answers.now) }
+) -> Result<(), GroupFault>
+    requires runnable { IsRunnableCode loaded.now }
+    requires inputs { AllByRecursion (HasInputsBelow loaded.now.code.counts.inputs) rows.now }
+    requires text { IfSome text.now (λ text. text.bytes ≡ program_lines loaded.now rows.now) }
+    ensures { WritesGroups K.written K.faults out.old out.new result (program_lines loaded.now rows.now) }
 {
     match text {
-        Some(text) => give_all(out, text.text()),
-        None => print_answers(face, rows, answers, out),
+        Some(text) => Ok(give_all(out, text.text())?),
+        None => print_part(alloc, loaded, rows, out),
     }
+}
+
+// Computes rows and prints their lines, a block after the other.
+fn print_part<K: Sink>(
+    alloc: Global,
+    loaded: &Loaded,
+    rows: &[Row],
+    out: &mut K,
+) -> Result<(), GroupFault>
+    requires runnable { IsRunnableCode loaded.now }
+    requires inputs { AllByRecursion (HasInputsBelow loaded.now.code.counts.inputs) rows.now }
+    ensures { WritesGroups K.written K.faults out.old out.new result (program_lines loaded.now rows.now) }
+{
+    let mut blocks = Blocks::new(alloc, &loaded.code, rows)?;
+    while blocks.left() > 0 {
+        let part = blocks.next(alloc)?;
+        print_answers(&loaded.face, part.rows, part.answers.as_slice(), out)?;
+    }
+    Ok(())
 }

@@ -26,11 +26,10 @@ abbrev pub answered_lines : Face → List Row → List Answer → List ℕ
 answered_lines face (row ∷ rows) (answer ∷ answers) = household_lines row.label face answer ++ answered_lines face rows answers
 answered_lines face _ _ = []
 
--- Each text that there is has the lines of its part, where rows with their answers are cut into parts of this size.
-abbrev pub AreTexts : Face → List Row → List Answer → ℕ → List (Option TextIn) → Type 0
-AreTexts face rows answers size texts =
-    (n : ℕ) (d : Option TextIn) → n < length texts
-    → IfSome (slice_index_or texts n d) (λ text. text.bytes ≡ answered_lines face (slice_chunk rows size n) (slice_chunk answers size n))
+-- Each text that there is has the lines of its part, where rows are cut into parts of this size.
+abbrev pub AreTexts : Loaded → List Row → ℕ → List (Option TextIn) → Type 0
+AreTexts loaded rows size texts =
+    (n : ℕ) (d : Option TextIn) → n < length texts → IfSome (slice_index_or texts n d) (λ text. text.bytes ≡ program_lines loaded (slice_chunk rows size n))
 
 -- the count of faults of an output rose where a write failed, and else it is the same
 abbrev pub Counted : {T : Type 0} → Result T GroupFault → ℕ → ℕ → Type 0

@@ -5,7 +5,7 @@ use Rattle.household.specs.Household.{values_of}
 use Rattle.reg_machine.specs.Machine.{machine_run}
 use Rattle.column_machine.specs.Rows.{row_at, row_inputs}
 use Rattle.m_batch.proofs.PlaceLemmas.{row_taken}
-use Rattle.m_batch.proofs.chunk.run_rows.Goals as goal
+use Rattle.m_batch.proofs.blocks.run_rows.Goals as goal
 
 pub returns-clause-answers : goal.returns-clause-answers
 returns-clause-answers c = λ r d h.
