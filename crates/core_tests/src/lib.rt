@@ -8,3 +8,5 @@ mod cores;
 mod declared;
 #[cfg(test)]
 mod requests;
+#[cfg(test)]
+mod shown;

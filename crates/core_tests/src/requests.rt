@@ -20,7 +20,7 @@ use std::test::Fail;
 // BASE has `restituee = 1`.
 
 // Files, and the cells that they ask for.
-const CELLS: [(&[u8], &[u32]); 15] = [
+static CELLS: [(&[u8], &[u32]); 15] = [
     (b"", &[]),
     (b"\n", &[]),
     (b"\r\n\n\r\n", &[]),
@@ -42,7 +42,7 @@ const CELLS: [(&[u8], &[u32]); 15] = [
 ];
 
 // Files, and the first line that names no cell.
-const BAD_LINES: [(&[u8], u32); 39] = [
+static BAD_LINES: [(&[u8], u32); 39] = [
     (b"T", 1),
     (b"T[3]", 1),
     (b"T[]", 1),
@@ -273,7 +273,7 @@ fn many_lines(alloc: Global, last: &[u8]) -> Result<Vec<u8>, AllocError> {
 }
 
 // Lines after 100,000 requests, and the fault that they make. A bad line is told first, also after too many others.
-const LAST_LINES: [(&[u8], Option<RequestFault>); 4] = [
+static LAST_LINES: [(&[u8], Option<RequestFault>); 4] = [
     (b"", None),
     (b"\r\n\n", None),
     (b"A", Some(RequestFault::TooManyRequests)),
