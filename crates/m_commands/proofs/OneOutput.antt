@@ -9,6 +9,7 @@ use Rattle.household.specs.Table.{table_of}
 use Rattle.household.specs.declared.table.Row.{Row}
 use Rattle.m_large.specs.Large.{household_text}
 use Rattle.m_places.specs.declared.limits.TheConstants.{INPUT_BYTES}
+use Rattle.large_validity.specs.Sources.{large_source}
 use Rattle.m_plan.specs.Plan.{end_of, gathered, refused}
 use Rattle.m_plan.specs.Views.{Disk}
 use Rattle.m_plan.specs.declared.status.Status.{Status}
@@ -18,7 +19,7 @@ use Rattle.tax_print.specs.Lines.{told_lines}
 use Rattle.m_work.specs.Batches as batch
 use Rattle.m_work.specs.Households.{told_status}
 use Rattle.m_work.specs.LargeAnswers as large
-use Rattle.m_work.specs.Larges.{large_line, large_source}
+use Rattle.m_work.specs.Larges.{large_line}
 use Rattle.m_work.specs.Runs as run
 use Rattle.m_work.specs.Schemes.{Scheme, told_to}
 use Rattle.m_work.specs.Serves.{IsSession}
@@ -59,9 +60,6 @@ one_run source rows t u s r (run.is_told one pairs v g) (run.is_told other given
     the_same (λ i. told_lines (e i).names (told_to (e i) (p i))) (λ i. told_status (told_to (e i) (p i)))
 
 one_large : (n : ℕ) (t u : List ℕ) (s r : Status) → large.LargeReplies n t s → large.LargeReplies n u r → AreOneOutput t s u r
-one_large n t u s r (large.is_refused a) (large.is_refused b) = one_refusal (large_source n) (λ inputs. household_of inputs (household_text n)) t u a b
-one_large n t u s r (large.is_refused a) (large.is_told scheme pairs v g) = absurd (not_refused (large_source n) (λ inputs. household_of inputs (household_text n)) t scheme pairs v g a)
-one_large n t u s r (large.is_told scheme pairs v g) (large.is_refused b) = absurd (not_refused (large_source n) (λ inputs. household_of inputs (household_text n)) u scheme pairs v g b)
 one_large n t u s r (large.is_told one pairs v g) (large.is_told other given w h) =
     let e = one_scheme (large_source n) one other v w in
     let p = one_pairs (large_source n) (household_text n) one other pairs given v w g h in

@@ -8,7 +8,6 @@ use Rattle.m_ports.proofs.FileLemmas.{failed_count-append}
 use Rattle.observables.specs.Answers.{Told, values, stopped}
 use Rattle.household.specs.Household.{household_of}
 use Rattle.household.specs.Table.{table_of}
-use Rattle.m_large.specs.Large.{household_text}
 use Rattle.m_plan.specs.Attempts.{LastFailed}
 use Rattle.m_plan.specs.Plan.{end_of, gathered, refused}
 use Rattle.m_plan.specs.Printing.{Prints}
@@ -23,7 +22,6 @@ use Rattle.m_work.specs.Compiles as compiles
 use Rattle.m_work.specs.Execs as exec
 use Rattle.m_work.specs.Households.{told_status}
 use Rattle.m_work.specs.LargeAnswers as large
-use Rattle.m_work.specs.Larges.{large_source}
 use Rattle.m_work.specs.Prepared as prepared
 use Rattle.m_work.specs.Runs as run
 use Rattle.m_work.specs.Schemes.{told_to}
@@ -63,7 +61,6 @@ replies_complete (Serve source rows) text status h (serve.is_served scheme expla
 replies_complete (Serve source rows) text status h (serve.is_too_long scheme explains pairs taken rest s e full) = absurd (nothing_full taken rest e full)
 replies_complete (Batch source table) text status h (batch.is_refused {line = line} r) = absurd (refusal_none source (λ inputs. table_of inputs table) line h.scheme h.rows h.valid h.given r)
 replies_complete (Batch source table) text status h (batch.is_told scheme rows v g) = tt
-replies_complete (Large n) text status h (large.is_refused {line = line} r) = absurd (refusal_none (large_source n) (λ inputs. household_of inputs (household_text n)) line h.scheme h.pairs h.valid h.given r)
 replies_complete (Large n) text status h (large.is_told scheme pairs v g) = told_complete (told_to scheme pairs)
 replies_complete (Compile source) text status h (compiles.is_refused fault is told) = absurd (compiled_not_refused source fault h is)
 replies_complete (Compile source) text status h (compiles.is_compiled compiled is) = tt

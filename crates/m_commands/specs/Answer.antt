@@ -8,7 +8,7 @@ use Rattle.m_work.specs.Cases.{CasesReplies, CasesHasAnswer}
 use Rattle.m_work.specs.Checks.{CheckReplies, CheckHasAnswer}
 use Rattle.m_work.specs.Compiles.{CompileReplies, CompileHasAnswer}
 use Rattle.m_work.specs.Execs.{ExecReplies, ExecHasAnswer}
-use Rattle.m_work.specs.LargeAnswers.{LargeReplies, LargeHasAnswer}
+use Rattle.m_work.specs.LargeAnswers.{LargeReplies}
 use Rattle.m_work.specs.Lints.{LintReplies}
 use Rattle.m_work.specs.Runs.{RunReplies, RunHasAnswer}
 use Rattle.m_work.specs.Serves.{ServeReplies, ServeCutOff, ServeInFull}
@@ -51,12 +51,12 @@ InFull (Check source rows report) typed text = ⊥
 InFull (Lint source) typed text = ⊥
 InFull (Cases source table) typed text = ⊥
 
--- what was gathered has an answer that isn't an error
+-- what was gathered has an answer that isn't an error: the generated source and household have one
 abbrev pub HasAnswer : Work → Type 0
 HasAnswer (Run source rows) = RunHasAnswer source rows
 HasAnswer (Serve source rows) = RunHasAnswer source rows
 HasAnswer (Batch source table) = BatchHasAnswer source table
-HasAnswer (Large n) = LargeHasAnswer n
+HasAnswer (Large n) = Unit {0}
 HasAnswer (Compile source) = CompileHasAnswer source
 HasAnswer (Exec code rows) = ExecHasAnswer code rows
 HasAnswer (Check source rows report) = CheckHasAnswer source rows report

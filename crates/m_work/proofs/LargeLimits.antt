@@ -6,7 +6,7 @@ use Rattle.text_pieces.specs.Pieces.{joined}
 use Rattle.rule_text.specs.Limits.{SourceKeepsLimits}
 use Rattle.text_pieces.specs.Pieces.{new_line}
 use Rattle.m_large.specs.Large.{declaration, declarations, rule, rules, first_rule, check, base_text}
-use Rattle.m_work.specs.Larges.{large_requests, large_source}
+use Rattle.large_validity.specs.Sources.{large_requests, large_source}
 
 -- the lengths of pieces together
 abbrev total : List (List ℕ) → ℕ

@@ -4,6 +4,7 @@ pub mod Shown
 pub mod SessionLemmas
 pub mod GroupLemmas
 pub mod Printings
+pub mod LargeLemmas
 pub mod LargeLimits
 pub mod Refusals
 pub mod Ways

@@ -24,7 +24,6 @@ use Rattle.household.specs.declared.fault.HouseholdFault.{HouseholdFault}
 use Rattle.household.proofs.GivenLemmas.{household_gives}
 use Rattle.household_session.specs.Replies.{ended_lines, input_lines}
 use Rattle.household_session.specs.Sessions.{Sitting, begun, showing_of}
-use Rattle.m_large.specs.Large.{household_text}
 use Rattle.m_symbols.specs.Declarations.{Declared}
 use Rattle.rule_order.specs.declared.ordered.Ordered.{Ordered}
 use Rattle.serve_loop.specs.Repliers.{ended_of, whole_of}
@@ -48,9 +47,6 @@ use Rattle.m_work.specs.Compiles as compile
 use Rattle.m_work.specs.Execs.{ExecReplies, code_fault_line}
 use Rattle.m_work.specs.Execs as exec
 use Rattle.m_work.specs.Households.{answer_status, household_fault_line, told_status}
-use Rattle.m_work.specs.LargeAnswers.{LargeReplies}
-use Rattle.m_work.specs.LargeAnswers as large
-use Rattle.m_work.specs.Larges.{large_line, large_source}
 use Rattle.m_work.specs.Prepared.{HouseholdReplies, IsPrepared, IsPreparedCode, IsRunnableCode, IsServedBy, Shows, TableReplies}
 use Rattle.m_work.specs.Prepared as prepared
 use Rattle.m_work.specs.Runs.{RunReplies}
@@ -122,21 +118,6 @@ run_as source scheme rows valid text own (prepared.is_told pairs given) = run.is
 pub run_answered : (source : Source) (loaded : Loaded) (rows : List ℕ) (old new : OutputView) (status : Status) → (is : IsPreparedCode source loaded)
     → IsAnswered (HouseholdReplies [] is.scheme rows) old new status → IsAnswered (RunReplies source rows) old new status
 run_answered source loaded rows old new status is a = answered_as (HouseholdReplies [] is.scheme rows) (RunReplies source rows) old new status (run_as source is.scheme rows is.valid) a
-
--- ---- `large N`
-
-pub large_refused : (n : ℕ) (old new : OutputView) (status : Status) → TellsRefusal (Refuses (large_source n) (λ inputs. household_of inputs (household_text n))) old new status
-    → IsAnswered (LargeReplies n) old new status
-large_refused n old new status (inl (line, refused, shown)) = printed line Refused (large.is_refused refused) tt shown
-large_refused n old new status (inr (same, memory)) = no_memory same memory
-
-large_as : (n : ℕ) (scheme : Scheme) → IsScheme (large_source n) scheme → (text : List ℕ) (own : Status) → HouseholdReplies (large_line n) scheme (household_text n) text own → LargeReplies n text own
-large_as n scheme valid text own (prepared.is_refused fault faulty line) = large.is_refused (households_are_refused scheme fault valid faulty line)
-large_as n scheme valid text own (prepared.is_told pairs given) = large.is_told scheme pairs valid given
-
-pub large_answered : (n : ℕ) (loaded : Loaded) (old new : OutputView) (status : Status) → (is : IsPreparedCode (large_source n) loaded)
-    → IsAnswered (HouseholdReplies (large_line n) is.scheme (household_text n)) old new status → IsAnswered (LargeReplies n) old new status
-large_answered n loaded old new status is a = answered_as (HouseholdReplies (large_line n) is.scheme (household_text n)) (LargeReplies n) old new status (large_as n is.scheme is.valid) a
 
 -- ---- batches
 

@@ -2,24 +2,29 @@
 ghost use Rattle.std.specs.Prelude.{◌≡◌, ◌≤◌, ◌++◌, IfOk};
 ghost use Rattle.m_places.specs.declared.limits.TheConstants.{LARGE};
 ghost use Rattle.text_pieces.specs.Giving.{Gives};
+ghost use Rattle.household.specs.declared.fault.HouseholdFault.TheVariants as household;
+ghost use Rattle.m_compile.specs.declared.fault.SourceFault.TheVariants as source;
 ghost use Rattle.m_large.specs.Large.{household_text};
 ghost use Rattle.tax_print.specs.Lines.{AnswerIsWithin, answer_lines};
 ghost use Rattle.reg_machine.specs.Machine.{machine_run};
+ghost use Rattle.large_validity.specs.Sources.{large_requests, large_source};
 ghost use Rattle.m_plan.specs.Printing.{IsAnswered};
+ghost use Rattle.m_plan.specs.declared.status.Status.TheVariants as status;
 ghost use Rattle.m_plan.specs.Views.{output_view};
-ghost use Rattle.m_work.specs.Larges.{large_line, large_requests, large_source};
-ghost use Rattle.m_work.specs.LargeAnswers.{LargeReplies};
+ghost use Rattle.m_work.specs.Larges.{large_line};
+ghost use Rattle.m_work.specs.LargeAnswers.{LargeReplies, ReadsLarge};
 ghost use Rattle.m_work.specs.Prepared.{HouseholdReplies, IsRunnableCode, Shows};
 ghost use Rattle.m_work.specs.Schemes.{Scheme};
 
 use crate::program::prepare_code;
 use crate::run::answer_of;
 use crate::texts::{ANSWER_ROOM, give_large};
-use crate::told::{status_of, tell_refusal, told_household};
+use crate::told::status_of;
 use code_file::Loaded;
 use held_text::FixedText;
+use household::HouseholdFault;
 use itoa::Buffer;
-use m_compile::told_fault;
+use m_compile::SourceFault;
 use m_large::{large_base, large_household};
 use m_places::{Name, Seq};
 use m_plan::{Status, printed};
@@ -43,7 +48,22 @@ pub fn run_large<R: Threads + Sync, K: Sink>(rt: &R, alloc: Global, n: u32, out:
     };
     match prepare_code(rt, alloc, &source) {
         Ok(loaded) => answer_large(alloc, n, &loaded, out),
-        Err(fault) => tell_refusal(out, told_fault(source.texts.as_slice(), &fault)),
+        Err(fault) => without_code(fault),
+    }
+}
+
+// The status where the generated source has no code: it has no fault, so there was no memory.
+fn without_code(fault: SourceFault) -> Status
+    requires { fault ≡ source.Memory }
+    ensures { result ≡ status.Memory }
+{
+    match fault {
+        SourceFault::Memory => Status::Memory,
+        SourceFault::Rules(_)
+        | SourceFault::Driver(_)
+        | SourceFault::Core(_)
+        | SourceFault::Requests(_)
+        | SourceFault::DriverTooLarge(_) => unreachable!(),
     }
 }
 
@@ -76,11 +96,12 @@ fn large_requests(alloc: Global, n: u32) -> Result<Vec<u8>, AllocError>
     Ok(text)
 }
 
-/// Prints the line `large N`, and what code answers to the generated household.
+/// Prints the line `large N`, and what code answers to the generated household, which has no fault by the code's inputs.
 pub fn answer_large<K: Sink>(alloc: Global, n: u32, loaded: &Loaded, out: &mut K) -> Status
     requires some { 1 ≤ n }
     requires few { n ≤ LARGE }
     requires runnable { IsRunnableCode loaded.now }
+    requires reads { ReadsLarge n loaded.now.face }
     ensures { (scheme : Scheme) → Shows scheme loaded.now.face (machine_run loaded.now.code)
         → IsAnswered (HouseholdReplies (large_line n) scheme (household_text n)) (output_view K.written K.faults out.old) (output_view K.written K.faults out.new) result }
 {
@@ -103,6 +124,7 @@ fn print_answered<K: Sink>(
     out: &mut K,
 ) -> Status
     requires runnable { IsRunnableCode loaded.now }
+    requires reads { ReadsLarge n loaded.now.face }
     requires generated { household.now ≡ household_text n }
     ensures { (scheme : Scheme) → Shows scheme loaded.now.face (machine_run loaded.now.code)
         → IsAnswered (HouseholdReplies (large_line n) scheme (household_text n)) (output_view K.written K.faults out.old) (output_view K.written K.faults out.new) result }
@@ -112,7 +134,24 @@ fn print_answered<K: Sink>(
             give_large(n, &loaded.face, &answer, held, out),
             status_of(&answer),
         ),
-        Err(fault) => tell_refusal(out, told_household(fault)),
+        Err(fault) => without_answer(fault),
+    }
+}
+
+// The status where the generated household has no answer: it has no fault, so there was no memory.
+fn without_answer(fault: HouseholdFault) -> Status
+    requires { fault ≡ household.Memory }
+    ensures { result ≡ status.Memory }
+{
+    match fault {
+        HouseholdFault::Memory => Status::Memory,
+        HouseholdFault::BadHeader
+        | HouseholdFault::TooManyRows
+        | HouseholdFault::BadRow(_)
+        | HouseholdFault::UnknownCode(_)
+        | HouseholdFault::BadAmount(_)
+        | HouseholdFault::NotOfType(_)
+        | HouseholdFault::CodeTwice(_) => unreachable!(),
     }
 }
 

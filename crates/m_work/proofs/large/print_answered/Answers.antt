@@ -1,13 +1,13 @@
-use Rattle.std.proofs.Common.{◌≡◌, Err, sym, subst}
-use Rattle.household.specs.Household.{household_of, values_of}
-use Rattle.reg_machine.specs.Machine.{machine_run}
+use Rattle.std.proofs.Common.{refl, sym, subst}
+use Rattle.household.specs.Household.{values_of}
 use Rattle.m_large.specs.Large.{household_text}
 use Rattle.tax_print.specs.Lines.{AnswerIsWithin}
 use Rattle.m_work.specs.Larges.{large_line}
+use Rattle.m_plan.specs.Printing.{no_memory}
 use Rattle.m_work.proofs.Printings.{prints_given}
-use Rattle.m_work.proofs.Refusals.{household_refused}
+use Rattle.m_work.proofs.LargeLemmas.{without_answer_only}
 use Rattle.m_work.proofs.Shown.{answer_within}
-use Rattle.m_work.proofs.Ways.{rows_printed, rows_refused}
+use Rattle.m_work.proofs.Ways.{rows_printed}
 use Rattle.m_work.proofs.large.print_answered.Goals as goal
 
 pub give_large-requires : goal.give_large-requires
@@ -21,8 +21,9 @@ returns-in-Ok g c = λ scheme shown.
     rows_printed (large_line c.args.n) scheme c.args.loaded.now (household_text c.args.n) c.in-Ok.answer _ _ _ shown (rw c.requires.generated at c.in-Ok.ensures)
     (rw c.status_of.ensures at (prints_given _ _ _ _ _ _ _ _ c.give_large.ensures c.printed.ensures))
 
+pub without_answer-requires : goal.without_answer-requires
+without_answer-requires g c =
+    without_answer_only c.in-Err.fault (λ other. let f = rw c.requires.generated at (c.in-Err.ensures other) in let given = c.requires.reads.given in cc)
+
 pub returns-in-Err : goal.returns-in-Err
-returns-in-Err g c = λ scheme shown.
-    rows_refused (large_line c.args.n) scheme c.args.loaded.now.face (machine_run c.args.loaded.now.code) (household_text c.args.n) c.in-Err.fault _ _ _ shown
-    (household_refused c.in-Err.fault {IsFault = household_of c.args.loaded.now.face.inputs (household_text c.args.n) ≡ Err c.in-Err.fault} _ _ _ (rw c.requires.generated at c.in-Err.ensures)
-    (rw c.told_household.ensures at c.tell_refusal.ensures))
+returns-in-Err g c = λ scheme shown. no_memory refl c.without_answer.ensures
