@@ -2,12 +2,12 @@
 use Rattle.std.proofs.Common.{◌≡◌, ◌⊎◌, ℕ, ◌<◌, List, [], length, Option, None, Some, refl, sym, ap, ◌∙◌, inl, inr, arith}
 use Rattle.std.specs.Io.KnownBytes.{prepend_known}
 use Rattle.m_places.specs.declared.limits.TheConstants.{INPUT_BYTES}
-use Rattle.m_plan.specs.Printing.{Prints}
-use Rattle.m_plan.specs.Views.{FilesView, InputView, OutputView}
-use Rattle.m_plan.specs.declared.status.Status.{Status}
-use Rattle.m_plan.specs.declared.status.Status.TheVariants.{Refused, WriteFault}
-use Rattle.m_work.specs.Serves as serve
-use Rattle.m_work.specs.Serving.{Served, to_its_end, unread, too_long, unwritten}
+use Rattle.command_plans.specs.Printing.{Prints}
+use Rattle.command_plans.specs.Views.{FilesView, InputView, OutputView}
+use Rattle.command_plans.specs.declared.status.Status.{Status}
+use Rattle.command_plans.specs.declared.status.Status.TheVariants.{Refused, WriteFault}
+use Rattle.command_answers.specs.Serves as serve
+use Rattle.command_answers.specs.Serving.{Served, to_its_end, unread, too_long, unwritten}
 use Rattle.m_commands.specs.Clauses.{KeepsInputLimit}
 use Rattle.m_commands.specs.declared.work.Work.{Work}
 use Rattle.m_commands.specs.declared.work.Work.TheVariants.{Run, Serve, Batch, Large, Compile, Exec, Check, Lint, Cases}

@@ -13,10 +13,10 @@ use Rattle.why_report.specs.declared.line.ReportLine.{ReportLine}
 use Rattle.why_report.proofs.FindingLaws.{no_sound_and_unsound, one_unsound}
 use Rattle.driver_core.specs.Inputs.{inputs_said}
 use Rattle.m_compile.proofs.OneLaws.{no_base_and_base_fault, one_base_fault, one_rules}
-use Rattle.m_plan.specs.Status.{IsComplete}
-use Rattle.m_plan.specs.declared.status.Status.{Status}
-use Rattle.m_work.specs.Checks.{CheckHasAnswer, CheckReplies, ReportReplies, given_by, report_fault_line}
-use Rattle.m_work.specs.Checks as check
+use Rattle.command_plans.specs.Status.{IsComplete}
+use Rattle.command_plans.specs.declared.status.Status.{Status}
+use Rattle.command_answers.specs.Checks.{CheckHasAnswer, CheckReplies, ReportReplies, given_by, report_fault_line}
+use Rattle.command_answers.specs.Checks as check
 use Rattle.m_commands.specs.Output.{AreOneOutput, the_same}
 use Rattle.m_commands.proofs.Schemes.{one_line, same_line}
 

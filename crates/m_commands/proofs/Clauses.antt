@@ -4,17 +4,17 @@ use Rattle.std.specs.Prelude.{◌⊎◌}
 use Rattle.std.specs.Io.KnownBytes.{append_known}
 use Rattle.m_ports.specs.Sink.{AppendsPrefix}
 use Rattle.fault_lines.specs.Lines.{usage_line, unreadable_line}
-use Rattle.m_plan.specs.Plan.{end_of, gathered}
-use Rattle.m_plan.specs.Printing.{Prints}
-use Rattle.m_plan.specs.Refusals.{refusal_line}
-use Rattle.m_plan.specs.Status.{IsFaultless, IsOfEnd}
-use Rattle.m_plan.specs.Trips.{GoesAlong}
-use Rattle.m_plan.specs.Views.{Disk, FilesView, InputView, OutputView}
-use Rattle.m_plan.specs.declared.ending.Ending.TheVariants as ending
-use Rattle.m_plan.specs.declared.refusal.Refusal.{Refusal}
-use Rattle.m_plan.specs.declared.status.Status.{Status}
-use Rattle.m_plan.specs.declared.status.Status.TheVariants.{Done, Memory, Refused, Usage, ReadFault, WriteFault}
-use Rattle.m_plan.proofs.Walks.{walks_to_end, walks_fit}
+use Rattle.command_plans.specs.Plan.{end_of, gathered}
+use Rattle.command_plans.specs.Printing.{Prints}
+use Rattle.command_plans.specs.Refusals.{refusal_line}
+use Rattle.command_plans.specs.Status.{IsFaultless, IsOfEnd}
+use Rattle.command_plans.specs.Trips.{GoesAlong}
+use Rattle.command_plans.specs.Views.{Disk, FilesView, InputView, OutputView}
+use Rattle.command_plans.specs.declared.ending.Ending.TheVariants as ending
+use Rattle.command_plans.specs.declared.refusal.Refusal.{Refusal}
+use Rattle.command_plans.specs.declared.status.Status.{Status}
+use Rattle.command_plans.specs.declared.status.Status.TheVariants.{Done, Memory, Refused, Usage, ReadFault, WriteFault}
+use Rattle.command_plans.proofs.Walks.{walks_to_end, walks_fit}
 use Rattle.m_commands.specs.Answer.{InFull, Replies}
 use Rattle.m_commands.specs.Command.{command_of, plan_of}
 use Rattle.m_commands.specs.Clauses.{IsTyped, PrintsOutput, StopsInFront, WritesFront, IsWholeText, output, unreadable, cut_off, in_full, cuts_off}

@@ -19,17 +19,17 @@ use Rattle.reg_machine.specs.Machine.{machine_run}
 use Rattle.m_compile.specs.Faults.{IsSourceFault}
 use Rattle.m_compile.specs.declared.fault.SourceFault.{SourceFault}
 use Rattle.m_compile.proofs.OneLaws.{no_valid_and_fault, one_fault}
-use Rattle.m_plan.specs.declared.status.Status.{Status}
+use Rattle.command_plans.specs.declared.status.Status.{Status}
 use Rattle.tax_print.specs.Lines.{told_lines}
-use Rattle.m_work.specs.Compiles.{CompileReplies, CompileHasAnswer}
-use Rattle.m_work.specs.Compiles as compiles
-use Rattle.m_work.specs.Execs.{ExecReplies, ExecHasAnswer, code_fault_line}
-use Rattle.m_work.specs.Execs as exec
-use Rattle.m_work.specs.Households.{told_status}
-use Rattle.m_work.specs.Prepared.{HouseholdReplies, Shows}
-use Rattle.m_work.specs.Prepared as prepared
-use Rattle.m_work.specs.Schemes.{Scheme, told_to}
-use Rattle.m_work.specs.Sources.{IsScheme}
+use Rattle.command_answers.specs.Compiles.{CompileReplies, CompileHasAnswer}
+use Rattle.command_answers.specs.Compiles as compiles
+use Rattle.command_answers.specs.Execs.{ExecReplies, ExecHasAnswer, code_fault_line}
+use Rattle.command_answers.specs.Execs as exec
+use Rattle.command_answers.specs.Households.{told_status}
+use Rattle.command_answers.specs.Prepared.{HouseholdReplies, Shows}
+use Rattle.command_answers.specs.Prepared as prepared
+use Rattle.command_answers.specs.Schemes.{Scheme, told_to}
+use Rattle.command_answers.specs.Sources.{IsScheme}
 use Rattle.m_commands.specs.Output.{AreOneOutput, the_same, both_compiled}
 use Rattle.m_commands.proofs.Schemes.{one_line, same_line}
 

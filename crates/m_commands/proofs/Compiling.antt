@@ -6,14 +6,14 @@ use Rattle.code_file.specs.Loading.{text_with}
 use Rattle.code_file.specs.declared.loaded.Loaded.{Loaded}
 use Rattle.fault_lines.specs.Lines.{too_long_line}
 use Rattle.rule_text.specs.declared.Source.{Source}
-use Rattle.m_plan.specs.Plan.{Plan, End, done, refuses, asks, and_then, asked, end_of, gathered, refused}
-use Rattle.m_plan.specs.Views.{Disk, FilesView, InputView, OutputView}
-use Rattle.m_plan.specs.declared.status.Status.{Status}
-use Rattle.m_plan.specs.declared.status.Status.TheVariants.{Done}
+use Rattle.command_plans.specs.Plan.{Plan, End, done, refuses, asks, and_then, asked, end_of, gathered, refused}
+use Rattle.command_plans.specs.Views.{Disk, FilesView, InputView, OutputView}
+use Rattle.command_plans.specs.declared.status.Status.{Status}
+use Rattle.command_plans.specs.declared.status.Status.TheVariants.{Done}
 use Rattle.m_source.specs.Source.{source_plan}
 use Rattle.m_source.specs.declared.source.SourceNames.{SourceNames}
-use Rattle.m_work.specs.Compiles.{CompileReplies, is_refused, is_compiled}
-use Rattle.m_work.specs.Prepared.{IsPreparedCode}
+use Rattle.command_answers.specs.Compiles.{CompileReplies, is_refused, is_compiled}
+use Rattle.command_answers.specs.Prepared.{IsPreparedCode}
 use Rattle.m_commands.specs.Answer.{Replies}
 use Rattle.m_commands.specs.Clauses.{WritesCode}
 use Rattle.m_commands.specs.Command.{command_of, plan_of, reads_input, takes_input}

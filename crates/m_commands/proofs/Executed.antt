@@ -7,18 +7,18 @@ use Rattle.household.specs.Household.{household_of}
 use Rattle.observables.specs.declared.answer.Answer.{Answer}
 use Rattle.observables.specs.declared.face.Face.{Face}
 use Rattle.reg_machine.specs.Machine.{machine_run}
-use Rattle.m_plan.specs.declared.status.Status.{Status}
+use Rattle.command_plans.specs.declared.status.Status.{Status}
 use Rattle.tax_print.specs.Lines.{told_lines}
 use Rattle.code_file.specs.Reading.{IsFormOf}
-use Rattle.m_work.specs.Execs.{ExecReplies}
-use Rattle.m_work.specs.Execs as exec
-use Rattle.m_work.specs.Households.{told_status}
-use Rattle.m_work.specs.Prepared.{HouseholdReplies, IsPreparedCode, Shows}
-use Rattle.m_work.specs.Prepared as prepared
-use Rattle.m_work.specs.Runs.{RunReplies}
-use Rattle.m_work.specs.Runs as run
-use Rattle.m_work.specs.Schemes.{Scheme, told_to}
-use Rattle.m_work.specs.Sources.{IsScheme, households_are_refused}
+use Rattle.command_answers.specs.Execs.{ExecReplies}
+use Rattle.command_answers.specs.Execs as exec
+use Rattle.command_answers.specs.Households.{told_status}
+use Rattle.command_answers.specs.Prepared.{HouseholdReplies, IsPreparedCode, Shows}
+use Rattle.command_answers.specs.Prepared as prepared
+use Rattle.command_answers.specs.Runs.{RunReplies}
+use Rattle.command_answers.specs.Runs as run
+use Rattle.command_answers.specs.Schemes.{Scheme, told_to}
+use Rattle.command_answers.specs.Sources.{IsScheme, households_are_refused}
 use Rattle.m_commands.proofs.Codes.{no_form_and_fault, one_inputs, one_loaded, one_told, shown_other}
 
 -- what is answered to a household by one scheme is answered to it by the other

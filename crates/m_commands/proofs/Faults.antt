@@ -3,13 +3,13 @@ use Rattle.std.proofs.Common.{◌≡◌, ◌<◌, ℕ, Bool, true, false, List, 
 use Rattle.std.specs.Prelude.{◌⊎◌}
 use Rattle.m_ports.specs.Counts.{Rose}
 use Rattle.fault_lines.specs.Lines.{usage_line, unreadable_line}
-use Rattle.m_plan.specs.Printing.{Prints}
-use Rattle.m_plan.specs.Refusals.{refusal_line}
-use Rattle.m_plan.specs.Status.{IsOfEnd}
-use Rattle.m_plan.specs.Views.{FilesView, InputView, OutputView}
-use Rattle.m_plan.specs.declared.ending.Ending.TheVariants as ending
-use Rattle.m_plan.specs.declared.status.Status.{Status}
-use Rattle.m_plan.specs.declared.status.Status.TheVariants.{Refused, Usage, ReadFault, WriteFault, Memory}
+use Rattle.command_plans.specs.Printing.{Prints}
+use Rattle.command_plans.specs.Refusals.{refusal_line}
+use Rattle.command_plans.specs.Status.{IsOfEnd}
+use Rattle.command_plans.specs.Views.{FilesView, InputView, OutputView}
+use Rattle.command_plans.specs.declared.ending.Ending.TheVariants as ending
+use Rattle.command_plans.specs.declared.status.Status.{Status}
+use Rattle.command_plans.specs.declared.status.Status.TheVariants.{Refused, Usage, ReadFault, WriteFault, Memory}
 use Rattle.m_commands.specs.Clauses.{IsToldUsage}
 use Rattle.m_commands.specs.Command.{command_of, reads_input, writes_early}
 use Rattle.m_commands.specs.declared.command.Command.{Command}

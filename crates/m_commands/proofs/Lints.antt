@@ -18,11 +18,11 @@ use Rattle.m_compile.specs.Sources.{HasRules, IsValid}
 use Rattle.m_compile.specs.declared.compiling.Compiled.{Compiled}
 use Rattle.m_compile.specs.declared.fault.SourceFault.{SourceFault}
 use Rattle.m_compile.proofs.OneLaws.{no_valid_and_fault, one_fault, one_rules, one_validity}
-use Rattle.m_plan.specs.Status.{IsComplete}
-use Rattle.m_plan.specs.declared.status.Status.{Status}
-use Rattle.m_plan.specs.declared.status.Status.TheVariants.{Done}
-use Rattle.m_work.specs.Compiles.{CompileHasAnswer}
-use Rattle.m_work.specs.Lints.{LintReplies, is_linted, is_refused, lint_text}
+use Rattle.command_plans.specs.Status.{IsComplete}
+use Rattle.command_plans.specs.declared.status.Status.{Status}
+use Rattle.command_plans.specs.declared.status.Status.TheVariants.{Done}
+use Rattle.command_answers.specs.Compiles.{CompileHasAnswer}
+use Rattle.command_answers.specs.Lints.{LintReplies, is_linted, is_refused, lint_text}
 use Rattle.m_commands.specs.Output.{AreOneOutput, both_linted}
 use Rattle.m_commands.proofs.Codes.{compiled_not_refused}
 use Rattle.m_commands.proofs.Schemes.{one_line}

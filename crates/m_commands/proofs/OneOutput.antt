@@ -10,23 +10,23 @@ use Rattle.household.specs.declared.table.Row.{Row}
 use Rattle.m_large.specs.Large.{household_text}
 use Rattle.m_places.specs.declared.limits.TheConstants.{INPUT_BYTES}
 use Rattle.large_validity.specs.Sources.{large_source}
-use Rattle.m_plan.specs.Plan.{end_of, gathered, refused}
-use Rattle.m_plan.specs.Views.{Disk}
-use Rattle.m_plan.specs.declared.status.Status.{Status}
-use Rattle.m_plan.specs.declared.status.Status.TheVariants.{Done, Refused}
+use Rattle.command_plans.specs.Plan.{end_of, gathered, refused}
+use Rattle.command_plans.specs.Views.{Disk}
+use Rattle.command_plans.specs.declared.status.Status.{Status}
+use Rattle.command_plans.specs.declared.status.Status.TheVariants.{Done, Refused}
 use Rattle.why_session.specs.Explains.{Explaining}
 use Rattle.tax_print.specs.Lines.{told_lines}
-use Rattle.m_work.specs.Batches as batch
-use Rattle.m_work.specs.Households.{told_status}
-use Rattle.m_work.specs.LargeAnswers as large
-use Rattle.m_work.specs.Larges.{large_line}
-use Rattle.m_work.specs.Runs as run
-use Rattle.m_work.specs.Schemes.{Scheme, told_to}
-use Rattle.m_work.specs.Serves.{IsSession}
-use Rattle.m_work.specs.Serves as serve
-use Rattle.m_work.specs.Sessions.{ended_replies, session_replies}
-use Rattle.m_work.specs.Sources.{IsScheme}
-use Rattle.m_work.specs.Tables.{rows_lines}
+use Rattle.command_answers.specs.Batches as batch
+use Rattle.command_answers.specs.Households.{told_status}
+use Rattle.command_answers.specs.LargeAnswers as large
+use Rattle.command_answers.specs.Larges.{large_line}
+use Rattle.command_answers.specs.Runs as run
+use Rattle.command_answers.specs.Schemes.{Scheme, told_to}
+use Rattle.command_answers.specs.Serves.{IsSession}
+use Rattle.command_answers.specs.Serves as serve
+use Rattle.command_answers.specs.Sessions.{ended_replies, session_replies}
+use Rattle.command_answers.specs.Sources.{IsScheme}
+use Rattle.command_answers.specs.Tables.{rows_lines}
 use Rattle.m_commands.specs.Answer.{Replies}
 use Rattle.m_commands.specs.Command.{plan_of}
 use Rattle.m_commands.specs.Output.{Output, usage, refuses, answers, AreOneOutput, both_served, both_too_long, the_same}

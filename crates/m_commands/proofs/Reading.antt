@@ -5,20 +5,20 @@ use Rattle.std.specs.Prelude.{◌⊎◌}
 use Rattle.std.specs.Option.{option_map_or}
 use Rattle.std.specs.Io.KnownBytes.{append_known}
 use Rattle.m_ports.specs.declared.files.Attempt.{Attempt}
-use Rattle.m_plan.specs.Attempts.{BeginsWith, names_tried, NoneFailed}
-use Rattle.m_plan.specs.Plan.{names_fetched}
-use Rattle.m_plan.specs.Printing.{Prints}
+use Rattle.command_plans.specs.Attempts.{BeginsWith, names_tried, NoneFailed}
+use Rattle.command_plans.specs.Plan.{names_fetched}
+use Rattle.command_plans.specs.Printing.{Prints}
 use Rattle.fault_lines.specs.Lines.{usage_line, unreadable_line}
-use Rattle.m_plan.specs.Refusals.{refusal_line}
-use Rattle.m_plan.specs.Status.{IsOfEnd}
-use Rattle.m_plan.specs.Trips.{GoesAlong}
-use Rattle.m_plan.specs.Views.{Disk, FilesView, InputView, OutputView}
-use Rattle.m_plan.specs.declared.ending.Ending.{Ending}
-use Rattle.m_plan.specs.declared.ending.Ending.TheVariants as ending
-use Rattle.m_plan.specs.declared.status.Status.{Status}
-use Rattle.m_plan.specs.declared.status.Status.TheVariants.{Refused, Usage, ReadFault, WriteFault}
+use Rattle.command_plans.specs.Refusals.{refusal_line}
+use Rattle.command_plans.specs.Status.{IsOfEnd}
+use Rattle.command_plans.specs.Trips.{GoesAlong}
+use Rattle.command_plans.specs.Views.{Disk, FilesView, InputView, OutputView}
+use Rattle.command_plans.specs.declared.ending.Ending.{Ending}
+use Rattle.command_plans.specs.declared.ending.Ending.TheVariants as ending
+use Rattle.command_plans.specs.declared.status.Status.{Status}
+use Rattle.command_plans.specs.declared.status.Status.TheVariants.{Refused, Usage, ReadFault, WriteFault}
 use Rattle.m_ports.specs.Counts.{Rose}
-use Rattle.m_plan.proofs.Walks.{walks_in_order, walks_fit}
+use Rattle.command_plans.proofs.Walks.{walks_in_order, walks_fit}
 use Rattle.m_commands.specs.Command.{command_of, plan_of, reads_input}
 use Rattle.m_commands.specs.Clauses.{ReadsInOrder, TellsOfInput, cuts_off}
 use Rattle.m_commands.specs.Output.{fetches_of}

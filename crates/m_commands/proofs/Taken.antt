@@ -3,13 +3,13 @@ use Rattle.std.proofs.Common.{◌≡◌, ◌≤◌, ◌+◌, ◌*◌, ℕ, List,
 use Rattle.std.specs.Option.{option_map_or}
 use Rattle.m_ports.specs.declared.files.Attempt.{Attempt}
 use Rattle.m_places.specs.declared.limits.TheConstants.{CODE_FILE_BYTES, FILE_BYTES}
-use Rattle.m_plan.specs.Attempts.{allowance, TakesWithin}
-use Rattle.m_plan.specs.Views.{FilesView, InputView, OutputView}
-use Rattle.m_plan.specs.declared.ending.Ending.TheVariants as ending
-use Rattle.m_plan.specs.declared.status.Status.{Status}
-use Rattle.m_plan.specs.declared.status.Status.TheVariants.{Done, Refused, Usage, ReadFault, WriteFault, Memory, Stopped}
-use Rattle.m_plan.proofs.Walks.{walks_within}
-use Rattle.m_plan.proofs.Within.{KeepsWithin, within_more, within_then}
+use Rattle.command_plans.specs.Attempts.{allowance, TakesWithin}
+use Rattle.command_plans.specs.Views.{FilesView, InputView, OutputView}
+use Rattle.command_plans.specs.declared.ending.Ending.TheVariants as ending
+use Rattle.command_plans.specs.declared.status.Status.{Status}
+use Rattle.command_plans.specs.declared.status.Status.TheVariants.{Done, Refused, Usage, ReadFault, WriteFault, Memory, Stopped}
+use Rattle.command_plans.proofs.Walks.{walks_within}
+use Rattle.command_plans.proofs.Within.{KeepsWithin, within_more, within_then}
 use Rattle.m_source.specs.Source.{source_plan}
 use Rattle.m_source.proofs.Within.{source_within}
 use Rattle.m_commands.specs.Command.{command_of, plan_of, file_limit, limit_of, rules_only}

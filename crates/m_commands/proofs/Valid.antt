@@ -8,24 +8,24 @@ use Rattle.m_ports.proofs.FileLemmas.{failed_count-append}
 use Rattle.observables.specs.Answers.{Told, values, stopped}
 use Rattle.household.specs.Household.{household_of}
 use Rattle.household.specs.Table.{table_of}
-use Rattle.m_plan.specs.Attempts.{LastFailed}
-use Rattle.m_plan.specs.Plan.{end_of, gathered, refused}
-use Rattle.m_plan.specs.Printing.{Prints}
-use Rattle.m_plan.specs.Refusals.{refusal_line}
-use Rattle.m_plan.specs.Status.{IsComplete}
-use Rattle.m_plan.specs.Views.{Disk, FilesView, InputView, OutputView}
-use Rattle.m_plan.specs.declared.ending.Ending.TheVariants as ending
-use Rattle.m_plan.specs.declared.status.Status.{Status}
-use Rattle.m_plan.proofs.Walks.{walks_to_end, walks_fit}
-use Rattle.m_work.specs.Batches as batch
-use Rattle.m_work.specs.Compiles as compiles
-use Rattle.m_work.specs.Execs as exec
-use Rattle.m_work.specs.Households.{told_status}
-use Rattle.m_work.specs.LargeAnswers as large
-use Rattle.m_work.specs.Prepared as prepared
-use Rattle.m_work.specs.Runs as run
-use Rattle.m_work.specs.Schemes.{told_to}
-use Rattle.m_work.specs.Serves as serve
+use Rattle.command_plans.specs.Attempts.{LastFailed}
+use Rattle.command_plans.specs.Plan.{end_of, gathered, refused}
+use Rattle.command_plans.specs.Printing.{Prints}
+use Rattle.command_plans.specs.Refusals.{refusal_line}
+use Rattle.command_plans.specs.Status.{IsComplete}
+use Rattle.command_plans.specs.Views.{Disk, FilesView, InputView, OutputView}
+use Rattle.command_plans.specs.declared.ending.Ending.TheVariants as ending
+use Rattle.command_plans.specs.declared.status.Status.{Status}
+use Rattle.command_plans.proofs.Walks.{walks_to_end, walks_fit}
+use Rattle.command_answers.specs.Batches as batch
+use Rattle.command_answers.specs.Compiles as compiles
+use Rattle.command_answers.specs.Execs as exec
+use Rattle.command_answers.specs.Households.{told_status}
+use Rattle.command_answers.specs.LargeAnswers as large
+use Rattle.command_answers.specs.Prepared as prepared
+use Rattle.command_answers.specs.Runs as run
+use Rattle.command_answers.specs.Schemes.{told_to}
+use Rattle.command_answers.specs.Serves as serve
 use Rattle.m_commands.specs.Answer.{Replies, HasAnswer}
 use Rattle.m_commands.specs.Command.{command_of, plan_of}
 use Rattle.m_commands.specs.Clauses.{AnswersValid, TakesFew}

@@ -8,15 +8,15 @@ use Rattle.m_ports.specs.Counts.{Rose}
 use Rattle.m_ports.specs.Sink.{AppendsPrefix}
 use Rattle.fault_lines.specs.Lines.{input_too_long_line, unreadable_input_line}
 use Rattle.serve_loop.specs.Serving.{IsLeft}
-use Rattle.m_plan.specs.Printing.{Appends, Breaks, Prints, printed, no_memory}
-use Rattle.m_plan.specs.Status.{IsOfEnd}
-use Rattle.m_plan.specs.Views.{InputView, OutputView}
-use Rattle.m_plan.specs.declared.status.Status.{Status}
-use Rattle.m_plan.specs.declared.status.Status.TheVariants.{Done, Memory, ReadFault, Refused, WriteFault}
-use Rattle.m_work.specs.Batches as batch
-use Rattle.m_work.specs.Serves as serve
-use Rattle.m_work.specs.Serving.{to_its_end, unread, too_long, unwritten}
-use Rattle.m_work.specs.Sessions.{ended_replies, session_replies}
+use Rattle.command_plans.specs.Printing.{Appends, Breaks, Prints, printed, no_memory}
+use Rattle.command_plans.specs.Status.{IsOfEnd}
+use Rattle.command_plans.specs.Views.{InputView, OutputView}
+use Rattle.command_plans.specs.declared.status.Status.{Status}
+use Rattle.command_plans.specs.declared.status.Status.TheVariants.{Done, Memory, ReadFault, Refused, WriteFault}
+use Rattle.command_answers.specs.Batches as batch
+use Rattle.command_answers.specs.Serves as serve
+use Rattle.command_answers.specs.Serving.{to_its_end, unread, too_long, unwritten}
+use Rattle.command_answers.specs.Sessions.{ended_replies, session_replies}
 use Rattle.m_commands.specs.Answer.{CutOff, InFull, Replies}
 use Rattle.m_commands.specs.Command.{command_of, reads_input, takes_input, writes_early, writes_in_parts}
 use Rattle.m_commands.specs.declared.command.Command.{Command}

@@ -2,16 +2,16 @@
 use Rattle.std.specs.Prelude.{ℕ, ◌≤◌, List, length}
 use Rattle.m_places.specs.declared.limits.TheConstants.{CODE_FILE_BYTES, LARGE}
 use Rattle.rule_text.specs.Limits.{SourceKeepsLimits}
-use Rattle.m_plan.specs.declared.status.Status.{Status}
-use Rattle.m_work.specs.Batches.{BatchReplies, BatchHasAnswer}
-use Rattle.m_work.specs.Cases.{CasesReplies, CasesHasAnswer}
-use Rattle.m_work.specs.Checks.{CheckReplies, CheckHasAnswer}
-use Rattle.m_work.specs.Compiles.{CompileReplies, CompileHasAnswer}
-use Rattle.m_work.specs.Execs.{ExecReplies, ExecHasAnswer}
-use Rattle.m_work.specs.LargeAnswers.{LargeReplies}
-use Rattle.m_work.specs.Lints.{LintReplies}
-use Rattle.m_work.specs.Runs.{RunReplies, RunHasAnswer}
-use Rattle.m_work.specs.Serves.{ServeReplies, ServeCutOff, ServeInFull}
+use Rattle.command_plans.specs.declared.status.Status.{Status}
+use Rattle.command_answers.specs.Batches.{BatchReplies, BatchHasAnswer}
+use Rattle.command_answers.specs.Cases.{CasesReplies, CasesHasAnswer}
+use Rattle.command_answers.specs.Checks.{CheckReplies, CheckHasAnswer}
+use Rattle.command_answers.specs.Compiles.{CompileReplies, CompileHasAnswer}
+use Rattle.command_answers.specs.Execs.{ExecReplies, ExecHasAnswer}
+use Rattle.command_answers.specs.LargeAnswers.{LargeReplies}
+use Rattle.command_answers.specs.Lints.{LintReplies}
+use Rattle.command_answers.specs.Runs.{RunReplies, RunHasAnswer}
+use Rattle.command_answers.specs.Serves.{ServeReplies, ServeCutOff, ServeInFull}
 use Rattle.m_commands.specs.declared.work.Work.{Work}
 use Rattle.m_commands.specs.declared.work.Work.TheVariants.{Run, Serve, Batch, Large, Compile, Exec, Check, Lint, Cases}
 

@@ -9,16 +9,16 @@ use Rattle.m_ports.specs.Counts.{Rose}
 use Rattle.m_ports.specs.Files.{failed_count}
 use Rattle.m_ports.specs.Sink.{AppendsPrefix}
 use Rattle.m_ports.specs.declared.files.Attempt.{Attempt}
-use Rattle.m_plan.specs.Attempts.{BeginsWith, names_tried, NoneFailed, LastFailed}
+use Rattle.command_plans.specs.Attempts.{BeginsWith, names_tried, NoneFailed, LastFailed}
 use Rattle.fault_lines.specs.Lines.{unreadable_line}
-use Rattle.m_plan.specs.Plan.{end_of, gathered}
-use Rattle.m_plan.specs.Status.{IsFaultless, IsComplete}
-use Rattle.m_plan.specs.Views.{Disk, FilesView, InputView, OutputView}
-use Rattle.m_plan.specs.declared.status.Status.{Status}
-use Rattle.m_plan.specs.declared.status.Status.TheVariants.{Done, Refused, Usage, ReadFault, WriteFault, Memory}
+use Rattle.command_plans.specs.Plan.{end_of, gathered}
+use Rattle.command_plans.specs.Status.{IsFaultless, IsComplete}
+use Rattle.command_plans.specs.Views.{Disk, FilesView, InputView, OutputView}
+use Rattle.command_plans.specs.declared.status.Status.{Status}
+use Rattle.command_plans.specs.declared.status.Status.TheVariants.{Done, Refused, Usage, ReadFault, WriteFault, Memory}
 use Rattle.m_source.specs.Source.{source_plan}
 use Rattle.m_source.specs.declared.source.SourceNames.{SourceNames}
-use Rattle.m_work.specs.Prepared.{IsPreparedCode}
+use Rattle.command_answers.specs.Prepared.{IsPreparedCode}
 use Rattle.m_commands.specs.Answer.{CutOff, InFull}
 use Rattle.m_commands.specs.Command.{command_of, plan_of, reads_input}
 use Rattle.m_commands.specs.Output.{fetches_of, Output, IsValidCommand}

@@ -5,7 +5,7 @@ use Rattle.std.specs.Option.{option_map, option_map_or, option_or}
 use Rattle.std.specs.Str.{bytes_eq, is_utf8}
 use Rattle.m_places.specs.declared.limits.TheConstants.{CODE_FILE_BYTES, FILE_BYTES, LARGE}
 use Rattle.m_text.specs.Numbers.{whole_number}
-use Rattle.m_plan.specs.Plan.{Plan, done, file_plan, and_then}
+use Rattle.command_plans.specs.Plan.{Plan, done, file_plan, and_then}
 use Rattle.m_source.specs.Source.{source_plan}
 use Rattle.m_source.specs.declared.source.SourceNames.{SourceNames}
 use Rattle.rule_text.specs.declared.Source.{Source}

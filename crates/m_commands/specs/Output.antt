@@ -11,16 +11,16 @@ use Rattle.m_compile.specs.Compiled.{IsCompiled}
 use Rattle.m_compile.specs.Sources.{HasRules}
 use Rattle.m_compile.specs.declared.compiling.Compiled.{Compiled}
 use Rattle.why_session.specs.Explains.{Explaining}
-use Rattle.m_work.specs.Explained.{IsExplained}
-use Rattle.m_work.specs.Lints.{lint_text}
-use Rattle.m_work.specs.Prepared.{IsPreparedCode}
-use Rattle.m_work.specs.Schemes.{Scheme}
-use Rattle.m_work.specs.Sessions.{ended_replies, session_replies}
-use Rattle.m_work.specs.Sources.{IsScheme}
-use Rattle.m_plan.specs.Plan.{end_of, gathered, refused, names_fetched}
-use Rattle.m_plan.specs.Views.{Disk}
-use Rattle.m_plan.specs.declared.status.Status.{Status}
-use Rattle.m_plan.specs.declared.status.Status.TheVariants.{Done, Refused, Usage}
+use Rattle.command_answers.specs.Explained.{IsExplained}
+use Rattle.command_answers.specs.Lints.{lint_text}
+use Rattle.command_answers.specs.Prepared.{IsPreparedCode}
+use Rattle.command_answers.specs.Schemes.{Scheme}
+use Rattle.command_answers.specs.Sessions.{ended_replies, session_replies}
+use Rattle.command_answers.specs.Sources.{IsScheme}
+use Rattle.command_plans.specs.Plan.{end_of, gathered, refused, names_fetched}
+use Rattle.command_plans.specs.Views.{Disk}
+use Rattle.command_plans.specs.declared.status.Status.{Status}
+use Rattle.command_plans.specs.declared.status.Status.TheVariants.{Done, Refused, Usage}
 use Rattle.m_commands.specs.Answer.{Replies, HasAnswer}
 use Rattle.m_commands.specs.Command.{command_of, plan_of}
 use Rattle.m_commands.specs.declared.command.Command.{Command}

@@ -1,15 +1,15 @@
 //! What a command answers with what it has gathered, printed as it is made.
-ghost use Rattle.m_plan.specs.Views.{input_view, output_view};
+ghost use Rattle.command_plans.specs.Views.{input_view, output_view};
 ghost use Rattle.m_commands.specs.Answer.{WorkKeepsLimits};
 ghost use Rattle.m_commands.specs.inner.Courses.{WorkIsAnswered};
 
 use crate::work::Work;
-use m_plan::Status;
-use m_ports::{Sink, Source};
-use m_work::{
+use command_answers::{
     batch_source, cases_source, check_source, compile_source, exec_code, lint_source, run_large,
     run_source, serve_source,
 };
+use command_plans::Status;
+use m_ports::{Sink, Source};
 use std::alloc::Global;
 use std::thread::Threads;
 

@@ -1,17 +1,17 @@
 //! The files of a command, gathered along its plan.
 ghost use Rattle.std.specs.Prelude.{◌≡◌, IfOk, None, Some};
 ghost use Rattle.rule_text.specs.Limits.{SourceKeepsLimits};
-ghost use Rattle.m_plan.specs.Trips.{GoesAlong};
-ghost use Rattle.m_plan.specs.Views.{files_view};
+ghost use Rattle.command_plans.specs.Trips.{GoesAlong};
+ghost use Rattle.command_plans.specs.Views.{files_view};
 ghost use Rattle.m_commands.specs.Answer.{WorkKeepsLimits};
 ghost use Rattle.m_commands.specs.Command.{IsInReach, check_plan, compile_plan, exec_plan, lint_plan, rules_only, plan_of, work_of, work_plan};
 ghost use Rattle.m_commands.specs.inner.Courses.{IsWorkOf, work_form};
 
 use crate::command::{Command, Form};
 use crate::work::Work;
+use command_plans::{Ending, fetch};
 use m_places::limits::{CODE_FILE_BYTES, FILE_BYTES};
 use m_places::{Name, Seq};
-use m_plan::{Ending, fetch};
 use m_ports::Files;
 use m_source::{SourceNames, gather_source};
 use rule_text::Source;

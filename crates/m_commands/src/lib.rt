@@ -11,6 +11,6 @@ mod laws;
 mod program;
 mod work;
 
+pub use command_plans::Status;
 pub use laws::{executed_as_run, linted_truly};
-pub use m_plan::Status;
 pub use program::{m_tax, one_output};

@@ -1,9 +1,9 @@
 //! The top call.
 ghost use Rattle.std.specs.Prelude.{◌≡◌, ◌<◌, ◌⊎◌, ℕ, List, false};
 ghost use Rattle.m_ports.specs.Counts.{Rose};
-ghost use Rattle.m_plan.specs.Attempts.{TakesWithin};
-ghost use Rattle.m_plan.specs.Views.{Disk, files_view, input_view, output_view};
-ghost use Rattle.m_plan.specs.declared.status.Status.{Status};
+ghost use Rattle.command_plans.specs.Attempts.{TakesWithin};
+ghost use Rattle.command_plans.specs.Views.{Disk, files_view, input_view, output_view};
+ghost use Rattle.command_plans.specs.declared.status.Status.{Status};
 ghost use Rattle.m_commands.specs.Command.{limit_of, reads_input, writes_early};
 ghost use Rattle.m_commands.specs.Clauses.{PrintsOutput, WritesCode, KeepsInputLimit, ReadsInOrder, WritesFront, StopsInFront, AnswersValid, IsToldUsage};
 ghost use Rattle.m_commands.specs.Output.{Output, AreOneOutput};
@@ -12,9 +12,9 @@ ghost use Rattle.m_commands.specs.inner.Courses.{Course};
 use crate::answer::answer;
 use crate::command::command_of;
 use crate::gather::gather;
+use command_plans::{Status, print_fault, tell};
 use fault_lines::Fault;
 use m_places::Word;
-use m_plan::{Status, print_fault, tell};
 use m_ports::{Files, Sink, Source};
 use std::alloc::Global;
 use std::thread::Threads;

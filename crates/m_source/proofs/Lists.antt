@@ -7,11 +7,11 @@ use Rattle.m_list.proofs.Readings.{list_says}
 use Rattle.m_list.specs.declared.listing.Listing.{Listing}
 use Rattle.m_list.specs.declared.fault.ListFault.{ListFault}
 use Rattle.m_list.specs.declared.fault.ListFault.TheVariants.{BadLine, TooManyFiles}
-use Rattle.m_plan.specs.Trips.{GoesAlong}
-use Rattle.m_plan.specs.Views.{FilesView}
-use Rattle.m_plan.specs.declared.ending.Ending.TheVariants.{Refused}
-use Rattle.m_plan.specs.declared.refusal.Refusal.TheVariants.{ListLine, TooManyFiles as TooMany}
-use Rattle.m_plan.proofs.Trips.{along_done, along_refused}
+use Rattle.command_plans.specs.Trips.{GoesAlong}
+use Rattle.command_plans.specs.Views.{FilesView}
+use Rattle.command_plans.specs.declared.ending.Ending.TheVariants.{Refused}
+use Rattle.command_plans.specs.declared.refusal.Refusal.TheVariants.{ListLine, TooManyFiles as TooMany}
+use Rattle.command_plans.proofs.Trips.{along_done, along_refused}
 use Rattle.m_source.specs.Source.{listed}
 
 pub listed_ok : (view : FilesView) (bytes : List ℕ) (listing : Listing) → list_of bytes ≡ Ok listing → GoesAlong (listed (list_of bytes)) view view (Ok listing)

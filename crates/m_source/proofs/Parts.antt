@@ -1,11 +1,11 @@
 -- How a driver or requests go on: where there are none, and where there are.
 use Rattle.std.proofs.Common.{◌≡◌, ℕ, true, false, List, Option, Some, None, Result, Ok, sym, subst, cond}
 use Rattle.m_places.specs.declared.limits.TheConstants.{FILE_BYTES}
-use Rattle.m_plan.specs.Plan.{Plan, done, file_plan, and_then}
-use Rattle.m_plan.specs.Trips.{GoesAlong}
-use Rattle.m_plan.specs.Views.{FilesView}
-use Rattle.m_plan.specs.declared.ending.Ending.{Ending}
-use Rattle.m_plan.proofs.Trips.{along_done}
+use Rattle.command_plans.specs.Plan.{Plan, done, file_plan, and_then}
+use Rattle.command_plans.specs.Trips.{GoesAlong}
+use Rattle.command_plans.specs.Views.{FilesView}
+use Rattle.command_plans.specs.declared.ending.Ending.{Ending}
+use Rattle.command_plans.proofs.Trips.{along_done}
 use Rattle.m_source.specs.Source.{is_none, optional_plan}
 
 -- the plan of a file that there is

@@ -4,12 +4,12 @@ use Rattle.std.proofs.Math.Seq.{drop-cons}
 use Rattle.std.proofs.lemmas.List.{append-nil, drop_all}
 use Rattle.std.specs.Prelude.{IsErrAnd}
 use Rattle.m_places.specs.declared.limits.TheConstants.{FILE_BYTES}
-use Rattle.m_plan.specs.Plan.{Plan, file_plan}
-use Rattle.m_plan.specs.Trips.{GoesAlong}
-use Rattle.m_plan.specs.Views.{FilesView}
-use Rattle.m_plan.specs.declared.ending.Ending.{Ending}
-use Rattle.m_plan.specs.declared.ending.Ending.TheVariants.{Memory}
-use Rattle.m_plan.proofs.Trips.{along_then, along_ended, along_done, along_without_memory}
+use Rattle.command_plans.specs.Plan.{Plan, file_plan}
+use Rattle.command_plans.specs.Trips.{GoesAlong}
+use Rattle.command_plans.specs.Views.{FilesView}
+use Rattle.command_plans.specs.declared.ending.Ending.{Ending}
+use Rattle.command_plans.specs.declared.ending.Ending.TheVariants.{Memory}
+use Rattle.command_plans.proofs.Trips.{along_then, along_ended, along_done, along_without_memory}
 use Rattle.m_source.specs.Source.{rules_plan}
 use Rattle.rule_text.specs.Limits.{EachIsWithin}
 use Rattle.rule_text.specs.declared.Text.{Text}

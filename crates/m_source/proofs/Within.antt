@@ -4,8 +4,8 @@ use Rattle.m_places.specs.declared.limits.TheConstants.{FILE_BYTES, RULE_BYTES}
 use Rattle.m_list.specs.Listing.{list_of}
 use Rattle.m_list.specs.declared.listing.Listing.{Listing}
 use Rattle.m_list.specs.declared.fault.ListFault.{ListFault}
-use Rattle.m_plan.specs.Plan.{done}
-use Rattle.m_plan.proofs.Within.{KeepsWithin, within_then}
+use Rattle.command_plans.specs.Plan.{done}
+use Rattle.command_plans.proofs.Within.{KeepsWithin, within_then}
 use Rattle.m_source.specs.Source.{is_none, listed, rules_plan, optional_plan, source_plan}
 use Rattle.m_source.specs.declared.source.SourceNames.{SourceNames}
 use Rattle.m_source.proofs.Parts.{present}

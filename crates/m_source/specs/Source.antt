@@ -6,7 +6,7 @@ use Rattle.m_list.specs.Listing.{list_of}
 use Rattle.m_list.specs.declared.listing.Listing.{Listing}
 use Rattle.m_list.specs.declared.fault.ListFault.{ListFault}
 use Rattle.m_list.specs.declared.fault.ListFault.TheVariants.{BadLine, TooManyFiles, Memory}
-use Rattle.m_plan.specs.Plan.{Plan, done, refuses, file_plan, and_then}
+use Rattle.command_plans.specs.Plan.{Plan, done, refuses, file_plan, and_then}
 use Rattle.fault_lines.specs.Lines.{list_line, too_many_files_line}
 use Rattle.rule_text.specs.declared.Source.{Source}
 use Rattle.m_source.specs.declared.source.SourceNames.{SourceNames}

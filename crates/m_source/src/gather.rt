@@ -1,16 +1,16 @@
 //! The calls that gather a source, each along its plan.
 ghost use Rattle.std.specs.Prelude.{◌≡◌, ◌≤◌, IfOk, length};
 ghost use Rattle.m_places.specs.declared.limits.TheConstants.{LIST_FILES, RULE_BYTES};
-ghost use Rattle.m_plan.specs.Trips.{GoesAlong};
-ghost use Rattle.m_plan.specs.Views.{files_view};
+ghost use Rattle.command_plans.specs.Trips.{GoesAlong};
+ghost use Rattle.command_plans.specs.Views.{files_view};
 ghost use Rattle.rule_text.specs.Limits.{TextsAreWithin, FileIsWithin, SourceKeepsLimits};
 ghost use Rattle.m_source.specs.Source.{is_none, list_plan, rules_plan, optional_plan, parts_plan, source_plan};
 
 use crate::SourceNames;
+use command_plans::{Ending, Refusal, fetch};
 use m_list::{ListFault, Listing, read_list};
 use m_places::limits::{FILE_BYTES, RULE_BYTES};
 use m_places::{Name, Seq};
-use m_plan::{Ending, Refusal, fetch};
 use m_ports::Files;
 use rule_text::{Source, Text};
 use std::alloc::Global;

@@ -1,21 +1,21 @@
 -- The course that a call of the program took, from which all its clauses follow.
 use Rattle.std.specs.Prelude.{◌≡◌, ℕ, List, Option, Some, None, Ok, Err}
 use Rattle.fault_lines.specs.Lines.{usage_line}
-use Rattle.m_plan.specs.Printing.{Prints, Tells, IsAnswered}
-use Rattle.m_plan.specs.Trips.{GoesAlong}
-use Rattle.m_plan.specs.Views.{FilesView, InputView, OutputView}
-use Rattle.m_plan.specs.declared.ending.Ending.{Ending}
-use Rattle.m_plan.specs.declared.status.Status.{Status}
-use Rattle.m_plan.specs.declared.status.Status.TheVariants.{Usage, Memory}
-use Rattle.m_work.specs.Batches.{BatchReplies, IsWrittenInParts}
-use Rattle.m_work.specs.Cases.{CasesReplies}
-use Rattle.m_work.specs.Checks.{CheckReplies}
-use Rattle.m_work.specs.Compiles.{CompileReplies}
-use Rattle.m_work.specs.Execs.{ExecReplies}
-use Rattle.m_work.specs.LargeAnswers.{LargeReplies}
-use Rattle.m_work.specs.Lints.{LintReplies}
-use Rattle.m_work.specs.Runs.{RunReplies}
-use Rattle.m_work.specs.Serves.{IsServed}
+use Rattle.command_plans.specs.Printing.{Prints, Tells, IsAnswered}
+use Rattle.command_plans.specs.Trips.{GoesAlong}
+use Rattle.command_plans.specs.Views.{FilesView, InputView, OutputView}
+use Rattle.command_plans.specs.declared.ending.Ending.{Ending}
+use Rattle.command_plans.specs.declared.status.Status.{Status}
+use Rattle.command_plans.specs.declared.status.Status.TheVariants.{Usage, Memory}
+use Rattle.command_answers.specs.Batches.{BatchReplies, IsWrittenInParts}
+use Rattle.command_answers.specs.Cases.{CasesReplies}
+use Rattle.command_answers.specs.Checks.{CheckReplies}
+use Rattle.command_answers.specs.Compiles.{CompileReplies}
+use Rattle.command_answers.specs.Execs.{ExecReplies}
+use Rattle.command_answers.specs.LargeAnswers.{LargeReplies}
+use Rattle.command_answers.specs.Lints.{LintReplies}
+use Rattle.command_answers.specs.Runs.{RunReplies}
+use Rattle.command_answers.specs.Serves.{IsServed}
 use Rattle.m_commands.specs.Command.{command_of, plan_of}
 use Rattle.m_commands.specs.declared.command.Command.{Command}
 use Rattle.m_commands.specs.declared.command.Command.TheVariants as command

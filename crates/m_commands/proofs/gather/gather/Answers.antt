@@ -1,4 +1,4 @@
-use Rattle.m_plan.proofs.Trips.{along_done}
+use Rattle.command_plans.proofs.Trips.{along_done}
 use Rattle.m_commands.proofs.gather.gather.Goals as goal
 
 pub returns-in-Large-clause-along : goal.returns-in-Large-clause-along

@@ -1,4 +1,4 @@
-use Rattle.m_plan.proofs.Trips.{along_then, along_done, exits_ended}
+use Rattle.command_plans.proofs.Trips.{along_then, along_done, exits_ended}
 use Rattle.m_source.specs.Source.{source_plan}
 use Rattle.m_commands.proofs.gather.gather_compile.Goals as goal
 

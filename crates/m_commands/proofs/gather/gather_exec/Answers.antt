@@ -1,6 +1,6 @@
 use Rattle.m_places.specs.declared.limits.TheConstants.{CODE_FILE_BYTES, FILE_BYTES}
-use Rattle.m_plan.specs.Plan.{file_plan}
-use Rattle.m_plan.proofs.Trips.{along_then, along_done, exits_ended}
+use Rattle.command_plans.specs.Plan.{file_plan}
+use Rattle.command_plans.proofs.Trips.{along_then, along_done, exits_ended}
 use Rattle.m_commands.proofs.gather.gather_exec.Goals as goal
 
 pub returns-in_err-code-clause-along : goal.returns-in_err-code-clause-along

@@ -1,6 +1,6 @@
 use Rattle.m_places.specs.declared.limits.TheConstants.{FILE_BYTES}
-use Rattle.m_plan.specs.Plan.{file_plan}
-use Rattle.m_plan.proofs.Trips.{along_then, along_done, exits_ended}
+use Rattle.command_plans.specs.Plan.{file_plan}
+use Rattle.command_plans.proofs.Trips.{along_then, along_done, exits_ended}
 use Rattle.m_source.specs.Source.{source_plan}
 use Rattle.m_commands.proofs.gather.gather_work.Goals as goal
 

@@ -1,5 +1,5 @@
 use Rattle.std.proofs.Common.{ap}
-use Rattle.m_plan.specs.Views.{InputView}
+use Rattle.command_plans.specs.Views.{InputView}
 use Rattle.m_commands.proofs.Bounds.{bounded_of}
 use Rattle.m_commands.proofs.Clauses.{text_of, writing_of, stopping_of}
 use Rattle.m_commands.proofs.Compiling.{writes_of}

@@ -1,4 +1,4 @@
-use Rattle.m_plan.proofs.Trips.{along_then, along_without_memory, exits_ended}
+use Rattle.command_plans.proofs.Trips.{along_then, along_without_memory, exits_ended}
 use Rattle.m_source.proofs.Lists.{few_listed, listed_ok, listed_bad, listed_many}
 use Rattle.m_source.proofs.gather.gather_list.Goals as goal
 

@@ -1,5 +1,5 @@
 use Rattle.std.proofs.Common.{sym}
-use Rattle.m_plan.proofs.Trips.{along_then, along_done, exits_ended}
+use Rattle.command_plans.proofs.Trips.{along_then, along_done, exits_ended}
 use Rattle.m_source.proofs.Parts.{absent, there}
 use Rattle.m_source.proofs.gather.gather_optional.Goals as goal
 

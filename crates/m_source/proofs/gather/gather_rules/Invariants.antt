@@ -1,6 +1,6 @@
 use Rattle.std.proofs.Common.{◌≡◌, ◌≤◌, drop, length}
 use Rattle.m_places.specs.declared.limits.TheConstants.{RULE_BYTES}
-use Rattle.m_plan.specs.Views.{files_view}
+use Rattle.command_plans.specs.Views.{files_view}
 use Rattle.m_source.specs.Source.{rules_plan}
 use Rattle.rule_text.specs.Limits.{EachIsWithin}
 use Rattle.m_source.proofs.Rules.{Resumes}

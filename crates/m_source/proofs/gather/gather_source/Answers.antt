@@ -1,5 +1,5 @@
 use Rattle.m_places.specs.declared.limits.TheConstants.{RULE_BYTES}
-use Rattle.m_plan.proofs.Trips.{along_then, exits_ended}
+use Rattle.command_plans.proofs.Trips.{along_then, exits_ended}
 use Rattle.m_source.specs.Source.{list_plan, rules_plan}
 use Rattle.m_source.proofs.gather.gather_source.Goals as goal
 

@@ -1,0 +1,281 @@
+-- From what was told and written to how a command ended.
+use Rattle.std.proofs.Common.{◌≡◌, ℕ, length, List, [], ◌∷◌, ◌++◌, Result, Ok, Err, refl, sym, ◌∙◌, ap, subst, inl, inr}
+use Rattle.std.specs.Prelude.{Option, Some, map}
+use Rattle.m_fixed.specs.declared.amount.Value.{Value}
+use Rattle.m_names.specs.Names.{AreDistinct}
+use Rattle.rule_text.specs.declared.Source.{Source}
+use Rattle.fault_lines.specs.Lines.{input_too_long_line, unreadable_input_line}
+use Rattle.observables.specs.Answers.{Told, values, stopped, told_of}
+use Rattle.observables.specs.Inputs.{AreValuesOf, codes_of}
+use Rattle.observables.specs.Outputs.{notes_of}
+use Rattle.observables.specs.declared.answer.Answer.{Answer}
+use Rattle.observables.specs.declared.face.Face.{Face}
+use Rattle.flat_code.specs.Runs.{flat_run}
+use Rattle.reg_machine.specs.Flow.{code_fault}
+use Rattle.reg_machine.specs.Machine.{machine_run}
+use Rattle.reg_machine.proofs.LawLemmas.{run-is-flat_run}
+use Rattle.code_file.specs.Loading.{text_with}
+use Rattle.code_file.specs.Reading.{IsCodeFault, IsFormOf}
+use Rattle.code_file.specs.declared.fault.CodeFault.{CodeFault}
+use Rattle.code_file.specs.declared.loaded.Loaded.{Loaded}
+use Rattle.household.specs.Household.{household_of, values_of}
+use Rattle.household.specs.Table.{table_of}
+use Rattle.household.specs.declared.fault.HouseholdFault.{HouseholdFault}
+use Rattle.household.proofs.GivenLemmas.{household_gives}
+use Rattle.household_session.specs.Replies.{ended_lines, input_lines}
+use Rattle.household_session.specs.Sessions.{Sitting, begun, showing_of}
+use Rattle.m_symbols.specs.Declarations.{Declared}
+use Rattle.rule_order.specs.declared.ordered.Ordered.{Ordered}
+use Rattle.serve_loop.specs.Repliers.{ended_of, whole_of}
+use Rattle.why_session.specs.Explains.{Explaining, explained_replies}
+use Rattle.why_session.specs.Joined.{Joined, explains_by, joined_replies}
+use Rattle.tax_print.specs.Lines.{answer_lines, told_lines}
+use Rattle.m_compile.specs.Compiled.{IsCompiled, IsRunnable}
+use Rattle.m_compile.specs.Faults.{IsSourceFault}
+use Rattle.m_compile.specs.Lines.{source_line}
+use Rattle.m_compile.specs.declared.compiling.Compiled.{Compiled}
+use Rattle.m_compile.specs.declared.fault.SourceFault.{SourceFault}
+use Rattle.command_plans.specs.Printing.{Appends, Breaks, IsAnswered, Prints, printed, no_memory}
+use Rattle.command_plans.specs.Status.{IsOfEnd}
+use Rattle.command_plans.specs.Views.{InputView, OutputView, output_view}
+use Rattle.command_plans.specs.declared.status.Status.{Status}
+use Rattle.command_plans.specs.declared.status.Status.TheVariants.{Done, ReadFault, Refused}
+use Rattle.command_answers.specs.Batches.{BatchReplies, IsWrittenInParts, broke_off}
+use Rattle.command_answers.specs.Batches as batch
+use Rattle.command_answers.specs.Compiles.{CompileReplies}
+use Rattle.command_answers.specs.Compiles as compile
+use Rattle.command_answers.specs.Execs.{ExecReplies, code_fault_line}
+use Rattle.command_answers.specs.Execs as exec
+use Rattle.command_answers.specs.Households.{answer_status, household_fault_line, told_status}
+use Rattle.command_answers.specs.Prepared.{HouseholdReplies, IsPrepared, IsPreparedCode, IsRunnableCode, IsServedBy, Shows, TableReplies}
+use Rattle.command_answers.specs.Prepared as prepared
+use Rattle.command_answers.specs.Runs.{RunReplies}
+use Rattle.command_answers.specs.Runs as run
+use Rattle.command_answers.specs.Explained.{IsExplained}
+use Rattle.command_answers.specs.Schemes.{Scheme, told_to}
+use Rattle.command_answers.specs.Serves.{IsServed}
+use Rattle.command_answers.specs.Serves as serve
+use Rattle.command_answers.specs.Serving.{Served, to_its_end, unread, too_long, unwritten}
+use Rattle.command_answers.specs.Sessions.{ended_replies, replies_by, scheme_showing, session_replies}
+use Rattle.command_answers.specs.Sources.{IsScheme, Refuses, households_are_refused, scheme_said}
+use Rattle.command_answers.specs.declared.groups.GroupFault.{GroupFault}
+use Rattle.command_answers.specs.declared.groups.GroupFault.TheVariants as group
+use Rattle.command_answers.specs.declared.program.Program.{Program}
+use Rattle.command_answers.specs.inner.Answers.{IsAnswerOf, IsBegun, IsExplainerOf, IsFileOf, is_file}
+use Rattle.command_answers.specs.inner.Groups.{WritesGroups, group_status}
+use Rattle.command_answers.proofs.CodeLemmas.{spells_whole}
+use Rattle.command_answers.proofs.Refusals.{TellsRefusal}
+use Rattle.command_answers.proofs.SessionLemmas.{replies_are}
+use Rattle.command_answers.proofs.Shown.{as_many, given_by, household_told, lines_told, status_told, told_answer}
+
+of_end : (told : Told) → IsOfEnd (told_status told)
+of_end (values notes vs) = tt
+of_end (stopped cause) = tt
+
+-- an answer by one way to reply is an answer by another that replies the same
+pub answered_as : (One Other : List ℕ → Status → Type 0) (old new : OutputView) (status : Status) → ((text : List ℕ) (own : Status) → One text own → Other text own)
+    → IsAnswered One old new status → IsAnswered Other old new status
+answered_as One Other old new status turn (printed text own replied end shown) = printed text own (turn text own replied) end shown
+answered_as One Other old new status turn (no_memory same memory) = no_memory same memory
+
+pub parts_as : (One Other : List ℕ → Status → Type 0) (old new : OutputView) (status : Status) → ((text : List ℕ) (own : Status) → One text own → Other text own)
+    → IsWrittenInParts One old new status → IsWrittenInParts Other old new status
+parts_as One Other old new status turn (batch.printed text own replied end shown) = batch.printed text own (turn text own replied) end shown
+parts_as One Other old new status turn (batch.no_memory same memory) = batch.no_memory same memory
+parts_as One Other old new status turn (broke_off text own replied prefix none memory) = broke_off text own (turn text own replied) prefix none memory
+
+-- ---- households
+
+-- the household of these bytes was refused, by a program's codes
+pub rows_refused : (front : List ℕ) (scheme : Scheme) (face : Face) (runs : List Value → Answer) (rows : List ℕ) (fault : HouseholdFault) (old new : OutputView) (status : Status) → Shows scheme face runs
+    → TellsRefusal (λ line. (household_of face.inputs rows ≡ Err fault) × (household_fault_line fault ≡ Some line)) old new status
+    → IsAnswered (HouseholdReplies front scheme rows) old new status
+rows_refused front scheme face runs rows fault old new status shown (inl (line, refused, p)) =
+    printed line Refused (prepared.is_refused fault (subst (λ inputs. household_of inputs rows ≡ Err fault) shown.inputs refused.0) refused.1) tt p
+rows_refused front scheme face runs rows fault old new status shown (inr (same, memory)) = no_memory same memory
+
+pub rows_printed : (front : List ℕ) (scheme : Scheme) (loaded : Loaded) (rows : List ℕ) (answer : Answer) (old new : OutputView) (status : Status)
+    → Shows scheme loaded.face (machine_run loaded.code) → (of : IsAnswerOf loaded rows answer)
+    → Prints (front ++ answer_lines loaded.face answer) (answer_status answer) old new status → IsAnswered (HouseholdReplies front scheme rows) old new status
+rows_printed front scheme loaded rows answer old new status shown of p =
+    let told = told_to scheme of.pairs in
+    let is = household_told scheme loaded rows answer shown of in
+    printed (front ++ told_lines scheme.names told) (told_status told) (prepared.is_told of.pairs (given_by scheme loaded rows answer shown of)) (of_end told)
+    (subst (λ own. Prints (front ++ told_lines scheme.names told) own old new status) (status_told loaded.face.labels (notes_of loaded.face.outputs) answer told is)
+    (subst (λ text. Prints (front ++ text) (answer_status answer) old new status) (told_answer scheme loaded.face (machine_run loaded.code) answer told shown is) p))
+
+-- ---- runs
+
+pub run_refused : (source : Source) (rows : List ℕ) (old new : OutputView) (status : Status) → TellsRefusal (Refuses source (λ inputs. household_of inputs rows)) old new status
+    → IsAnswered (RunReplies source rows) old new status
+run_refused source rows old new status (inl (line, refused, shown)) = printed line Refused (run.is_refused refused) tt shown
+run_refused source rows old new status (inr (same, memory)) = no_memory same memory
+
+run_as : (source : Source) (scheme : Scheme) (rows : List ℕ) → IsScheme source scheme → (text : List ℕ) (own : Status) → HouseholdReplies [] scheme rows text own → RunReplies source rows text own
+run_as source scheme rows valid text own (prepared.is_refused fault faulty line) = run.is_refused (households_are_refused scheme fault valid faulty line)
+run_as source scheme rows valid text own (prepared.is_told pairs given) = run.is_told scheme pairs valid given
+
+pub run_answered : (source : Source) (loaded : Loaded) (rows : List ℕ) (old new : OutputView) (status : Status) → (is : IsPreparedCode source loaded)
+    → IsAnswered (HouseholdReplies [] is.scheme rows) old new status → IsAnswered (RunReplies source rows) old new status
+run_answered source loaded rows old new status is a = answered_as (HouseholdReplies [] is.scheme rows) (RunReplies source rows) old new status (run_as source is.scheme rows is.valid) a
+
+-- ---- batches
+
+pub batch_refused : (source : Source) (table : List ℕ) (old new : OutputView) (status : Status) → TellsRefusal (Refuses source (λ inputs. table_of inputs table)) old new status
+    → IsWrittenInParts (BatchReplies source table) old new status
+batch_refused source table old new status (inl (line, refused, shown)) = batch.printed line Refused (batch.is_refused refused) tt shown
+batch_refused source table old new status (inr (same, memory)) = batch.no_memory same memory
+
+pub table_refused : (scheme : Scheme) (face : Face) (runs : List Value → Answer) (table : List ℕ) (fault : HouseholdFault) (old new : OutputView) (status : Status) → Shows scheme face runs
+    → TellsRefusal (λ line. (table_of face.inputs table ≡ Err fault) × (household_fault_line fault ≡ Some line)) old new status
+    → IsWrittenInParts (TableReplies scheme table) old new status
+table_refused scheme face runs table fault old new status shown (inl (line, refused, p)) =
+    batch.printed line Refused (prepared.table_is_refused fault (subst (λ inputs. table_of inputs table ≡ Err fault) shown.inputs refused.0) refused.1) tt p
+table_refused scheme face runs table fault old new status shown (inr (same, memory)) = batch.no_memory same memory
+
+table_as : (source : Source) (scheme : Scheme) (table : List ℕ) → IsScheme source scheme → (text : List ℕ) (own : Status) → TableReplies scheme table text own → BatchReplies source table text own
+table_as source scheme table valid text own (prepared.table_is_refused fault faulty line) = batch.is_refused (households_are_refused scheme fault valid faulty line)
+table_as source scheme table valid text own (prepared.rows_are_told rows given) = batch.is_told scheme rows valid given
+
+pub batch_answered : (source : Source) (loaded : Loaded) (table : List ℕ) (old new : OutputView) (status : Status) → (is : IsPreparedCode source loaded)
+    → IsWrittenInParts (TableReplies is.scheme table) old new status → IsWrittenInParts (BatchReplies source table) old new status
+batch_answered source loaded table old new status is a = parts_as (TableReplies is.scheme table) (BatchReplies source table) old new status (table_as source is.scheme table is.valid) a
+
+pub batch_written : {S T : Type 0} (written : S → Option (List ℕ)) (faults : S → ℕ) (old new : S) (result : Result T GroupFault) (text : List ℕ) (Replies : List ℕ → Status → Type 0) (status : Status)
+    → Replies text Done → status ≡ group_status result → WritesGroups written faults old new result text
+    → IsWrittenInParts Replies (output_view written faults old) (output_view written faults new) status
+batch_written written faults old new (Ok value) text Replies status replied is wrote = batch.printed text Done replied tt (inl ((wrote.all, wrote.counted), is))
+batch_written written faults old new (Err group.Memory) text Replies status replied is wrote = broke_off text Done replied wrote.prefix wrote.counted is
+batch_written written faults old new (Err group.Failed) text Replies status replied is wrote = batch.printed text Done replied tt (inr ((wrote.prefix, wrote.counted), is))
+
+-- ---- sessions
+
+pub serve_refused : (source : Source) (rows : List ℕ) (heard : InputView) (old new : OutputView) (status : Status) → TellsRefusal (Refuses source (λ inputs. household_of inputs rows)) old new status
+    → IsServed source rows heard heard old new status
+serve_refused source rows heard old new status (inl (line, refused, shown)) = serve.refused line refused refl shown
+serve_refused source rows heard old new status (inr (same, memory)) = serve.no_memory refl same memory
+
+pub session_refused : (scheme : Scheme) (explains : Explaining) (face : Face) (runs : List Value → Answer) (rows : List ℕ) (fault : HouseholdFault) (heard : InputView) (old new : OutputView) (status : Status) → Shows scheme face runs
+    → TellsRefusal (λ line. (household_of face.inputs rows ≡ Err fault) × (household_fault_line fault ≡ Some line)) old new status
+    → IsServedBy scheme explains rows heard heard old new status
+session_refused scheme explains face runs rows fault heard old new status shown (inl (line, refused, p)) =
+    prepared.refused line fault (subst (λ inputs. household_of inputs rows ≡ Err fault) shown.inputs refused.0) refused.1 refl p
+session_refused scheme explains face runs rows fault heard old new status shown (inr (same, memory)) = prepared.no_memory refl same memory
+
+pub serve_answered : (source : Source) (program : Program) (rows : List ℕ) (heard told : InputView) (old new : OutputView) (status : Status) (explains : Explaining) → (is : IsPrepared source program) → IsExplained source explains
+    → IsServedBy is.scheme explains rows heard told old new status → IsServed source rows heard told old new status
+serve_answered source program rows heard told old new status explains is reasons (prepared.refused line fault faulty said same p) = serve.refused line (households_are_refused is.scheme fault is.valid faulty said) same p
+serve_answered source program rows heard told old new status explains is reasons (prepared.no_memory same none memory) = serve.no_memory same none memory
+serve_answered source program rows heard told old new status explains is reasons (prepared.served pairs given s) = serve.served is.scheme explains pairs (record { valid = is.valid; explained = reasons; given = given }) s
+
+-- the same replies
+served_as : (one ended other also : List ℕ → List ℕ) (heard told : InputView) (old new : OutputView) (status : Status) → ((bytes : List ℕ) → one bytes ≡ other bytes) → ((bytes : List ℕ) → ended bytes ≡ also bytes)
+    → Served one ended heard told old new status → Served other also heard told old new status
+served_as one ended other also heard told old new status w e (to_its_end taken moved few none calm appends is) =
+    to_its_end taken moved few none calm (subst (λ text. Appends text old new) (w taken) appends) is
+served_as one ended other also heard told old new status w e (unread taken moved few rose shown) =
+    unread taken moved few rose (subst (λ text. Prints (text ++ unreadable_input_line) ReadFault old new status) (e taken) shown)
+served_as one ended other also heard told old new status w e (too_long taken moved full calm shown) =
+    too_long taken moved full calm (subst (λ text. Prints (text ++ input_too_long_line) Refused old new status) (e taken) shown)
+served_as one ended other also heard told old new status w e (unwritten taken rest moved within left calm breaks is) =
+    unwritten taken rest moved within left calm (subst (λ text. Breaks text old new) (w (taken ++ rest)) breaks) is
+
+-- what a session of a program replies is what its scheme says
+same_replies : (scheme : Scheme) (program : Program) (rows : List ℕ) (session : Sitting) (explains : Explaining) → IsRunnable program.face program.tidy → Shows scheme program.face (flat_run program.tidy)
+    → (of : IsBegun program rows session) → household_of scheme.inputs rows ≡ Ok of.pairs → (lines : List (List ℕ))
+    → explained_replies (showing_of session) explains session.values lines ≡ replies_by scheme explains of.pairs lines
+same_replies scheme program rows session explains runs shown of given lines =
+    ap (λ (sitting : Sitting). explained_replies (showing_of sitting) explains sitting.values lines) of.begins
+    ∙ ap (λ n. explained_replies (showing_of (begun program.tidy program.face of.pairs)) explains (values_of of.pairs n) lines) (sym runs.shown.inputs ∙ as_many scheme program.face (flat_run program.tidy) shown)
+    ∙ replies_are (showing_of (begun program.tidy program.face of.pairs)) (scheme_showing scheme) explains shown.inputs (λ vs all. lines_told scheme program.face (flat_run program.tidy) vs shown all)
+    lines (values_of of.pairs (length scheme.inputs)) (household_gives scheme.inputs rows of.pairs given)
+
+joined_same : (scheme : Scheme) (program : Program) (declared : Declared) (ordered : Ordered) (rows : List ℕ) (joined : Joined) → IsRunnable program.face program.tidy
+    → Shows scheme program.face (flat_run program.tidy) → (of : IsExplainerOf program declared ordered rows joined) → household_of scheme.inputs rows ≡ Ok of.session.pairs → (lines : List (List ℕ))
+    → joined_replies joined lines ≡ replies_by scheme (explains_by declared ordered) of.session.pairs lines
+joined_same scheme program declared ordered rows joined runs shown of given lines =
+    (λ i. explained_replies (showing_of joined.seated.sitting) (explains_by (of.declares i) (of.orders i)) joined.seated.sitting.values lines)
+    ∙ same_replies scheme program rows joined.seated.sitting (explains_by declared ordered) runs shown of.session given lines
+
+pub session_served : (scheme : Scheme) (program : Program) (declared : Declared) (ordered : Ordered) (rows : List ℕ) (joined : Joined) → IsRunnable program.face program.tidy
+    → Shows scheme program.face (flat_run program.tidy) → (of : IsExplainerOf program declared ordered rows joined)
+    → (heard told : InputView) (old new : OutputView) (status : Status)
+    → Served (whole_of (joined_replies joined)) (ended_of (joined_replies joined)) heard told old new status → IsServedBy scheme (explains_by declared ordered) rows heard told old new status
+session_served scheme program declared ordered rows joined runs shown of heard told old new status done =
+    let given : household_of scheme.inputs rows ≡ Ok of.session.pairs = subst (λ inputs. household_of inputs rows ≡ Ok of.session.pairs) shown.inputs of.session.given in
+    prepared.served of.session.pairs given
+    (served_as (whole_of (joined_replies joined)) (ended_of (joined_replies joined)) (session_replies scheme (explains_by declared ordered) of.session.pairs)
+    (ended_replies scheme (explains_by declared ordered) of.session.pairs)
+    heard told old new status (λ bytes. joined_same scheme program declared ordered rows joined runs shown of given (input_lines bytes))
+    (λ bytes. joined_same scheme program declared ordered rows joined runs shown of given (ended_lines bytes)) done)
+
+-- ---- preparing
+
+-- the scheme of a source that is compiled
+abbrev scheme_of : (source : Source) (compiled : Compiled) → IsCompiled source compiled → Scheme
+scheme_of source compiled is = scheme_said is.declared is.base is.written is.requests
+
+valid_of : (source : Source) (compiled : Compiled) → (is : IsCompiled source compiled) → IsScheme source (scheme_of source compiled is)
+valid_of source compiled is = record { declared = is.declared; base = is.base; written = is.written; requests = is.requests; valid = is.valid; said = refl }
+
+-- what has the answers of the tidy program shows it
+shows_of : (source : Source) (compiled : Compiled) → (is : IsCompiled source compiled) → (runs : List Value → Answer) → ((vs : List Value) → runs vs ≡ flat_run compiled.tidy vs)
+    → Shows (scheme_of source compiled is) compiled.face runs
+shows_of source compiled is runs same = record {
+  inputs = is.inputs;
+  names = is.names;
+  answers = λ vs all. ap (told_of compiled.face.labels (notes_of compiled.face.outputs)) (same vs) ∙ is.answers vs (subst (λ inputs. AreValuesOf inputs vs) (sym is.inputs) all);
+}
+
+-- what a source is compiled to is prepared
+pub is_prepared : (source : Source) (compiled : Compiled) → IsCompiled source compiled → IsPrepared source (record { face = compiled.face; tidy = compiled.tidy })
+is_prepared source compiled is = record {
+  scheme = scheme_of source compiled is;
+  valid = valid_of source compiled is;
+  shows = shows_of source compiled is (flat_run compiled.tidy) (λ vs. refl);
+}
+
+-- and so is its code
+pub is_prepared_code : (source : Source) (compiled : Compiled) (loaded : Loaded) → loaded.code ≡ compiled.code → loaded.face ≡ compiled.face → IsCompiled source compiled → IsPreparedCode source loaded
+is_prepared_code source compiled loaded same_code same_face is =
+    let whole : IsCompiled source (record { face = loaded.face; tidy = compiled.tidy; code = loaded.code }) = rw (same_code, same_face) is in
+    record {
+      tidy = compiled.tidy;
+      compiled = whole;
+      scheme = scheme_of source _ whole;
+      valid = valid_of source _ whole;
+      shows = shows_of source (record { face = loaded.face; tidy = compiled.tidy; code = loaded.code }) whole (machine_run loaded.code)
+          (λ vs. run-is-flat_run loaded.code compiled.tidy vs whole.allocated.flow);
+    }
+
+pub is_runnable_code : (source : Source) (compiled : Compiled) (loaded : Loaded) → loaded.code ≡ compiled.code → loaded.face ≡ compiled.face → IsCompiled source compiled → IsRunnableCode loaded
+is_runnable_code source compiled loaded same_code same_face is = record {
+  whole = ap code_fault same_code ∙ spells_whole compiled.code compiled.tidy is.allocated.flow;
+  distinct = subst (λ (face : Face). AreDistinct (codes_of face.inputs)) (sym same_face) is.runnable.distinct;
+}
+
+-- ---- code files that are written
+
+pub compile_refused : (source : Source) (fault : SourceFault) (old new : OutputView) (status : Status) → TellsRefusal (λ line. IsSourceFault source fault × (source_line source.texts fault ≡ Some line)) old new status
+    → IsAnswered (CompileReplies source) old new status
+compile_refused source fault old new status (inl (line, refused, shown)) = printed line Refused (compile.is_refused fault refused.0 refused.1) tt shown
+compile_refused source fault old new status (inr (same, memory)) = no_memory same memory
+
+compile_as : (source : Source) (loaded : Loaded) → IsPreparedCode source loaded → (text : List ℕ) (own : Status) → IsFileOf loaded text own → CompileReplies source text own
+compile_as source loaded is text own is_file = compile.is_compiled loaded is
+
+pub compile_answered : (source : Source) (loaded : Loaded) (old new : OutputView) (status : Status) → IsPreparedCode source loaded
+    → IsAnswered (IsFileOf loaded) old new status → IsAnswered (CompileReplies source) old new status
+compile_answered source loaded old new status is a = answered_as (IsFileOf loaded) (CompileReplies source) old new status (compile_as source loaded is) a
+
+-- ---- code files that are read
+
+pub exec_refused : (code rows : List ℕ) (fault : CodeFault) (old new : OutputView) (status : Status) → TellsRefusal (λ line. IsCodeFault code fault × (code_fault_line fault ≡ Some line)) old new status
+    → IsAnswered (ExecReplies code rows) old new status
+exec_refused code rows fault old new status (inl (line, refused, shown)) = printed line Refused (exec.code_is_refused fault refused.0 refused.1) tt shown
+exec_refused code rows fault old new status (inr (same, memory)) = no_memory same memory
+
+pub exec_answered : (code rows : List ℕ) (loaded : Loaded) (scheme : Scheme) (old new : OutputView) (status : Status) → IsFormOf code loaded → Shows scheme loaded.face (machine_run loaded.code)
+    → IsAnswered (HouseholdReplies [] scheme rows) old new status → IsAnswered (ExecReplies code rows) old new status
+exec_answered code rows loaded scheme old new status form shown a =
+    answered_as (HouseholdReplies [] scheme rows) (ExecReplies code rows) old new status (λ text own replied. exec.is_answered loaded scheme form shown replied) a

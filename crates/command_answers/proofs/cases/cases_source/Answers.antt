@@ -1,0 +1,16 @@
+use Rattle.command_answers.proofs.CaseLemmas.{cases_answered, cases_refused}
+use Rattle.command_answers.proofs.Refusals.{fault_told}
+use Rattle.command_answers.proofs.cases.cases_source.Goals as goal
+
+pub answer_cases-requires-clause-few : goal.answer_cases-requires-clause-few
+answer_cases-requires-clause-few g c = λ κs held. c.in-Ok.ensures.outcome.compiled.runnable.shown.few
+
+pub returns-in-Ok : goal.returns-in-Ok
+returns-in-Ok g c =
+    cases_answered c.args.source.now c.in-Ok.loaded c.args.table.now _ _ _ c.in-Ok.ensures.outcome
+    (c.answer_cases.ensures c.in-Ok.ensures.outcome.scheme c.in-Ok.ensures.outcome.shows)
+
+pub returns-in-Err : goal.returns-in-Err
+returns-in-Err g c =
+    cases_refused c.args.source.now c.args.table.now c.in-Err.fault _ _ _
+    (fault_told c.args.source.now c.in-Err.fault _ _ _ c.in-Err.ensures.outcome (rw c.as_slice.ensures at (rw c.told_fault.ensures at c.tell_refusal.ensures)))

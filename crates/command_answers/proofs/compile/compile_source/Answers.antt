@@ -1,0 +1,11 @@
+use Rattle.command_answers.proofs.Refusals.{fault_told}
+use Rattle.command_answers.proofs.Ways.{compile_answered, compile_refused}
+use Rattle.command_answers.proofs.compile.compile_source.Goals as goal
+
+pub returns-in-Ok : goal.returns-in-Ok
+returns-in-Ok g c = compile_answered c.args.source.now c.in-Ok.loaded _ _ _ c.in-Ok.ensures.outcome c.answer_compile.ensures
+
+pub returns-in-Err : goal.returns-in-Err
+returns-in-Err g c =
+    compile_refused c.args.source.now c.in-Err.fault _ _ _
+    (fault_told c.args.source.now c.in-Err.fault _ _ _ c.in-Err.ensures.outcome (rw c.as_slice.ensures at (rw c.told_fault.ensures at c.tell_refusal.ensures)))

@@ -1,0 +1,24 @@
+-- What `lint` answers.
+use Rattle.std.specs.Prelude.{◌≡◌, ℕ, List, Some}
+use Rattle.rule_text.specs.declared.Source.{Source}
+use Rattle.m_symbols.specs.Declarations.{Declared}
+use Rattle.micro_m.specs.declared.base.Base.{Base}
+use Rattle.m_lint.specs.Findings.{findings_of}
+use Rattle.m_lint.specs.Lines.{findings_text}
+use Rattle.m_compile.specs.Compiled.{IsCompiled}
+use Rattle.m_compile.specs.Faults.{IsSourceFault}
+use Rattle.m_compile.specs.Lines.{source_line}
+use Rattle.m_compile.specs.Sources.{HasRules}
+use Rattle.m_compile.specs.declared.compiling.Compiled.{Compiled}
+use Rattle.m_compile.specs.declared.fault.SourceFault.{SourceFault}
+use Rattle.command_plans.specs.declared.status.Status.{Status}
+use Rattle.command_plans.specs.declared.status.Status.TheVariants.{Done, Refused}
+
+-- the lines of what is found of a base and of what its source is compiled to
+abbrev pub lint_text : Declared → Base → Compiled → List ℕ
+lint_text declared base compiled = findings_text declared base (findings_of declared base compiled.tidy compiled.face)
+
+-- The answer of a lint of a source: the line of its fault, or the lines of what is found of its rules and of what it is compiled to.
+pub data LintReplies (source : Source) : List ℕ → Status → Type 0 where
+  is_refused : {line : List ℕ} (fault : SourceFault) → IsSourceFault source fault → source_line source.texts fault ≡ Some line → LintReplies source line Refused
+  is_linted : (declared : Declared) (base : Base) (compiled : Compiled) → HasRules source declared base → IsCompiled source compiled → LintReplies source (lint_text declared base compiled) Done

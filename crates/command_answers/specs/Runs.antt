@@ -1,0 +1,23 @@
+-- What a run answers.
+use Rattle.std.specs.Prelude.{◌≡◌, ℕ, ℤ, List, Ok}
+use Rattle.rule_text.specs.declared.Source.{Source}
+use Rattle.household.specs.Household.{household_of}
+use Rattle.tax_print.specs.Lines.{told_lines}
+use Rattle.command_plans.specs.declared.status.Status.{Status}
+use Rattle.command_plans.specs.declared.status.Status.TheVariants.{Refused}
+use Rattle.command_answers.specs.Households.{told_status}
+use Rattle.command_answers.specs.Schemes.{Scheme, told_to}
+use Rattle.command_answers.specs.Sources.{IsScheme, Refuses}
+
+-- The answer of a run of a source on the household of these bytes: an error, or the lines of what is told to the household.
+pub data RunReplies (source : Source) (rows : List ℕ) : List ℕ → Status → Type 0 where
+  is_refused : {line : List ℕ} → Refuses source (λ inputs. household_of inputs rows) line → RunReplies source rows line Refused
+  is_told : (scheme : Scheme) (pairs : List (ℕ × ℤ)) → IsScheme source scheme → household_of scheme.inputs rows ≡ Ok pairs
+      → RunReplies source rows (told_lines scheme.names (told_to scheme pairs)) (told_status (told_to scheme pairs))
+
+-- a valid source, and a household without a fault
+pub record RunHasAnswer (source : Source) (rows : List ℕ) : Type 0 where
+  pub scheme : Scheme
+  pub pairs : List (ℕ × ℤ)
+  pub valid : IsScheme source scheme
+  pub given : household_of scheme.inputs rows ≡ Ok pairs

@@ -1,0 +1,49 @@
+-- What `serve` answers to an input, and what became of the input.
+use Rattle.std.specs.Prelude.{◌≡◌, ℕ, ℤ, ◌<◌, List, ◌++◌, length, Ok}
+use Rattle.fault_lines.specs.Lines.{input_too_long_line, unreadable_input_line}
+use Rattle.m_places.specs.declared.limits.TheConstants.{INPUT_BYTES}
+use Rattle.rule_text.specs.declared.Source.{Source}
+use Rattle.household.specs.Household.{household_of}
+use Rattle.command_plans.specs.Printing.{Prints}
+use Rattle.command_plans.specs.Views.{InputView, OutputView}
+use Rattle.command_plans.specs.declared.status.Status.{Status}
+use Rattle.command_plans.specs.declared.status.Status.TheVariants.{Done, Memory, Refused}
+use Rattle.why_session.specs.Explains.{Explaining}
+use Rattle.command_answers.specs.Explained.{IsExplained}
+use Rattle.command_answers.specs.Schemes.{Scheme}
+use Rattle.command_answers.specs.Sources.{IsScheme, Refuses}
+use Rattle.command_answers.specs.Sessions.{ended_replies, session_replies}
+use Rattle.command_answers.specs.Serving.{Served}
+
+-- The source is valid, the household has no fault, and the session begins with this and tells this of names that it is asked about.
+pub record IsSession (source : Source) (rows : List ℕ) (scheme : Scheme) (explains : Explaining) (pairs : List (ℕ × ℤ)) : Type 0 where
+  pub valid : IsScheme source scheme
+  pub explained : IsExplained source explains
+  pub given : household_of scheme.inputs rows ≡ Ok pairs
+
+-- What is answered to an input: an error; or the replies to all its lines; or, where it has as many bytes as are taken of an input, the replies to the
+-- lines that have their line feed among these, and then the line that it is too long.
+pub data ServeReplies (source : Source) (rows typed : List ℕ) : List ℕ → Status → Type 0 where
+  is_refused : {line : List ℕ} → Refuses source (λ inputs. household_of inputs rows) line → ServeReplies source rows typed line Refused
+  is_served : (scheme : Scheme) (explains : Explaining) (pairs : List (ℕ × ℤ)) → IsSession source rows scheme explains pairs → length typed < INPUT_BYTES
+      → ServeReplies source rows typed (session_replies scheme explains pairs typed) Done
+  is_too_long : (scheme : Scheme) (explains : Explaining) (pairs : List (ℕ × ℤ)) (taken rest : List ℕ) → IsSession source rows scheme explains pairs → typed ≡ taken ++ rest → length taken ≡ INPUT_BYTES
+      → ServeReplies source rows typed (ended_replies scheme explains pairs taken ++ input_too_long_line) Refused
+
+-- What is written where a read failed after these bytes of the input, which are fewer than are taken of one: the replies to the lines that have their
+-- line feed among them, and then a line that says so.
+pub data ServeCutOff (source : Source) (rows taken : List ℕ) : List ℕ → Type 0 where
+  is_cut_off : (scheme : Scheme) (explains : Explaining) (pairs : List (ℕ × ℤ)) → IsSession source rows scheme explains pairs → length taken < INPUT_BYTES
+      → ServeCutOff source rows taken (ended_replies scheme explains pairs taken ++ unreadable_input_line)
+
+-- The replies to all lines of what is typed, also where that is more than is taken of an input.
+pub data ServeInFull (source : Source) (rows typed : List ℕ) : List ℕ → Type 0 where
+  is_in_full : (scheme : Scheme) (explains : Explaining) (pairs : List (ℕ × ℤ)) → IsSession source rows scheme explains pairs → ServeInFull source rows typed (session_replies scheme explains pairs typed)
+
+-- `serve` ended: with an error or for lack of memory before anything was taken from the input, or the session began and had its lines.
+pub data IsServed (source : Source) (rows : List ℕ) (heard told : InputView) (old new : OutputView) (status : Status) : Type 0 where
+  refused : (line : List ℕ) → Refuses source (λ inputs. household_of inputs rows) line → told ≡ heard → Prints line Refused old new status
+      → IsServed source rows heard told old new status
+  no_memory : told ≡ heard → new ≡ old → status ≡ Memory → IsServed source rows heard told old new status
+  served : (scheme : Scheme) (explains : Explaining) (pairs : List (ℕ × ℤ)) → IsSession source rows scheme explains pairs
+      → Served (session_replies scheme explains pairs) (ended_replies scheme explains pairs) heard told old new status → IsServed source rows heard told old new status

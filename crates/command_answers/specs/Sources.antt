@@ -1,0 +1,42 @@
+-- What a source is to households, and the line by which it is refused.
+use Rattle.std.specs.Prelude.{◌≡◌, ℕ, List, Option, Some, Result, Err, map}
+use Rattle.rule_text.specs.declared.Source.{Source}
+use Rattle.m_symbols.specs.Declarations.{Declared}
+use Rattle.micro_m.specs.declared.base.Base.{Base}
+use Rattle.driver_core.specs.declared.program.Core.{Core}
+use Rattle.m_requests.specs.Cells.{cell_name}
+use Rattle.observables.specs.declared.inputs.Coded.{Coded}
+use Rattle.household.specs.declared.fault.HouseholdFault.{HouseholdFault}
+use Rattle.m_compile.specs.Sources.{IsValid}
+use Rattle.m_compile.specs.Faults.{IsSourceFault}
+use Rattle.m_compile.specs.Lines.{source_line}
+use Rattle.m_compile.specs.Answers.{answer_to}
+use Rattle.driver_core.specs.Inputs.{inputs_said}
+use Rattle.m_compile.specs.declared.fault.SourceFault.{SourceFault}
+use Rattle.command_answers.specs.Households.{household_fault_line}
+use Rattle.command_answers.specs.Schemes.{Scheme}
+
+-- what is said by declarations, a base, the driver that was written, and what is asked for: the inputs, the names of the cells that are
+-- asked for, and what the driver over the rules answers
+abbrev pub scheme_said : Declared → Base → Option Core → List ℕ → Scheme
+scheme_said declared base written requests = record {
+  inputs = inputs_said declared;
+  names = map (cell_name declared) requests;
+  tells = answer_to declared base written requests;
+}
+
+-- The source is valid, and this is what it is to households.
+pub record IsScheme (source : Source) (scheme : Scheme) : Type 0 where
+  pub declared : Declared
+  pub base : Base
+  pub written : Option Core
+  pub requests : List ℕ
+  pub valid : IsValid source declared base written requests
+  pub said : scheme ≡ scheme_said declared base written requests
+
+-- The line by which a source is refused, or the file of households after it, of which `said` is what it says by the inputs: the fault of the
+-- source, and in a valid source the fault of that file.
+pub data Refuses (source : Source) {Given : Type 0} (said : List Coded → Result Given HouseholdFault) (line : List ℕ) : Type 0 where
+  source_is_refused : (fault : SourceFault) → IsSourceFault source fault → source_line source.texts fault ≡ Some line → Refuses source said line
+  households_are_refused : (scheme : Scheme) (fault : HouseholdFault) → IsScheme source scheme → said scheme.inputs ≡ Err fault → household_fault_line fault ≡ Some line
+      → Refuses source said line

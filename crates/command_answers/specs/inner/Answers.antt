@@ -1,0 +1,36 @@
+-- What code answers to a household, and the session that a tidy program begins.
+use Rattle.std.specs.Prelude.{◌≡◌, ℕ, ℤ, List, Ok}
+use Rattle.observables.specs.declared.answer.Answer.{Answer}
+use Rattle.reg_machine.specs.Machine.{machine_run}
+use Rattle.code_file.specs.Loading.{text_with}
+use Rattle.code_file.specs.declared.loaded.Loaded.{Loaded}
+use Rattle.household.specs.Household.{household_of, values_of}
+use Rattle.household_session.specs.Sessions.{Sitting, begun}
+use Rattle.command_plans.specs.declared.status.Status.{Status}
+use Rattle.command_plans.specs.declared.status.Status.TheVariants.{Done}
+use Rattle.m_symbols.specs.Declarations.{Declared}
+use Rattle.rule_order.specs.declared.ordered.Ordered.{Ordered}
+use Rattle.why_session.specs.Joined.{Joined}
+use Rattle.command_answers.specs.declared.program.Program.{Program}
+
+-- the household of these bytes has no fault, and the code answers this to it
+pub record IsAnswerOf (loaded : Loaded) (rows : List ℕ) (answer : Answer) : Type 0 where
+  pub pairs : List (ℕ × ℤ)
+  pub given : household_of loaded.face.inputs rows ≡ Ok pairs
+  pub ran : answer ≡ machine_run loaded.code (values_of pairs loaded.code.counts.inputs)
+
+-- the text is the code file of the code, and the command has done its work
+pub data IsFileOf (loaded : Loaded) : List ℕ → Status → Type 0 where
+  is_file : IsFileOf loaded (text_with loaded.code loaded.face) Done
+
+-- the household of these bytes has no fault, and the session begins with it
+pub record IsBegun (program : Program) (rows : List ℕ) (session : Sitting) : Type 0 where
+  pub pairs : List (ℕ × ℤ)
+  pub given : household_of program.face.inputs rows ≡ Ok pairs
+  pub begins : session ≡ begun program.tidy program.face pairs
+
+-- the session begins with the household of these bytes, and its reasons are those of this ordered base
+pub record IsExplainerOf (program : Program) (declared : Declared) (ordered : Ordered) (rows : List ℕ) (joined : Joined) : Type 0 where
+  pub session : IsBegun program rows joined.seated.sitting
+  pub declares : joined.declared ≡ declared
+  pub orders : joined.reporting.ordered ≡ ordered

@@ -1,0 +1,11 @@
+-- What a call has done that tells of an error.
+use Rattle.std.specs.Prelude.{◌≡◌, ℕ, List, Option, Some, None}
+use Rattle.command_plans.specs.Printing.{Prints}
+use Rattle.command_plans.specs.Views.{OutputView}
+use Rattle.command_plans.specs.declared.status.Status.{Status}
+use Rattle.command_plans.specs.declared.status.Status.TheVariants.{Memory, Refused}
+
+-- The line was printed, if there is one; without one there was no memory, and nothing is printed.
+abbrev pub TellsLine : Option (List ℕ) → OutputView → OutputView → Status → Type 0
+TellsLine None old new status = (new ≡ old) × (status ≡ Memory)
+TellsLine (Some line) old new status = Prints line Refused old new status

@@ -1,0 +1,41 @@
+//! A compilation: the code file of a source is written.
+ghost use Rattle.std.specs.Prelude.{◌≡◌};
+ghost use Rattle.rule_text.specs.Limits.{SourceKeepsLimits};
+ghost use Rattle.command_plans.specs.Printing.{IsAnswered};
+ghost use Rattle.command_plans.specs.Views.{output_view};
+ghost use Rattle.command_answers.specs.Compiles.{CompileReplies};
+ghost use Rattle.command_answers.specs.inner.Answers.{IsFileOf};
+
+use crate::program::prepare_code;
+use crate::texts::give_code;
+use crate::told::tell_refusal;
+use code_file::Loaded;
+use command_plans::{Status, printed};
+use m_compile::told_fault;
+use m_ports::Sink;
+use rule_text::Source;
+use std::alloc::Global;
+use std::thread::Threads;
+
+/// Prepares the code of a source, and writes its code file, or the line by which the source is refused.
+pub fn compile_source<R: Threads + Sync, K: Sink>(
+    rt: &R,
+    alloc: Global,
+    source: &Source,
+    out: &mut K,
+) -> Status
+    requires { SourceKeepsLimits source.now }
+    ensures { IsAnswered (CompileReplies source.now) (output_view K.written K.faults out.old) (output_view K.written K.faults out.new) result }
+{
+    match prepare_code(rt, alloc, source) {
+        Ok(loaded) => answer_compile(&loaded, out),
+        Err(fault) => tell_refusal(out, told_fault(source.texts.as_slice(), &fault)),
+    }
+}
+
+/// Writes the code file of loaded code.
+fn answer_compile<K: Sink>(loaded: &Loaded, out: &mut K) -> Status
+    ensures { IsAnswered (IsFileOf loaded.now) (output_view K.written K.faults out.old) (output_view K.written K.faults out.new) result }
+{
+    printed(give_code(loaded, out), Status::Done)
+}

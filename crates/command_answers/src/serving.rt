@@ -1,0 +1,143 @@
+//! A session: a household is read, and then the lines of the input are done by a program, one after another.
+ghost use Rattle.std.specs.Prelude.{◌≡◌, Err, IfOk, length};
+ghost use Rattle.m_places.specs.Refusals.{Outcome};
+ghost use Rattle.rule_text.specs.Limits.{SourceKeepsLimits};
+ghost use Rattle.flat_code.specs.Runs.{flat_run};
+ghost use Rattle.observables.specs.Inputs.{AreValuesOf};
+ghost use Rattle.household.specs.Household.{household_of};
+ghost use Rattle.household.specs.declared.fault.HouseholdFault.TheVariants.{Memory};
+ghost use Rattle.m_symbols.specs.Declarations.{inputs_from, owners_from};
+ghost use Rattle.m_requests.specs.Placed.{IsPlaced};
+ghost use Rattle.micro_m.specs.Bases.{IsValidBase};
+ghost use Rattle.rule_order.specs.Orders.{IsOrder};
+ghost use Rattle.why_session.specs.Joined.{explains_by};
+ghost use Rattle.m_compile.specs.Compiled.{IsRunnable};
+ghost use Rattle.m_compile.specs.Sources.{HasRules};
+ghost use Rattle.command_plans.specs.Views.{input_view, output_view};
+ghost use Rattle.command_answers.specs.Prepared.{IsServedBy, Shows};
+ghost use Rattle.command_answers.specs.Schemes.{Scheme};
+ghost use Rattle.command_answers.specs.Serves.{IsServed};
+ghost use Rattle.command_answers.specs.inner.Answers.{IsBegun, IsExplainerOf};
+
+use crate::program::{Program, prepare};
+use crate::session::serve_session;
+use crate::told::{tell_refusal, told_household};
+use command_plans::Status;
+use household::{Codes, HouseholdFault, read_household};
+use household_session::Session;
+use m_compile::{compile_base, told_fault};
+use m_ports::{Sink, Source as Input};
+use rule_base::RuleBase;
+use rule_text::Source;
+use std::alloc::Global;
+use std::thread::Threads;
+use why_session::Explainer;
+
+/// Makes the base of the rules of a source, prepares its program and reads the household of these bytes, and then does the lines of the
+/// input to its end. Where the source or the household is refused, or there is no memory, nothing is taken from the input, and after that
+/// no memory is taken.
+pub fn serve_source<R: Threads + Sync, S: Input, K: Sink>(
+    rt: &R,
+    alloc: Global,
+    source: &Source,
+    household: &[u8],
+    input: &mut S,
+    out: &mut K,
+) -> Status
+    requires { SourceKeepsLimits source.now }
+    ensures { IsServed source.now household.now (input_view S.left S.faults input.old) (input_view S.left S.faults input.new)
+        (output_view K.written K.faults out.old) (output_view K.written K.faults out.new) result }
+{
+    match compile_base(
+        rt,
+        alloc,
+        source.texts.as_slice(),
+        source.application.bytes(),
+    ) {
+        Ok(made) => serve_over(rt, alloc, source, made, household, input, out),
+        Err(fault) => tell_refusal(out, told_fault(source.texts.as_slice(), &fault)),
+    }
+}
+
+// The same over the base.
+fn serve_over<R: Threads + Sync, S: Input, K: Sink>(
+    rt: &R,
+    alloc: Global,
+    source: &Source,
+    made: RuleBase,
+    household: &[u8],
+    input: &mut S,
+    out: &mut K,
+) -> Status
+    requires limits { SourceKeepsLimits source.now }
+    requires rules { HasRules source.now made.symbols made.ordered.base }
+    requires valid { IsValidBase made.ordered.base }
+    requires order { IsOrder made.ordered.base made.ordered.sequence }
+    requires placed { IsPlaced made.symbols }
+    requires cells { made.ordered.base.cells ≡ length (owners_from 0 made.symbols.variables) }
+    ensures { IsServed source.now household.now (input_view S.left S.faults input.old) (input_view S.left S.faults input.new)
+        (output_view K.written K.faults out.old) (output_view K.written K.faults out.new) result }
+{
+    match prepare(rt, alloc, source) {
+        Ok(program) => answer_serve(alloc, program, made, household, input, out),
+        Err(fault) => tell_refusal(out, told_fault(source.texts.as_slice(), &fault)),
+    }
+}
+
+/// Does the lines of the input in a session of a program that begins with the household of these bytes, and that tells reasons by the base
+/// of the program's rules.
+pub fn answer_serve<S: Input, K: Sink>(
+    alloc: Global,
+    program: Program,
+    made: RuleBase,
+    household: &[u8],
+    input: &mut S,
+    out: &mut K,
+) -> Status
+    requires runnable { IsRunnable program.face program.tidy }
+    requires valid { IsValidBase made.ordered.base }
+    requires order { IsOrder made.ordered.base made.ordered.sequence }
+    requires placed { IsPlaced made.symbols }
+    requires cells { made.ordered.base.cells ≡ length (owners_from 0 made.symbols.variables) }
+    requires many { length program.face.inputs ≡ length (inputs_from 0 made.symbols.variables) }
+    ensures { (scheme : Scheme) → Shows scheme program.face (flat_run program.tidy)
+        → IsServedBy scheme (explains_by made.symbols made.ordered) household.now (input_view S.left S.faults input.old) (input_view S.left S.faults input.new)
+        (output_view K.written K.faults out.old) (output_view K.written K.faults out.new) result }
+{
+    match explainer_of(alloc, program, made, household) {
+        Ok(mut explainer) => serve_session(&mut explainer, input, out),
+        Err(fault) => tell_refusal(out, told_household(fault)),
+    }
+}
+
+// The session of a program that begins with a household, with a reporter of the base, or the household's fault.
+fn explainer_of(
+    alloc: Global,
+    program: Program,
+    made: RuleBase,
+    household: &[u8],
+) -> Result<Explainer, HouseholdFault>
+    requires runnable { IsRunnable program.face program.tidy }
+    requires valid { IsValidBase made.ordered.base }
+    requires order { IsOrder made.ordered.base made.ordered.sequence }
+    requires placed { IsPlaced made.symbols }
+    requires cells { made.ordered.base.cells ≡ length (owners_from 0 made.symbols.variables) }
+    requires many { length program.face.inputs ≡ length (inputs_from 0 made.symbols.variables) }
+    ensures { Outcome Memory result (IsExplainerOf program made.symbols made.ordered household.now) (λ fault. household_of program.face.inputs household.now ≡ Err fault) }
+{
+    let session = session_of(alloc, program, household)?;
+    let RuleBase { symbols, ordered } = made;
+    Ok(Explainer::new(alloc, session, ordered, symbols)?)
+}
+
+// The session of a program that begins with a household, or the household's fault.
+fn session_of(alloc: Global, program: Program, household: &[u8]) -> Result<Session, HouseholdFault>
+    requires { IsRunnable program.face program.tidy }
+    ensures outcome { Outcome Memory result (λ session. IsBegun program household.now session.sitting) (λ fault. household_of program.face.inputs household.now ≡ Err fault) }
+    ensures values { IfOk result (λ session. AreValuesOf program.face.inputs session.sitting.values) }
+{
+    let codes = Codes::new(alloc, program.face.inputs.as_slice())?;
+    let given = read_household(alloc, household, &codes)?;
+    let Program { face, tidy } = program;
+    Ok(Session::start(alloc, tidy, face, codes, &given)?)
+}

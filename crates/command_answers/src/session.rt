@@ -1,0 +1,47 @@
+//! A session over an input, and the line that says why it ended before the input did.
+ghost use Rattle.std.specs.Prelude.{◌≡◌, ◌<◌};
+ghost use Rattle.serve_loop.specs.Repliers.{ended_of, whole_of};
+ghost use Rattle.command_plans.specs.Views.{input_view, output_view};
+ghost use Rattle.command_answers.specs.Serving.{Served};
+
+use command_plans::{Status, print_fault};
+use fault_lines::Fault;
+use m_ports::{Sink, Source};
+use serve_loop::{Replier, ServeEnd, serve};
+use std::marker::Brand;
+use std::sync::ledger::{Blank, Ledger};
+use steps::Steps;
+
+/// Does the lines of an input, and tells how it ended. It takes no memory.
+pub(crate) fn serve_session<R: Replier, S: Source, K: Sink>(
+    replier: &mut R,
+    input: &mut S,
+    out: &mut K,
+) -> Status
+    ensures { Served (whole_of (R.replies replier.old)) (ended_of (R.replies replier.old)) (input_view S.left S.faults input.old) (input_view S.left S.faults input.new)
+        (output_view K.written K.faults out.old) (output_view K.written K.faults out.new) result }
+{
+    serve_counted::<R, S, K, Brand>(replier, input, out, Blank::new(1))
+}
+
+// The same with a counter of steps, which takes no bytes.
+fn serve_counted<R: Replier, S: Source, K: Sink, L: Ledger>(
+    replier: &mut R,
+    input: &mut S,
+    out: &mut K,
+    blank: Blank,
+) -> Status
+    requires name { blank.name ≡ L.name }
+    requires parts { blank.parts ≡ L.parts }
+    requires some { 0 < L.parts }
+    ensures { Served (whole_of (R.replies replier.old)) (ended_of (R.replies replier.old)) (input_view S.left S.faults input.old) (input_view S.left S.faults input.new)
+        (output_view K.written K.faults out.old) (output_view K.written K.faults out.new) result }
+{
+    let mut steps = Steps::<L>::begin(blank);
+    match serve(replier, input, out, &mut steps) {
+        ServeEnd::Done => Status::Done,
+        ServeEnd::ReadFault => print_fault(out, Fault::UnreadableInput, Status::ReadFault),
+        ServeEnd::WriteFault => Status::WriteFault,
+        ServeEnd::TooLong => print_fault(out, Fault::InputTooLong, Status::Refused),
+    }
+}

@@ -1,0 +1,37 @@
+-- What a call that prints has written.
+use Rattle.std.specs.Prelude.{◌≡◌, ◌⊎◌, ℕ, List}
+use Rattle.std.specs.Io.KnownBytes.{append_known}
+use Rattle.m_ports.specs.Counts.{Rose}
+use Rattle.m_ports.specs.Sink.{AppendsPrefix}
+use Rattle.fault_lines.specs.Lines.{unreadable_line}
+use Rattle.command_plans.specs.Refusals.{refusal_line}
+use Rattle.command_plans.specs.Status.{IsOfEnd}
+use Rattle.command_plans.specs.Views.{OutputView}
+use Rattle.command_plans.specs.declared.ending.Ending.{Ending}
+use Rattle.command_plans.specs.declared.ending.Ending.TheVariants as ending
+use Rattle.command_plans.specs.declared.status.Status.{Status}
+use Rattle.command_plans.specs.declared.status.Status.TheVariants.{Refused, ReadFault, WriteFault, Memory}
+
+-- all of the text was appended, and no write failed
+abbrev pub Appends : List ℕ → OutputView → OutputView → Type 0
+Appends text old new = (new.written ≡ append_known old.written text) × (new.faults ≡ old.faults)
+
+-- a write failed, and the prefix of the text was appended
+abbrev pub Breaks : List ℕ → OutputView → OutputView → Type 0
+Breaks text old new = AppendsPrefix old.written new.written text × Rose old.faults new.faults
+
+-- A text was printed, with the status that belongs to it; where a write failed the status says that.
+abbrev pub Prints : List ℕ → Status → OutputView → OutputView → Status → Type 0
+Prints text own old new status = (Appends text old new × (status ≡ own)) ⊎ (Breaks text old new × (status ≡ WriteFault))
+
+-- What ended a command was told, with the status that belongs to it. Where there was no memory nothing is printed.
+abbrev pub Tells : Ending → OutputView → OutputView → Status → Type 0
+Tells (ending.Refused refusal) old new status = Prints (refusal_line refusal) Refused old new status
+Tells (ending.Unreadable name) old new status = Prints (unreadable_line name) ReadFault old new status
+Tells ending.Memory old new status = (new ≡ old) × (status ≡ Memory)
+
+-- An answer was printed, with a status of a command that went to its end; or there was no memory for it, and nothing
+-- was written. `Replies` says of a text and its status that they are the answer.
+pub data IsAnswered (Replies : List ℕ → Status → Type 0) (old new : OutputView) (status : Status) : Type 0 where
+  printed : (text : List ℕ) (own : Status) → Replies text own → IsOfEnd own → Prints text own old new status → IsAnswered Replies old new status
+  no_memory : new ≡ old → status ≡ Memory → IsAnswered Replies old new status

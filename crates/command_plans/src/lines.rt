@@ -1,0 +1,40 @@
+//! The calls that print a line. They take no memory, so that an error or a failed read is told even
+//! where there is none.
+ghost use Rattle.std.specs.Prelude.{◌≡◌, MatchResult};
+ghost use Rattle.fault_lines.specs.Lines.{fault_line};
+ghost use Rattle.command_plans.specs.Printing.{Prints, Tells};
+ghost use Rattle.command_plans.specs.Views.{output_view};
+
+use crate::{Ending, Status};
+use fault_lines::{Fault, give_fault};
+use m_ports::{Failed, Sink};
+
+/// The status after a text that was given with this result, where this one belongs to the text.
+pub fn printed(given: Result<(), Failed>, own: Status) -> Status
+    ensures { MatchResult given (λ _. result ≡ own) (λ _. result ≡ Status.WriteFault) }
+{
+    match given {
+        Ok(()) => own,
+        Err(Failed) => Status::WriteFault,
+    }
+}
+
+/// Prints the line of a fault, and answers this status, which belongs to it. It takes no memory.
+pub fn print_fault<K: Sink>(out: &mut K, fault: Fault<'_>, own: Status) -> Status
+    ensures { Prints (fault_line fault.entry) own (output_view K.written K.faults out.old) (output_view K.written K.faults out.new) result }
+{
+    printed(give_fault(fault, out), own)
+}
+
+/// Prints what ended a command, and answers its status. It takes no memory.
+pub fn tell<K: Sink>(out: &mut K, ending: &Ending) -> Status
+    ensures { Tells ending.now (output_view K.written K.faults out.old) (output_view K.written K.faults out.new) result }
+{
+    match ending {
+        Ending::Refused(refusal) => print_fault(out, refusal.fault(), Status::Refused),
+        Ending::Unreadable(name) => {
+            print_fault(out, Fault::Unreadable(name.bytes()), Status::ReadFault)
+        }
+        Ending::Memory => Status::Memory,
+    }
+}
