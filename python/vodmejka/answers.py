@@ -2,9 +2,10 @@
 from __future__ import annotations
 
 import re
+import sys
 from dataclasses import dataclass
 from decimal import Decimal, InvalidOperation
-from typing import Iterable, Iterator, Union
+from typing import Iterator, Union
 
 from .errors import Broken
 
@@ -49,18 +50,21 @@ Read = tuple[dict[str, Value], tuple[Note, ...], Union[Stop, None]]
 class Answer:
     """What a household is told: the values by their names in order, and the notes; or the stop, and then there are no values.
 
-    Of a batch the lines of the program are read when something of them is asked for, and a single value by its line alone, so that many answers cost little.
+    Of a batch the lines of the program are read when something of them is asked for, and of a single value its line alone, so that many answers cost little.
     """
 
-    __slots__ = ("_lines", "_form", "_values", "_rest")
+    __slots__ = ("_block", "_index", "_lines", "_form", "_values", "_rest")
 
     def __init__(self, values: dict[str, Value] | None = None, notes: tuple[Note, ...] = (), stop: Stop | None = None):
+        self._block: Block | None = None
         self._lines, self._form = "", NO_FORM
         self._values: dict[str, Value] | None = {} if values is None else values
         self._rest: tuple[tuple[Note, ...], Stop | None] | None = (notes, stop)
 
     @property
     def values(self) -> dict[str, Value]:
+        if self._block is not None:
+            self._leave(self._block)
         if self._values is None:
             self._values = self._form.values(self._lines)
         return self._values
@@ -74,6 +78,12 @@ class Answer:
         return self._told()[1]
 
     def __getitem__(self, name: str) -> Value:
+        block = self._block
+        if block is not None:
+            column = block[name]
+            if column is not None:
+                return column[self._index]
+            self._leave(block)
         try:
             return Decimal(self._lines.rpartition(self._form.begins[name])[2].partition("\n")[0])
         except (KeyError, InvalidOperation):
@@ -87,27 +97,117 @@ class Answer:
     def __repr__(self) -> str:
         return f"Answer(values={self.values!r}, notes={self.notes!r}, stop={self.stop!r})"
 
+    def __reduce__(self) -> tuple[type, tuple[object, ...]]:
+        return Answer, (self.values, self.notes, self.stop)
+
     def _told(self) -> tuple[tuple[Note, ...], Stop | None]:
         """The notes and the stop."""
+        if self._block is not None:
+            self._leave(self._block)
         if self._rest is None:
             begin = after_notes(self._lines)
             told = self._lines if self._lines.startswith(STOPS, begin) else self._lines[:begin]
             self._rest = parts_of(lines_of(told))[1:]
         return self._rest
 
+    def _leave(self, block: Block) -> None:
+        """Takes its own lines out of the block in which they are, and lets go of it."""
+        self._lines, self._form, self._values, self._rest, self._block = block.lines(self._index), block.form, None, None, None
+
+
+class Told(Answer):
+    """An answer whose lines are in a block with others; made without a call of Python."""
+
+    __slots__ = ()
+    __init__ = object.__init__  # type: ignore[assignment]
+
+
+class Block(dict):  # type: ignore[type-arg]
+    """The lines of some hundred answers, as the program prints them: `text`, with the label of each.
+
+    As a dict it has, by each name that was asked for, the values in order; None where one of them isn't an amount.
+    """
+
+    __slots__ = ("form", "text", "count", "_parts")
+
+    def __init__(self, form: Form, text: str, count: int):
+        super().__init__()
+        self.form, self.text, self.count = form, text, count
+        self._parts: list[str] | None = None
+
+    def __missing__(self, name: str) -> list[Decimal] | None:
+        begin = self.form.begins.get(name)
+        pieces = self.text.split(begin) if begin else []
+        column = None
+        if len(pieces) == self.count + 1:
+            try:
+                column = self.form.decimals([piece.partition("\n")[0] for piece in pieces[1:]])
+            except InvalidOperation:
+                pass
+        self[name] = column
+        return column
+
+    def lines(self, index: int) -> str:
+        """The lines of an answer, with a line feed before the first one."""
+        if self._parts is None and index == self.count - 1:
+            return "\n" + self.text[self.text.rfind("\n" + LABEL_LINE) + 1 + len(LABEL_LINE) :]
+        if self._parts is None:
+            self._parts = ("\n" + self.text[:-1]).split("\n" + LABEL_LINE)[1:]
+        return f"\n{self._parts[index]}\n"
+
+    def answers(self) -> list[Told]:
+        """Its answers."""
+        made = []
+        add = made.append
+        for index in range(self.count):
+            answer = Told()
+            answer._block, answer._index = self, index
+            add(answer)
+        return made
+
+
+class Known(dict):  # type: ignore[type-arg]
+    """Decimals by their texts."""
+
+    __slots__ = ()
+
+    def __missing__(self, text: str) -> Decimal:
+        made = self[text] = Decimal(text)
+        return made
+
+
+def let_go(answers: list[Told]) -> None:
+    """Lets those of a block's answers that are still held elsewhere, where they are the fewer, have their own lines, so that they don't hold the block."""
+    counts = list(map(sys.getrefcount, answers))
+    if counts.count(ALONE) * 2 > len(counts):
+        for index, count in enumerate(counts):
+            if count != ALONE and (block := answers[index]._block) is not None:
+                answers[index]._leave(block)
+
 
 class Form:
     """How answers of rules tell values of these names, where all are amounts: how each line begins, and the form of all lines together.
 
     The lines of an answer have a line feed before the first one and after each. The last line that begins with a name and ` = ` is that name's, or the text of
-    a note or a stop, and this is no amount, since it has the colons between the error's texts.
+    a note or a stop, and this is no amount, since it has the colons between the error's texts. So a line that is a label, or a name with an amount, is no text.
     """
 
     def __init__(self, names: list[str]):
         self.names = names
         self.begins = {name: f"\n{name} = " for name in names}
+        self.known: dict[str, Decimal] | None = Known()
         together = "".join(f"{re.escape(name)} = (-?[0-9.]+)\n" for name in names[:MOST_TOGETHER])
         self.match = re.compile(together if 0 < len(names) <= MOST_TOGETHER else "(?!)").fullmatch
+
+    def decimals(self, texts: list[str]) -> list[Decimal]:
+        """Texts as decimals. Most amounts are met again and again, and are kept; where most are new, none is kept from then on."""
+        if self.known is None:
+            return list(map(Decimal, texts))
+        before = len(self.known)
+        found = list(map(self.known.__getitem__, texts))
+        if before > MOST_KNOWN:
+            self.known = None if 2 * (len(self.known) - before) > len(texts) else Known()
+        return found
 
     def values(self, lines: str) -> dict[str, Value]:
         """The values that lines tell."""
@@ -121,15 +221,11 @@ class Form:
             return parts_of(lines_of(lines))[0]
         return {name: Decimal(number) if number else None if undefined else OVER for name, number, undefined, _ in found}
 
-    def answers(self, parts: Iterable[str]) -> Iterator[Answer]:
-        """The answers that have these lines."""
-        new = Answer.__new__
-        for part in parts:
-            made = new(Answer)
-            made._lines, made._form, made._values, made._rest = part, self, None, None
-            yield made
 
-
+LABEL = "~"
+LABEL_LINE = f"household {LABEL}\n"
+MOST_KNOWN = 20_000
+ALONE = next(map(sys.getrefcount, [object()]))
 MOST_TOGETHER = 100
 NO_FORM = Form([])
 STOPS = ("failed ", "over ")

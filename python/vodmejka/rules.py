@@ -1,7 +1,6 @@
 """A rule base that is ready to compute."""
 from __future__ import annotations
 
-import itertools
 import os
 import re
 import shutil
@@ -9,13 +8,13 @@ import tempfile
 from typing import Any, Iterable, Iterator
 
 from .answers import Answer, Form, answer_of
+from .batches import Batch
 from .errors import Broken, NotFound, Refused
 from .program import ENCODING, Amount, digest_of, household_bytes, program_path, run, spelled
 from .session import Session
-from .tables import LABEL, Household, Tables
+from .tables import Household
 
 ROWS, MOST_ROWS = 50_000, 100_000
-TABLE_BYTES = 16_777_216
 VALUES = 4_000_000
 
 
@@ -150,22 +149,12 @@ class Rules:
         return self._path("code")
 
     def _answers(self, rows: Iterable[Household], at_once: int) -> Iterator[Answer]:
-        left, tables = iter(rows), Tables()
+        if not self._words:
+            return (self.run(row) for row in rows)
         form = Form([line.split(" ")[1] for line in self._lines if line.startswith("output ")])
         notes = sum(line.startswith("note ") for line in self._lines)
         size = max(1, min(at_once, MOST_ROWS, VALUES // (len(form.names) + notes + 1)))
-        while chunk := list(itertools.islice(left, size)):
-            yield from form.answers(self._batch(tables, chunk)) if self._words else map(self.run, chunk)
-
-    def _batch(self, tables: Tables, households: list[Household]) -> list[str]:
-        """The lines of the answers of some households, by one batch, or by several where the table would be too long for one."""
-        table = tables.table(households)
-        if len(table) > TABLE_BYTES and len(households) > 1:
-            half = len(households) // 2
-            return self._batch(tables, households[:half]) + self._batch(tables, households[half:])
-        self._put("table.csv", table)
-        text, _ = self._run("batch", *self._words, "table.csv")
-        return parted(lines_of(text), len(households))
+        return Batch([self.program, "batch", *self._words], self._room.name, form, size, self.inputs(), self._told).answers(rows)
 
     def _frame(self, frame: Any, at_once: int) -> Any:
         """The answers to the rows of a frame, as a frame."""
@@ -186,29 +175,6 @@ def lines_of(output: bytes) -> str:
     if output and not output.endswith(b"\n"):
         raise Broken(f"a last line without its end: {output[-200:]!r}")
     return output.decode(ENCODING)
-
-
-def parted(text: str, count: int) -> list[str]:
-    """What a batch of so many households printed after the label of each, with the line feed of the label."""
-    parts = text.split(f"household {LABEL}")
-    if len(parts) != count + 1 or parts[0]:
-        parts = parted_by_line(text)
-        if len(parts) != count + 1 or parts[0]:
-            raise Broken(f"{len(parts) - 1} answers for {count} households")
-    return parts[1:]
-
-
-def parted_by_line(text: str) -> list[str]:
-    """The same where a label stands in the text of a note or a stop too: it is passed over with the line before it."""
-    parts: list[list[str]] = [[]]
-    in_text = False
-    for line in text.split("\n")[:-1]:
-        if not in_text and line == f"household {LABEL}":
-            parts.append(["\n"])
-            continue
-        parts[-1].append(line + "\n")
-        in_text = not in_text and line.startswith(("failed ", "noted "))
-    return list(map("".join, parts))
 
 
 def exact(code: str, value: Any) -> Amount:

@@ -9,15 +9,17 @@ import re
 from decimal import Decimal
 from typing import Iterable, Mapping, Sequence
 
+from .answers import LABEL
 from .program import ENCODING, Amount, spelled
 
 Household = Mapping[str, Amount]
-LABEL = "~"
 MOST_FORMS = 1_000
+FIRST = 64
 PLAIN = {int, str, Decimal, type(None)}
 WORDS = re.compile("[EeIN]")
 QUOTED = re.compile('["\r]')
 CODE = re.compile("[0-9A-Za-z_]+")
+WHOLE = b"0123456789-,\n" + LABEL.encode()
 
 
 class Tables:
@@ -36,15 +38,16 @@ class Tables:
 
     def table(self, households: Sequence[Household]) -> bytes:
         """The table of some households."""
-        text = self._filled(households) if self._has_forms else None
-        return (by_columns(households) if text is None else text).encode(ENCODING)
+        table = self._filled(households) if self._has_forms else None
+        return by_columns(households).encode(ENCODING) if table is None else table
 
-    def _filled(self, households: Sequence[Household]) -> str | None:
+    def _filled(self, households: Sequence[Household]) -> bytes | None:
         """The table by forms of rows; None where something isn't plain."""
         if set(map(type, households)) != {dict}:
             return None
         amounts = tuple(itertools.chain.from_iterable(map(dict.values, households)))  # type: ignore[arg-type]
-        types = set(map(type, amounts))
+        whole = are_whole(amounts)
+        types = {int} if whole else set(map(type, amounts))
         if not types <= PLAIN:
             return None
         try:
@@ -58,8 +61,12 @@ class Tables:
             if text.count("None") != amounts.count(None):
                 return None
             text = text.replace("None", "")
-        plain = (str not in types or self._fields_of(text) == len(households)) and not (Decimal in types and WORDS.search(text))
-        return ",".join(["name", *self._codes]) + "\n" + text if plain else None
+        if str in types and self._fields_of(text) != len(households) or Decimal in types and WORDS.search(text):
+            return None
+        table = text.encode(ENCODING)
+        if whole and (table.translate(None, WHOLE) or (table.count(b","), table.count(b"\n")) != (len(households) * len(self._codes), len(households))):
+            return None
+        return ",".join(["name", *self._codes]).encode(ENCODING) + b"\n" + table
 
     def _fields_of(self, text: str) -> int:
         """How many rows a text has where each has all its fields, and no field is written otherwise than it is; else -1."""
@@ -87,15 +94,28 @@ class Tables:
         return ",".join([LABEL, *("%s" if code in codes else "" for code in self._codes)]) + "\n"
 
 
+def are_whole(amounts: Sequence[Amount]) -> bool:
+    """Whether amounts are whole numbers of the type int, or of a type below it: their sum is, which takes less time than to look at each type.
+
+    A truth is one too, and any of these may be written in a way of its own, so what is written is to be looked at.
+    """
+    if set(map(type, amounts[:FIRST])) != {int}:
+        return False
+    try:
+        return type(sum(amounts)) is int  # type: ignore[arg-type]
+    except (TypeError, ArithmeticError):
+        return False
+
+
 def by_columns(households: Sequence[Household]) -> str:
     """The table where households, codes and amounts may be anything."""
     codes = list(dict.fromkeys(itertools.chain.from_iterable(households)))
     columns = [[household.get(code) for household in households] for code in codes]
     types = set(itertools.chain.from_iterable(map(set, (map(type, column) for column in columns))))
-    text = csv_text(["name", *codes], zip(itertools.repeat(LABEL), *columns)) if types <= PLAIN else None
+    text = csv_text(["name", *codes], zip(itertools.repeat(LABEL, len(households)), *columns)) if types <= PLAIN else None
     if text is None or Decimal in types and WORDS.search(text, text.index("\n")):
         exact = [[None if amount is None else spelled(code, amount) for amount in column] for code, column in zip(codes, columns)]
-        text = csv_text(["name", *codes], zip(itertools.repeat(LABEL), *exact))
+        text = csv_text(["name", *codes], zip(itertools.repeat(LABEL, len(households)), *exact))
     return text
 
 
