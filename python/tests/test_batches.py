@@ -161,8 +161,8 @@ class Batches(unittest.TestCase):
         self.assertEqual([tuple(answer["IRN"] for answer in some) for some in pairs], [(k, 2999 - k, k) for k in range(3000)])
 
     def test_a_program_that_is_killed(self):
-        """The answers of the part before it are told."""
-        self.rules = self.rules_by("[ -e begun ] && kill -KILL $$; : >begun;")
+        """The answers of the part before it are told. Parts are begun ahead, so the script knows the second one by what its table has."""
+        self.rules = self.rules_by('grep -q 2500 "$5" && kill -KILL $$;')
         told, error = self.told_before([{"1AJ": 1000 + k} for k in range(3000)], 1000, Interrupted)
         self.assertEqual((told, str(error)), (list(range(1000)), "the program ended with status -9"))
 
@@ -172,7 +172,7 @@ class Batches(unittest.TestCase):
             self.assertEqual(self.told_before([{"1AJ": 1}, {"1AJ": 2}], 1000, batches.Broken)[0], [])
 
     def test_a_batch_that_is_left_ends_its_program(self):
-        self.rules = self.rules_by("[ -e begun ] && echo $$ >number && exec sleep 600; : >begun;")
+        self.rules = self.rules_by('grep -q 2500 "$5" && echo $$ >number && exec sleep 600;')
         batch = self.rules.batch(({"1AJ": 1000 + k} for k in range(5000)), rows_at_once=1000)
         self.assertEqual(next(batch)["IRN"], 0)
         while not os.path.exists(self.room.name + "/number") or not os.path.getsize(self.room.name + "/number"):
