@@ -1,7 +1,7 @@
 #!/usr/bin/env python3
 """Every definition that the theorem of the program stands on, with its place and its lines: what an auditor has to read.
 
-    tests/definitions.py            prints how many there are, by crate
+    tests/definitions.py            prints how many there are, by crate and by command
     tests/definitions.py --page     prints docs/DEFINITIONS.md
 
 It begins at the clauses of `m_tax` in m_commands, and goes along the names that each definition of `crates/*/specs` and each type of `crates/*/src` cites. What the kit
@@ -100,8 +100,8 @@ def of_type(crate, module, name):
 class Reading:
     """Walks from names to the definitions that they name, each once."""
 
-    def __init__(self):
-        self.files, self.types, self.seen = {}, {}, {}
+    def __init__(self, left_out=()):
+        self.files, self.types, self.seen, self.left_out = {}, {}, {}, left_out
 
     def find(self, module, name):
         """The definitions by which a name of a module is known, and the imports and neighbours of its file."""
@@ -129,7 +129,7 @@ class Reading:
         while todo:
             module, name = todo.pop()
             known = self.find(module, name)
-            if not known:
+            if not known or name in self.left_out:
                 continue
             definition, names, neighbours = known
             key = (definition.path, definition.line)
@@ -162,24 +162,62 @@ def clauses():
     return top, todo
 
 
+def answers():
+    """What each command answers: the names of its definitions, each with its module. `compile` has a clause of its own."""
+    path = "crates/m_commands/specs/Answer.antt"
+    lines = read(path)
+    names, found = imports(lines, ""), {}
+    for text in lines:
+        said = re.match(r"(?:Replies|CutOff|InFull|HasAnswer) \((\w+) [^)]*\).* = (\w+)", text)
+        if said and said[2] in names:
+            found.setdefault(said[1].lower(), set()).add(names[said[2]])
+    found["compile"].add(("Rattle.m_commands.specs.Clauses", "WritesCode"))
+    return found
+
+
+def by_command():
+    """Of each command: how many lines there are to read for its answers alone, with all that they lead to; and the lines that every command needs, those of the clauses without any answer."""
+    found = answers()
+    alone = {name for names in found.values() for _, name in names}
+    frame = Reading(alone)
+    top, todo = clauses()
+    frame.walk(todo)
+    shared = top.count + sum(d.count for d in frame.seen.values())
+    rows = []
+    for command, names in found.items():
+        reading = Reading(alone - {name for _, name in names})
+        reading.walk(list(names))
+        rows.append((command, shared + sum(d.count for key, d in reading.seen.items() if key not in frame.seen)))
+    return shared, rows
+
+
 def main():
     reading = Reading()
     top, todo = clauses()
     reading.walk(todo)
     found = [top, *sorted(reading.seen.values(), key=lambda d: (d.path, d.line))]
     lines = sum(d.count for d in found)
+    shared, commands = by_command()
     crates = {}
     for d in found:
         crates.setdefault(d.crate, []).append(d)
     if sys.argv[1:] != ["--page"]:
         for crate in sorted(crates):
             print(f"{crate}: {len(crates[crate])} definitions, {sum(d.count for d in crates[crate])} lines")
+        for command, count in commands:
+            print(f"{command} alone: {count} lines")
         print(f"all: {len(found)} definitions, {lines} lines")
         return
     print("# What the theorem stands on\n")
     print("Every definition and type that the clauses of `m_tax` lead to, down to the operators: what is to be read by who wants to know what was proved. `tests/definitions.py --page` makes this")
     print("page. Lines are those of code; what the kit states of lists, numbers and options isn't followed.\n")
     print(f"In all {len(found)} definitions, {lines} lines.\n")
+    print("Who wants to know what one command answers reads less: the lines that all commands share, of words, files, limits, statuses and what is written when")
+    print(f"something fails, are {shared}, and with them are to be read\n")
+    print("| Command | lines |\n|---|---:|")
+    for command, count in commands:
+        print(f"| `{command}` | {count} |")
+    print()
     print("| Crate | definitions | lines |\n|---|---:|---:|")
     for crate in sorted(crates):
         print(f"| {crate} | {len(crates[crate])} | {sum(d.count for d in crates[crate])} |")

@@ -29,27 +29,13 @@ Replies (Cases source table) typed = CasesReplies source table
 
 -- The text where a read of the input fails after these bytes of it: only a session reads.
 abbrev pub CutOff : Work → (taken : List ℕ) → List ℕ → Type 0
-CutOff (Run source rows) taken text = ⊥
 CutOff (Serve source rows) taken text = ServeCutOff source rows taken text
-CutOff (Batch source table) taken text = ⊥
-CutOff (Large n) taken text = ⊥
-CutOff (Compile source) taken text = ⊥
-CutOff (Exec code rows) taken text = ⊥
-CutOff (Check source rows report) taken text = ⊥
-CutOff (Lint source) taken text = ⊥
-CutOff (Cases source table) taken text = ⊥
+CutOff _ taken text = ⊥
 
 -- The replies to all that is typed, also where that is more than is taken: what a session writes is a prefix of them where a write fails.
 abbrev pub InFull : Work → (typed : List ℕ) → List ℕ → Type 0
-InFull (Run source rows) typed text = ⊥
 InFull (Serve source rows) typed text = ServeInFull source rows typed text
-InFull (Batch source table) typed text = ⊥
-InFull (Large n) typed text = ⊥
-InFull (Compile source) typed text = ⊥
-InFull (Exec code rows) typed text = ⊥
-InFull (Check source rows report) typed text = ⊥
-InFull (Lint source) typed text = ⊥
-InFull (Cases source table) typed text = ⊥
+InFull _ typed text = ⊥
 
 -- what was gathered has an answer that isn't an error: the generated source and household have one
 abbrev pub HasAnswer : Work → Type 0

@@ -85,14 +85,7 @@ command_of words = option_or (large_command words) (option_or (exec_command word
 -- the number of `large N` is one of those that there are
 abbrev pub IsInReach : Command → Type 0
 IsInReach (Large n) = (1 ≤ n) × (n ≤ LARGE)
-IsInReach (Run names household) = Unit {0}
-IsInReach (Serve names household) = Unit {0}
-IsInReach (Batch names table) = Unit {0}
-IsInReach (Compile names) = Unit {0}
-IsInReach (Exec code household) = Unit {0}
-IsInReach (Check list household report) = Unit {0}
-IsInReach (Lint names) = Unit {0}
-IsInReach (Cases names table) = Unit {0}
+IsInReach _ = Unit {0}
 
 -- ---- plans
 
@@ -143,15 +136,10 @@ plan_of (Cases names table) = work_plan names table work.Cases
 
 -- the most bytes of a file that a command fetches; `large N` fetches none
 abbrev pub file_limit : Command → ℕ
-file_limit (Run names household) = FILE_BYTES
-file_limit (Serve names household) = FILE_BYTES
-file_limit (Batch names table) = FILE_BYTES
-file_limit (Large n) = 0
-file_limit (Compile names) = FILE_BYTES
 file_limit (Exec code household) = CODE_FILE_BYTES
 file_limit (Check list household report) = CODE_FILE_BYTES
-file_limit (Lint names) = FILE_BYTES
-file_limit (Cases names table) = FILE_BYTES
+file_limit (Large n) = 0
+file_limit _ = FILE_BYTES
 
 -- the most bytes of a file that the words' command fetches; none where they are no command
 abbrev pub limit_of : List (List ℕ) → ℕ
@@ -159,15 +147,8 @@ limit_of words = option_map_or file_limit (command_of words) 0
 
 -- whether a command takes from the input
 abbrev pub takes_input : Command → Bool
-takes_input (Run names household) = false
 takes_input (Serve names household) = true
-takes_input (Batch names table) = false
-takes_input (Large n) = false
-takes_input (Compile names) = false
-takes_input (Exec code household) = false
-takes_input (Check list household report) = false
-takes_input (Lint names) = false
-takes_input (Cases names table) = false
+takes_input _ = false
 
 -- whether the words are a command that takes from the input
 abbrev pub reads_input : List (List ℕ) → Bool
@@ -175,15 +156,9 @@ reads_input words = option_map_or takes_input (command_of words) false
 
 -- whether a command writes before all its work is done, so that memory may end it after a part of its text
 abbrev pub writes_in_parts : Command → Bool
-writes_in_parts (Run names household) = false
-writes_in_parts (Serve names household) = false
 writes_in_parts (Batch names table) = true
-writes_in_parts (Large n) = false
-writes_in_parts (Compile names) = false
-writes_in_parts (Exec code household) = false
-writes_in_parts (Check list household report) = false
-writes_in_parts (Lint names) = false
 writes_in_parts (Cases names table) = true
+writes_in_parts _ = false
 
 -- whether the words are a command that writes before all its work is done
 abbrev pub writes_early : List (List ℕ) → Bool
