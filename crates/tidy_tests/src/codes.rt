@@ -3,7 +3,7 @@ ghost use Rattle.std.specs.Prelude.{◌≡◌, ◌<◌, All, IfOk, IsTrue, lengt
 ghost use Rattle.std.specs.List.{AllByRecursion};
 ghost use Rattle.flat_code.specs.Runs.{AreNodes, IsCheck, IsFlat};
 
-use crate::programs::{no_checks, one_output, units};
+use crate::programs::{one_output, unchecked, units};
 use dead_rules::tidy;
 use flat_code::{Check, Flat, Node, Tidy};
 use m_fixed::Op;
@@ -41,13 +41,7 @@ fn sum(alloc: Global) -> Result<Flat, AllocError>
     ensures few { IfOk result (λ flat. length flat.nodes ≡ 3) }
 {
     let nodes = sum_nodes(alloc)?;
-    let outputs = one_output(alloc, 2)?;
-    Ok(Flat {
-        inputs: 2,
-        nodes,
-        checks: no_checks(alloc),
-        outputs,
-    })
+    unchecked(alloc, 2, nodes, 2)
 }
 
 fn checked_nodes(alloc: Global) -> Result<Seq<Node>, AllocError>

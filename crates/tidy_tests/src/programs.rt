@@ -26,8 +26,29 @@ pub fn one_output(alloc: Global, number: u32) -> Result<Seq<u32>, AllocError>
     Ok(Seq::from_vec(outputs))
 }
 
-pub fn no_checks(alloc: Global) -> Seq<Check>
+fn no_checks(alloc: Global) -> Seq<Check>
     ensures { result ≡ [] }
+
+/// A program without checks that has one output.
+pub fn unchecked(
+    alloc: Global,
+    inputs: u32,
+    nodes: Seq<Node>,
+    output: u32,
+) -> Result<Flat, AllocError>
+    requires nodes { AreNodes inputs 0 nodes }
+    requires output { output < length nodes }
+    ensures valid { IfOk result IsFlat }
+    ensures nodes { IfOk result (λ flat. flat.nodes ≡ nodes) }
+{
+    let outputs = one_output(alloc, output)?;
+    Ok(Flat {
+        inputs,
+        nodes,
+        checks: no_checks(alloc),
+        outputs,
+    })
+}
 {
     Seq::from_vec(Vec::new(alloc))
 }
@@ -69,13 +90,7 @@ fn sum(alloc: Global) -> Result<Flat, AllocError>
     ensures few { IfOk result (λ flat. length flat.nodes ≡ 6) }
 {
     let nodes = sum_nodes(alloc)?;
-    let outputs = one_output(alloc, 5)?;
-    Ok(Flat {
-        inputs: 1,
-        nodes,
-        checks: no_checks(alloc),
-        outputs,
-    })
+    unchecked(alloc, 1, nodes, 5)
 }
 
 fn presence_nodes(alloc: Global) -> Result<Seq<Node>, AllocError>
@@ -98,13 +113,7 @@ fn presence(alloc: Global) -> Result<Flat, AllocError>
     ensures few { IfOk result (λ flat. length flat.nodes ≡ 4) }
 {
     let nodes = presence_nodes(alloc)?;
-    let outputs = one_output(alloc, 3)?;
-    Ok(Flat {
-        inputs: 1,
-        nodes,
-        checks: no_checks(alloc),
-        outputs,
-    })
+    unchecked(alloc, 1, nodes, 3)
 }
 
 fn product_nodes(alloc: Global) -> Result<Seq<Node>, AllocError>
@@ -121,13 +130,7 @@ fn product(alloc: Global) -> Result<Flat, AllocError>
     ensures few { IfOk result (λ flat. length flat.nodes ≡ 3) }
 {
     let nodes = product_nodes(alloc)?;
-    let outputs = one_output(alloc, 2)?;
-    Ok(Flat {
-        inputs: 1,
-        nodes,
-        checks: no_checks(alloc),
-        outputs,
-    })
+    unchecked(alloc, 1, nodes, 2)
 }
 
 fn choice_nodes(alloc: Global) -> Result<Seq<Node>, AllocError>
@@ -153,13 +156,7 @@ fn choice(alloc: Global) -> Result<Flat, AllocError>
     ensures few { IfOk result (λ flat. length flat.nodes ≡ 6) }
 {
     let nodes = choice_nodes(alloc)?;
-    let outputs = one_output(alloc, 5)?;
-    Ok(Flat {
-        inputs: 1,
-        nodes,
-        checks: no_checks(alloc),
-        outputs,
-    })
+    unchecked(alloc, 1, nodes, 5)
 }
 
 fn checked_nodes(alloc: Global) -> Result<Seq<Node>, AllocError>
