@@ -1,21 +1,21 @@
 -- A driver over cells whose names have no fault has its numbers in range.
-use Rattle.std.proofs.Common.{◌≡◌, ◌≤◌, ◌<◌, ◌+◌, ℕ, ℤ, zero, suc, inl, inr, ◌⊎◌, Bool, true, false, cond, nat_lt, List, [], ◌∷◌, ◌++◌, length, map, length-append, All, Option, None, Some, Result, Ok, Err, refl, sym, ap, ◌∙◌, subst, arith, slice_get}
-use Rattle.std.specs.Prelude.{◌&&◌, codes, IfOk, ◌==◌}
+use Rattle.std.proofs.Common.{◌≡◌, ◌≤◌, ◌<◌, ◌+◌, ℕ, ℤ, suc, Bool, true, false, cond, nat_lt, List, [], ◌∷◌, ◌++◌, length, map, length-append, All, Option, None, Some, Result, Ok, Err, refl, sym, ap, ◌∙◌, subst, arith, slice_get}
+use Rattle.std.specs.Prelude.{◌&&◌, codes, ◌==◌}
 use Rattle.std.specs.List.{AllByRecursion}
 use Rattle.std.specs.Option.{option_map_or, option_map}
 use Rattle.std.specs.Str.{bytes_eq}
 use Rattle.std.proofs.lemmas.Bool.{ltb-true}
 use Rattle.std.proofs.lemmas.List.{length-map}
 use Rattle.std.proofs.lemmas.List.Elements.{All-nil, All-cons}
-use Rattle.m_names.specs.Names.{has, index_of}
+use Rattle.m_names.specs.Names.{index_of}
 use Rattle.m_ast.specs.declared.variable.Role.{Role}
 use Rattle.m_ast.specs.declared.variable.Role.TheVariants.{Input, Computed, Constant}
 use Rattle.m_ast.specs.Items.{cells_in, size_in, is_input, variable_cells, variable_size, is_constant}
 use Rattle.m_symbols.specs.declared.variable.Variable.{Variable}
-use Rattle.m_symbols.specs.Declarations.{Declared, owners_from, placed_from}
+use Rattle.m_symbols.specs.Declarations.{Declared, owners_from}
 use Rattle.m_symbols.specs.Kinds.{is_of_kind, is_one_of, last_value}
 use Rattle.m_requests.specs.Cells.{variable_named}
-use Rattle.m_requests.specs.Placed.{IsPlaced, items_of}
+use Rattle.m_requests.specs.Placed.{IsPlaced}
 use Rattle.m_requests.proofs.Placing.{placed_ends}
 use Rattle.mpp_parser.specs.Trees.{Term, lit, named, apply, chain, exists, Terms, no_terms, a_term, Links, no_links, a_link}
 use Rattle.mpp_parser.specs.Commands.{Act, set, del, when, partition, call, Acts, no_acts, an_act}
@@ -31,12 +31,12 @@ use Rattle.driver_core.specs.FormulaView.{formulas_of, steps_of}
 use Rattle.driver_core.specs.declared.term.CStep.{CStep}
 use Rattle.driver_core.specs.Actions.{Action, assign, clear, branch, partition as partition_action, call as call_action, solve}
 use Rattle.driver_core.specs.ActionView.{block_of}
-use Rattle.driver_core.specs.Valid.{CellsAreWithin, FormulaIsWithin, FormulasAreWithin, StepsAreWithin, ActionIsWithin, BlockIsWithin, HasNoRing, IsInRange, IsValidCore}
+use Rattle.driver_core.specs.Valid.{FormulaIsWithin, FormulasAreWithin, StepsAreWithin, ActionIsWithin, BlockIsWithin, IsInRange}
 use Rattle.mpp_core.specs.declared.fault.CoreFault.{CoreFault}
 use Rattle.mpp_core.specs.declared.fault.CoreFault.TheVariants.{FunctionTwice}
 use Rattle.mpp_core.specs.Names.{if_said, table_cell, cell_at, cell_of_variable, cell_said, constant_target, target_of_variable, target_said, targets_said, with_cell, each_once, with_kind, cells_of_kind, kind_cells, name_in, name_said, names_said, main_said, function_said, rules_name}
 use Rattle.mpp_core.specs.Bodies.{term_said, terms_said, links_said, call_said, act_said, acts_said, bodies_said}
-use Rattle.mpp_core.specs.Cores.{core_of, IsCore}
+use Rattle.mpp_core.specs.Cores.{core_of}
 use Rattle.mpp_core.proofs.NameLemmas.{named_at}
 
 -- ---- things that are said
@@ -313,3 +313,15 @@ core_in_range driver d core p e =
       main = omega (arith, main, same);
       bodies = all_of (BodyIsWithin cells (length b.0)) b.0 (subst (λ n. AllByRecursion (BodyIsWithin cells n) b.0) same (bodies_within d k.0 [] driver.functions b.0 p tt b.1));
     })
+
+-- there are as many names as functions
+pub functions_count : (driver : Driver) (d : Declared) (core : Core) (names : List (List ℕ)) → core_of driver d ≡ Ok core → names_said [] driver.functions ≡ Ok names → length names ≡ length core.bodies
+functions_count driver d core names e said =
+    let cells = length (owners_from 0 d.variables) in
+    let k = said_by (λ names. if_said (λ main. if_said (λ bodies. Ok (record { cells = cells; names = map name_in driver.functions; bodies = bodies; main = main })) (bodies_said d names [] driver.functions)) (main_said names)) (names_said [] driver.functions) core e in
+    let m = said_by (λ main. if_said (λ bodies. Ok (record { cells = cells; names = map name_in driver.functions; bodies = bodies; main = main })) (bodies_said d k.0 [] driver.functions)) (main_said k.0) core k.2 in
+    let b = said_by (λ bodies. Ok (record { cells = cells; names = map name_in driver.functions; bodies = bodies; main = m.0 })) (bodies_said d k.0 [] driver.functions) core m.2 in
+    let count = bodies_count d k.0 [] driver.functions b.0 b.1 in
+    let named = names_count [] driver.functions names said in
+    let same : length names ≡ length b.0 = omega (arith, count, named) in
+    subst (λ (c : Core). length names ≡ length c.bodies) (value_of_ok _ core b.2) same

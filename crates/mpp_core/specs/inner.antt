@@ -1,3 +1,2 @@
 -- What only inner functions say.
-pub mod Ranks
-pub mod Rings
+pub mod Calls

@@ -1,20 +1,19 @@
 //! Names of drivers to cells and functions: from the trees of a driver to a driver over the cells of what is declared, or the first fault.
 //!
-//! This crate stands on the trees of drivers, on what is declared, and on drivers over cells. It knows nothing of rules, nor of what a
-//! command does.
+//! This crate stands on the trees of drivers, on what is declared, and on drivers over cells; calls in a ring are found by the search for an
+//! order of rules. It knows nothing of a source's rules, nor of what a command does.
 #![tactic(auto)]
 
+mod calls;
 mod commands;
 mod fault;
 mod functions;
 mod laws;
 mod names;
 mod plain;
-mod ranks;
 mod resolving;
 mod rings;
 mod scope;
-mod shown;
 mod terms;
 
 pub use fault::CoreFault;

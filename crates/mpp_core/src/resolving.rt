@@ -1,11 +1,12 @@
 //! Whole drivers.
 
-ghost use Rattle.std.specs.Prelude.{◌≡◌, Ok, Err, IfOk, length};
+ghost use Rattle.std.specs.Prelude.{◌≡◌, Ok, Err, IfOk, [], length};
 ghost use Rattle.m_places.specs.Refusals.{Outcome};
 ghost use Rattle.m_symbols.specs.Declarations.{owners_from};
 ghost use Rattle.m_requests.specs.Placed.{IsPlaced};
 ghost use Rattle.driver_core.specs.Valid.{IsValidCore};
 ghost use Rattle.mpp_core.specs.Cores.{IsCore, IsCoreFault, core_of};
+ghost use Rattle.mpp_core.specs.Names.{names_said};
 ghost use Rattle.mpp_core.specs.declared.fault.CoreFault.TheVariants.{Memory};
 
 use crate::CoreFault;
@@ -13,6 +14,7 @@ use crate::functions::{bodies, copied_names, function_names, main_of};
 use crate::rings::no_ring;
 use crate::scope::Scope;
 use driver_core::Core;
+use m_names::Names;
 use m_symbols::Symbols;
 use mpp_parser::Driver;
 use std::alloc::Global;
@@ -26,22 +28,28 @@ pub fn resolve_driver(alloc: Global, driver: &Driver, symbols: &Symbols) -> Resu
     ensures valid { IfOk result IsValidCore }
     ensures cells { IfOk result (λ core. core.cells ≡ length (owners_from 0 symbols.now.variables)) }
 {
-    let core = resolve_names(alloc, driver, symbols)?;
-    no_ring(alloc, &core)?;
+    let names = function_names(alloc, driver.functions.as_slice())?;
+    let core = resolve_names(alloc, driver, symbols, &names)?;
+    no_ring(alloc, &core, names.len())?;
     Ok(core)
 }
 
-// The driver over cells, or the first fault of its names. Functions may call each other in a ring.
-fn resolve_names(alloc: Global, driver: &Driver, symbols: &Symbols) -> Result<Core, CoreFault>
-    requires { IsPlaced symbols.now }
+// The driver over cells, whose functions have these names, or the first fault of other names. Functions may call each other in a ring.
+fn resolve_names(
+    alloc: Global,
+    driver: &Driver,
+    symbols: &Symbols,
+    names: &Names,
+) -> Result<Core, CoreFault>
+    requires placed { IsPlaced symbols.now }
+    requires names { names_said [] driver.now.functions ≡ Ok names.now }
     ensures outcome { Outcome Memory result (λ core. core_of driver.now symbols.now ≡ Ok core) (λ fault. core_of driver.now symbols.now ≡ Err fault) }
     ensures cells { IfOk result (λ core. core.cells ≡ length (owners_from 0 symbols.now.variables)) }
 {
     let functions = driver.functions.as_slice();
-    let names = function_names(alloc, functions)?;
-    let main = main_of(&names)?;
+    let main = main_of(names)?;
     let scope = Scope::new(alloc, symbols)?;
-    let bodies = bodies(alloc, functions, &names, &scope)?;
+    let bodies = bodies(alloc, functions, names, &scope)?;
     let names = copied_names(alloc, functions)?;
     Ok(Core {
         cells: symbols.cells(),

@@ -1,0 +1,89 @@
+//! The calls of functions as a base of rules, in which an order or a cycle is looked for.
+
+ghost use Rattle.std.specs.Prelude.{◌≡◌, ◌∷◌, [], ◌++◌, OnOk, IfOk, length};
+ghost use Rattle.driver_core.specs.ActionView.{block_of};
+ghost use Rattle.mpp_core.specs.inner.Calls.{action_steps, block_steps, call_step, calls_base, calls_term};
+
+use driver_core::{CCommand, CCommandNode};
+use m_fixed::{Op, Value};
+use m_places::{Place, Seq};
+use micro_m::{Base, MNode, MTerm, Step};
+use std::alloc::{AllocError, Global};
+
+// The place of the definitions, which no fault shows.
+const NO_PLACE: Place = Place {
+    file: 0,
+    byte: 0,
+    line: 0,
+};
+
+/// A base with a cell for each function, of which these are so many: it is defined by a sum of the functions that it calls.
+pub(crate) fn calls_base(
+    alloc: Global,
+    bodies: &[Seq<CCommand>],
+    functions: u32,
+) -> Result<Base, AllocError>
+    requires { functions ≡ length bodies.now }
+    ensures { IfOk result (λ base. base ≡ calls_base bodies.now) }
+{
+    let mut definitions = Vec::with_capacity(alloc, functions as usize)?;
+    for f in 0..functions {
+        let calls = calls_term(alloc, bodies[f as usize].as_slice())?;
+        definitions.push((f, calls, NO_PLACE))?;
+    }
+    Ok(Base {
+        cells: functions,
+        constants: Seq::from_vec(Vec::new(alloc)),
+        definitions: Seq::from_vec(definitions),
+        checks: Seq::from_vec(Vec::new(alloc)),
+        labels: Seq::from_vec(Vec::new(alloc)),
+    })
+}
+
+// A sum of the functions that are called in a block.
+fn calls_term(alloc: Global, commands: &[CCommand]) -> Result<MTerm, AllocError>
+    ensures { IfOk result (λ term. term ≡ calls_term (block_of commands.now)) }
+{
+    let mut steps = Vec::new(alloc);
+    add_calls(commands, &mut steps)?;
+    let first = Box::new(alloc, MTerm::new(MNode::Lit(Value::Undef)))?;
+    Ok(MTerm::new(MNode::Chain(first, steps)))
+}
+
+// Adds a step for each call in a block.
+#[cycle(calls)]
+fn add_calls(commands: &[CCommand], steps: &mut Vec<Step>) -> Result<(), AllocError>
+    ensures { OnOk result (steps.new.items ≡ steps.old.items ++ block_steps (block_of commands.now)) }
+{
+    for command in commands {
+        add_action(command, steps)?;
+    }
+    Ok(())
+}
+
+#[cycle(calls)]
+fn add_action(command: &CCommand, steps: &mut Vec<Step>) -> Result<(), AllocError>
+    ensures { OnOk result (steps.new.items ≡ steps.old.items ++ action_steps command.now) }
+{
+    match &command.node {
+        CCommandNode::Set(_, _, _) => Ok(()),
+        CCommandNode::Del(_, _) => Ok(()),
+        CCommandNode::If(_, _, first, second) => {
+            add_calls(first, steps)?;
+            add_calls(second, steps)
+        }
+        CCommandNode::Partition(_, _, block) => add_calls(block, steps),
+        CCommandNode::Call(_, _, _, function) => add_call(*function, steps),
+        CCommandNode::Rules(_, _, _) => Ok(()),
+    }
+}
+
+fn add_call(function: u32, steps: &mut Vec<Step>) -> Result<(), AllocError>
+    ensures { OnOk result (steps.new.items ≡ steps.old.items ++ call_step function ∷ []) }
+{
+    steps.push(Step {
+        op: Op::Add,
+        term: MTerm::new(MNode::Cell(function)),
+    })?;
+    Ok(())
+}
