@@ -63,15 +63,15 @@ index_back k h = ap (option_and_then plain_number) (closing_back (decimal k)) �
 
 -- ---- the name before it
 
--- no bracket begins
-abbrev pub IsUnopened : ℕ → Type 0
-IsUnopened b = b ≡ 91 → ⊥
+-- a byte that isn't `[`
+abbrev pub IsNoBracket : ℕ → Type 0
+IsNoBracket b = b ≡ 91 → ⊥
 
-split_whole : (name : List ℕ) → AllByRecursion IsUnopened name → split_at_bracket name ≡ (name, None)
+split_whole : (name : List ℕ) → AllByRecursion IsNoBracket name → split_at_bracket name ≡ (name, None)
 split_whole [] h = refl
 split_whole (b ∷ name) h = ap (λ t. cond t ([], Some name) (with_first b (split_at_bracket name))) (ne_eqb b 91 h.0) ∙ ap (with_first b) (split_whole name h.1)
 
-split_part : (name text : List ℕ) → AllByRecursion IsUnopened name → split_at_bracket (name ++ 91 ∷ text) ≡ (name, Some text)
+split_part : (name text : List ℕ) → AllByRecursion IsNoBracket name → split_at_bracket (name ++ 91 ∷ text) ≡ (name, Some text)
 split_part [] text h = refl
 split_part (b ∷ name) text h =
     ap (λ t. cond t ([], Some (name ++ 91 ∷ text)) (with_first b (split_at_bracket (name ++ 91 ∷ text)))) (ne_eqb b 91 h.0) ∙ ap (with_first b) (split_part name text h.1)
@@ -164,22 +164,22 @@ owned (v ∷ items) first number cell h =
 
 -- what is asked of a variable: its name has no bracket, and as a table it has few cells
 abbrev pub IsNameable : VariableItem → Type 0
-IsNameable v = AllByRecursion IsUnopened v.name × IfSome (variable_size v) (λ size. size ≤ TABLE_CELLS)
+IsNameable v = AllByRecursion IsNoBracket v.name × IfSome (variable_size v) (λ size. size ≤ TABLE_CELLS)
 
-cell_of_text : (declared : Declared) (v : Variable) (size : Option ℕ) (c : ℕ) → variable_named declared v.item.name ≡ Some v → variable_size v.item ≡ size → AllByRecursion IsUnopened v.item.name
+cell_of_text : (declared : Declared) (v : Variable) (size : Option ℕ) (c : ℕ) → variable_named declared v.item.name ≡ Some v → variable_size v.item ≡ size → AllByRecursion IsNoBracket v.item.name
     → IfSome size (λ s. s ≤ TABLE_CELLS) → v.first_cell ≤ c → c < v.first_cell + cells_in size → request_cell declared (cell_text size v.item.name (c - v.first_cell)) ≡ Some c
-cell_of_text declared v None c named is unopened small low high =
+cell_of_text declared v None c named is without small low high =
     let same : v.first_cell ≡ c = omega (arith, low, high) in
-    ap (named_cell declared) (split_whole v.item.name unopened)
+    ap (named_cell declared) (split_whole v.item.name without)
     ∙ ap (option_and_then (λ w. cell_by None (variable_size w.item) w.first_cell)) named
     ∙ ap (λ s. cell_by None s v.first_cell) is
     ∙ ap Some same
-cell_of_text declared v (Some size) c named is unopened small low high =
+cell_of_text declared v (Some size) c named is without small low high =
     let k : ℕ = c - v.first_cell in
     let inside : k < size = omega (arith, low, high) in
     let same : v.first_cell + k ≡ c = omega (arith, low) in
     let index : List ℕ = decimal k ++ 93 ∷ [] in
-    ap (named_cell declared) (split_part v.item.name index unopened)
+    ap (named_cell declared) (split_part v.item.name index without)
     ∙ ap (option_and_then (λ w. cell_by (Some index) (variable_size w.item) w.first_cell)) named
     ∙ ap (λ s. cell_by (Some index) s v.first_cell) is
     ∙ ap (option_and_then (cell_within v.first_cell size)) (index_back k (omega (arith, inside, small)))

@@ -30,7 +30,7 @@ use Rattle.report_laws.specs.Readable.{CanBeRead}
 use Rattle.report_laws.proofs.Operators.{cell_value}
 use Rattle.report_laws.proofs.Printed.{told_back}
 use Rattle.report_laws.proofs.Starts.{start_is_values, household_values}
-use Rattle.report_laws.proofs.Sources.{IsSpoken, spoken}
+use Rattle.report_laws.proofs.Sources.{IsOfRules, of_rules}
 
 -- ---- the cells of a reason
 
@@ -41,7 +41,7 @@ needed_below base c (d ∷ x ∷ later) valid low h = (Reads-within base h.0.0 d
 
 -- ---- its lines
 
-lines_readable : (declared : Declared) (base : Base) (given : Environment) → IsSpoken declared base → ((c : ℕ) → IsValue (value_of base given c)) → (lines : List ReportLine)
+lines_readable : (declared : Declared) (base : Base) (given : Environment) → IsOfRules declared base → ((c : ℕ) → IsValue (value_of base given c)) → (lines : List ReportLine)
     → AllByRecursion (λ d. d < base.cells) (cells_told lines) → AllByRecursion (λ line. line.value ≡ value_of base given line.cell) lines → AllByRecursion (CanBeRead declared) lines
 lines_readable declared base given is values [] low h = tt
 lines_readable declared base given is values (line ∷ lines) low h = (
@@ -52,7 +52,7 @@ lines_readable declared base given is values (line ∷ lines) low h = (
 pub reason_readable : (source : Source) (declared : Declared) (base : Base) (values : List Value) (c : ℕ) (lines : List ReportLine) → HasRules source declared base → AllByRecursion IsValue values → c < base.cells
     → IsReasonOf base (environment (start_of declared values)) c lines → AllByRecursion (CanBeRead declared) lines
 reason_readable source declared base values c lines rules amounts low reason =
-    let is = spoken source declared base rules in
+    let is = of_rules source declared base rules in
     let given : Environment = environment (start_of declared values) in
     lines_readable declared base given is (cell_value base given is.made.amounts (start_is_values declared values amounts is.constants)) lines
     (needed_below base c (cells_told lines) is.made.valid low reason.needed)
@@ -66,7 +66,7 @@ told_by source explains is rows name pairs c given asked =
     let declared = is.declared in
     let values = values_of pairs (length (inputs_said declared)) in
     let lines = is.lines values c in
-    let low = (spoken source declared is.base is.rules).known name c asked in
+    let low = (of_rules source declared is.base is.rules).known name c asked in
     let reason = is.reasons values c low in
     let readable = reason_readable source declared is.base values c lines is.rules (household_values (inputs_said declared) rows pairs (length (inputs_said declared)) given) low reason in
     let text : explains values name ≡ told_lines_of declared lines

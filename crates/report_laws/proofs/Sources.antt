@@ -23,7 +23,7 @@ use Rattle.m_compile.proofs.words.Items.{files_worded}
 use Rattle.m_compile.proofs.words.Declared.{IsGood, items_good, variables_good}
 use Rattle.m_compile.proofs.words.Names.{cell_named}
 use Rattle.report_laws.specs.Readable.{IsInside}
-use Rattle.report_laws.proofs.Named.{IsUnopened, IsNameable, cell_back, asked_below}
+use Rattle.report_laws.proofs.Named.{IsNoBracket, IsNameable, cell_back, asked_below}
 use Rattle.report_laws.proofs.Distinct.{distinct_names}
 use Rattle.report_laws.proofs.Items.{files_say}
 use Rattle.report_laws.proofs.Expanded.{definitions_say}
@@ -47,8 +47,8 @@ above_inside b l = (λ e. absurd (omega (arith, e, l)), λ e. absurd (omega (ari
 word_inside : (name : List ℕ) → IsPlainName name → AllByRecursion IsInside name
 word_inside name h = all_weaker IsWordByte IsInside (λ b k. above_inside b (byte_within b k).0) name h.0.0.0
 
-word_unopened : (name : List ℕ) → IsPlainName name → AllByRecursion IsUnopened name
-word_unopened name h = all_weaker IsWordByte IsUnopened (λ b k. (byte_within b k).2) name h.0.0.0
+word_without : (name : List ℕ) → IsPlainName name → AllByRecursion IsNoBracket name
+word_without name h = all_weaker IsWordByte IsNoBracket (λ b k. (byte_within b k).2) name h.0.0.0
 
 digits_inside : (ds : List ℕ) → AllDigits 10 ds → AllByRecursion IsInside ds
 digits_inside [] h = tt
@@ -68,7 +68,7 @@ name_inside name (inr (word, k, h, low, e)) =
 
 nameable : (vs : List Variable) → AllByRecursion (λ (v : Variable). IsGood v.item) vs → AllByRecursion (λ (v : Variable). IsNameable v.item) vs
 nameable [] h = tt
-nameable (v ∷ vs) h = ((word_unopened v.item.name h.0.0.0, h.0.1), nameable vs h.1)
+nameable (v ∷ vs) h = ((word_without v.item.name h.0.0.0, h.0.1), nameable vs h.1)
 
 few_cells : (vs : List Variable) → AllByRecursion (λ (v : Variable). IsGood v.item) vs → AllByRecursion (λ (v : Variable). IfSome (variable_size v.item) (λ size. size ≤ TABLE_CELLS)) vs
 few_cells [] h = tt
@@ -77,15 +77,15 @@ few_cells (v ∷ vs) h = (h.0.1, few_cells vs h.1)
 -- ---- the whole
 
 -- What is known of a source's declarations and base: printed names of cells name them and have plain bytes, and the literals and constants are amounts.
-pub record IsSpoken (declared : Declared) (base : Base) : Type 0 where
+pub record IsOfRules (declared : Declared) (base : Base) : Type 0 where
   pub named : (c : ℕ) → c < base.cells → request_cell declared (cell_name declared c) ≡ Some c
   pub inside : (c : ℕ) → c < base.cells → AllByRecursion IsInside (cell_name declared c)
   pub known : (name : List ℕ) (c : ℕ) → request_cell declared name ≡ Some c → c < base.cells
   pub constants : AreOfAmount declared.variables
   pub made : IsMade base
 
-pub spoken : (source : Source) (declared : Declared) (base : Base) → HasRules source declared base → IsSpoken declared base
-spoken source declared base rules =
+pub of_rules : (source : Source) (declared : Declared) (base : Base) → HasRules source declared base → IsOfRules declared base
+of_rules source declared base rules =
     let b = rules.made in
     let items = b.items in
     let worded = files_worded b.declares.said in
