@@ -1,0 +1,11 @@
+pub mod Printed
+pub mod Named
+pub mod Operators
+pub mod Literals
+pub mod Items
+pub mod Expanded
+pub mod Resolved
+pub mod Starts
+pub mod Distinct
+pub mod Sources
+pub mod Reasons

@@ -1,0 +1,19 @@
+-- Lines of a derivation that can be read as they are printed.
+use Rattle.std.specs.Prelude.{◌≡◌, ◌≢◌, ℕ, Some}
+use Rattle.std.specs.List.{AllByRecursion}
+use Rattle.m_fixed.specs.Laws.{IsValue}
+use Rattle.m_text.specs.Bytes.{space, line_feed, carriage_return}
+use Rattle.m_symbols.specs.Declarations.{Declared}
+use Rattle.m_requests.specs.Cells.{request_cell, cell_name}
+use Rattle.why_report.specs.declared.line.ReportLine.{ReportLine}
+
+-- a byte that ends neither a word nor a line
+abbrev pub IsInside : ℕ → Type 0
+IsInside b = (b ≢ space) × (b ≢ line_feed) × (b ≢ carriage_return)
+
+-- A line can be read as it is printed: the printed name of its cell names this cell and has neither spaces nor ends of lines, and its value is undefined,
+-- over, or within the bounds of amounts. A line of a cell that isn't declared can't, since no name names it.
+pub record CanBeRead (declared : Declared) (line : ReportLine) : Type 0 where
+  pub named : request_cell declared (cell_name declared line.cell) ≡ Some line.cell
+  pub inside : AllByRecursion IsInside (cell_name declared line.cell)
+  pub value : IsValue line.value

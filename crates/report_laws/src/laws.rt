@@ -1,0 +1,53 @@
+//! Laws of reports, as sessions tell them and checkers read them. Each function does nothing: its contract is the law.
+
+ghost use Rattle.std.specs.Prelude.{◌≡◌, ◌<◌, ℕ, ℤ, List, length, Some, Ok};
+ghost use Rattle.std.specs.List.{AllByRecursion};
+ghost use Rattle.m_fixed.specs.declared.amount.Value.{Value};
+ghost use Rattle.m_fixed.specs.Laws.{IsValue};
+ghost use Rattle.household.specs.Household.{household_of, values_of};
+ghost use Rattle.rule_text.specs.declared.Source.{Source};
+ghost use Rattle.m_symbols.specs.Declarations.{Declared};
+ghost use Rattle.m_requests.specs.Cells.{cell_name, request_cell};
+ghost use Rattle.micro_m.specs.declared.base.Base.{Base};
+ghost use Rattle.micro_m.specs.Values.{environment};
+ghost use Rattle.driver_core.specs.Answers.{start_of};
+ghost use Rattle.driver_core.specs.Inputs.{inputs_said};
+ghost use Rattle.why_report.specs.declared.line.ReportLine.{ReportLine};
+ghost use Rattle.why_report.specs.Reasons.{IsReasonOf};
+ghost use Rattle.why_report.specs.Reports.{report_said, report_text};
+ghost use Rattle.why_session.specs.Explains.{Explaining, told_lines_of};
+ghost use Rattle.m_compile.specs.Sources.{HasRules};
+ghost use Rattle.command_plans.specs.declared.status.Status.{Status};
+ghost use Rattle.command_answers.specs.Checks.{CheckReplies, sound_line};
+ghost use Rattle.command_answers.specs.Explained.{IsExplained};
+ghost use Rattle.report_laws.specs.Readable.{CanBeRead};
+
+/// What is printed of lines reads back as these lines, where each can be read; so does the same with the line `.` after it, as a session tells it.
+pub fn printed_reports_read_back()
+    ensures printed { (declared : Declared) (lines : List ReportLine) → AllByRecursion (CanBeRead declared) lines
+        → report_said declared (report_text declared lines) ≡ Ok lines }
+    ensures told { (declared : Declared) (lines : List ReportLine) → AllByRecursion (CanBeRead declared) lines
+        → report_said declared (told_lines_of declared lines) ≡ Ok lines }
+{}
+
+/// The printed name of each cell of a source's rules names this cell. So no two cells have one printed name.
+pub fn cells_are_named()
+    ensures { (source : Source) (declared : Declared) (base : Base) (c : ℕ) → HasRules source declared base → c < base.cells
+        → request_cell declared (cell_name declared c) ≡ Some c }
+{}
+
+/// The lines of a reason by a source's rules can be read, where the inputs are undefined or have amounts.
+pub fn reasons_can_be_read()
+    ensures { (source : Source) (declared : Declared) (base : Base) (values : List Value) (c : ℕ) (lines : List ReportLine)
+        → HasRules source declared base → AllByRecursion IsValue values → c < base.cells → IsReasonOf base (environment (start_of declared values)) c lines
+        → AllByRecursion (CanBeRead declared) lines }
+{}
+
+/// What a session tells of a cell's name is sound: where the inputs have the values that a household gives them, a check of what is told, by the same rules
+/// and this household, answers `sound` with status 0.
+pub fn told_reasons_are_sound()
+    ensures { (source : Source) (explains : Explaining) (declared : Declared) (base : Base) (rows name : List ℕ) (pairs : List (ℕ × ℤ))
+        (c : ℕ) → IsExplained source explains → HasRules source declared base → household_of (inputs_said declared) rows ≡ Ok pairs
+        → request_cell declared name ≡ Some c → CheckReplies source rows (explains (values_of pairs (length (inputs_said declared))) name) sound_line
+        Status.Done }
+{}
