@@ -25,7 +25,7 @@ awk '/^## /{in_table = /^## The crates/} in_table && /^\| [a-z][a-z0-9_]* \|/{pr
 same "crates.txt and the folders of crates" "$room/index" "$room/folders"
 same "crates.txt and the table of crates in ARCHITECTURE" "$room/index" "$room/table"
 
-# PROVED has a row for each crate that isn't of tests alone, in the order of crates.txt; and each call that a row names stands in its crate.
+# PROVED has a row for each crate that isn't of tests alone, and each call that a row names stands in its crate.
 sed -n 's/^\([a-z][a-z0-9_]*\)[^:#]*:.*/\1/p' crates.txt | grep -v '_tests$' | grep -vx rows | sort >"$room/proved"
 awk '/^## /{in_table = /^## Crate by crate/} in_table && /^\| [a-z][a-z0-9_]* \|/{print $2}' docs/PROVED.md | sort >"$room/rows"
 same "crates.txt, without tests, and the table of PROVED" "$room/proved" "$room/rows"
@@ -84,7 +84,7 @@ fi
 # English: no page and no comment of a crate has a word that ARCHITECTURE's table replaces, outside of code; MUTANTS, which is made of the files, has them.
 replaced="front|fronts|behind|want of|wrong body|wrong bodies|second reading|refusal|refusals|weighs"
 for page in $(git ls-files '*.md' | grep -v '^crates/\|^bench/\|^unlanded/\|^docs/MUTANTS.md'); do
-    awk '/^```/{code = !code; next} !code && !/looks that no page and no comment has/' "$page" | sed 's/`[^`]*`//g; s/REFUSALS.md//g; s/front page//g; s/leave it behind//g' |
+    awk '/^```/{code = !code; next} !code' "$page" | sed 's/`[^`]*`//g; s/REFUSALS.md//g; s/front page//g; s/leave it behind//g' |
         grep -niwE "$replaced" | sed "s|^|$page: |"
 done >"$room/words"
 git ls-files 'crates/*.rt' | xargs sed -n 's/^ *\(.*[ ;,{}]\)\{0,1\}\/\/[\/!]\{0,1\} //p' | sed 's/`[^`]*`//g' | grep -iwE "$replaced" >>"$room/words"

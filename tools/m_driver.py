@@ -1,6 +1,6 @@
 """The grammar of drivers, as docs/DRIVER.md has it, for tools: the lines of a driver, its functions and commands, and all its faults, each at its token.
 
-The program names the line behind the longest front that is a driver, which may be a line that begins a block. This reading names the line and the token
+The program names the line after the longest prefix that is a driver, which may be a line that begins a block. This reading names the line and the token
 that no rule can take, and goes on with the next line.
 """
 import os
@@ -77,7 +77,7 @@ class LineReader(m_grammar.Reader):
             self.brackets()
             if self.at == len(self.tokens):
                 self.want(":")
-                self.stuck(f"the first line of a function ends with a :, and a call stands behind names and <-: A <- {name}()")
+                self.stuck(f"the first line of a function ends with a :, and a call stands after names and <-: A <- {name}()")
             self.take(":")
             return ("function", name)
         cells = [self.cell("a command (A = .., A <- f(), if, partition, del)")]

@@ -1,7 +1,7 @@
 """The grammar of rule files, as docs/LANGUAGE.md has it, for tools: the items of a file, and all its faults, each at the token that can't stand there.
 
-The program names the place behind the longest front that is whole items. This reading goes on to the farthest token that no rule can take, says what could
-stand there, and then goes on behind the next `;`, so that it finds the faults behind the first one too.
+The program names the place after the longest prefix that is whole items. This reading goes on to the farthest token that no rule can take, says what could
+stand there, and then goes on after the next `;`, so that it finds the faults after the first one too.
 """
 import re
 import sys
@@ -49,7 +49,7 @@ class Check(NamedTuple):
 
 
 class RuleReader(Terms):
-    """The items of a file, one piece after the other: a head, a formula, a check, a declaration. After a fault it goes on behind the next `;`."""
+    """The items of a file, one piece after the other: a head, a formula, a check, a declaration. After a fault it goes on after the next `;`."""
 
     def __init__(self, tokens):
         super().__init__(tokens)
@@ -227,7 +227,7 @@ def tokens_of(content):
     while byte < len(content):
         piece = m_source.GAP_OR_TOKEN.match(content, byte)
         if piece is None and content[byte : byte + 1] == b'"':
-            faults.append(Fault("open string", byte, '"', (), "the text is never closed; all behind it is text"))
+            faults.append(Fault("open string", byte, '"', (), "the text is never closed; all after it is text"))
             return tokens, faults
         if piece is None:
             end = re.compile(rb"[\x80-\xff]+|.", re.DOTALL).match(content, byte).end()

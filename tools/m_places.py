@@ -78,12 +78,15 @@ def records(content):
     return found
 
 
-def faulty_field(fields, what):
-    """Which field a fault of a record is about, where that can be said."""
+def faulty_field(fields, what, heads):
+    """Which field a fault of a record is about, where that can be said; `heads` are the fields of the first record."""
     if what in ("unknown code", "code twice"):
         return fields[0][0] if len(fields) == 2 else None
     if what == "bad amount":
-        for byte, field in fields[1:]:
+        expected = {k for k, (_, head) in enumerate(heads) if head.strip(b'"').startswith(b"=")}
+        for k, (byte, field) in enumerate(fields[1:], 1):
+            if k in expected:
+                continue
             amount = field.strip(b'"')
             if amount and (not re.fullmatch(rb"-?[0-9]+(\.[0-9]+)?", amount) or abs(float(amount)) > 1e13) or len(fields) == 2:
                 return byte

@@ -1,4 +1,4 @@
-"""A sentence for each refusal, which says what to mend: those of python/vodmejka/sentences.py, which the package has too."""
+"""A sentence for each error, which says what to mend: those of python/vodmejka/sentences.py, which the package has too."""
 import importlib.util
 import os
 

@@ -1,6 +1,6 @@
-"""A sentence for each refusal of docs/REFUSALS.md, which says what to mend."""
+"""A sentence for each error of docs/REFUSALS.md, which says what to mend."""
 
-# What to mend, for the faults that have a place in a rule file. Names behind a fault are left out.
+# What to mend, for the faults that have a place in a rule file. Names after a fault are left out.
 RULES = {
     "bad byte": "No token begins here: accented letters stand in texts and comments only, and a point between digits.",
     "open string": 'The text that begins here is never closed; look for a " that is missing, here or in a text above or below.',
@@ -20,7 +20,7 @@ RULES = {
     "is a table": "A table is read and set cell by cell: write an index in [ ].",
     "bad target": "Rules set computed variables and the cells that a table has: no inputs, no constants.",
     "defined twice": "A formula above sets this too: join the two by si, or take one to another application.",
-    "unknown error": "The word behind erreur is the name of no error: declare it, or look for a slip.",
+    "unknown error": "The word after erreur is the name of no error: declare it, or look for a slip.",
 }
 DRIVER = {
     "bad token": "No token begins somewhere in this line: look for a tab, an accented letter, or a number above 10000000000000.",
@@ -32,24 +32,24 @@ DRIVER = {
 }
 HOUSEHOLD = {
     "bad row": "A row has two fields (1,5 is two: write 1.5), in a table as many as its first line, with a label that isn't empty.",
-    "unknown code": "No input has this code: codes are the words behind alias, and no names.",
+    "unknown code": "No input has this code: codes are the words after alias, and not names.",
     "bad amount": "An amount is digits, a point and digits, perhaps with a -, no blanks, at most 10000000000000.",
     "code twice": "Two rows have this code: add them up, or leave one out.",
     "not of its type": "A box (type BOOLEEN) takes 0 and 1, a count (type ENTIER) whole units.",
-    "unknown output": "Nothing that is asked for has the name behind = : look at the requests.",
+    "unknown output": "Nothing that is asked for has the name after = : look at the requests.",
     "bad expected": "What is expected is an amount, undefined, over, stop, or nothing.",
 }
 CODE = "The code file was changed or cut: write it anew by compile."
 OTHERS = [
-    (r"usage: .*", "The words are no command: run, serve, batch and cases have four words behind them, compile, lint and check three, exec two; - stands for no driver or no requests."),
+    (r"usage: .*", "The words are no command: run, serve, batch and cases have four words after them, compile, lint and check three, exec two; - stands for no driver or no requests."),
     (r"unreadable input", "The standard input could not be read."),
     (r"unreadable .*", "The file isn't there, is a folder, or may not be read; names in a list count from where the program is started."),
     (r"refused file too long .*", "A file has at most 16,777,216 bytes, and all rule files together 67,108,864: split it."),
     (r"refused too many files", "A list has at most 1,024 names: join some rule files."),
-    (r"refused cycle .*", "Each of these is read by the formula of the one before it, and the first by the last: break the ring at one of them."),
+    (r"refused cycle .*", "Each of these is read by the formula of the one before it, and the first by the last: break the cycle at one of them."),
     (r"refused driver: no main", "A run begins at the function main: write one, main():, with its commands under it."),
-    (r"refused driver recursion .*", "These functions call each other in a ring: write the commands of one out."),
-    (r"refused driver too large [0-9]+", "The run would weigh more than 4,000,000: call the rules less often, or shorten them."),
+    (r"refused driver recursion .*", "These functions call each other in a cycle: write the commands of one out."),
+    (r"refused driver too large [0-9]+", "The run would cost more than 4,000,000: call the rules less often, or shorten them."),
     (r"refused too many requests", "At most 100,000 values can be asked for at once: ask for fewer."),
     (r"refused household: bad header", "The first line is code,amount with a comma and no blanks; that of a table begins with name; tools/table-in writes both."),
     (r"refused household: too many rows", "At most 100,000 rows: split the table, as tools/scale does."),

@@ -1,4 +1,4 @@
-# Refusals with a place: Latin-1, tabs, carriage returns, a long line, a file that changed, and files that stand in options.
+# Errors with a place: Latin-1, tabs, carriage returns, a long line, a file that changed, and files that stand in options.
 explain=$ROOT/tools/explain
 printf 'A :\tconst = 1 ; # \351t\351\r\n\tB : const = 2 ; "\351\351" ?\r\n' >latin.m
 printf 'refused latin.m line 2 byte 45: bad byte\n' | "$explain"
@@ -15,6 +15,10 @@ printf '\357\273\277code,amount\r\n\r\n"1AJ",1\r\n1BJ,1e3\r\n' >h.csv
 printf 'refused household line 3: bad amount\nrefused household line 2: code twice\n' | "$explain" --household h.csv
 printf 'name,1AJ,1BJ\n"a,\n""b",1,\nc,2,1 000\n' >t.csv
 printf 'refused household line 3: bad amount\nrefused household line 2: bad row\n' | "$explain" --household t.csv
+printf 'name,=IRN,1AJ\na,over,x\n' >cases.csv
+printf 'refused household line 2: bad amount\n' | "$explain" --household cases.csv
+printf 'REV = 1\nIRN = 2\n' >report.txt
+printf 'refused report line 2: not sound\n' | "$explain" --report report.txt
 printf 'IRN = 1\nIRN undefined\n' | "$explain"
 echo "status $?"
 printf 'refused latin.m line 2 byte 45: bad byte\nrefused cycle A B\n' | "$explain" --places

@@ -1,4 +1,5 @@
-//! What a command answers with what it has gathered, printed as it is made: a run, a session, a batch, a code file, and `large N`.
+//! What a command answers with what it has gathered, printed as it is made: a run, a session, a batch, cases, a code
+//! file and a run of one, a check of a report, findings, and `large N`.
 //!
 //! A program is prepared of a source or a code file, and then it is run: each call that answers takes a prepared program, whatever it
 //! was made of. Sessions hold the tidy program, all else holds code.

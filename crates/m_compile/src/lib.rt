@@ -1,4 +1,4 @@
-//! The compiler: from a source, as bytes, to a flat program and its register code, or the fault of the earliest step that has one.
+//! The compiler: from a source, as bytes, to a tidy program and its register code, or the fault of the earliest step that has one.
 //!
 //! It puts the steps one after the other, and knows what each fault is told as. It knows nothing of files on a disk,
 //! of the command line or of what a household is.

@@ -13,7 +13,7 @@ use std::process::ExitCode;
 use std::thread::{Builder, Promise};
 use std::{env, io};
 
-// The bytes of stack that the work may take. The deepest term of the formats takes some four megabytes.
+// The bytes of stack that the work may take. The deepest term of the formats takes under two megabytes.
 const STACK: usize = 16_777_216;
 
 // Nothing is promised of the status here: the contract of `m_tax` says what it is.
