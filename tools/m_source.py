@@ -6,6 +6,7 @@ too; `slips` and `explain` tell it. m_grammar.py reads formulas.
 import dataclasses
 import os
 import re
+import signal
 import sys
 
 GAP_OR_TOKEN = re.compile(
@@ -16,6 +17,8 @@ GAP_OR_TOKEN = re.compile(
 
 FILE_BYTES = 16_777_216
 MARK = b"\xef\xbb\xbf"
+MASK = os.umask(0o077)  # what the user keeps from others in new files
+os.umask(MASK)
 MARKED = "; it begins with a byte order mark: save it as UTF-8 without one"
 
 
@@ -187,9 +190,23 @@ class RuleBase:
 
 
 def begin():
-    """Names and lines are written as the bytes that they are, whatever the machine's language is."""
+    """Names and lines are written as the bytes that they are, whatever the machine's language is. A signal that ends the tool lets it remove what it began."""
+    for name, number in (("stdin", 0), ("stderr", 2)):
+        if getattr(sys, name) is None:
+            os.dup2(os.open(os.devnull, os.O_RDWR), number)
+            setattr(sys, name, open(number, "r" if number == 0 else "w", closefd=False))
+    if sys.stdout is None:
+        print(f"{os.path.basename(sys.argv[0])}: the output is closed", file=sys.stderr)
+        sys.exit(4)
     for stream in (sys.stdin, sys.stdout, sys.stderr):
         stream.reconfigure(encoding="utf-8", errors="surrogateescape")
+    for number in (signal.SIGHUP, signal.SIGTERM):
+        if signal.getsignal(number) == signal.SIG_DFL:
+            signal.signal(number, stopped)
+
+
+def stopped(number, _frame):
+    sys.exit(128 + number)
 
 
 def end(main):
