@@ -30,6 +30,12 @@ class Strange(Exception):
     """A line of an answer that `batch` doesn't print there, as where a piece of an answer is lost, or a table without whole records."""
 
 
+def state(file):
+    """What tells whether a file was changed while it was read."""
+    told = os.fstat(file.fileno())
+    return told.st_size, told.st_mtime_ns
+
+
 def unquoted(field):
     """What a field of a record says."""
     match = QUOTED.match(field)
