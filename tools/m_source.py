@@ -180,11 +180,11 @@ class RuleFile:
 
 
 class RuleBase:
-    """A list with all its rule files."""
+    """A list with all its rule files, whose names count from a folder."""
 
-    def __init__(self, list_name):
+    def __init__(self, list_name, folder=""):
         self.application, names = read_list_text(list_name, fetch(list_name).removeprefix(MARK))
-        self.files = [RuleFile(name) for name in names]
+        self.files = [RuleFile(os.path.join(folder, name)) for name in names]
         self.variables = [variable for file in self.files for variable in file.variables]
         self.rules = [rule for file in self.files for rule in file.rules]
 

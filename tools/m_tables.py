@@ -2,6 +2,7 @@
 import mmap
 import os
 import re
+import stat
 
 PIECE = 1_048_576
 MARK = b"\xef\xbb\xbf"
@@ -31,9 +32,9 @@ class Strange(Exception):
 
 
 def state(file):
-    """What tells whether a file was changed while it was read."""
+    """What tells whether a file was changed while it was read; nothing of a pipe, which has no other state than what is read of it."""
     told = os.fstat(file.fileno())
-    return told.st_size, told.st_mtime_ns
+    return (told.st_size, told.st_mtime_ns) if stat.S_ISREG(told.st_mode) else None
 
 
 def unquoted(field):
