@@ -16,6 +16,7 @@ GAP_OR_TOKEN = re.compile(
 
 
 FILE_BYTES = 16_777_216
+TABLE_CELLS = 1024
 MARK = b"\xef\xbb\xbf"
 MASK = os.umask(0o077)  # what the user keeps from others in new files
 os.umask(MASK)
@@ -159,7 +160,9 @@ class RuleFile:
         name, end = self.tokens[at], self.behind(at)
         at, size = at + 2, None
         if self.text(at) == "tableau":
-            size, at = int(self.text(at + 2)) if self.text(at + 2).isdigit() else 0, at + 4
+            # (nine digits are more than a table may have, however many stand behind them)
+            digits = self.text(at + 2).lstrip("0")[:9]
+            size, at = int(digits) if digits.isdigit() else 0, at + 4
         kind = self.text(at)
         if kind not in ("saisie", "calculee", "const"):
             return end
@@ -180,13 +183,16 @@ class RuleFile:
 
 
 class RuleBase:
-    """A list with all its rule files, whose names count from a folder."""
+    """A list with all its rule files, whose names count from a folder. Tables may be `bounded`, as the program's are."""
 
-    def __init__(self, list_name, folder=""):
+    def __init__(self, list_name, folder="", bounded=True):
         self.application, names = read_list_text(list_name, fetch(list_name).removeprefix(MARK))
         self.files = [RuleFile(os.path.join(folder, name)) for name in names]
         self.variables = [variable for file in self.files for variable in file.variables]
         self.rules = [rule for file in self.files for rule in file.rules]
+        for variable in self.variables if bounded else ():
+            if variable.size is not None and variable.size > TABLE_CELLS:
+                raise Refused(f"{variable.place}: table size")
 
 
 def begin():

@@ -43,5 +43,8 @@ mkdir page folder
 "$tools/why" a.list h.csv K --html page/K.html && ls -A page
 "$tools/why" a.list h.csv K --html folder
 echo "status $?"
+ln -s h.csv link.csv
+"$tools/why" a.list h.csv K --html link.csv
+echo "status $?"
 (ulimit -f 1; "$tools/why" a.list h.csv K --html page/L.html 2>&1; echo "status $?") | cat
 ls -A . page

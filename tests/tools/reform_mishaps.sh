@@ -32,6 +32,8 @@ for weight in -1 '' '\262'; do
     printf "name,1AJ,poids\n\303\251,10,$weight\n" >odd.csv
     "$reform" before.list after.list - - odd.csv --of IRN --weight poids --into other
 done
+printf 'name,1AJ\n"a\rb",1\n' >odd.csv
+"$reform" before.list after.list - - odd.csv --of IRN --into other
 printf 'name,"1AJ\na,1\n' >odd.csv
 "$reform" before.list after.list - - odd.csv --of IRN --into other
 echo "status $?"
@@ -52,12 +54,10 @@ rm behind
 M_TAX=./nowhere "$reform" before.list after.list - - short.csv --of IRN --into other 2>&1 | sed "s|$PWD|.|"
 awk 'BEGIN {print "name,1AJ"; for (k = 0; k < 2000; k++) print "a" k ",1"}' >some.csv
 echo "-- a table that changes meanwhile, one through a pipe, a folder without room, one that isn't there"
-awk 'BEGIN {print "name,1AJ"; for (k = 0; k < 20010; k++) print "a" k ",1"}' >growing.csv
 "$reform" before.list after.list - - long.csv --of IRN --into nowhere/other 2>&1 | sed "s|$PWD|.|"
-while [ ! -e grown ]; do echo "c,30" >>growing.csv; done &
-"$reform" before.list after.list - - growing.csv --of IRN --into other
-: >grown
-wait
+echo 'echo c,30 >>"$here/short.csv"' >behind
+"$reform" before.list after.list - - short.csv --of IRN --into other
+rm behind
 sed 4q some.csv | "$reform" before.list after.list - - /dev/stdin --of IRN --into piped
 (ulimit -f 40; "$reform" before.list after.list - - some.csv --of IRN --into other)
 echo "status $?"
