@@ -42,7 +42,7 @@ class Names:
 
     def __init__(self, files, list_name):
         self.files = files
-        base = m_source.RuleBase(list_name)
+        base = m_source.RuleBase(list_name, bounded=False)
         self.variables, self.errors, self.done, codes = {}, set(), set(), set()
         for file in base.files:
             for variable in file.variables:
@@ -51,7 +51,7 @@ class Names:
                     files.add(file.name, file.bytes, byte, f"declared twice {variable.name}")
                 elif variable.code is not None and variable.code in codes:
                     files.add(file.name, file.bytes, byte, f"alias twice {variable.code}")
-                elif variable.size is not None and not 1 <= variable.size <= 1024:
+                elif variable.size is not None and not 1 <= variable.size <= m_source.TABLE_CELLS:
                     files.add(file.name, file.bytes, byte, "table size")
                 self.variables.setdefault(variable.name, variable)
                 codes.add(variable.code)

@@ -93,7 +93,11 @@ class Children:
             self.running.add(child)
         try:
             with child:
-                yield child
+                try:
+                    yield child
+                except BaseException:
+                    child.kill()
+                    raise
         finally:
             with self.lock:
                 self.running.discard(child)
@@ -133,7 +137,7 @@ def workers():
         try:
             yield pool
         except BaseException:
-            pool.shutdown(wait=False, cancel_futures=True)
+            pool.shutdown(cancel_futures=True)
             raise
 
 

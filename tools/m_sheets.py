@@ -4,6 +4,7 @@ import io
 import re
 import xml.etree.ElementTree as xml
 import zipfile
+import zlib
 
 from m_source import Refused
 
@@ -60,21 +61,24 @@ class Book:
     def __init__(self, content):
         try:
             self.zip = zipfile.ZipFile(io.BytesIO(content))
-        except zipfile.BadZipFile as fault:
+        except (zipfile.BadZipFile, NotImplementedError) as fault:
             raise Refused("the file is cut off or damaged") from fault
         self.names = set(self.zip.namelist())
 
     def tree(self, name):
         if name not in self.names:
             raise Refused(f"the file has no {name}, as a spreadsheet has")
-        if self.zip.getinfo(name).file_size > MOST_BYTES:
+        told_of_it = self.zip.getinfo(name)
+        if told_of_it.file_size > MOST_BYTES:
             raise Refused(f"{name} of the file is too large: save the sheet as csv")
+        if told_of_it.compress_type not in (zipfile.ZIP_STORED, zipfile.ZIP_DEFLATED):
+            raise Refused(f"{name} of the file is packed as no spreadsheet packs it")
         try:
             content = self.zip.read(name)
             if b"<!DOCTYPE" in content[:4096] or b"<!ENTITY" in content[:4096]:
                 raise Refused(f"{name} of the file isn't what a spreadsheet writes")
             return xml.fromstring(content)
-        except (xml.ParseError, zipfile.BadZipFile, RuntimeError, EOFError) as fault:
+        except (xml.ParseError, zipfile.BadZipFile, zlib.error, RuntimeError, EOFError) as fault:
             raise Refused(f"{name} of the file can't be read, as where it has a password") from fault
 
 

@@ -6,6 +6,7 @@ too; `slips` and `explain` tell it. m_grammar.py reads formulas.
 import dataclasses
 import os
 import re
+import signal
 import sys
 
 GAP_OR_TOKEN = re.compile(
@@ -15,7 +16,10 @@ GAP_OR_TOKEN = re.compile(
 
 
 FILE_BYTES = 16_777_216
+TABLE_CELLS = 1024
 MARK = b"\xef\xbb\xbf"
+MASK = os.umask(0o077)  # what the user keeps from others in new files
+os.umask(MASK)
 MARKED = "; it begins with a byte order mark: save it as UTF-8 without one"
 
 
@@ -156,7 +160,9 @@ class RuleFile:
         name, end = self.tokens[at], self.behind(at)
         at, size = at + 2, None
         if self.text(at) == "tableau":
-            size, at = int(self.text(at + 2)) if self.text(at + 2).isdigit() else 0, at + 4
+            # (nine digits are more than a table may have, however many stand behind them)
+            digits = self.text(at + 2).lstrip("0")[:9]
+            size, at = int(digits) if digits.isdigit() else 0, at + 4
         kind = self.text(at)
         if kind not in ("saisie", "calculee", "const"):
             return end
@@ -177,19 +183,36 @@ class RuleFile:
 
 
 class RuleBase:
-    """A list with all its rule files."""
+    """A list with all its rule files, whose names count from a folder. Tables may be `bounded`, as the program's are."""
 
-    def __init__(self, list_name):
+    def __init__(self, list_name, folder="", bounded=True):
         self.application, names = read_list_text(list_name, fetch(list_name).removeprefix(MARK))
-        self.files = [RuleFile(name) for name in names]
+        self.files = [RuleFile(os.path.join(folder, name)) for name in names]
         self.variables = [variable for file in self.files for variable in file.variables]
         self.rules = [rule for file in self.files for rule in file.rules]
+        for variable in self.variables if bounded else ():
+            if variable.size is not None and variable.size > TABLE_CELLS:
+                raise Refused(f"{variable.place}: table size")
 
 
 def begin():
-    """Names and lines are written as the bytes that they are, whatever the machine's language is."""
+    """Names and lines are written as the bytes that they are, whatever the machine's language is. A signal that ends the tool lets it remove what it began."""
+    for name, number in (("stdin", 0), ("stderr", 2)):
+        if getattr(sys, name) is None:
+            os.dup2(os.open(os.devnull, os.O_RDWR), number)
+            setattr(sys, name, open(number, "r" if number == 0 else "w", closefd=False))
+    if sys.stdout is None:
+        print(f"{os.path.basename(sys.argv[0])}: the output is closed", file=sys.stderr)
+        sys.exit(4)
     for stream in (sys.stdin, sys.stdout, sys.stderr):
         stream.reconfigure(encoding="utf-8", errors="surrogateescape")
+    for number in (signal.SIGHUP, signal.SIGTERM):
+        if signal.getsignal(number) == signal.SIG_DFL:
+            signal.signal(number, stopped)
+
+
+def stopped(number, _frame):
+    sys.exit(128 + number)
 
 
 def end(main):

@@ -2,6 +2,7 @@
 import mmap
 import os
 import re
+import stat
 
 PIECE = 1_048_576
 MARK = b"\xef\xbb\xbf"
@@ -13,17 +14,27 @@ QUOTED = re.compile(rb'"((?:[^"]|"")*)"(?!")')
 
 AMOUNT = rb"-?[0-9]+(?:\.[0-9]{1,6})?"
 VALUE = rb"(?: = " + AMOUNT + rb"| undefined| over)\n"
-NAMED = re.compile(rb"([A-Z0-9_]+(?:\[[0-9]{1,4}\])?)" + VALUE)
+NAME = rb"([A-Z0-9_]+(?:\[[0-9]{1,4}\])?)"
+NAMED = re.compile(NAME + VALUE)
+TOLD = re.compile(NAME + rb"(?: =)? ((?<= = )" + AMOUNT + rb"|(?<! = )(?:undefined|over))\n")
 HEAD = re.compile(rb"household ([^\n]*)\n")
-NOTES = re.compile(rb"(?:noted [^ \n]+ [^ \n]+ (?:discordance|informative)\n[^\n]*\n)*")
-STOP = re.compile(
-    rb"failed [^ \n]+ [^ \n]+ (?:anomalie|discordance|informative)\n[^\n]*\n|over (?:verification [^ \n]+ [^ \n]+|driver line [0-9]+)\n"
-)
+NOTED = re.compile(rb"noted [^ \n]+ [^ \n]+ (?:discordance|informative)\n")
+NOTES = re.compile(rb"(?:" + NOTED.pattern + rb"[^\n]*\n)*")
+FAILED = rb"failed [^ \n]+ [^ \n]+ (?:anomalie|discordance|informative)\n"
+OVER = rb"over (?:verification [^ \n]+ [^ \n]+|driver line [0-9]+)\n"
+STOP = re.compile(FAILED + rb"[^\n]*\n|" + OVER)
+STOPPED = re.compile(FAILED + rb"|" + OVER)
 AT_ONCE = 200
 
 
 class Strange(Exception):
     """A line of an answer that `batch` doesn't print there, as where a piece of an answer is lost, or a table without whole records."""
+
+
+def state(file):
+    """What tells whether a file was changed while it was read; nothing of a pipe, which has no other state than what is read of it."""
+    told = os.fstat(file.fileno())
+    return (told.st_size, told.st_mtime_ns) if stat.S_ISREG(told.st_mode) else None
 
 
 def unquoted(field):
@@ -66,6 +77,50 @@ def records(source, longest):
                     count += 1
                     yield line, line.partition(b",")[0]
             at = end
+
+
+def households_of(lines):
+    """What `answers` tells, without a look at the names."""
+    label, notes, pairs, numbered = None, [], [], enumerate(lines, 1)
+
+    def text():
+        at, told = next(numbered, (number + 1, b""))
+        if not told.endswith(b"\n"):
+            raise Strange(f"line {at} is cut off")
+        return told[:-1]
+
+    for number, line in numbered:
+        value = TOLD.match(line)
+        if value and label is not None:
+            pairs.append(value.groups())
+        elif not line.endswith(b"\n"):
+            raise Strange(f"line {number} is cut off")
+        elif line.startswith(b"household "):
+            if label is not None:
+                yield label, notes, pairs, None
+            label, notes, pairs = line[10:-1], [], []
+        elif label is not None and not pairs and NOTED.fullmatch(line):
+            notes.append((b" ".join(line.split(b" ")[1:3]), text()))
+        elif label is not None and not pairs and not notes and STOPPED.fullmatch(line):
+            yield label, [], [], (line[:-1], text() if line.startswith(b"failed") else b"")
+            label = None
+        else:
+            raise Strange(f"line {number} is no line of households: {line[:-1].decode('utf-8', 'replace')}")
+    if label is not None:
+        yield label, notes, pairs, None
+
+
+def answers(lines, names=None):
+    """Each household of the lines of a batch: its label, its notes, its values as pairs of a name and an amount, `undefined` or `over`, and its stop, which is
+    a line and a text, or None. All that aren't stopped have values of the same names, those that are given or else the first's."""
+    others = "the first" if names is None else "those asked for"
+    for label, notes, pairs, stop in households_of(lines):
+        own = [name for name, _ in pairs]
+        if stop is None and names is None:
+            names = own
+        if stop is None and own != names:
+            raise Strange(f"the household {label.decode('utf-8', 'replace')} has other values than {others}")
+        yield label, notes, pairs, stop
 
 
 def values_of(names):

@@ -12,6 +12,11 @@ sed 's/IRN = 0/IRN: 0/' answers >strange
 "$ROOT/tools/cases-in" t.csv strange; echo "status $?"
 printf 'household dupont\nIRN = 1' >cut
 "$ROOT/tools/cases-in" t.csv cut; echo "status $?"
+# A stop without its text, one with values below it, a note below values, and a household without its last value.
+for said in 'failed 1 E01 anomalie' 'over driver line 3\nIRN = 1' 'IRN = 1\nnoted 7 A1 informative\nx' 'IRN = 1'; do
+    printf "household dupont\nIRN = 1\nT[1] over\nhousehold a, \"b\"\n$said\n" >strange
+    "$ROOT/tools/cases-in" t.csv strange; echo "status $?"
+done
 : >none
 "$ROOT/tools/cases-in" t.csv none; echo "status $?"
 printf 'household dupont\nover driver line 3\n' >stops

@@ -17,3 +17,9 @@ echo "status $?"
 echo
 "$requests" a.list --cells
 echo "status $?"
+printf 'iliad\nbig.m\n' >big.list
+for size in 1025 100000000000 "$(printf '%05000d' 7 | tr 0 9)"; do
+    printf 'T : tableau[%s] calculee : "" ;\n' "$size" >big.m
+    "$ROOT/tools/requests" big.list
+    echo "status $?"
+done

@@ -51,9 +51,16 @@ ods("covered.ods", [HEAD + row(cell("d"), '<table:table-cell table:number-column
 ods("date.ods", [HEAD + row(cell("d"), '<table:table-cell office:value-type="date" office:date-value="2023-01-01"><text:p>x</text:p></table:table-cell>')])
 open("cut.xlsx", "wb").write(open("good.xlsx", "rb").read()[:400])
 open("old.xls", "wb").write(b"\xd0\xcf\x11\xe0\xa1\xb1\x1a\xe1" + bytes(100))
+# Damaged within: a piece that begins as no packed piece does, and one that is packed in another way.
+for name, how in (("packed.ods", zipfile.ZIP_DEFLATED), ("other.ods", zipfile.ZIP_BZIP2)):
+    with zipfile.ZipFile(name, "w", how) as out:
+        out.writestr("content.xml", "<a/>" * 100)
+    whole = bytearray(open(name, "rb").read())
+    whole[30 + len("content.xml")] = 7
+    open(name, "wb").write(whole)
 END
 python3 make.py
-for name in good.xlsx two.xlsx formula.xlsx date.xlsx percent.xlsx error.xlsx truth.xlsx text.xlsx head.xlsx merged.xlsx empty.xlsx cut.xlsx old.xls good.ods household.ods covered.ods date.ods; do
+for name in good.xlsx two.xlsx formula.xlsx date.xlsx percent.xlsx error.xlsx truth.xlsx text.xlsx head.xlsx merged.xlsx empty.xlsx cut.xlsx old.xls good.ods household.ods covered.ods date.ods packed.ods other.ods; do
     "$in" $name
     echo "status $?"
 done

@@ -1,0 +1,79 @@
+# A stand-in computes IRN = amount times the rate that the rules have; what a table, its columns, the program and signals can do wrong.
+reform=$ROOT/tools/reform
+cat >stand_in <<'END2'
+#!/bin/sh
+here=$(dirname "$0")
+[ ! -e "$here/slow" ] || { echo $$ >"$here/child"; exec sleep 20; }
+rate=$(sed -n 's/^RATE : const = \([0-9]*\).*/\1/p' "$(sed -n 2p "$2")")
+line=$(grep -n ',x$' "$5" | cut -d: -f1)
+[ -z "$line" ] || { echo "refused household line $line: bad amount"; exit 1; }
+compute() { awk -F, -v rate="$rate" 'NR > 1 {print "household " $1 "\nIRN = " $2 * rate "\nORD = " 100 - $2}' "$1"; }
+[ -e "$here/behind" ] || { compute "$5"; exit; }
+compute "$5" >"$here/answer"
+. "$here/behind"
+cat "$here/answer"
+END2
+chmod +x stand_in
+M_TAX=$PWD/stand_in
+export M_TAX
+printf 'iliad\na.m\n' >before.list
+printf 'iliad\nb.m\n' >after.list
+printf 'REV : saisie revenu classe = 0 alias 1AJ : "" ;\nRATE : const = 2 ;\n' >a.m
+printf 'REV : saisie revenu classe = 0 alias 1AJ : "" ;\nRATE : const = 3 ;\n' >b.m
+echo "-- columns whose names aren't ASCII, fields in quotes; by a column with an empty field, which stands first; by a request"
+printf 'name,1AJ,poids,\303\242ge\n"a ""x"",\303\251",10,1,40\nb,20,1,30\nc,30,2,\n' >t.csv
+"$reform" before.list after.list - - t.csv --of IRN --weight poids --by âge --into one && cat one/households.csv && cut -d, -f1-4 one/summary.csv
+printf 'name,1AJ\na,10\nb,20\n' >short.csv
+"$reform" before.list after.list - - short.csv --of IRN --by ORD --into two && cut -d, -f1-4 two/summary.csv | grep -v ',0,0,0'
+echo "-- refused: a name that no column and no request has; weights that are none; a head that isn't closed"
+"$reform" before.list after.list - - short.csv --of IRN --by 0RD --into other
+echo "status $?"
+for weight in -1 '' '\262'; do
+    printf "name,1AJ,poids\n\303\251,10,$weight\n" >odd.csv
+    "$reform" before.list after.list - - odd.csv --of IRN --weight poids --into other
+done
+printf 'name,1AJ\n"a\rb",1\n' >odd.csv
+"$reform" before.list after.list - - odd.csv --of IRN --into other
+printf 'name,"1AJ\na,1\n' >odd.csv
+"$reform" before.list after.list - - odd.csv --of IRN --into other
+echo "status $?"
+echo "-- the line of a fault is the table's, also behind the first part; the place of a rule is the rule file's"
+awk 'BEGIN {print "name,1AJ"; for (k = 2; k < 20010; k++) print "a" k "," (k == 20005 ? "x" : 1)}' >long.csv
+"$reform" before.list after.list - - long.csv --of IRN --into other
+printf '"\n' >open.m
+printf 'iliad\nopen.m\n' >open.list
+"$reform" before.list open.list - - short.csv --of IRN --into other
+echo "status $?"
+echo "-- a program that loses a line or a household, answers nothing, isn't there, or can't be started"
+for said in 'sed -i 5d "$here/answer"' 'sed -i 1,3d "$here/answer"' ': >"$here/answer"' 'kill -9 $$'; do
+    echo "$said" >behind
+    "$reform" before.list after.list - - short.csv --of IRN --into other
+    echo "status $?"
+done
+rm behind
+M_TAX=./nowhere "$reform" before.list after.list - - short.csv --of IRN --into other 2>&1 | sed "s|$PWD|.|"
+awk 'BEGIN {print "name,1AJ"; for (k = 0; k < 2000; k++) print "a" k ",1"}' >some.csv
+echo "-- a table that changes meanwhile, one through a pipe, a folder without room, one that isn't there"
+"$reform" before.list after.list - - long.csv --of IRN --into nowhere/other 2>&1 | sed "s|$PWD|.|"
+echo 'echo c,30 >>"$here/short.csv"' >behind
+"$reform" before.list after.list - - short.csv --of IRN --into other
+rm behind
+sed 4q some.csv | "$reform" before.list after.list - - /dev/stdin --of IRN --into piped
+(ulimit -f 40; "$reform" before.list after.list - - some.csv --of IRN --into other)
+echo "status $?"
+echo "-- ended by a signal: nothing stays, and no batch goes on"
+: >slow
+mkdir room
+TMPDIR=$PWD/room "$reform" before.list after.list - - short.csv --of IRN --into other &
+while [ ! -s child ]; do sleep 0.05; done
+kill $!
+wait $!
+echo "status $?"
+kill -0 "$(cat child)" 2>/dev/null && echo "still there"
+ls -A room
+rm slow
+"$reform" before.list after.list - - short.csv --of IRN --into three >&-
+echo "status $?"
+umask 077
+"$reform" before.list after.list - - short.csv --of IRN --into four && ls -ld four | cut -c 1-10
+ls -Ad .[a-z]* other* th* 2>/dev/null
