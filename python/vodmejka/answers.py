@@ -1,6 +1,7 @@
 """What a household is told, read from the lines of the program."""
 from __future__ import annotations
 
+import mmap
 import re
 import sys
 from dataclasses import dataclass
@@ -45,7 +46,7 @@ class Stop:
     driver_line: int | None = None
 
 
-Printed = Union[bytes, bytearray]
+Printed = Union[bytes, mmap.mmap]
 Read = tuple[dict[str, Value], tuple[Note, ...], Union[Stop, None]]
 
 
@@ -146,29 +147,24 @@ class Block:
     def __init__(self, form: Form):
         self.form = form
         self.columns: dict[str, list[Decimal] | None] = {}
-        self.take(b"", 0, 0, 0)
+        self.take(b"", 0, 0, 0, {})
 
-    def take(self, printed: Printed, begin: int, end: int, count: int) -> None:
-        """Has these lines from now on, of so many answers."""
+    def take(self, printed: Printed, begin: int, end: int, count: int, columns: dict[str, list[Decimal]]) -> None:
+        """Has these lines from now on, of so many answers, and these columns."""
         self.printed, self.begin, self.end, self.count = printed, begin, end, count
         self.columns.clear()
+        self.columns.update(columns)
         self.is_left = False
         self._parts: list[str] | None = None
 
     def keep(self) -> None:
         """Has its lines for itself, and nothing else of what was printed."""
-        self.printed, self.begin, self.end = bytes(memoryview(self.printed)[self.begin : self.end]), 0, self.end - self.begin
+        self.printed, self.begin, self.end = self.printed[self.begin : self.end], 0, self.end - self.begin
 
     def column(self, name: str) -> list[Decimal] | None:
         """The values of a name, when they are asked for the first time."""
-        texts = self.form.found(name, self.printed, self.begin, self.end)
-        column = None
-        if len(texts) == self.count:
-            try:
-                column = self.form.decimals(texts)
-            except InvalidOperation:
-                pass
-        self.columns[name] = column
+        found = self.form.column(name, self.printed, self.begin, self.end)
+        column = self.columns[name] = found if len(found) == self.count else None
         return column
 
     def lines(self, index: int) -> str:
@@ -188,12 +184,16 @@ class Hands:
         self.block = Block(form)
         self._told: list[Told] = []
 
-    def answers(self, printed: Printed, begin: int, end: int, count: int) -> list[Told]:
+    def answers(self, printed: Printed, begin: int, end: int, count: int, columns: dict[str, list[Decimal]]) -> list[Told]:
         """The answers of a block, which are to be settled before the next one's."""
-        self.block.take(printed, begin, end, count)
+        self.block.take(printed, begin, end, count, columns)
         while len(self._told) < count:
             self._told.append(self._made(len(self._told)))
         return self._told[:count]
+
+    def asked(self) -> str | None:
+        """A name of which the block has a column, if there is one."""
+        return next((name for name, column in self.block.columns.items() if column is not None), None)
 
     def settle(self, answers: list[Told]) -> None:
         """Lets those that are still held elsewhere, where they are the fewer, have their own lines, so that they don't hold the block; else it is theirs."""
@@ -246,26 +246,29 @@ class Form:
         self.names = names
         self.begins = {name: f"\n{name} = " for name in names}
         self._finders: dict[str, Callable[[Printed, int, int], list[bytes]]] = {}
-        self.known: dict[str, Decimal] | None = Known()
+        self._known: dict[bytes, Decimal] | None = Known()
         together = "".join(f"{re.escape(name)} = (-?[0-9.]+)\n" for name in names[:MOST_TOGETHER])
         self.match = re.compile(together if 0 < len(names) <= MOST_TOGETHER else "(?!)").fullmatch
 
-    def found(self, name: str, printed: Printed, begin: int, end: int) -> list[bytes]:
-        """The amounts of all lines of a name in a piece of what was printed."""
+    def column(self, name: str, printed: Printed, begin: int, end: int) -> list[Decimal]:
+        """The amounts of all lines of a name in a piece of what was printed; nothing where one of them is no amount."""
         if name not in self._finders:
             if name not in self.begins:
                 return []
             self._finders[name] = re.compile(re.escape(self.begins[name].encode(ENCODING)) + rb"([-0-9.]+)\n").findall
-        return self._finders[name](printed, begin, end)
+        try:
+            return self._decimals(self._finders[name](printed, begin, end))
+        except InvalidOperation:
+            return []
 
-    def decimals(self, texts: list[bytes]) -> list[Decimal]:
+    def _decimals(self, texts: list[bytes]) -> list[Decimal]:
         """Texts as decimals. Most amounts are met again and again, and are kept; where most are new, none is kept from then on."""
-        if self.known is None:
+        if self._known is None:
             return list(map(decimal_of, texts))
-        before = len(self.known)
-        found = list(map(self.known.__getitem__, texts))
+        before = len(self._known)
+        found = list(map(self._known.__getitem__, texts))
         if before > MOST_KNOWN:
-            self.known = None if 2 * (len(self.known) - before) > len(texts) else Known()
+            self._known = None if 2 * (len(self._known) - before) > len(texts) else Known()
         return found
 
     def values(self, lines: str) -> dict[str, Value]:

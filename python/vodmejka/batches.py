@@ -2,9 +2,11 @@
 from __future__ import annotations
 
 import itertools
+import mmap
 import os
 import re
 import subprocess
+from decimal import Decimal
 from typing import BinaryIO, Callable, Generator, Iterable, Iterator
 
 from .answers import LABEL_LINE, NEXT_LABEL, Answer, Form, Hands, Printed, Told
@@ -19,8 +21,8 @@ TABLE_NAME = "table.csv"
 ROW = re.compile(r"(refused household line )([0-9]+)(: .*)", re.DOTALL)
 
 
-Piece = tuple[Printed, int, int, int]
-"""A piece of what was printed: where it begins and ends, and how many answers it has."""
+Piece = tuple[Printed, int, int, int, dict[str, list[Decimal]]]
+"""A piece of what was printed: where it begins and ends, how many answers it has, and the values of names that were looked for already."""
 
 
 class Answers:
@@ -53,7 +55,7 @@ class Batch:
     def __init__(self, words: list[str], folder: str, form: Form, size: int, codes: Iterable[str], told: Callable[[str], str]):
         self.words, self.folder, self.form, self.size = words, folder, form, size
         self.codes, self.told, self.tables = frozenset(codes), told, Tables()
-        self._room = bytearray()
+        self.asked: str | None = None
 
     def answers(self, rows: Iterable[Household]) -> Answers:
         """The answers of households, in their order."""
@@ -67,6 +69,7 @@ class Batch:
             for piece in parts:
                 handed = hands.answers(*piece)
                 yield handed
+                self.asked = hands.asked()
                 hands.settle(handed)
         finally:
             parts.close()
@@ -97,12 +100,6 @@ class Batch:
             for one in (waiting, part):
                 if one is not None:
                     one.end()
-
-    def room(self, size: int) -> bytearray:
-        """Room for what a part printed, which was the room of the parts before it."""
-        if len(self._room) < size:
-            self._room = bytearray(size + size // 8)
-        return self._room
 
 
 class Part:
@@ -163,7 +160,7 @@ class Part:
         assert self.child is not None
         status = self.child.wait()
         try:
-            raise_for(b"" if status == 0 else bytes(self._printed()), status)
+            raise_for(b"" if status == 0 else self._printed()[:], status)
         except NotFound as missing:
             raise NotFound(self.batch.told(str(missing))) from None
         except Refused as refused:
@@ -192,23 +189,25 @@ class Part:
         match = ROW.fullmatch(line)
         return f"{match[1]}{int(match[2]) + self.first}{match[3]}" if match and match[2] != "1" else line
 
-    def _printed(self) -> memoryview:
-        """All that the program printed, in the batch's room."""
-        size, at = os.fstat(self.files[1]).st_size, 0
-        printed = memoryview(self.batch.room(size))[:size]
-        while at < size:
-            at += os.preadv(self.files[1], [printed[at:]], at)
-        return printed
+    def _printed(self) -> Printed:
+        """All that the program printed, where it stands."""
+        size = os.fstat(self.files[1]).st_size
+        return mmap.mmap(self.files[1], size, access=mmap.ACCESS_READ) if size else b""
 
     def _counted(self) -> list[Piece]:
         """What the program printed, in pieces with as many answers as there are households."""
-        due, size = len(self.households), len(self._printed())
-        printed = self.batch.room(size)
-        if size and not (printed.startswith(LABEL_LINE.encode()) and printed[size - 1 : size] == b"\n"):
-            raise Broken(f"a first line without a label, or a last line without its end: {printed[:200]!r}, {printed[:size][-200:]!r}")
-        pieces = [(printed, begin, end, printed.count(NEXT_LABEL, begin, end) + 1) for begin, end in cuts(printed, size)]
-        if not self.batch.form.names or sum(piece[3] for piece in pieces) != due:
-            pieces = [(text, 0, len(text), 1) for text in by_line(bytes(printed[:size]))]
+        form, due, printed = self.batch.form, len(self.households), self._printed()
+        if printed and not (printed[: len(LABEL_LINE)] == LABEL_LINE.encode() and printed[-1:] == b"\n"):
+            raise Broken(f"a first line without a label, or a last line without its end: {printed[:200]!r}, {printed[-200:]!r}")
+        places = list(cuts(printed))
+        asked = self.batch.asked
+        if asked is not None:  # each answer has at most one amount of a name
+            columns = [form.column(asked, printed, *place) for place in places]
+            if sum(map(len, columns)) == due:
+                return [(printed, *place, len(column), {asked: column}) for place, column in zip(places, columns)]
+        pieces: list[Piece] = [(printed, begin, end, printed[begin:end].count(NEXT_LABEL) + 1, {}) for begin, end in places]
+        if not form.names or sum(piece[3] for piece in pieces) != due:
+            pieces = [(text, 0, len(text), 1, {}) for text in by_line(printed[:])]
         if sum(piece[3] for piece in pieces) != due:
             raise Broken(f"{sum(piece[3] for piece in pieces)} answers for {due} households")
         return pieces
@@ -244,13 +243,13 @@ def first_without_row(households: list[Household], wrong: Exception) -> tuple[in
     return 0, wrong
 
 
-def cuts(printed: Printed, size: int) -> Iterator[tuple[int, int]]:
+def cuts(printed: Printed) -> Iterator[tuple[int, int]]:
     """Where to cut what was printed, in pieces that each begin with a label: of some hundred answers, or one that is long."""
-    begin = 0
+    begin, size = 0, len(printed)
     while begin < size:
         end = size
         if begin + SLICE < size:
-            end = printed.rfind(NEXT_LABEL, begin, begin + SLICE) + 1 or printed.find(NEXT_LABEL, begin, size) + 1 or size
+            end = printed.rfind(NEXT_LABEL, begin, begin + SLICE) + 1 or printed.find(NEXT_LABEL, begin) + 1 or size
         yield begin, end
         begin = end
 
