@@ -4,12 +4,17 @@
 At the top of the repository. The rules are those of examples/impot2023 with their driver: nine codes, eight values. The command computes ROWS (1,000,000) in tables
 of 100,000, which is the most that one takes, and its output is dropped. Python is handed the same households one after the other, and reads of each answer
 nothing, one value, or all. Seconds are user and system of the process and of what it starts, one run each. Since the machine may be loaded, the command is run anew before each
-of these, and a ratio is that to the run right before. The sums of what is paid are compared.
+of these, and a ratio is that to the run right before. The sums of what is paid are compared. What the bench's own loop takes (it makes no household, but hands them out, reads and
+adds) is measured over dicts in the place of answers, and told on a line of its own: it is a part of Python's seconds, and of the ratio.
 """
+import collections
+import itertools
 import os
 import re
 import resource
 import sys
+from decimal import Decimal
+from types import SimpleNamespace
 
 HERE = os.path.dirname(os.path.abspath(__file__))
 ROOT = os.path.dirname(os.path.dirname(HERE))
@@ -37,7 +42,19 @@ def by_package(program, what, rows, folder):
     rules, households, read = Rules(*WORDS, program=program, cache=os.path.join(folder, "cache")), made(), READ[what]
     begun = seconds_of(resource.RUSAGE_SELF), seconds_of(resource.RUSAGE_CHILDREN)
     paid = sum(read(answer) for answer in rules.batch(households[k % MADE] for k in range(rows)))
-    print(paid, seconds_of(resource.RUSAGE_SELF) - begun[0], seconds_of(resource.RUSAGE_CHILDREN) - begun[1])
+    spent = seconds_of(resource.RUSAGE_SELF) - begun[0], seconds_of(resource.RUSAGE_CHILDREN) - begun[1]
+    print(paid, *spent, by_loop(read, households, rows))
+
+
+def by_loop(read, households, rows):
+    """Seconds of the bench's own loop: households are handed out, and as much is read of as many dicts in the place of answers."""
+    ready = [SimpleNamespace(values={"TOTAL": Decimal(k)}) for k in range(MADE)]
+    if read is READ["one value"]:
+        ready = [one.values for one in ready]
+    begun = seconds_of(resource.RUSAGE_SELF)
+    collections.deque((households[k % MADE] for k in range(rows)), maxlen=0)
+    sum(read(answer) for answer in itertools.chain.from_iterable(itertools.repeat(ready, rows // MADE)))
+    return seconds_of(resource.RUSAGE_SELF) - begun
 
 
 def seconds_of(who):
@@ -79,8 +96,9 @@ def main():
         told = text.split()
         if status or int(told[0]) not in (paid, 0 if what == "nothing" else paid):
             sys.exit(f"{what}: status {status}, {text!r}, where the command says {paid}")
-        own, children = map(float, told[1:])
+        own, children, loop = map(float, told[1:])
         print(f"| `.batch`, reading {what} of each answer | {own + children:.2f} | {own:.2f} | {(own + children) / alone:.2f} | {clock:.2f} |", flush=True)
+        print(f"| of these the bench's own loop | {loop:.2f} | {loop:.2f} | | |", flush=True)
         ratios[what] = (own + children) / alone, clock / alone_clock
     print()
     for what, name in (("nothing", "nothing"), ("one value", "one_value"), ("all values", "all_values")):

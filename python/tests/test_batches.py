@@ -1,17 +1,27 @@
 """Tests of batches: their parts, what is told before an end, and what is written and read otherwise than one by one. They need the program."""
+import io
 import os
 import pickle
 import tempfile
 import time
 import unittest
+from collections import OrderedDict, deque
 from decimal import Decimal
+from fractions import Fraction
 from types import MappingProxyType
 from unittest import mock
 
 from test_vodmejka import RULES
-from vodmejka import OVER, Interrupted, Refused, Rules, batches
+from vodmejka import OVER, Interrupted, Refused, Rules, batches, tables
 from vodmejka.program import program_path
 from vodmejka.tables import Tables, by_columns
+
+
+def written(made, rows):
+    """The table that is written of some rows."""
+    out = io.BytesIO(b"what stood there")
+    made.write(rows, out)
+    return out.getvalue().decode()
 
 
 class Batches(unittest.TestCase):
@@ -105,21 +115,39 @@ class Batches(unittest.TestCase):
         texts = [{"1AJ": str(k), "1BB": None} for k in range(100)]
         decimals = [{"1AJ": Decimal(k) / 8, "1BB": k} for k in range(100)]
         for rows in (whole, texts, decimals, whole + texts + decimals, whole + [{"1AJ": 'a"b,c\nd'}], [{}], [{}, {"1AJ": 1}]):
-            made = Tables()
-            self.assertEqual(sorted(made.table(rows).decode().splitlines()[0].split(",")), sorted(by_columns(rows).splitlines()[0].split(",")))
-            order = {code: {} for code in made.table(rows).decode().splitlines()[0].split(",")[1:]}
-            in_order = [{code: row.get(code) for code in order} for row in rows]
-            self.assertEqual(made.table(rows).decode(), by_columns(in_order))
+            for size in (1000, 7):
+                with mock.patch.object(tables, "FILLED", size):
+                    made = written(Tables(), rows)
+                codes = made.splitlines()[0].split(",")
+                self.assertEqual(sorted(codes), sorted(by_columns(rows).splitlines()[0].split(",")))
+                self.assertEqual(made, by_columns([{code: row.get(code) for code in codes[1:]} for row in rows]))
+
+    def test_lists_of_codes_that_are_met_late(self):
+        """A table with a list of codes that none before it had is begun anew, and those after it have its codes too."""
+        made = Tables()
+        first, second = [{"1AJ": k} for k in range(30)], [{"1AJ": k} for k in range(40)] + [{"1AJ": 7, "1BB": 1}, {"1BB": 0}]
+        with mock.patch.object(tables, "FILLED", 10):
+            self.assertEqual(written(made, first), "name,1AJ\n" + "".join(f"~,{k}\n" for k in range(30)))
+            self.assertEqual(written(made, second), "name,1AJ,1BB\n" + "".join(f"~,{k},\n" for k in range(40)) + "~,7,1\n~,,0\n")
+            self.assertEqual(written(made, first), "name,1AJ,1BB\n" + "".join(f"~,{k},\n" for k in range(30)))
+            self.assertEqual(written(made, first + [OrderedDict([("1BB", 1), ("1AJ", 3)])]), by_columns([*first, {"1AJ": 3, "1BB": 1}]))
+            self.assertEqual(written(made, [{"1BB": 1, "1AJ": 3}, *first]), by_columns([{"1BB": 1, "1AJ": 3}, *first]))
 
     def test_types_after_the_first_amounts(self):
         class Own(int):
             def __str__(self):
                 return "1,5"
 
+        class Text(str):
+            pass
+
         first = [{"1AJ": 1000 + k} for k in range(500)]
-        for amount, due in ((Decimal("3000.5"), Decimal("2000.5")), ("3000", 2000), (None, 0), (10**20, None), (Own(4), None)):
+        for amount, due in ((Decimal("3000.5"), Decimal("2000.5")), ("3000", 2000), (None, 0), (10**20, None), (Own(4), None), (Text("3000"), 2000),
+                            ("", 0), ("3000.50", Decimal("2000.5")), ("-", None), ("1.2.3", None), (True, TypeError), (Fraction(4), TypeError)):
             rows = first + [{"1AJ": amount}]
-            if due is None:
+            if due is TypeError:
+                self.assertEqual(self.told_before(rows, 1000, TypeError)[0], list(range(500)))
+            elif due is None:
                 self.assertEqual(self.told_before(rows, 1000, Refused)[1].line, "refused household line 502: bad amount")
             else:
                 self.assertEqual([answer["IRN"] for answer in self.rules.batch(rows)], [*range(500), due])
@@ -150,6 +178,49 @@ class Batches(unittest.TestCase):
         self.assertEqual([answer.values["IRN"] for answer in kept], list(range(0, 20_000, 700)))
         self.assertLess(len(pickle.dumps(kept[5])), 400)
         self.assertEqual(pickle.loads(pickle.dumps(kept[5])), kept[5])
+
+    def test_answers_that_are_held_while_others_are_handed_out(self):
+        """What an answer tells stays, whichever are held, for how long, and whatever was read of them before."""
+        with mock.patch.object(batches, "SLICE", 2_000):
+            for holds in (lambda k: k % 3, lambda k: k % 3 == 0, lambda k: k // 90 % 2, lambda k: k % 1000 < 3, lambda k: k > 2_000):
+                for reads in (lambda answer, k: None, lambda answer, k: answer["IRN"], lambda answer, k: answer.values if k % 5 else answer.notes):
+                    held, last = {}, deque(maxlen=100)
+                    for k, answer in enumerate(self.rules.batch([{"1AJ": 1000 + k} for k in range(3_000)])):
+                        reads(answer, k)
+                        last.append((k, answer))
+                        if holds(k):
+                            held[k] = answer
+                        self.assertEqual((last[0][1]["IRN"], answer["IRN"]), (last[0][0], k))
+                    self.assertEqual([answer["IRN"] for answer in held.values()], list(held))
+                    self.assertEqual([answer.values["IRN"] for answer in held.values()], list(held))
+
+    def test_what_was_read_of_an_answer_stays(self):
+        """Values, notes and texts of answers that nobody holds any more; answers that were pickled; and none is the same answer twice while it is held."""
+        told, values, pickled = [], [], []
+        for k, answer in enumerate(self.rules.batch({"1AJ": 8_000 + k} for k in range(2_000))):
+            told.append((answer["IRN"], answer.stop, answer.notes))
+            values.append(answer.values)
+            pickled.append(pickle.dumps(answer))
+        due = [self.rules.run({"1AJ": 8_000 + k}) for k in (0, 1_000, 1_001, 1_999)]
+        for k, one in zip((0, 1_000, 1_001, 1_999), due):
+            self.assertEqual((told[k], values[k], pickle.loads(pickled[k])), ((one["IRN"], one.stop, one.notes), one.values, one))
+        self.assertEqual([value["IRN"] for value in values], [7_000 + k for k in range(2_000)])
+        self.assertEqual(len(set(map(id, list(self.rules.batch({"1AJ": k} for k in range(2_000)))))), 2_000)
+
+    def test_a_batch_that_is_closed_hands_out_nothing_more(self):
+        batch = self.rules.batch([{"1AJ": 1000 + k} for k in range(500)])
+        found = []
+        for answer in batch:
+            found.append(answer)
+            if len(found) == 7:
+                batch.close()
+        self.assertEqual([answer["IRN"] for answer in found], list(range(7)))
+        self.assertEqual(list(batch), [])
+        batch.close()
+        left = self.rules.batch([{"1AJ": 1000 + k} for k in range(500)])
+        first = next(left)
+        del left
+        self.assertEqual((first["IRN"], first.values["IRN"]), (0, 0))
 
     def test_more_different_amounts_than_are_kept(self):
         rows = [{"1AJ": Decimal(1000 + k) + Decimal("0.5")} for k in range(45_000)]

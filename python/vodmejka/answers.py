@@ -1,13 +1,15 @@
 """What a household is told, read from the lines of the program."""
 from __future__ import annotations
 
+import mmap
 import re
 import sys
 from dataclasses import dataclass
 from decimal import Decimal, InvalidOperation
-from typing import Iterator, Union
+from typing import Callable, Iterator, Union
 
 from .errors import Broken
+from .program import ENCODING
 
 
 class Over:
@@ -44,6 +46,7 @@ class Stop:
     driver_line: int | None = None
 
 
+Printed = Union[bytes, mmap.mmap]
 Read = tuple[dict[str, Value], tuple[Note, ...], Union[Stop, None]]
 
 
@@ -53,10 +56,11 @@ class Answer:
     Of a batch the lines of the program are read when something of them is asked for, and of a single value its line alone, so that many answers cost little.
     """
 
-    __slots__ = ("_block", "_index", "_lines", "_form", "_values", "_rest")
+    __slots__ = ("_block", "_columns", "_index", "_lines", "_form", "_values", "_rest")
 
     def __init__(self, values: dict[str, Value] | None = None, notes: tuple[Note, ...] = (), stop: Stop | None = None):
         self._block: Block | None = None
+        self._columns: dict[str, list[Decimal] | None] = NO_COLUMNS
         self._lines, self._form = "", NO_FORM
         self._values: dict[str, Value] | None = {} if values is None else values
         self._rest: tuple[tuple[Note, ...], Stop | None] | None = (notes, stop)
@@ -78,16 +82,10 @@ class Answer:
         return self._told()[1]
 
     def __getitem__(self, name: str) -> Value:
-        block = self._block
-        if block is not None:
-            column = block[name]
-            if column is not None:
-                return column[self._index]
-            self._leave(block)
         try:
-            return Decimal(self._lines.rpartition(self._form.begins[name])[2].partition("\n")[0])
-        except (KeyError, InvalidOperation):
-            return self.values[name]
+            return self._columns[name][self._index]  # type: ignore[index]
+        except (KeyError, TypeError):
+            return self._value(name)
 
     def __eq__(self, other: object) -> bool:
         return isinstance(other, Answer) and (self.values, *self._told()) == (other.values, *other._told())
@@ -99,6 +97,19 @@ class Answer:
 
     def __reduce__(self) -> tuple[type, tuple[object, ...]]:
         return Answer, (self.values, self.notes, self.stop)
+
+    def _value(self, name: str) -> Value:
+        """A value of which there is no column yet, or none at all."""
+        if self._block is not None:
+            if name not in self._columns:
+                column = self._block.column(name)
+                if column is not None:
+                    return column[self._index]
+            self._leave(self._block)
+        try:
+            return Decimal(self._lines.rpartition(self._form.begins[name])[2].partition("\n")[0])
+        except (KeyError, InvalidOperation):
+            return self.values[name]
 
     def _told(self) -> tuple[tuple[Note, ...], Stop | None]:
         """The notes and the stop."""
@@ -113,6 +124,8 @@ class Answer:
     def _leave(self, block: Block) -> None:
         """Takes its own lines out of the block in which they are, and lets go of it."""
         self._lines, self._form, self._values, self._rest, self._block = block.lines(self._index), block.form, None, None, None
+        self._columns = NO_COLUMNS
+        block.is_left = True
 
 
 class Told(Answer):
@@ -122,48 +135,90 @@ class Told(Answer):
     __init__ = object.__init__  # type: ignore[assignment]
 
 
-class Block(dict):  # type: ignore[type-arg]
-    """The lines of some hundred answers, as the program prints them: `text`, with the label of each.
+class Block:
+    """The lines of some hundred answers: a piece of what the program printed, with the label of each.
 
-    As a dict it has, by each name that was asked for, the values in order; None where one of them isn't an amount.
+    `columns` has, by each name that was asked for, the values in order; None where one of them isn't an amount. `is_left` says that an answer took its own
+    lines out of it.
     """
 
-    __slots__ = ("form", "text", "count", "_parts")
+    __slots__ = ("form", "printed", "begin", "end", "count", "columns", "is_left", "_parts")
 
-    def __init__(self, form: Form, text: str, count: int):
-        super().__init__()
-        self.form, self.text, self.count = form, text, count
+    def __init__(self, form: Form):
+        self.form = form
+        self.columns: dict[str, list[Decimal] | None] = {}
+        self.take(b"", 0, 0, 0, {})
+
+    def take(self, printed: Printed, begin: int, end: int, count: int, columns: dict[str, list[Decimal]]) -> None:
+        """Has these lines from now on, of so many answers, and these columns."""
+        self.printed, self.begin, self.end, self.count = printed, begin, end, count
+        self.columns.clear()
+        self.columns.update(columns)
+        self.is_left = False
         self._parts: list[str] | None = None
 
-    def __missing__(self, name: str) -> list[Decimal] | None:
-        begin = self.form.begins.get(name)
-        pieces = self.text.split(begin) if begin else []
-        column = None
-        if len(pieces) == self.count + 1:
-            try:
-                column = self.form.decimals([piece.partition("\n")[0] for piece in pieces[1:]])
-            except InvalidOperation:
-                pass
-        self[name] = column
+    def keep(self) -> None:
+        """Has its lines for itself, and nothing else of what was printed."""
+        self.printed, self.begin, self.end = self.printed[self.begin : self.end], 0, self.end - self.begin
+
+    def column(self, name: str) -> list[Decimal] | None:
+        """The values of a name, when they are asked for the first time."""
+        found = self.form.column(name, self.printed, self.begin, self.end)
+        column = self.columns[name] = found if len(found) == self.count else None
         return column
 
     def lines(self, index: int) -> str:
         """The lines of an answer, with a line feed before the first one."""
         if self._parts is None and index == self.count - 1:
-            return "\n" + self.text[self.text.rfind("\n" + LABEL_LINE) + 1 + len(LABEL_LINE) :]
+            last = self.printed.rfind(NEXT_LABEL, self.begin, self.end) + 1 or self.begin
+            return "\n" + self.printed[last + len(LABEL_LINE) : self.end].decode(ENCODING)
         if self._parts is None:
-            self._parts = ("\n" + self.text[:-1]).split("\n" + LABEL_LINE)[1:]
+            self._parts = ("\n" + self.printed[self.begin : self.end - 1].decode(ENCODING)).split("\n" + LABEL_LINE)[1:]
         return f"\n{self._parts[index]}\n"
 
-    def answers(self) -> list[Told]:
-        """Its answers."""
-        made = []
-        add = made.append
-        for index in range(self.count):
-            answer = Told()
-            answer._block, answer._index = self, index
-            add(answer)
-        return made
+
+class Hands:
+    """Hands out the answers of one block after the other. Most are made once: an answer that nobody else holds is one of the next block."""
+
+    def __init__(self, form: Form):
+        self.block = Block(form)
+        self._told: list[Told] = []
+
+    def answers(self, printed: Printed, begin: int, end: int, count: int, columns: dict[str, list[Decimal]]) -> list[Told]:
+        """The answers of a block, which are to be settled before the next one's."""
+        self.block.take(printed, begin, end, count, columns)
+        while len(self._told) < count:
+            self._told.append(self._made(len(self._told)))
+        return self._told[:count]
+
+    def asked(self) -> str | None:
+        """A name of which the block has a column, if there is one."""
+        return next((name for name, column in self.block.columns.items() if column is not None), None)
+
+    def settle(self, answers: list[Told]) -> None:
+        """Lets those that are still held elsewhere, where they are the fewer, have their own lines, so that they don't hold the block; else it is theirs."""
+        counts = list(map(sys.getrefcount, answers))
+        held = len(counts) - counts.count(LISTED_TWICE)
+        if 1 < held > len(counts) // 2:
+            self.block.keep()
+            self.block, self._told = Block(self.block.form), []
+            return
+        is_left = self.block.is_left
+        if held:
+            last = len(counts) - 1
+            only_last = held == 1 and counts[last] != LISTED_TWICE
+            for index in [last] if only_last else [index for index, count in enumerate(counts) if count != LISTED_TWICE]:
+                if answers[index]._block is not None:
+                    answers[index]._leave(self.block)
+                self._told[index] = self._made(index)
+        if is_left:
+            for answer in self._told:
+                answer._block, answer._columns = self.block, self.block.columns
+
+    def _made(self, index: int) -> Told:
+        answer = Told()
+        answer._block, answer._columns, answer._index = self.block, self.block.columns, index
+        return answer
 
 
 class Known(dict):  # type: ignore[type-arg]
@@ -171,18 +226,13 @@ class Known(dict):  # type: ignore[type-arg]
 
     __slots__ = ()
 
-    def __missing__(self, text: str) -> Decimal:
-        made = self[text] = Decimal(text)
+    def __missing__(self, text: bytes) -> Decimal:
+        made = self[text] = decimal_of(text)
         return made
 
 
-def let_go(answers: list[Told]) -> None:
-    """Lets those of a block's answers that are still held elsewhere, where they are the fewer, have their own lines, so that they don't hold the block."""
-    counts = list(map(sys.getrefcount, answers))
-    if counts.count(ALONE) * 2 > len(counts):
-        for index, count in enumerate(counts):
-            if count != ALONE and (block := answers[index]._block) is not None:
-                answers[index]._leave(block)
+def decimal_of(text: bytes) -> Decimal:
+    return Decimal(text.decode(ENCODING))
 
 
 class Form:
@@ -195,18 +245,30 @@ class Form:
     def __init__(self, names: list[str]):
         self.names = names
         self.begins = {name: f"\n{name} = " for name in names}
-        self.known: dict[str, Decimal] | None = Known()
+        self._finders: dict[str, Callable[[Printed, int, int], list[bytes]]] = {}
+        self._known: dict[bytes, Decimal] | None = Known()
         together = "".join(f"{re.escape(name)} = (-?[0-9.]+)\n" for name in names[:MOST_TOGETHER])
         self.match = re.compile(together if 0 < len(names) <= MOST_TOGETHER else "(?!)").fullmatch
 
-    def decimals(self, texts: list[str]) -> list[Decimal]:
+    def column(self, name: str, printed: Printed, begin: int, end: int) -> list[Decimal]:
+        """The amounts of all lines of a name in a piece of what was printed; nothing where one of them is no amount."""
+        if name not in self._finders:
+            if name not in self.begins:
+                return []
+            self._finders[name] = re.compile(re.escape(self.begins[name].encode(ENCODING)) + rb"([-0-9.]+)\n").findall
+        try:
+            return self._decimals(self._finders[name](printed, begin, end))
+        except InvalidOperation:
+            return []
+
+    def _decimals(self, texts: list[bytes]) -> list[Decimal]:
         """Texts as decimals. Most amounts are met again and again, and are kept; where most are new, none is kept from then on."""
-        if self.known is None:
-            return list(map(Decimal, texts))
-        before = len(self.known)
-        found = list(map(self.known.__getitem__, texts))
+        if self._known is None:
+            return list(map(decimal_of, texts))
+        before = len(self._known)
+        found = list(map(self._known.__getitem__, texts))
         if before > MOST_KNOWN:
-            self.known = None if 2 * (len(self.known) - before) > len(texts) else Known()
+            self._known = None if 2 * (len(self._known) - before) > len(texts) else Known()
         return found
 
     def values(self, lines: str) -> dict[str, Value]:
@@ -224,15 +286,26 @@ class Form:
 
 LABEL = "~"
 LABEL_LINE = f"household {LABEL}\n"
+NEXT_LABEL = b"\n" + LABEL_LINE.encode()
 MOST_KNOWN = 20_000
-ALONE = next(map(sys.getrefcount, [object()]))
 MOST_TOGETHER = 100
 NO_FORM = Form([])
+NO_COLUMNS: dict[str, list[Decimal] | None] = {}
 STOPS = ("failed ", "over ")
 LABELLED = re.compile(r"(failed|noted) ([0-9]+) ([^ ]+) (anomalie|discordance|informative)")
 OVER_LINE = re.compile(r"over (?:verification ([0-9]+) ([^ ]+)|driver line ([0-9]+))")
 VALUE = re.compile(r"([^ \n]+)(?: = (-?[0-9]+(?:\.[0-9]+)?)|( undefined)|( over))")
 VALUES = re.compile("(?m)^" + VALUE.pattern + "$")
+
+
+def listed_twice() -> int:
+    """How many references are counted to what is in two lists, and nowhere else."""
+    first = [object()]
+    second = [*first]
+    return max(map(sys.getrefcount, second))
+
+
+LISTED_TWICE = listed_twice()
 
 
 def lines_of(lines: str) -> Iterator[str]:

@@ -2,12 +2,14 @@
 from __future__ import annotations
 
 import itertools
+import mmap
 import os
 import re
 import subprocess
-from typing import Callable, Iterable, Iterator
+from decimal import Decimal
+from typing import BinaryIO, Callable, Generator, Iterable, Iterator
 
-from .answers import LABEL_LINE, Answer, Block, Form, Told, let_go
+from .answers import LABEL_LINE, NEXT_LABEL, Answer, Form, Hands, Printed, Told
 from .errors import Broken, NotFound, Refused
 from .program import ENCODING, raise_for
 from .tables import Household, Tables, by_columns
@@ -17,6 +19,29 @@ TABLE_BYTES = 16_777_216
 SLICE = 24_576
 TABLE_NAME = "table.csv"
 ROW = re.compile(r"(refused household line )([0-9]+)(: .*)", re.DOTALL)
+
+
+Piece = tuple[Printed, int, int, int, dict[str, list[Decimal]]]
+"""A piece of what was printed: where it begins and ends, how many answers it has, and the values of names that were looked for already."""
+
+
+class Answers:
+    """An iterator of answers that are made in lists. It can be closed, as a generator."""
+
+    __slots__ = ("_lists", "_all")
+
+    def __init__(self, lists: Generator[list[Told], None, None]):
+        self._lists, self._all = lists, itertools.chain.from_iterable(lists)
+
+    def __iter__(self) -> Iterator[Answer]:
+        return self._all
+
+    def __next__(self) -> Answer:
+        return next(self._all)
+
+    def close(self) -> None:
+        """Ends it, and the programs that it started."""
+        self._lists.close()
 
 
 class Batch:
@@ -30,15 +55,29 @@ class Batch:
     def __init__(self, words: list[str], folder: str, form: Form, size: int, codes: Iterable[str], told: Callable[[str], str]):
         self.words, self.folder, self.form, self.size = words, folder, form, size
         self.codes, self.told, self.tables = frozenset(codes), told, Tables()
+        self.asked: str | None = None
 
-    def answers(self, rows: Iterable[Household]) -> Iterator[Answer]:
+    def answers(self, rows: Iterable[Household]) -> Answers:
         """The answers of households, in their order."""
-        for told in self._parts(iter(rows)):
-            yield from told
-            let_go(told)
+        return Answers(self._handed(rows))
 
-    def _parts(self, left: Iterator[Household]) -> Iterator[list[Told]]:
+    def _handed(self, rows: Iterable[Household]) -> Generator[list[Told], None, None]:
         """The same, some hundred at a time."""
+        hands, parts = Hands(self.form), self._parts(iter(rows))
+        handed: list[Told] = []
+        try:
+            for piece in parts:
+                handed = hands.answers(*piece)
+                yield handed
+                self.asked = hands.asked()
+                hands.settle(handed)
+        finally:
+            parts.close()
+            handed.clear()
+            hands.block.keep()
+
+    def _parts(self, left: Iterator[Household]) -> Generator[Piece, None, None]:
+        """The pieces of what is printed for them."""
         first = 0
         waiting: Part | None = None
         part: Part | None = None
@@ -47,85 +86,81 @@ class Batch:
                 households, fault = filled(left, self.size)
                 if fault is None and not households:
                     break
-                part = self._part(households, first, fault)
+                part = Part(self, households, first, fault)
                 first += len(households)
                 if waiting is not None:
-                    yield from waiting.answers()
+                    yield from waiting.pieces()
                 waiting = part
                 if self.size < AHEAD or part.fault is not None:
-                    yield from waiting.answers()
+                    yield from waiting.pieces()
                     waiting = None
             if waiting is not None:
-                yield from waiting.answers()
+                yield from waiting.pieces()
         finally:
             for one in (waiting, part):
                 if one is not None:
                     one.end()
 
-    def _part(self, households: list[Household], first: int, fault: BaseException | None = None) -> Part:
-        """A part, which is being computed. Where an amount is none, it ends before the first household with one, and has that fault."""
-        try:
-            table = self.tables.table(households)
-        except Exception as wrong:
-            number, fault = first_without_row(households, wrong)
-            households = households[:number]
-            table = self.tables.table(households)
-        return Part(self, households, table, first, fault)
-
-    def part_of(self, households: list[Household], first: int) -> Part:
-        """A part of households that can be written."""
-        return self._part(households, first)
-
 
 class Part:
-    """Some households, the first of which has a number from 0 among all; they are computed from now on. `fault` is what is raised after their answers."""
+    """Some households, the first of which has a number from 0 among all; they are computed from now on. `fault` is what is raised after their answers.
 
-    def __init__(self, batch: Batch, households: list[Household], table: bytes, first: int, fault: BaseException | None):
+    Where an amount is none, it ends before the first household with one, and has that fault.
+    """
+
+    def __init__(self, batch: Batch, households: list[Household], first: int, fault: BaseException | None = None):
         self.batch, self.households, self.first, self.fault = batch, households, first, fault
         self.child: subprocess.Popen[bytes] | None = None
         self.inner: Part | None = None
         self.files: list[int] = []
-        if households and (len(table) <= TABLE_BYTES or len(households) == 1):
-            try:
-                self._begin(table)
-            except BaseException:
-                self.end()
-                raise
-
-    def _begin(self, table: bytes) -> None:
-        """Starts the program on a table, both with files in memory."""
-        given, printed = self.files = [os.memfd_create(name) for name in ("table", "answers")]
-        with open(given, "wb", buffering=0, closefd=False) as file:
-            left = memoryview(table)
-            while left:
-                left = left[file.write(left) :]
-        words = [*self.batch.words, f"/proc/self/fd/{given}"]
-        to = {"stdin": subprocess.DEVNULL, "stdout": printed, "stderr": subprocess.DEVNULL}
-        self.child = subprocess.Popen(words, cwd=self.batch.folder, pass_fds=(given,), **to)  # type: ignore[call-overload]
-
-    def answers(self) -> Iterator[list[Told]]:
-        """The answers, some hundred at a time, and then what is to be raised."""
         try:
-            yield from self._halves() if self.child is None else self._told()
+            self._begin()
+        except BaseException:
+            self.end()
+            raise
+
+    def _begin(self) -> None:
+        """Starts the program on the table, both with files in memory, where the table isn't too long."""
+        given, printed = self.files = [os.memfd_create(name) for name in ("table", "answers")]
+        with open(given, "wb", closefd=False) as file:
+            self._write(file)
+        if self.households and (os.fstat(given).st_size <= TABLE_BYTES or len(self.households) == 1):
+            words = [*self.batch.words, f"/proc/self/fd/{given}"]
+            to = {"stdin": subprocess.DEVNULL, "stdout": printed, "stderr": subprocess.DEVNULL}
+            self.child = subprocess.Popen(words, cwd=self.batch.folder, pass_fds=(given,), **to)  # type: ignore[call-overload]
+
+    def _write(self, file: BinaryIO) -> None:
+        """Writes the table, of the households before the first one with what is no amount."""
+        try:
+            self.batch.tables.write(self.households, file)
+        except Exception as wrong:
+            number, self.fault = first_without_row(self.households, wrong)
+            self.households = self.households[:number]
+            self.batch.tables.write(self.households, file)
+
+    def pieces(self) -> Iterator[Piece]:
+        """What is printed, some hundred answers at a time, and then what is to be raised."""
+        try:
+            yield from self._halves() if self.child is None else self._pieces()
         finally:
             self.end()
         if self.fault is not None:
             raise self.fault
 
-    def _halves(self) -> Iterator[list[Told]]:
+    def _halves(self) -> Iterator[Piece]:
         """The same where the table would be too long for one: of one half after the other."""
         half = len(self.households) // 2
         for begin, end in ((0, half), (half, len(self.households))):
             if begin < end:
-                self.inner = self.batch.part_of(self.households[begin:end], self.first + begin)
-                yield from self.inner.answers()
+                self.inner = Part(self.batch, self.households[begin:end], self.first + begin)
+                yield from self.inner.pieces()
 
-    def _told(self) -> Iterator[list[Told]]:
+    def _pieces(self) -> Iterator[Piece]:
         """The same of a table that the program takes, or rejects."""
         assert self.child is not None
         status = self.child.wait()
         try:
-            raise_for(b"" if status == 0 else self._printed(), status)
+            raise_for(b"" if status == 0 else self._printed()[:], status)
         except NotFound as missing:
             raise NotFound(self.batch.told(str(missing))) from None
         except Refused as refused:
@@ -133,14 +168,12 @@ class Part:
             before, self.fault = self._taken(line), Refused(self._among_all(line))
             if before:
                 self.batch.tables = Tables()  # the one until now knows the codes of all households
-                self.inner = self.batch.part_of(self.households[:before], self.first)
-                yield from self.inner.answers()
+                self.inner = Part(self.batch, self.households[:before], self.first)
+                yield from self.inner.pieces()
             return
-        blocks = self._blocks()
+        pieces = self._counted()
         self.end()
-        blocks.reverse()
-        while blocks:
-            yield blocks.pop().answers()
+        yield from pieces
 
     def _taken(self, line: str) -> int:
         """How many households stand before the one that the program rejects with this line: of a fault in the header the first with an unknown code."""
@@ -156,22 +189,28 @@ class Part:
         match = ROW.fullmatch(line)
         return f"{match[1]}{int(match[2]) + self.first}{match[3]}" if match and match[2] != "1" else line
 
-    def _printed(self) -> bytes:
-        """All that the program printed."""
-        return os.pread(self.files[1], os.fstat(self.files[1]).st_size, 0)
+    def _printed(self) -> Printed:
+        """All that the program printed, where it stands."""
+        size = os.fstat(self.files[1]).st_size
+        return mmap.mmap(self.files[1], size, access=mmap.ACCESS_READ) if size else b""
 
-    def _blocks(self) -> list[Block]:
-        """The answers in blocks, as many as there are households."""
-        form, due = self.batch.form, len(self.households)
-        texts = list(slices(self.files[1]))
-        if texts and not (texts[0].startswith(LABEL_LINE) and texts[-1].endswith("\n")):
-            raise Broken(f"a first line without a label, or a last line without its end: {texts[0][:200]!r}, {texts[-1][-200:]!r}")
-        blocks = [Block(form, text, text.count("\n" + LABEL_LINE) + 1) for text in texts]
-        if not form.names or sum(block.count for block in blocks) != due:
-            blocks = [Block(form, text, 1) for text in by_line("".join(texts))]
-        if sum(block.count for block in blocks) != due:
-            raise Broken(f"{sum(block.count for block in blocks)} answers for {due} households")
-        return blocks
+    def _counted(self) -> list[Piece]:
+        """What the program printed, in pieces with as many answers as there are households."""
+        form, due, printed = self.batch.form, len(self.households), self._printed()
+        if printed and not (printed[: len(LABEL_LINE)] == LABEL_LINE.encode() and printed[-1:] == b"\n"):
+            raise Broken(f"a first line without a label, or a last line without its end: {printed[:200]!r}, {printed[-200:]!r}")
+        places = list(cuts(printed))
+        asked = self.batch.asked
+        if asked is not None:  # each answer has at most one amount of a name
+            columns = [form.column(asked, printed, *place) for place in places]
+            if sum(map(len, columns)) == due:
+                return [(printed, *place, len(column), {asked: column}) for place, column in zip(places, columns)]
+        pieces: list[Piece] = [(printed, begin, end, printed[begin:end].count(NEXT_LABEL) + 1, {}) for begin, end in places]
+        if not form.names or sum(piece[3] for piece in pieces) != due:
+            pieces = [(text, 0, len(text), 1, {}) for text in by_line(printed[:])]
+        if sum(piece[3] for piece in pieces) != due:
+            raise Broken(f"{sum(piece[3] for piece in pieces)} answers for {due} households")
+        return pieces
 
     def end(self) -> None:
         """Ends the program, and drops its files."""
@@ -204,27 +243,24 @@ def first_without_row(households: list[Household], wrong: Exception) -> tuple[in
     return 0, wrong
 
 
-def slices(printed: int) -> Iterator[str]:
-    """What was printed to a file, in texts that each begin with a label: of some hundred answers, or one that is long."""
-    at, rest = 0, ""
-    while piece := os.pread(printed, max(SLICE, len(rest)), at):
-        at += len(piece)
-        rest += piece.decode(ENCODING)
-        cut = rest.rfind("\n" + LABEL_LINE) + 1
-        if cut:
-            yield rest[:cut]
-            rest = rest[cut:]
-    if rest:
-        yield rest
+def cuts(printed: Printed) -> Iterator[tuple[int, int]]:
+    """Where to cut what was printed, in pieces that each begin with a label: of some hundred answers, or one that is long."""
+    begin, size = 0, len(printed)
+    while begin < size:
+        end = size
+        if begin + SLICE < size:
+            end = printed.rfind(NEXT_LABEL, begin, begin + SLICE) + 1 or printed.find(NEXT_LABEL, begin) + 1 or size
+        yield begin, end
+        begin = end
 
 
-def by_line(text: str) -> list[str]:
+def by_line(text: bytes) -> list[bytes]:
     """The same with one answer in each, where answers may have no lines, or the text of a note or a stop is a label: it goes with the line before it."""
-    texts: list[list[str]] = []
+    texts: list[list[bytes]] = []
     in_text = False
-    for line in text.split("\n")[:-1]:
-        if not in_text and line + "\n" == LABEL_LINE:
+    for line in text.split(b"\n")[:-1]:
+        if not in_text and line + b"\n" == LABEL_LINE.encode():
             texts.append([])
-        texts[-1].append(line + "\n")
-        in_text = not in_text and line.startswith(("failed ", "noted "))
-    return list(map("".join, texts))
+        texts[-1].append(line + b"\n")
+        in_text = not in_text and line.startswith((b"failed ", b"noted "))
+    return list(map(b"".join, texts))

@@ -7,71 +7,84 @@ import io
 import itertools
 import re
 from decimal import Decimal
-from typing import Iterable, Mapping, Sequence
+from typing import BinaryIO, Iterable, Mapping, Sequence
 
 from .answers import LABEL
 from .program import ENCODING, Amount, spelled
 
 Household = Mapping[str, Amount]
 MOST_FORMS = 1_000
+FILLED = 1_000
 FIRST = 64
 PLAIN = {int, str, Decimal, type(None)}
 WORDS = re.compile("[EeIN]")
-QUOTED = re.compile('["\r]')
 CODE = re.compile("[0-9A-Za-z_]+")
-WHOLE = b"0123456789-,\n" + LABEL.encode()
+AMOUNTS = b"0123456789.-"
+
+
+class UnknownList(Exception):
+    """A household has a list of codes without a form."""
 
 
 class Tables:
-    """Makes tables of some thousand households at a time, each labelled `~`.
+    """Writes tables of some thousand households at a time, each labelled `~`.
 
-    Most households are dicts with few different lists of codes. For each such list there is a form of its row, with a place for each amount, and all rows are
-    filled at once, by what runs without the interpreter. Where the lists are many, or in no one order, columns are put together in their place. What is
-    written of whole numbers, texts and None is an amount as it stands, and so is a decimal without an exponent. Where something isn't plain, amounts are
-    looked at one by one.
+    Most households are dicts with few different lists of codes. For each such list there is a form of its row, with a place for each amount, and some hundred
+    rows are filled at once, by what runs without the interpreter. What is written of whole numbers, texts and None is an amount as it stands, and so is a
+    decimal without an exponent: a row then has, beside digits, points and signs, its label and a comma for each code, and nothing else. Where lists are many,
+    or in no one order, or something isn't plain, columns are put together in their place.
     """
 
     def __init__(self) -> None:
         self._codes: list[str] = []
         self._forms: dict[tuple[str, ...], str] = {}
+        self._empty_row = b""
         self._has_forms = True
 
-    def table(self, households: Sequence[Household]) -> bytes:
-        """The table of some households."""
-        table = self._filled(households) if self._has_forms else None
-        return by_columns(households).encode(ENCODING) if table is None else table
+    def write(self, households: Sequence[Household], out: BinaryIO) -> None:
+        """Writes the table of some households to a file, from its begin on, and nothing else."""
+        if self._has_forms:
+            try:
+                is_written = self._by_forms(households, out)
+            except UnknownList:
+                is_written = self._learnt(dict.fromkeys(tuple(one) for one in households if type(one) is dict)) and self._by_forms(households, out)
+            if is_written:
+                return
+        out.seek(0)
+        out.truncate()
+        out.write(by_columns(households).encode(ENCODING))
+
+    def _by_forms(self, households: Sequence[Household], out: BinaryIO) -> bool:
+        """Writes it by forms of rows; False where something isn't plain."""
+        out.seek(0)
+        out.truncate()
+        out.write(",".join(["name", *self._codes]).encode(ENCODING) + b"\n")
+        for begin in range(0, len(households), FILLED):
+            rows = self._filled(households[begin : begin + FILLED])
+            if rows is None:
+                return False
+            out.write(rows)
+        return True
 
     def _filled(self, households: Sequence[Household]) -> bytes | None:
-        """The table by forms of rows; None where something isn't plain."""
+        """Some rows; None where something isn't plain."""
         if set(map(type, households)) != {dict}:
             return None
         amounts = tuple(itertools.chain.from_iterable(map(dict.values, households)))  # type: ignore[arg-type]
-        whole = are_whole(amounts)
-        types = {int} if whole else set(map(type, amounts))
+        types = {int} if are_whole(amounts) else set(map(type, amounts))
         if not types <= PLAIN:
             return None
         try:
-            rows = "".join(map(self._forms.__getitem__, map(tuple, households)))
+            forms = "".join(map(self._forms.__getitem__, map(tuple, households)))
         except KeyError:
-            if not self._learnt(dict.fromkeys(map(tuple, households))):
-                return None
-            rows = "".join(map(self._forms.__getitem__, map(tuple, households)))
-        text = rows % amounts
+            raise UnknownList from None
+        text = forms % amounts
         if type(None) in types:
             if text.count("None") != amounts.count(None):
                 return None
             text = text.replace("None", "")
-        if str in types and self._fields_of(text) != len(households) or Decimal in types and WORDS.search(text):
-            return None
-        table = text.encode(ENCODING)
-        if whole and (table.translate(None, WHOLE) or (table.count(b","), table.count(b"\n")) != (len(households) * len(self._codes), len(households))):
-            return None
-        return ",".join(["name", *self._codes]).encode(ENCODING) + b"\n" + table
-
-    def _fields_of(self, text: str) -> int:
-        """How many rows a text has where each has all its fields, and no field is written otherwise than it is; else -1."""
-        rows = text.count("\n")
-        return -1 if QUOTED.search(text) or text.count(",") != rows * len(self._codes) else rows
+        rows = text.encode(ENCODING)
+        return rows if rows.translate(None, AMOUNTS) == self._empty_row * len(households) else None
 
     def _learnt(self, lists: Iterable[tuple[str, ...]]) -> bool:
         """Makes forms for more lists of codes, in an order of the codes in which all lists are; False where there is none."""
@@ -87,6 +100,7 @@ class Tables:
             self._has_forms = False
         if self._has_forms:
             self._forms = {codes: self._form(set(codes)) for codes in lists}
+            self._empty_row = LABEL.encode() + b"," * len(self._codes) + b"\n"
         return self._has_forms
 
     def _form(self, codes: set[str]) -> str:
