@@ -18,7 +18,7 @@ use std::thread::Threads;
 use tax_print::print_household;
 
 // How many rows are computed before they are written, at most, and at least where there are so many.
-const WINDOW: usize = 32_768;
+const WINDOW: usize = 8_192;
 
 const FEWEST: usize = 256;
 

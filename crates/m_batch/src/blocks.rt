@@ -1,5 +1,5 @@
 //! The rows of a worker, a block after the other, on a machine of its own.
-ghost use Rattle.std.specs.Prelude.{◌≡◌, ◌<◌, ◌≤◌, ◌++◌, ℕ, IfOk, OnOk, length, slice_index_or};
+ghost use Rattle.std.specs.Prelude.{◌≡◌, ◌<◌, ◌≤◌, ◌++◌, ℕ, IfOk, OnOk, OnErr, length, slice_index_or};
 ghost use Rattle.std.specs.List.{AllByRecursion};
 ghost use Rattle.household.specs.declared.table.Row.{Row};
 ghost use Rattle.column_machine.specs.Rows.{answer_in};
@@ -75,6 +75,7 @@ impl<'a> Blocks<'a> {
         ensures rows { IfOk result (λ part. self.old.rows ≡ part.rows.now ++ self.new.rows) }
         ensures answers { IfOk result (λ part. part.answers.items ≡ answers_of self.old.code part.rows.now) }
         ensures some { IfOk result (λ part. 0 < length self.old.rows → 0 < length part.rows.now) }
+        ensures left { OnErr result (self.new.rows ≡ self.old.rows) }
     {
         let (first, rest) = self.rows.split_at(block_end(self.rows.len()));
         run_rows(&self.places, first, &mut self.columns, &mut self.block);
