@@ -28,6 +28,9 @@ pub fn one_output(alloc: Global, number: u32) -> Result<Seq<u32>, AllocError>
 
 fn no_checks(alloc: Global) -> Seq<Check>
     ensures { result ≡ [] }
+{
+    Seq::from_vec(Vec::new(alloc))
+}
 
 /// A program without checks that has one output.
 pub fn unchecked(
@@ -48,9 +51,6 @@ pub fn unchecked(
         checks: no_checks(alloc),
         outputs,
     })
-}
-{
-    Seq::from_vec(Vec::new(alloc))
 }
 
 // A list of one check.
