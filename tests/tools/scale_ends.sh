@@ -51,7 +51,7 @@ wait $!
 echo "status $?"
 "$scale" drop parts
 rm began
-"$scale" run parts a.list - - &
+env --default-signal=HUP "$scale" run parts a.list - - &
 while [ ! -e began ]; do sleep 0.05; done
 kill -HUP $!
 wait $!
