@@ -1,7 +1,7 @@
 #!/bin/sh
 # Runs the tests of tools/: each tests/tools/NAME.sh, in an empty folder of its own with ROOT for the repository, prints what NAME.out
 # has. Those with a line "# needs the program" are left out where ./build has not built it and M_TAX doesn't name it. Prints
-# the differences of each test that fails, and a count. The status is 0 where none fails.
+# the differences of each test that fails, or takes over 15 minutes, and a count. The status is 0 where none fails.
 cd "$(dirname "$0")/.." || exit 1
 if ! command -v python3 >/dev/null 2>&1; then
     echo "tools: not run: there is no python3"
@@ -25,7 +25,7 @@ for test in tests/tools/*.sh; do
         continue
     fi
     mkdir "$room/$name" || exit 1
-    (cd "$room/$name" && sh "$ROOT/$test") >"$room/out" 2>&1 </dev/null
+    (cd "$room/$name" && timeout 900 sh "$ROOT/$test") >"$room/out" 2>&1 </dev/null
     if cmp -s "$room/out" "tests/tools/$name.out"; then
         passed=$((passed + 1))
     else
