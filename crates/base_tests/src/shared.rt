@@ -10,8 +10,8 @@ fn is_a20(name: &SharedName) -> bool {
 fn outlive_their_first_owner(rt: HostRuntime) -> Result<(), Fail> {
     let alloc = rt.alloc();
     let first = SharedName::new(alloc, Name::new(alloc, b"A20")?)?;
-    let second = first.share()?;
-    let third = second.share()?;
+    let second = first.share(alloc)?;
+    let third = second.share(alloc)?;
     assert!(rt; is_a20(&first));
     drop(first);
     assert!(rt; is_a20(&second));

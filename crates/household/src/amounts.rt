@@ -18,7 +18,7 @@ pub fn values(alloc: Global, household: &Household, inputs: u32) -> Result<Vec<V
 }
 
 /// The same, put into a given list, which has a place for each input: what stood in it is gone. Takes no
-/// memory, so a batch gives one list to all of its rows.
+/// memory.
 ///
 /// A household with the pair of 1 and 5 makes of a list of three values `Undef`, `Num 5` and `Undef`.
 pub fn values_into(household: &Household, values: &mut [Value])

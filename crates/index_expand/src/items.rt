@@ -307,7 +307,7 @@ fn push_condition(
     ensures { OnOk result (conditions.new.items ≡ conditions.old.items
         ++ record { verif = number.now; error = check.now.error; term = term; place = check.now.place } ∷ []) }
 {
-    let number = number.share()?;
+    let number = number.share(alloc)?;
     let error = check.error.copy(alloc)?;
     conditions.push(Condition {
         verif: number,

@@ -59,10 +59,10 @@ fn kept(alloc: Global, name: &mut Option<SharedName>, word: &[u8]) -> Result<Sha
     ensures { IfOk result (λ name. name ≡ word.now) }
 {
     if let Some(known) = known(name, word) {
-        return known.share();
+        return known.share(alloc);
     }
     let made = own(alloc, word)?;
-    let given = made.share()?;
+    let given = made.share(alloc)?;
     *name = Some(made);
     Ok(given)
 }

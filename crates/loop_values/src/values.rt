@@ -16,8 +16,8 @@ use std::alloc::{AllocError, Global};
 /// More instances than a loop, or than a base has parts for. Counts stop here.
 pub const MANY: u64 = PARTS as u64 + 1;
 
-/// The values of an index, in the order in which they are written: of `i = V, 1..2` they are V, 1, 2. Its only error is want
-/// of memory.
+/// The values of an index, in the order in which they are written: of `i = V, 1..2` they are V, 1, 2. Its only error
+/// is running out of memory.
 pub fn index_values(alloc: Global, index: &Index) -> Result<Vec<Name>, AllocError>
     ensures { IfOk result (λ values. values.items ≡ spec.index_values index.now) }
 {

@@ -7,7 +7,7 @@ pub const FILE_BYTES: u64 = 16_777_216;
 /// The most bytes of all rule files of a list together.
 pub const RULE_BYTES: u64 = 67_108_864;
 
-/// The most bytes of a code file.
+/// The most bytes of a code file, of findings and of a report.
 pub const CODE_FILE_BYTES: u64 = 1_073_741_824;
 
 /// The most rule files in a list.

@@ -38,13 +38,14 @@ impl SharedName {
         self.name.bytes()
     }
 
-    /// The same name for one more owner, which takes no memory. Its only error, as for lack of
-    /// memory, is that owners are more than can be counted in 63 bits.
-    pub fn share(&self) -> Result<SharedName, AllocError>
+    /// The same name for one more owner, which takes no memory, but where it has more owners than
+    /// are counted, in 63 bits: then it is an equal name. Its only error is running out of memory.
+    pub fn share(&self, alloc: Global) -> Result<SharedName, AllocError>
         ensures { IfOk result (λ s. s ≡ self.now) }
     {
-        Ok(SharedName {
-            name: self.name.clone()?,
-        })
+        match self.name.clone() {
+            Ok(name) => Ok(SharedName { name }),
+            Err(_) => SharedName::new(alloc, self.name.copy(alloc)?),
+        }
     }
 }

@@ -115,7 +115,7 @@ fn said_with(
 {
     match words {
         None => Err(ResolveFault::UnknownError(condition.error.copy(alloc)?, condition.place)),
-        Some(words) => Ok(label_with(&condition.verif, words)?),
+        Some(words) => Ok(label_with(alloc, &condition.verif, words)?),
     }
 }
 
@@ -142,12 +142,16 @@ fn words_at<'a>(symbols: &Symbols, errors: &'a [ErrorWords], number: u32) -> &'a
 }
 
 // The label of a check of this verification, with the words of the error that it raises.
-fn label_with(verif: &SharedName, words: &ErrorWords) -> Result<Label, AllocError>
+fn label_with(
+    alloc: Global,
+    verif: &SharedName,
+    words: &ErrorWords,
+) -> Result<Label, AllocError>
     ensures { IfOk result (λ label. label ≡ label_with verif.now words.now) }
 {
-    let verif = verif.share()?;
-    let error = words.name.share()?;
-    let text = words.text.share()?;
+    let verif = verif.share(alloc)?;
+    let error = words.name.share(alloc)?;
+    let text = words.text.share(alloc)?;
     Ok(Label {
         verif,
         error,

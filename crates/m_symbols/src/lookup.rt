@@ -3,10 +3,8 @@ ghost use Rattle.std.specs.Prelude.{◌≡◌, ◌<◌, Some, length, slice_get,
 ghost use Rattle.m_names.specs.Names.{index_of};
 ghost use Rattle.m_symbols.specs.Declarations.{names_of, error_names_of, codes_of, owners_from, inputs_from};
 
-use crate::symbols::Tables;
 use crate::{Symbols, Variable};
 use m_ast::ErrorItem;
-use m_names::Names;
 
 impl Symbols {
     /// How many variables there are.
@@ -70,16 +68,6 @@ impl Symbols {
         ensures within { IfSome result (λ n. n < length (inputs_from 0 self.now.variables)) }
     {
         self.tables.codes.find(code)
-    }
-
-    /// The codes of the inputs, numbered as the inputs are: what households are read by. All else that was
-    /// declared is dropped.
-    pub fn into_codes(self) -> Names
-        ensures { result ≡ codes_of self.variables }
-    {
-        let Symbols { tables } = self;
-        let Tables { codes, .. } = tables;
-        codes
     }
 
     /// How many errors there are.

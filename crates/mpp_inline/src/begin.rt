@@ -86,18 +86,18 @@ fn first_labels(alloc: Global, labels: &[Label]) -> Result<Vec<FaceLabel>, Alloc
 {
     let mut faces = Vec::new(alloc);
     for label in labels {
-        faces.push(FaceLabel::Verif(equal_label(label)?))?;
+        faces.push(FaceLabel::Verif(equal_label(alloc, label)?))?;
     }
     Ok(faces)
 }
 
 /// An equal label, which shares the words of this one.
-fn equal_label(label: &Label) -> Result<Label, AllocError>
+fn equal_label(alloc: Global, label: &Label) -> Result<Label, AllocError>
     ensures { IfOk result (λ equal. equal ≡ label.now) }
 {
-    let verif = label.verif.share()?;
-    let error = label.error.share()?;
-    let text = label.text.share()?;
+    let verif = label.verif.share(alloc)?;
+    let error = label.error.share(alloc)?;
+    let text = label.text.share(alloc)?;
     Ok(Label {
         verif,
         error,

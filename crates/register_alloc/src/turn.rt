@@ -12,7 +12,7 @@ use flat_code::{Flat, Tidy};
 use reg_machine::{Code, CodeBuilder, REGISTERS};
 use std::alloc::{AllocError, Global};
 
-/// Register code that spells the program, with so many labels, and with as few slots as the program's width allows. Its only
+/// Register code that spells the program, with so many labels, and with at most as many slots as the program's width. Its only
 /// error is running out of memory. Of two inputs and an output that is their sum it is `Take(0, 0)`, `Take(1, 1)`,
 /// `Do(Add, 0, 0, 1, 0)` and `Output(0, 0)`, with no slot.
 pub fn allocate(alloc: Global, tidy: &Tidy, labels: u32) -> Result<Code, AllocError>
