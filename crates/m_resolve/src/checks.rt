@@ -142,11 +142,7 @@ fn words_at<'a>(symbols: &Symbols, errors: &'a [ErrorWords], number: u32) -> &'a
 }
 
 // The label of a check of this verification, with the words of the error that it raises.
-fn label_with(
-    alloc: Global,
-    verif: &SharedName,
-    words: &ErrorWords,
-) -> Result<Label, AllocError>
+fn label_with(alloc: Global, verif: &SharedName, words: &ErrorWords) -> Result<Label, AllocError>
     ensures { IfOk result (λ label. label ≡ label_with verif.now words.now) }
 {
     let verif = verif.share(alloc)?;
