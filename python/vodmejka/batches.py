@@ -11,7 +11,6 @@ from typing import BinaryIO, Callable, Generator, Iterable, Iterator
 
 from .answers import LABEL_LINE, NEXT_LABEL, Answer, Form, Hands, Printed, Told
 from .errors import Broken, NotFound, Refused
-from .processors import Processors
 from .program import ENCODING, raise_for
 from .tables import Household, Tables, by_columns
 
@@ -57,7 +56,6 @@ class Batch:
         self.words, self.folder, self.form, self.size = words, folder, form, size
         self.codes, self.told, self.tables = frozenset(codes), told, Tables()
         self.asked: str | None = None
-        self.processors = Processors()
 
     def answers(self, rows: Iterable[Household]) -> Answers:
         """The answers of households, in their order."""
@@ -113,7 +111,6 @@ class Part:
     def __init__(self, batch: Batch, households: list[Household], first: int, fault: BaseException | None = None):
         self.batch, self.households, self.first, self.fault = batch, households, first, fault
         self.child: subprocess.Popen[bytes] | None = None
-        self.share = batch.processors.share()
         self.inner: Part | None = None
         self.files: list[int] = []
         try:
@@ -131,7 +128,6 @@ class Part:
             words = [*self.batch.words, f"/proc/self/fd/{given}"]
             to = {"stdin": subprocess.DEVNULL, "stdout": printed, "stderr": subprocess.DEVNULL}
             self.child = subprocess.Popen(words, cwd=self.batch.folder, pass_fds=(given,), **to)  # type: ignore[call-overload]
-            self.share.give(self.child)
 
     def _write(self, file: BinaryIO) -> None:
         """Writes the table, of the households before the first one with what is no amount."""
@@ -162,7 +158,7 @@ class Part:
     def _pieces(self) -> Iterator[Piece]:
         """The same of a table that the program takes, or rejects."""
         assert self.child is not None
-        status = self.share.wait(self.child)
+        status = self.child.wait()
         try:
             raise_for(b"" if status == 0 else self._printed()[:], status)
         except NotFound as missing:
