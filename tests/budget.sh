@@ -1,6 +1,6 @@
 #!/bin/sh
 # The budget of the gate. Edits that must be refused are most of its time: at most 10 in a crate, at most 5 in one that stands
-# on eight or more others, 120 in all. Prints a line for each crate that is over, and a count; the status is 0 where none is.
+# on eight or more others, 60 in all. Prints a line for each crate that is over, and a count; the status is 0 where none is.
 #
 # tests/budget.sh FIGURES also looks at the figures that bench/gate/measure.py wrote: the check of a library takes at most
 # 20 s of CPU, for those that it stands on, and 100 s for 1,000 lines of its code, definitions and proofs, and its tests no
@@ -38,7 +38,7 @@ done | awk -v figures="$figures" '
         crates++
     }
     END {
-        if (all > 120) over("there are " all " must-fail edits, and may be 120")
+        if (all > 60) over("there are " all " must-fail edits, and may be 60")
         print "budget: " crates " crates, " all " must-fail edits, " failed + 0 " over"
         exit failed > 0
     }'
