@@ -7,7 +7,7 @@ use std::alloc::{AllocError, Global};
 use std::test::Fail;
 
 /// What is looked for, and its number.
-static FOUND: [(&str, Option<u32>); 4] = [
+static FOUND: [(&str, Option<usize>); 4] = [
     ("REV", Some(0)),
     ("SEUIL", Some(1)),
     ("", Some(2)),
@@ -19,7 +19,7 @@ static ADDED: [(&str, bool); 4] = [("REV", true), ("SEUIL", true), ("REV", false
 
 // The tables, out of reach of the proofs of what goes over them.
 
-fn all_found() -> &'static [(&'static str, Option<u32>)] {
+fn all_found() -> &'static [(&'static str, Option<usize>)] {
     &FOUND
 }
 
@@ -27,11 +27,11 @@ fn all_added() -> &'static [(&'static str, bool)] {
     &ADDED
 }
 
-fn all_again() -> &'static [(&'static str, u32, Option<NamesFault>)] {
+fn all_again() -> &'static [(&'static str, usize, Option<NamesFault>)] {
     &AGAIN
 }
 
-fn lengths() -> &'static [(&'static [u8], u32)] {
+fn lengths() -> &'static [(&'static [u8], usize)] {
     &LENGTHS
 }
 
@@ -79,7 +79,7 @@ fn names_of(alloc: Global, line: &[u8]) -> Result<Vec<Name>, AllocError> {
 }
 
 /// Whether these are so many names, or have this fault.
-fn are_told(alloc: Global, names: &[Name], count: u32, wanted: Option<NamesFault>) -> bool {
+fn are_told(alloc: Global, names: &[Name], count: usize, wanted: Option<NamesFault>) -> bool {
     match Names::of(alloc, names) {
         Ok(known) => known.len() == count && wanted.is_none(),
         Err(fault) => count == 0 && wanted == Some(fault),
@@ -87,7 +87,7 @@ fn are_told(alloc: Global, names: &[Name], count: u32, wanted: Option<NamesFault
 }
 
 /// Whether a line has so many names, or this is wrong with them.
-fn is_told(alloc: Global, line: &[u8], count: u32, wanted: Option<NamesFault>) -> bool {
+fn is_told(alloc: Global, line: &[u8], count: usize, wanted: Option<NamesFault>) -> bool {
     match names_of(alloc, line) {
         Ok(names) => are_told(alloc, &names, count, wanted),
         Err(_) => false,
@@ -95,7 +95,7 @@ fn is_told(alloc: Global, line: &[u8], count: u32, wanted: Option<NamesFault>) -
 }
 
 /// Names in a line, how many they are, and the first that stands again.
-static AGAIN: [(&str, u32, Option<NamesFault>); 5] = [
+static AGAIN: [(&str, usize, Option<NamesFault>); 5] = [
     ("A", 1, None),
     ("REV SEUIL R REVE", 4, None),
     ("A B A B", 0, Some(NamesFault::Repeated(0, 2))),
@@ -122,7 +122,7 @@ fn a_name_is_among_names_by_its_bytes(rt: HostRuntime) -> Result<(), Fail> {
 
 /// Names of 15, 16, 17 and 40 bytes, each the prefix of the next: a name of up to 16 bytes takes no
 /// memory of its own.
-static LENGTHS: [(&[u8], u32); 4] = [
+static LENGTHS: [(&[u8], usize); 4] = [
     (b"ABCDEFGHIJKLMNO", 0),
     (b"ABCDEFGHIJKLMNOP", 1),
     (b"ABCDEFGHIJKLMNOPQ", 2),

@@ -1,4 +1,4 @@
-ghost use Rattle.std.specs.Prelude.{◌≡◌, ◌<◌, IfOk, IfSome, length, map};
+ghost use Rattle.std.specs.Prelude.{◌≡◌, ◌<◌, ◌^◌, IfOk, IfSome, length, map};
 ghost use Rattle.m_names.specs.Names.{AreDistinct, index_of};
 ghost use Rattle.observables.specs.Inputs.{codes_of, is_of_type};
 ghost use Rattle.household.specs.Household.{input_type};
@@ -20,7 +20,7 @@ pub struct Codes {
 }
 
 impl Model for Codes {
-    ghost use Rattle.std.specs.Prelude.{◌≡◌, List, length};
+    ghost use Rattle.std.specs.Prelude.{◌≡◌, ◌<◌, ◌^◌, List, length};
     ghost use Rattle.observables.specs.declared.inputs.Coded.{Coded};
     ghost use Rattle.household.specs.inner.Kept.{inputs_kept};
 
@@ -28,13 +28,14 @@ impl Model for Codes {
 
     ghost view = { λ c. inputs_kept c.names c.kinds.items };
 
-    ghost invariant = { λ c. length c.kinds.items ≡ length c.names };
+    ghost invariant = { λ c. (length c.kinds.items ≡ length c.names) × (length c.names < 2 ^ 32) };
 }
 
 impl Codes {
     /// The inputs, in the order of their numbers. Its only error is running out of memory.
     pub fn new(alloc: Global, inputs: &[Coded]) -> Result<Codes, AllocError>
-        requires { AreDistinct (codes_of inputs.now) }
+        requires distinct { AreDistinct (codes_of inputs.now) }
+        requires few { length inputs.now < 2 ^ 32 }
         ensures { IfOk result (λ codes. codes ≡ inputs.now) }
     {
         let names = names_of(alloc, inputs)?;
@@ -46,7 +47,7 @@ impl Codes {
     pub fn len(&self) -> u32
         ensures { result ≡ length self.now }
     {
-        self.names.len()
+        self.names.len() as u32
     }
 
     /// The number of the input with a code, if there is one. Takes no memory.
@@ -54,7 +55,10 @@ impl Codes {
         ensures number { result ≡ index_of code.now (codes_of self.now) }
         ensures within { IfSome result (λ number. number < length self.now) }
     {
-        self.names.find(code)
+        match self.names.find(code) {
+            Some(number) => Some(number as u32),
+            None => None,
+        }
     }
 
     /// Whether an amount is of the type of the input with this number: 2.5 is not, where that is `Whole`. A number that no

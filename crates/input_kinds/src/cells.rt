@@ -19,7 +19,7 @@ use std::rc::Rc;
 pub struct KindCells {
     index: Rc<KindIndex>,
     /// The number of the attribute in the index.
-    attribute: u32,
+    attribute: usize,
     /// The values, each once. Those that no input has are left out.
     values: Vec<Amount>,
     /// How many cells there are, as far as 64 bits count.
@@ -100,7 +100,7 @@ fn none(alloc: Global, index: &Rc<KindIndex>) -> Result<KindCells, AllocError>
 fn numbered(
     alloc: Global,
     index: &Rc<KindIndex>,
-    attribute: u32,
+    attribute: usize,
     values: &[Amount],
 ) -> Result<KindCells, AllocError>
     ensures { IfOk result (λ cells. cells ≡ ascending (groups_at index.now.value attribute values.now)) }
@@ -118,7 +118,7 @@ fn numbered(
 fn kept_values(
     alloc: Global,
     index: &KindIndex,
-    attribute: u32,
+    attribute: usize,
     values: &[Amount],
 ) -> Result<(Vec<Amount>, u64), AllocError>
     ensures values { IfOk result (λ kept. (cell : ℕ) → times cell (joined index.now attribute kept.0.items) ≡ times cell (groups_at index.now attribute values.now)) }
@@ -138,7 +138,7 @@ fn kept_values(
 // Keeps a value that isn't among those that were seen, if an input has it.
 fn keep_once(
     index: &KindIndex,
-    attribute: u32,
+    attribute: usize,
     value: Amount,
     count: u64,
     seen: &mut BTreeSet<i128>,
@@ -160,7 +160,7 @@ fn keep_once(
 // Keeps a value, if an input has it, and counts the cells, as far as 64 bits do.
 fn keep(
     index: &KindIndex,
-    attribute: u32,
+    attribute: usize,
     value: Amount,
     count: u64,
     kept: &mut Vec<Amount>,
@@ -180,7 +180,7 @@ fn keep(
 fn gathered(
     alloc: Global,
     index: &KindIndex,
-    attribute: u32,
+    attribute: usize,
     values: &[Amount],
 ) -> Result<Vec<u32>, AllocError>
     ensures { IfOk result (λ cells. cells.items ≡ joined index.now attribute values.now) }
@@ -195,7 +195,7 @@ fn gathered(
 // Adds the cells that have this value.
 fn add_group(
     index: &KindIndex,
-    attribute: u32,
+    attribute: usize,
     value: Amount,
     cells: &mut Vec<u32>,
 ) -> Result<(), AllocError>

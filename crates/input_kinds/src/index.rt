@@ -22,7 +22,7 @@ use std::collections::BTreeMap;
 #[derive(Drop)]
 pub struct KindIndex {
     pub(crate) attributes: Names,
-    pub(crate) groups: BTreeMap<(u32, i128), Vec<u32>>,
+    pub(crate) groups: BTreeMap<(usize, i128), Vec<u32>>,
 }
 
 impl KindIndex {
@@ -137,7 +137,7 @@ fn key_of(symbols: &Symbols) -> Key {
 }
 
 // The number of an attribute, which is added if it is new.
-fn number_of(alloc: Global, attribute: &[u8], attributes: &mut Names) -> Result<u32, AllocError>
+fn number_of(alloc: Global, attribute: &[u8], attributes: &mut Names) -> Result<usize, AllocError>
     ensures { IfOk result (λ n. HasNumber attributes.old attribute.now n attributes.new) }
 {
     if let Some(number) = attributes.find(attribute) {
@@ -151,10 +151,10 @@ fn number_of(alloc: Global, attribute: &[u8], attributes: &mut Names) -> Result<
 // Adds a cell after those that have this value of the attribute of this number.
 fn add_cell(
     alloc: Global,
-    attribute: u32,
+    attribute: usize,
     value: i128,
     cell: u32,
-    groups: &mut BTreeMap<(u32, i128), Vec<u32>>,
+    groups: &mut BTreeMap<(usize, i128), Vec<u32>>,
 ) -> Result<(), AllocError>
     ensures here { OnOk result (cells_of (get key_order groups.new (attribute, value)) ≡ cells_of (get key_order groups.old (attribute, value)) ++ cell ∷ []) }
     ensures others { OnOk result ((n : ℕ) (v : ℤ) → is_eq (key_order (attribute, value) (n, v)) ≡ false

@@ -38,7 +38,7 @@ impl<'a> Outputs<'a> {
         ensures { result ≡ index_of name.now (names_of self.now.outputs.now) }
     {
         match self.known.find(name) {
-            Some(number) => Some(self.places[number as usize]),
+            Some(number) => Some(self.places[number]),
             None => None,
         }
     }

@@ -8,7 +8,7 @@ use std::alloc::{AllocError, AllocFailed};
 pub enum NamesFault {
     /// A name stands a second time: its first place, and the place where it stands again, both
     /// from 0.
-    Repeated(u32, u32),
+    Repeated(usize, usize),
     /// There was no memory.
     Memory,
 }

@@ -18,13 +18,11 @@ pub struct Names {
 }
 
 impl Model for Names {
-    ghost use Rattle.std.specs.Prelude.{List, ℕ, ◌<◌, ◌^◌, length, map};
+    ghost use Rattle.std.specs.Prelude.{List, ℕ, map};
 
     ghost Value = { List (List ℕ) };
 
     ghost view = { λ n. map (λ k. k.items) n.known.keys };
-
-    ghost invariant = { λ n. length n.known.keys < 2 ^ 32 };
 }
 
 impl Names {
@@ -68,21 +66,18 @@ impl Names {
     }
 
     /// How many names there are. Takes no memory.
-    pub fn len(&self) -> u32
+    pub fn len(&self) -> usize
         ensures { result ≡ length self.now }
     {
-        self.known.len() as u32
+        self.known.len()
     }
 
     /// The number of a name, from 0, if it is there. Takes no memory.
-    pub fn find(&self, name: &[u8]) -> Option<u32>
+    pub fn find(&self, name: &[u8]) -> Option<usize>
         ensures number { result ≡ index_of name.now self.now }
         ensures within { IfSome result (λ number. number < length self.now) }
     {
-        match self.known.get_index_of(name) {
-            Some(number) => Some(number as u32),
-            None => None,
-        }
+        self.known.get_index_of(name)
     }
 
     /// Adds a name at the end, and says whether it is new. A name that is there already stays
@@ -96,20 +91,16 @@ impl Names {
         Ok(fresh)
     }
 
-    // Adds a name at the end, if it is new, and gives its number and whether it is new. There is
-    // no room for more names than a `u32` counts.
-    fn put(&mut self, alloc: Global, name: &[u8]) -> Result<(u32, bool), AllocError>
+    // Adds a name at the end, if it is new, and gives its number and whether it is new.
+    fn put(&mut self, alloc: Global, name: &[u8]) -> Result<(usize, bool), AllocError>
         ensures number { IfOk result (λ r. has name.now self.old ≡ true → index_of name.now self.old ≡ Some r.0) }
         ensures fresh { IfOk result (λ r. r.1 ≡ not (has name.now self.old)) }
         ensures added { IfOk result (λ r. self.new ≡ (if r.1 then self.old ++ name.now ∷ [] else self.old)) }
         ensures err { OnErr result (self.new ≡ self.old) }
     {
-        if self.known.len() >= u32::MAX as usize {
-            return Err(AllocError);
-        }
         let key = Vec::from_slice(alloc, name)?;
-        let (number, fresh) = self.known.insert_full(key)?;
-        Ok((number as u32, fresh))
+        let entry = self.known.insert_full(key)?;
+        Ok(entry)
     }
 }
 

@@ -11,7 +11,7 @@ use Rattle.command_plans.specs.declared.ending.Ending.{Ending}
 use Rattle.command_plans.specs.declared.ending.Ending.TheVariants.{Memory}
 use Rattle.command_plans.proofs.Trips.{along_then, along_ended, along_done, along_without_memory}
 use Rattle.m_source.specs.Source.{rules_plan}
-use Rattle.rule_text.specs.Limits.{EachIsWithin}
+use Rattle.rule_text.specs.Limits.{EachIsWithin, all_bytes}
 use Rattle.rule_text.specs.declared.Text.{Text}
 
 -- texts that were gathered, and what comes of the rest
@@ -95,6 +95,15 @@ within_one (one ∷ texts) text w l = (w.0, within_one texts text w.1 l)
 
 pub within_push : (texts new : List Text) (text : Text) (left limit : ℕ) → new ≡ texts ++ text ∷ [] → limit ≡ min FILE_BYTES left → EachIsWithin texts → length text.bytes ≤ limit → EachIsWithin new
 within_push texts new text left limit e m w l = subst EachIsWithin (sym e) (within_one texts text w (omega (arith, m, l)))
+
+-- and has its bytes beside those of the others
+bytes_one : (texts : List Text) (text : Text) → all_bytes (texts ++ text ∷ []) ≡ all_bytes texts + length text.bytes
+bytes_one [] text = omega arith
+bytes_one (one ∷ texts) text = omega (arith, bytes_one texts text)
+
+pub bytes_push : (texts new : List Text) (text : Text) (left limit all read : ℕ) → new ≡ texts ++ text ∷ [] → limit ≡ min FILE_BYTES left → length text.bytes ≤ limit → read ≡ length text.bytes → all_bytes texts + left ≡ all
+    → all_bytes new + (left - read) ≡ all
+bytes_push texts new text left limit all read e m l r h = omega (arith, m, l, r, h, ap all_bytes e, bytes_one texts text)
 
 -- and they are one more
 pub pushed : (texts new : List Text) (text : Text) (n : ℕ) → new ≡ texts ++ text ∷ [] → length texts ≡ n → length new ≡ n + 1

@@ -1,4 +1,5 @@
 pub mod Added
+pub mod Counts
 pub mod Faultless
 pub mod Found
 pub mod Indexed

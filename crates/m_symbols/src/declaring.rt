@@ -1,12 +1,12 @@
 //! Declarations, one after the other.
-ghost use Rattle.std.specs.Prelude.{◌≡◌, false, if◌then◌else◌, ◌∷◌, ◌++◌, None, Some, [], map, IfOk, IfSome};
+ghost use Rattle.std.specs.Prelude.{◌≡◌, ◌<◌, ◌^◌, length, false, if◌then◌else◌, ◌∷◌, ◌++◌, None, Some, [], map, IfOk, IfSome};
 ghost use Rattle.std.specs.List.{filter_map, cons_option};
 ghost use Rattle.m_names.specs.Names.{has};
 ghost use Rattle.m_places.specs.Refusals.{Outcome};
 ghost use Rattle.m_symbols.specs.Declarations.{declared_by};
 ghost use Rattle.m_symbols.specs.Faults.{first_fault, fault_at, variable_fault, error_fault, place_beside, placed_name, placed_code, placed_error};
 ghost use Rattle.m_ast.specs.Items.{cells_in, size_in, code_in, is_input};
-ghost use Rattle.m_symbols.specs.inner.Tables.{declared_in, AreIndexed, with_variable, with_error, with_item};
+ghost use Rattle.m_symbols.specs.inner.Tables.{declared_in, AreIndexed, HasRoom, with_variable, with_error, with_item};
 
 use crate::symbols::Tables;
 use crate::{DeclareFault, Symbols, Variable};
@@ -22,6 +22,7 @@ use std::alloc::{AllocError, Global};
 ///
 /// Variables, cells and inputs are numbered in order of declaration, from 0.
 pub fn declare(alloc: Global, items: &[Item]) -> Result<Symbols, DeclareFault>
+    requires { length items.now < 2 ^ 32 }
     ensures outcome { Outcome DeclareFault.Memory result
         (λ symbols. (first_fault items.now ≡ None) × (symbols ≡ declared_by items.now))
         (λ fault. first_fault items.now ≡ Some fault) }
@@ -69,7 +70,8 @@ fn no_tables(alloc: Global, key: Key) -> Tables
 
 // Takes a further item's declaration.
 fn declare_item(alloc: Global, item: &Item, tables: &mut Tables) -> Result<(), DeclareFault>
-    requires { AreIndexed tables.old }
+    requires indexed { AreIndexed tables.old }
+    requires room { HasRoom tables.old }
     ensures outcome { Outcome DeclareFault.Memory result
         (λ _. fault_at (declared_in tables.old) item.now ≡ None)
         (λ fault. fault_at (declared_in tables.old) item.now ≡ Some fault) }
@@ -129,7 +131,7 @@ fn place_of_name(tables: &Tables, name: &[u8]) -> Option<Place>
     ensures { result ≡ place_beside name.now (map placed_name tables.now.variables.items) }
 {
     let number = tables.names.find(name)?;
-    Some(tables.variables[number as usize].item.place)
+    Some(tables.variables[number].item.place)
 }
 
 // The place of the input of this code.
@@ -138,7 +140,7 @@ fn place_of_code(tables: &Tables, code: &[u8]) -> Option<Place>
     ensures { result ≡ place_beside code.now (filter_map placed_code tables.now.variables.items) }
 {
     let number = tables.codes.find(code)?;
-    let variable = tables.inputs[number as usize];
+    let variable = tables.inputs[number];
     Some(tables.variables[variable as usize].item.place)
 }
 
@@ -148,7 +150,7 @@ fn place_of_error(tables: &Tables, name: &[u8]) -> Option<Place>
     ensures { result ≡ place_beside name.now (map placed_error tables.now.errors.items) }
 {
     let number = tables.error_names.find(name)?;
-    Some(tables.errors[number as usize].place)
+    Some(tables.errors[number].place)
 }
 
 // How many cells a variable of this role has.
@@ -168,11 +170,12 @@ fn add_variable(
     tables: &mut Tables,
 ) -> Result<(), AllocError>
     requires indexed { AreIndexed tables.old }
+    requires room { HasRoom tables.old }
     requires good { variable_fault (declared_in tables.old) variable.now ≡ None }
     ensures declared { IfOk result (λ _. declared_in tables.new ≡ with_variable (declared_in tables.old) variable.now) }
     ensures indexed { IfOk result (λ _. AreIndexed tables.new) }
 {
-    let number = tables.names.len();
+    let number = tables.names.len() as u32;
     let first_cell = tables.owners.len() as u32;
     let cells = cells_of(&variable.role);
     let item = variable.copy(alloc)?;
@@ -225,6 +228,7 @@ fn find_error_fault(alloc: Global, error: &ErrorItem, tables: &Tables) -> Result
 // Takes an error that has no fault.
 fn add_error(alloc: Global, error: &ErrorItem, tables: &mut Tables) -> Result<(), AllocError>
     requires indexed { AreIndexed tables.old }
+    requires room { HasRoom tables.old }
     requires good { error_fault (declared_in tables.old) error.now ≡ None }
     ensures declared { IfOk result (λ _. declared_in tables.new ≡ with_error (declared_in tables.old) error.now) }
     ensures indexed { IfOk result (λ _. AreIndexed tables.new) }

@@ -11,7 +11,7 @@ impl Symbols {
     pub fn count(&self) -> u32
         ensures { result ≡ length self.now.variables }
     {
-        self.tables.names.len()
+        self.tables.names.len() as u32
     }
 
     /// The variable of this number, which is below the count.
@@ -27,7 +27,10 @@ impl Symbols {
         ensures number { result ≡ index_of name.now (names_of self.now.variables) }
         ensures within { IfSome result (λ v. v < length self.now.variables) }
     {
-        self.tables.names.find(name)
+        match self.tables.names.find(name) {
+            Some(number) => Some(number as u32),
+            None => None,
+        }
     }
 
     /// How many cells there are.
@@ -50,7 +53,7 @@ impl Symbols {
     pub fn inputs(&self) -> u32
         ensures { result ≡ length (inputs_from 0 self.now.variables) }
     {
-        self.tables.codes.len()
+        self.tables.codes.len() as u32
     }
 
     /// The number of the variable that is this input, which is below the count of inputs.
@@ -67,14 +70,17 @@ impl Symbols {
         ensures number { result ≡ index_of code.now (codes_of self.now.variables) }
         ensures within { IfSome result (λ n. n < length (inputs_from 0 self.now.variables)) }
     {
-        self.tables.codes.find(code)
+        match self.tables.codes.find(code) {
+            Some(number) => Some(number as u32),
+            None => None,
+        }
     }
 
     /// How many errors there are.
     pub fn errors(&self) -> u32
         ensures { result ≡ length self.now.errors }
     {
-        self.tables.error_names.len()
+        self.tables.error_names.len() as u32
     }
 
     /// The error of this number, which is below the count.
@@ -90,6 +96,9 @@ impl Symbols {
         ensures number { result ≡ index_of name.now (error_names_of self.now.errors) }
         ensures within { IfSome result (λ e. e < length self.now.errors) }
     {
-        self.tables.error_names.find(name)
+        match self.tables.error_names.find(name) {
+            Some(number) => Some(number as u32),
+            None => None,
+        }
     }
 }

@@ -291,7 +291,7 @@ name_count : (b : Bool) (fault : CoreFault) (before said : List (List ℕ)) (nam
 name_count true fault before said name e = absurd (cc)
 name_count false fault before said name e = let s = ap length (value_of_ok (before ++ name ∷ []) said e) in omega (arith, s, length-append before (name ∷ []))
 
-names_count : (before : List (List ℕ)) (fs : List Function) (names : List (List ℕ)) → names_said before fs ≡ Ok names → length names ≡ length before + length fs
+pub names_count : (before : List (List ℕ)) (fs : List Function) (names : List (List ℕ)) → names_said before fs ≡ Ok names → length names ≡ length before + length fs
 names_count before [] names e = let s = ap length (value_of_ok before names e) in omega (arith, s)
 names_count before (f ∷ fs) names e =
     let k = said_by (λ said. names_said said fs) (name_said before f) names e in

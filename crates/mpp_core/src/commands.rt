@@ -1,6 +1,6 @@
 //! Commands over names to commands over cells and functions.
 
-ghost use Rattle.std.specs.Prelude.{◌≡◌, Ok, Err, [], IfOk};
+ghost use Rattle.std.specs.Prelude.{◌≡◌, ◌<◌, ◌^◌, Ok, Err, [], IfOk, length};
 ghost use Rattle.m_places.specs.Refusals.{Outcome};
 ghost use Rattle.m_requests.specs.Placed.{IsPlaced};
 ghost use Rattle.mpp_parser.specs.CommandView.{block_of as acts_of};
@@ -28,7 +28,8 @@ fn command(
     names: &Names,
     scope: &Scope<'_>,
 ) -> Result<CCommand, CoreFault>
-    requires { IsPlaced scope.now }
+    requires placed { IsPlaced scope.now }
+    requires few { length names.now < 2 ^ 32 }
     ensures { Outcome Memory result (λ c. act_said scope.now names.now command.now ≡ Ok c) (λ fault. act_said scope.now names.now command.now ≡ Err fault) }
 {
     match &command.node {
@@ -92,7 +93,8 @@ fn branched(
     names: &Names,
     scope: &Scope<'_>,
 ) -> Result<CCommand, CoreFault>
-    requires { IsPlaced scope.now }
+    requires placed { IsPlaced scope.now }
+    requires few { length names.now < 2 ^ 32 }
     ensures { Outcome Memory result
         (λ c. if_said (λ t. if_said (λ a. if_said (λ b. Ok (branch line t (block_of a) (block_of b))) (acts_said scope.now names.now [] (acts_of second.now))) (acts_said scope.now names.now [] (acts_of first.now))) (term_said scope.now line condition.now) ≡ Ok c)
         (λ fault. if_said (λ t. if_said (λ a. if_said (λ b. Ok (branch line t (block_of a) (block_of b))) (acts_said scope.now names.now [] (acts_of second.now))) (acts_said scope.now names.now [] (acts_of first.now))) (term_said scope.now line condition.now) ≡ Err fault) }
@@ -113,7 +115,8 @@ fn partitioned(
     names: &Names,
     scope: &Scope<'_>,
 ) -> Result<CCommand, CoreFault>
-    requires { IsPlaced scope.now }
+    requires placed { IsPlaced scope.now }
+    requires few { length names.now < 2 ^ 32 }
     ensures { Outcome Memory result
         (λ c. if_said (λ a. Ok (partition line (kind_cells scope.now kind.now) (block_of a))) (acts_said scope.now names.now [] (acts_of block.now)) ≡ Ok c)
         (λ fault. if_said (λ a. Ok (partition line (kind_cells scope.now kind.now) (block_of a))) (acts_said scope.now names.now [] (acts_of block.now)) ≡ Err fault) }
@@ -131,6 +134,7 @@ fn called(
     name: &Name,
     names: &Names,
 ) -> Result<CCommand, CoreFault>
+    requires { length names.now < 2 ^ 32 }
     ensures { Outcome Memory result (λ c. call_said names.now line name.now received.items ≡ Ok c) (λ fault. call_said names.now line name.now received.items ≡ Err fault) }
 {
     let count = received.len() as u64;
@@ -139,7 +143,10 @@ fn called(
         return Ok(CCommand::new(CCommandNode::Rules(line, count, cells)));
     }
     match names.find(name.bytes()) {
-        Some(function) => Ok(CCommand::new(CCommandNode::Call(line, count, cells, function))),
+        Some(function) => {
+            let function = function as u32;
+            Ok(CCommand::new(CCommandNode::Call(line, count, cells, function)))
+        }
         None => Err(unknown(alloc, name, line)),
     }
 }
@@ -152,7 +159,8 @@ pub(crate) fn commands(
     names: &Names,
     scope: &Scope<'_>,
 ) -> Result<Vec<CCommand>, CoreFault>
-    requires { IsPlaced scope.now }
+    requires placed { IsPlaced scope.now }
+    requires few { length names.now < 2 ^ 32 }
     ensures { Outcome Memory result (λ said. acts_said scope.now names.now [] (acts_of all.now) ≡ Ok said.items) (λ fault. acts_said scope.now names.now [] (acts_of all.now) ≡ Err fault) }
 {
     let mut said = Vec::with_capacity(alloc, all.len())?;

@@ -1,6 +1,6 @@
 //! The functions of a driver: their names, and their bodies.
 
-ghost use Rattle.std.specs.Prelude.{◌≡◌, ◌≢◌, Ok, Err, [], IfOk, map};
+ghost use Rattle.std.specs.Prelude.{◌≡◌, ◌≢◌, ◌<◌, ◌^◌, Ok, Err, [], IfOk, length, map};
 ghost use Rattle.m_places.specs.Refusals.{Outcome};
 ghost use Rattle.m_requests.specs.Placed.{IsPlaced};
 ghost use Rattle.mpp_core.specs.Names.{name_said, names_said, main_said, name_in};
@@ -61,10 +61,11 @@ fn twice(alloc: Global, function: &Function) -> CoreFault
 
 /// The number of `main` among the functions of these names.
 pub(crate) fn main_of(names: &Names) -> Result<u32, CoreFault>
+    requires { length names.now < 2 ^ 32 }
     ensures { Outcome Memory result (λ main. main_said names.now ≡ Ok main) (λ fault. main_said names.now ≡ Err fault) }
 {
     match names.find(b"main") {
-        Some(main) => Ok(main),
+        Some(main) => Ok(main as u32),
         None => Err(CoreFault::NoMain),
     }
 }
@@ -88,7 +89,8 @@ pub(crate) fn bodies(
     names: &Names,
     scope: &Scope<'_>,
 ) -> Result<Seq<Seq<CCommand>>, CoreFault>
-    requires { IsPlaced scope.now }
+    requires placed { IsPlaced scope.now }
+    requires few { length names.now < 2 ^ 32 }
     ensures { Outcome Memory result (λ bodies. bodies_said scope.now names.now [] functions.now ≡ Ok bodies) (λ fault. bodies_said scope.now names.now [] functions.now ≡ Err fault) }
 {
     let mut bodies = Vec::with_capacity(alloc, functions.len())?;

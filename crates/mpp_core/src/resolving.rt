@@ -1,6 +1,6 @@
 //! Whole drivers.
 
-ghost use Rattle.std.specs.Prelude.{◌≡◌, Ok, Err, IfOk, [], length};
+ghost use Rattle.std.specs.Prelude.{◌≡◌, ◌<◌, ◌^◌, Ok, Err, IfOk, [], length};
 ghost use Rattle.m_places.specs.Refusals.{Outcome};
 ghost use Rattle.m_symbols.specs.Declarations.{owners_from};
 ghost use Rattle.m_requests.specs.Placed.{IsPlaced};
@@ -23,14 +23,15 @@ use std::alloc::Global;
 /// no `main`, then the first name from the top and from left to right that isn't what is needed there, and then functions that call
 /// each other in a ring.
 pub fn resolve_driver(alloc: Global, driver: &Driver, symbols: &Symbols) -> Result<Core, CoreFault>
-    requires { IsPlaced symbols.now }
+    requires placed { IsPlaced symbols.now }
+    requires few { length driver.now.functions < 2 ^ 32 }
     ensures outcome { Outcome Memory result (IsCore driver.now symbols.now) (IsCoreFault driver.now symbols.now) }
     ensures valid { IfOk result IsValidCore }
     ensures cells { IfOk result (λ core. core.cells ≡ length (owners_from 0 symbols.now.variables)) }
 {
     let names = function_names(alloc, driver.functions.as_slice())?;
     let core = resolve_names(alloc, driver, symbols, &names)?;
-    no_ring(alloc, &core, names.len())?;
+    no_ring(alloc, &core, names.len() as u32)?;
     Ok(core)
 }
 
@@ -43,6 +44,7 @@ fn resolve_names(
 ) -> Result<Core, CoreFault>
     requires placed { IsPlaced symbols.now }
     requires names { names_said [] driver.now.functions ≡ Ok names.now }
+    requires few { length names.now < 2 ^ 32 }
     ensures outcome { Outcome Memory result (λ core. core_of driver.now symbols.now ≡ Ok core) (λ fault. core_of driver.now symbols.now ≡ Err fault) }
     ensures cells { IfOk result (λ core. core.cells ≡ length (owners_from 0 symbols.now.variables)) }
 {

@@ -1,3 +1,4 @@
+pub mod Counts
 pub mod Steps
 pub mod Cycles
 pub mod OneLaws

@@ -1,6 +1,6 @@
 //! The items of rule files.
 
-ghost use Rattle.std.specs.Prelude.{◌≡◌, All, IfOk};
+ghost use Rattle.std.specs.Prelude.{◌≡◌, ◌<◌, ◌^◌, All, IfOk, length};
 ghost use Rattle.m_places.specs.Refusals.{Outcome};
 ghost use Rattle.rule_text.specs.Limits.{TextsAreWithin};
 ghost use Rattle.m_ast.specs.Whole.{IsWholeItem};
@@ -25,6 +25,7 @@ pub(crate) fn items_of<R: Threads + Sync>(
     requires { TextsAreWithin texts.now }
     ensures outcome { Outcome Memory result (λ items. SayAll 0 texts.now items.items) (IsReadFault texts.now) }
     ensures whole { IfOk result (λ items. All IsWholeItem items.items) }
+    ensures few { IfOk result (λ items. length items.items < 2 ^ 32) }
 {
     let files = read_all(rt, alloc, texts, &Open)?;
     let items = joined(alloc, files)?;

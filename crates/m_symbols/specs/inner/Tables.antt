@@ -1,5 +1,5 @@
 -- The tables in which look-ups find declarations.
-use Rattle.std.specs.Prelude.{◌≡◌, ◌≤◌, [], ◌∷◌, ◌++◌, length}
+use Rattle.std.specs.Prelude.{◌≡◌, ◌<◌, ◌≤◌, ◌+◌, ◌^◌, [], ◌∷◌, ◌++◌, length}
 use Rattle.m_places.specs.declared.limits.TheConstants.{CELLS}
 use Rattle.m_ast.specs.declared.item.Item.{Item}
 use Rattle.m_ast.specs.declared.item.Item.TheVariants.{Variable, Rule, Verif, Error, Silent}
@@ -21,6 +21,12 @@ pub record AreIndexed (t : Tables) : Type 0 where
   pub inputs : t.inputs.items ≡ inputs_from 0 t.variables.items
   pub error_names : t.error_names ≡ error_names_of t.errors.items
   pub few : length t.owners.items ≤ CELLS
+  pub few_variables : length t.variables.items < 2 ^ 32
+  pub few_errors : length t.errors.items < 2 ^ 32
+
+-- there is room for a further declaration
+abbrev pub HasRoom : Tables → Type 0
+HasRoom t = (length t.variables.items + 1 < 2 ^ 32) × (length t.errors.items + 1 < 2 ^ 32)
 
 -- with a further variable, whose first cell comes after those that are there
 abbrev pub with_variable : Declared → VariableItem → Declared

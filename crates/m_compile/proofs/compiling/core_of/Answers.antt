@@ -1,7 +1,11 @@
 use Rattle.m_requests.proofs.Outcomes.{told}
 use Rattle.m_compile.specs.Sources.{by_driver}
+use Rattle.m_compile.proofs.Drivers.{functions_counted}
 use Rattle.m_compile.proofs.Steps.{lines_told, names_told}
 use Rattle.m_compile.proofs.compiling.core_of.Goals as goal
+
+pub resolve_driver-requires-clause-few : goal.resolve_driver-requires-clause-few
+resolve_driver-requires-clause-few c = functions_counted c.args.bytes.now c.in_ok-driver.driver c.in_ok-driver.ensures.outcome c.requires.within
 
 pub returns-in_err-driver : goal.returns-in_err-driver
 returns-in_err-driver c = told _ _ _ _ _ c.from_residual.ensures.1 (lines_told c.args.symbols.now c.args.bytes.now _ c.in_err-driver.ensures.outcome)

@@ -1,16 +1,17 @@
-use Rattle.m_source.proofs.Rules.{resumes_first, rules_turn, rules_end, rules_stop, rules_whole, within_push, pushed}
+use Rattle.m_source.proofs.Rules.{resumes_first, rules_turn, rules_end, rules_stop, rules_whole, within_push, bytes_push, pushed}
 use Rattle.std.proofs.Common.{arith, length, length-append, sym, subst, ap, ◌∷◌, []}
-use Rattle.rule_text.specs.Limits.{EachIsWithin, TextsAreWithin}
+use Rattle.rule_text.specs.Limits.{EachIsWithin, TextsAreWithin, all_bytes}
 use Rattle.m_source.proofs.gather.gather_rules.Goals as goal
 
 pub loop-name-init : goal.loop-name-init
-loop-name-init g c = record { resumes = resumes_first _ _ _ c.new-texts.ensures.items; each = subst EachIsWithin (sym c.new-texts.ensures.items) tt; counted = ap length c.new-texts.ensures.items; reached = omega arith }
+loop-name-init g c = record { resumes = resumes_first _ _ _ c.new-texts.ensures.items; each = subst EachIsWithin (sym c.new-texts.ensures.items) tt; spent = let none = ap all_bytes c.new-texts.ensures.items in omega (arith, none); counted = ap length c.new-texts.ensures.items; reached = omega arith }
 
 pub loop-name-preserved : goal.loop-name-preserved
 loop-name-preserved g c = record {
   resumes = rules_turn c.args.names.now c.loop-name.name-index _ _ _ _ _ _ _ _ _ _ _ _ c.loop-name-test.true c.name-item.is c.min.ensures c.in_ok-name.ensures c.as_slice.ensures c.in_ok-push.ensures.items
       c.loop-name.invariant.resumes c.in_ok-bytes.ensures.along;
   each = within_push _ _ _ _ _ c.in_ok-push.ensures.items c.min.ensures c.loop-name.invariant.each c.in_ok-bytes.ensures.within;
+  spent = bytes_push _ _ _ _ _ _ _ c.in_ok-push.ensures.items c.min.ensures c.in_ok-bytes.ensures.within (ap length c.as_slice.ensures) c.loop-name.invariant.spent;
   counted = pushed c.loop-name.texts.items _ _ c.loop-name.name-index c.in_ok-push.ensures.items c.loop-name.invariant.counted;
   reached = let h = c.loop-name-test.true in omega (arith, h);
 }
@@ -37,4 +38,4 @@ returns-clause-within g c =
     let many = c.loop-name.invariant.counted in
     let reached = c.loop-name.invariant.reached in
     let limit = c.requires in
-    rw c.from_vec.ensures (record { few = omega (arith, many, limit, reached); each = c.loop-name.invariant.each })
+    rw c.from_vec.ensures (record { few = omega (arith, many, limit, reached); each = c.loop-name.invariant.each; total = omega (arith, c.loop-name.invariant.spent) })

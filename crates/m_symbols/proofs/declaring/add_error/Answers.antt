@@ -1,4 +1,4 @@
-use Rattle.std.proofs.Common.{◌≡◌, [], ◌∷◌, ◌++◌, refl, sym, ap, ◌∙◌}
+use Rattle.std.proofs.Common.{◌≡◌, [], ◌∷◌, ◌++◌, length, refl, sym, ap, ◌∙◌, length-append, arith}
 use Rattle.m_ast.specs.declared.item.ErrorItem.{ErrorItem}
 use Rattle.m_symbols.specs.Declarations.{error_name_of, error_names_of}
 use Rattle.m_symbols.specs.inner.Tables.{declared_in}
@@ -20,4 +20,6 @@ returns-clause-indexed c =
       error_names = name_added error_name_of t.error_names c.add.new.self c.in_ok-add.field-0 t.errors.items e x.error_names (new_error (declared_in t) e c.requires.good) (rw c.bytes.ensures at c.in_ok-add.ensures.fresh) (rw c.bytes.ensures at c.in_ok-add.ensures.added)
           ∙ ap error_names_of (sym pushed);
       few = x.few;
+      few_variables = x.few_variables;
+      few_errors = omega (arith, c.requires.room.1, ap length pushed, length-append t.errors.items (e ∷ []));
     }

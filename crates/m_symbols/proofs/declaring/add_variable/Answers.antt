@@ -36,4 +36,6 @@ returns-clause-indexed c =
       inputs = c.in_ok-add_code.ensures.inputs ∙ ap (λ l. l ++ cond (is_input v.role) (c.len-number.result ∷ []) []) x.inputs ∙ sym (inputs-push 0 vs placed c.len-number.result (omega arith)) ∙ ap (inputs_from 0) (sym pushed);
       error_names = x.error_names;
       few = omega (arith, cells.1, c.cells_of-cells.ensures, few_cells (declared_in t) c.args.variable.now c.requires.good, ap length x.owners);
+      few_variables = omega (arith, c.requires.room.0, ap length pushed, length-append vs (placed ∷ []));
+      few_errors = x.few_errors;
     }

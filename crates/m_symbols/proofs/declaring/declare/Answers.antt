@@ -1,7 +1,11 @@
 use Rattle.std.proofs.lemmas.Result.{err_from_is_err_and}
 use Rattle.m_symbols.specs.inner.Tables.{declared_in}
+use Rattle.m_symbols.proofs.Counts.{room}
 use Rattle.m_symbols.proofs.Turns.{turn, stop}
 use Rattle.m_symbols.proofs.declaring.declare.Goals as goal
+
+pub declare_item-requires-clause-room : goal.declare_item-requires-clause-room
+declare_item-requires-clause-room c = room c.args.items.now c.loop-item.item-index c.loop-item.tables c.requires c.loop-item-test.true c.loop-item.invariant.declared
 
 pub loop-item-preserved : goal.loop-item-preserved
 loop-item-preserved c =

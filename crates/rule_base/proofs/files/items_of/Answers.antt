@@ -2,6 +2,7 @@ use Rattle.std.proofs.Common.{All, sym, subst}
 use Rattle.m_ast.specs.Whole.{IsWholeItem}
 use Rattle.m_requests.proofs.Outcomes.{told}
 use Rattle.m_read_all.proofs.OneFiles.{said_all, said_whole}
+use Rattle.rule_base.proofs.Counts.{counted}
 use Rattle.rule_base.proofs.Steps.{read_told}
 use Rattle.rule_base.proofs.files.items_of.Goals as goal
 
@@ -13,3 +14,6 @@ returns-clause-outcome g c = rw c.in_ok-items.ensures (said_all 0 c.args.texts.n
 
 pub returns-clause-whole : goal.returns-clause-whole
 returns-clause-whole g c = rw c.in_ok-items.ensures (said_whole 0 c.args.texts.now _ (said_all 0 c.args.texts.now _ c.in_ok-files.ensures))
+
+pub returns-clause-few : goal.returns-clause-few
+returns-clause-few g c = rw c.in_ok-items.ensures (counted (said_all 0 c.args.texts.now _ c.in_ok-files.ensures) c.requires.total)
