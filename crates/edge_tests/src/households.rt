@@ -15,7 +15,10 @@ use std::test::Fail;
 fn codes_of(alloc: Global, names: &[Name], kinds: &[InputType]) -> Result<Codes, Fail> {
     let _known = Names::of(alloc, names)?;
     let inputs = inputs_of(alloc, names, kinds)?;
-    Ok(Codes::new(alloc, &inputs)?)
+    let Ok(count) = u32::try_from(inputs.len()) else {
+        return Err(Fail::from("too many inputs"));
+    };
+    Ok(Codes::new(alloc, &inputs, count)?)
 }
 
 /// The type at a place.

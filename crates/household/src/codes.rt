@@ -1,4 +1,4 @@
-ghost use Rattle.std.specs.Prelude.{◌≡◌, ◌<◌, ◌^◌, IfOk, IfSome, length, map};
+ghost use Rattle.std.specs.Prelude.{◌≡◌, ◌<◌, IfOk, IfSome, length, map};
 ghost use Rattle.m_names.specs.Names.{AreDistinct, index_of};
 ghost use Rattle.observables.specs.Inputs.{codes_of, is_of_type};
 ghost use Rattle.household.specs.Household.{input_type};
@@ -17,6 +17,7 @@ use std::marker::Model;
 pub struct Codes {
     names: Names,
     kinds: Vec<InputType>,
+    count: u32,
 }
 
 impl Model for Codes {
@@ -28,26 +29,30 @@ impl Model for Codes {
 
     ghost view = { λ c. inputs_kept c.names c.kinds.items };
 
-    ghost invariant = { λ c. (length c.kinds.items ≡ length c.names) × (length c.names < 2 ^ 32) };
+    ghost invariant = { λ c. (length c.kinds.items ≡ length c.names) × ((c.count ≡ length c.names) × (c.count < 2 ^ 32)) };
 }
 
 impl Codes {
-    /// The inputs, in the order of their numbers. Its only error is running out of memory.
-    pub fn new(alloc: Global, inputs: &[Coded]) -> Result<Codes, AllocError>
+    /// The inputs, in the order of their numbers, and how many they are. Its only error is running out of memory.
+    pub fn new(alloc: Global, inputs: &[Coded], count: u32) -> Result<Codes, AllocError>
         requires distinct { AreDistinct (codes_of inputs.now) }
-        requires few { length inputs.now < 2 ^ 32 }
+        requires count { count ≡ length inputs.now }
         ensures { IfOk result (λ codes. codes ≡ inputs.now) }
     {
         let names = names_of(alloc, inputs)?;
         let kinds = kinds_of(alloc, inputs)?;
-        Ok(Codes { names, kinds })
+        Ok(Codes {
+            names,
+            kinds,
+            count,
+        })
     }
 
     /// How many inputs there are. Takes no memory.
     pub fn len(&self) -> u32
         ensures { result ≡ length self.now }
     {
-        self.names.len() as u32
+        self.count
     }
 
     /// The number of the input with a code, if there is one. Takes no memory.

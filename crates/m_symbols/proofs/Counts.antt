@@ -27,7 +27,7 @@ pub room : (items : List Item) (i : ℕ) (t : Tables) → length items < 2 ^ 32 
 room items i t few within e =
     let taken : length (take i items) ≡ i = length-take-le i items (omega (arith, within)) in
     let variables : length t.variables.items ≤ i =
-        omega (arith, ap (λ (d : Declared). length d.variables) e, placed_count 0 (variables_of (take i items)), filtered_few variable_in (take i items), taken) in
+    omega (arith, ap (λ (d : Declared). length d.variables) e, placed_count 0 (variables_of (take i items)), filtered_few variable_in (take i items), taken) in
     let errors : length t.errors.items ≤ i = omega (arith, ap (λ (d : Declared). length d.errors) e, filtered_few error_in (take i items), taken) in
     (omega (arith, variables, few, within), omega (arith, errors, few, within))
 

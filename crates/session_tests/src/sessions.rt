@@ -131,7 +131,7 @@ pub(crate) fn codes(alloc: Global, inputs: &[Coded]) -> Result<Codes, AllocError
     requires { length inputs.now ≡ 1 }
     ensures { IfOk result (λ codes. codes ≡ inputs.now) }
 {
-    Codes::new(alloc, inputs)
+    Codes::new(alloc, inputs, 1)
 }
 
 // A session of the program without amounts.

@@ -5,6 +5,9 @@ use Rattle.observables.specs.Inputs.{codes_of}
 use Rattle.household.proofs.KeptLemmas.{codes_kept, length_kept}
 use Rattle.household.proofs.codes.Codes.find.Goals as goal
 
+pub overflow_cast-result : goal.overflow_cast-result
+overflow_cast-result c = omega (arith, c.in-Some.ensures.within, c.self.invariant.1.0, c.self.invariant.1.1)
+
 pub returns-in-Some-clause-number : goal.returns-in-Some-clause-number
 returns-in-Some-clause-number c =
     sym c.in-Some.is ∙ c.find.ensures.number
