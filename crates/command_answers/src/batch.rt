@@ -13,12 +13,13 @@ ghost use Rattle.command_answers.specs.Prepared.{IsRunnableCode, Shows, TableRep
 ghost use Rattle.command_answers.specs.Schemes.{Scheme};
 ghost use Rattle.command_answers.specs.inner.Groups.{group_status};
 
+use crate::given::codes_by;
 use crate::groups::{GroupFault, print_rows};
 use crate::program::prepare_code;
 use crate::told::{tell_refusal, told_household};
 use code_file::Loaded;
 use command_plans::Status;
-use household::{Codes, HouseholdFault, Row, read_table};
+use household::{HouseholdFault, Row, read_table};
 use m_compile::told_fault;
 use m_places::Seq;
 use m_ports::Sink;
@@ -74,7 +75,7 @@ fn rows_of<R: Threads + Sync>(
     ensures outcome { Outcome NoMemory result (λ rows. table_of loaded.now.face.inputs table.now ≡ Ok rows) (λ fault. table_of loaded.now.face.inputs table.now ≡ Err fault) }
     ensures inputs { IfOk result (λ rows. AllByRecursion (λ row. AreInputs (length loaded.now.face.inputs) row.household.pairs) rows) }
 {
-    let codes = Codes::new(alloc, loaded.face.inputs.as_slice())?;
+    let codes = codes_by(alloc, loaded)?;
     read_table(rt, alloc, table, &codes)
 }
 

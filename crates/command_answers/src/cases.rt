@@ -17,12 +17,12 @@ ghost use Rattle.command_answers.specs.Schemes.{Scheme};
 ghost use Rattle.command_answers.specs.inner.CaseGroups.{compared_status};
 
 use crate::case_groups::print_cases;
+use crate::given::codes_by;
 use crate::groups::GroupFault;
 use crate::program::prepare_code;
 use crate::told::{tell_refusal, told_cases};
 use code_file::Loaded;
 use command_plans::Status;
-use household::Codes;
 use m_cases::{Cases, CasesFault, read_cases};
 use m_compile::told_fault;
 use m_ports::Sink;
@@ -87,7 +87,7 @@ fn cases_in(alloc: Global, loaded: &Loaded, table: &[u8]) -> Result<Cases, Cases
     ensures few { IfOk result (λ cases. length cases.rows ≤ ROWS) }
     ensures expected { IfOk result (λ cases. AllByRecursion (AreExpected (length (names_of loaded.now.face.outputs))) cases.expected) }
 {
-    let codes = Codes::new(alloc, loaded.face.inputs.as_slice())?;
+    let codes = codes_by(alloc, loaded)?;
     read_cases(alloc, table, &codes, &loaded.face)
 }
 

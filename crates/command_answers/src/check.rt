@@ -17,11 +17,12 @@ ghost use Rattle.command_plans.specs.Views.{output_view};
 ghost use Rattle.command_answers.specs.Checks.{CheckReplies, ReportReplies};
 ghost use Rattle.command_answers.specs.inner.Checking.{IsStart, LinesReplies, SaidReplies, found_status, found_text};
 
+use crate::given::read_given;
 use crate::start::first_cells;
 use crate::told::{tell_refusal, told_household, told_report};
 use command_plans::{Status, print_fault, printed};
 use fault_lines::{Fault, ReportFault};
-use household::{Codes, HouseholdFault, read_household, values};
+use household::{HouseholdFault, values};
 use m_compile::{compile_base, inputs_of, told_fault};
 use m_fixed::Value;
 use m_ports::Sink;
@@ -92,8 +93,7 @@ fn start_cells(
     ensures { Outcome Memory result (λ env. IsStart symbols.now household.now env.items) (λ fault. household_of (inputs_said symbols.now) household.now ≡ Err fault) }
 {
     let inputs = inputs_of(alloc, symbols)?;
-    let codes = Codes::new(alloc, inputs.as_slice())?;
-    let given = read_household(alloc, household, &codes)?;
+    let (codes, given) = read_given(alloc, inputs.as_slice(), symbols.inputs(), household)?;
     let amounts = values(alloc, &given, codes.len())?;
     Ok(first_cells(alloc, symbols, &amounts)?)
 }

@@ -12,6 +12,7 @@ mod cases;
 mod check;
 mod compile;
 mod exec;
+mod given;
 mod groups;
 mod large;
 mod lint;

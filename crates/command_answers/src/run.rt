@@ -12,13 +12,14 @@ ghost use Rattle.command_answers.specs.Runs.{RunReplies};
 ghost use Rattle.command_answers.specs.Schemes.{Scheme};
 ghost use Rattle.command_answers.specs.inner.Answers.{IsAnswerOf};
 
+use crate::given::codes_by;
 use crate::program::prepare_code;
 use crate::texts::{ANSWER_ROOM, give_answer};
 use crate::told::{status_of, tell_refusal, told_household};
 use code_file::Loaded;
 use command_plans::{Status, printed};
 use held_text::FixedText;
-use household::{Codes, Household, HouseholdFault, read_household};
+use household::{Household, HouseholdFault, read_household};
 use m_batch::run_household;
 use m_compile::told_fault;
 use m_ports::Sink;
@@ -82,6 +83,6 @@ fn given(alloc: Global, loaded: &Loaded, household: &[u8]) -> Result<Household, 
     ensures outcome { Outcome Memory result (λ given. household_of loaded.now.face.inputs household.now ≡ Ok given.pairs) (λ fault. household_of loaded.now.face.inputs household.now ≡ Err fault) }
     ensures inputs { IfOk result (λ given. AreInputs (length loaded.now.face.inputs) given.pairs) }
 {
-    let codes = Codes::new(alloc, loaded.face.inputs.as_slice())?;
+    let codes = codes_by(alloc, loaded)?;
     read_household(alloc, household, &codes)
 }

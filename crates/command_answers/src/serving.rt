@@ -3,9 +3,8 @@ ghost use Rattle.std.specs.Prelude.{◌≡◌, Err, IfOk, length};
 ghost use Rattle.m_places.specs.Refusals.{Outcome};
 ghost use Rattle.rule_text.specs.Limits.{SourceKeepsLimits};
 ghost use Rattle.flat_code.specs.Runs.{flat_run};
-ghost use Rattle.m_names.specs.Names.{AreDistinct};
-ghost use Rattle.observables.specs.Inputs.{AreValuesOf, codes_of};
-ghost use Rattle.household.specs.Household.{AreInputs, AreOfTypes, household_of};
+ghost use Rattle.observables.specs.Inputs.{AreValuesOf};
+ghost use Rattle.household.specs.Household.{household_of};
 ghost use Rattle.household.specs.declared.fault.HouseholdFault.TheVariants.{Memory};
 ghost use Rattle.m_symbols.specs.Declarations.{inputs_from, owners_from};
 ghost use Rattle.m_requests.specs.Placed.{IsPlaced};
@@ -20,15 +19,15 @@ ghost use Rattle.command_answers.specs.Schemes.{Scheme};
 ghost use Rattle.command_answers.specs.Serves.{IsServed};
 ghost use Rattle.command_answers.specs.inner.Answers.{IsBegun, IsExplainerOf};
 
+use crate::given::read_given;
 use crate::program::{Program, prepare};
 use crate::session::serve_session;
 use crate::told::{tell_refusal, told_household};
 use command_plans::Status;
-use household::{Codes, Household, HouseholdFault, read_household};
+use household::HouseholdFault;
 use household_session::Session;
 use m_compile::{compile_base, told_fault};
 use m_ports::{Sink, Source as Input};
-use observables::Face;
 use rule_base::RuleBase;
 use rule_text::Source;
 use std::alloc::Global;
@@ -138,24 +137,9 @@ fn session_of(alloc: Global, program: Program, household: &[u8]) -> Result<Sessi
     ensures outcome { Outcome Memory result (λ session. IsBegun program household.now session.sitting) (λ fault. household_of program.face.inputs household.now ≡ Err fault) }
     ensures values { IfOk result (λ session. AreValuesOf program.face.inputs session.sitting.values) }
 {
-    let (codes, given) = read_given(alloc, &program.face, household)?;
+    let count = program.tidy.flat().inputs;
+    let inputs = program.face.inputs.as_slice();
+    let (codes, given) = read_given(alloc, inputs, count, household)?;
     let Program { face, tidy } = program;
     Ok(Session::start(alloc, tidy, face, codes, &given)?)
-}
-
-// The codes of an interface's inputs, and the household of these bytes by them.
-fn read_given(
-    alloc: Global,
-    face: &Face,
-    household: &[u8],
-) -> Result<(Codes, Household), HouseholdFault>
-    requires { AreDistinct (codes_of face.now.inputs) }
-    ensures outcome { Outcome Memory result (λ read. household_of face.now.inputs household.now ≡ Ok read.1.pairs) (λ fault. household_of face.now.inputs household.now ≡ Err fault) }
-    ensures codes { IfOk result (λ read. read.0 ≡ face.now.inputs) }
-    ensures inputs { IfOk result (λ read. AreInputs (length face.now.inputs) read.1.pairs) }
-    ensures amounts { IfOk result (λ read. AreOfTypes face.now.inputs read.1.pairs) }
-{
-    let codes = Codes::new(alloc, face.inputs.as_slice())?;
-    let given = read_household(alloc, household, &codes)?;
-    Ok((codes, given))
 }

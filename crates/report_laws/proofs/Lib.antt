@@ -6,6 +6,5 @@ pub mod Items
 pub mod Expanded
 pub mod Resolved
 pub mod Starts
-pub mod Distinct
 pub mod Sources
 pub mod Reasons

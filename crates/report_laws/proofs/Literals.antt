@@ -12,7 +12,7 @@ use Rattle.m_lexer.specs.declared.token.Token.{Token}
 use Rattle.m_lexer.specs.declared.token.Kind.{Kind}
 use Rattle.m_lexer.specs.declared.token.Kind.TheVariants.{Word, Number, Text, Key, Sign}
 use Rattle.m_lexer.specs.declared.token.Sign.TheVariants as signs
-use Rattle.m_lexer.specs.Tokens.{Spells, word as a_word, key as a_key, number as a_number, text as a_text, sign as a_sign, Lexes, end, gap, token}
+use Rattle.m_lexer.specs.Tokens.{Spells, word as a_word, key as a_key, number as a_number, text as a_text, sign as a_sign, Lexes}
 use Rattle.m_ast.specs.declared.term.Link.{Link}
 use Rattle.m_ast.specs.declared.term.Member.{Member}
 use Rattle.m_ast.specs.Syntax.{Syntax, lit, named, the_x, cell, apply, chain, among, loop, Terms, no_terms, a_term, Links, no_links, a_link, Members, no_members, a_member}
@@ -20,8 +20,9 @@ use Rattle.m_ast.specs.View.{links_of, members_of}
 use Rattle.m_terms.specs.Tokens.{is_sign, First, first, Chain, ended, further, joined}
 use Rattle.m_terms.specs.Grammar.{addition, multiplication, conjunction, disjunction, link, gathered, Gathered, gather, SpellsPrim, number, word, own, read, brackets, either, only, called, called_two, looped, SpellsFactor, plain, minus, SpellsProduct, SpellsSum, SpellsSigned, positive, negative, SpellsMember, amount, name, range, SpellsMembers, SpellsRelation, alone, compared, inside, outside, SpellsNegation, affirmed, negated, SpellsConjunction, SpellsExpr, SpellsInner}
 use Rattle.m_terms.specs.Terms.{SpellsTerm}
-use Rattle.m_terms.proofs.Passes.{Behind, next, later}
+use Rattle.m_terms.proofs.Passes.{Behind}
 use Rattle.m_terms.proofs.HeaderLaws.{header_passes}
+use Rattle.m_compile.proofs.words.Tokens.{EachKind, lexed_each, behind_each}
 
 -- ---- terms
 
@@ -60,23 +61,20 @@ HasAmount (Key k) = Unit {0}
 HasAmount (Sign s) = Unit {0}
 
 abbrev pub HaveAmount : List Token → Type 0
-HaveAmount tokens = AllByRecursion (λ t. HasAmount t.kind) tokens
+HaveAmount = EachKind HasAmount
 
-spelled_amount : {t : List ℕ} {kind : Kind} → Spells t kind → HasAmount kind
-spelled_amount (a_word w f) = tt
-spelled_amount (a_key w e) = tt
-spelled_amount (a_number {t = t} {z = z} n e) = read_amount (text_value t) z e
-spelled_amount (a_text q) = tt
-spelled_amount (a_sign e) = tt
+spelled_amount : (t : List ℕ) (kind : Kind) → Spells t kind → HasAmount kind
+spelled_amount _ _ (a_word w f) = tt
+spelled_amount _ _ (a_key w e) = tt
+spelled_amount _ _ (a_number {t = t} {z = z} n e) = read_amount (text_value t) z e
+spelled_amount _ _ (a_text q) = tt
+spelled_amount _ _ (a_sign e) = tt
 
 pub lexed_amounts : {p : Place} {bytes : List ℕ} {tokens : List Token} → Lexes p bytes tokens → HaveAmount tokens
-lexed_amounts end = tt
-lexed_amounts (gap l g rest) = lexed_amounts rest
-lexed_amounts (token l s rest) = (spelled_amount s, lexed_amounts rest)
+lexed_amounts l = lexed_each HasAmount spelled_amount l
 
 pub left_amounts : {ts rest : List Token} → Behind rest ts → HaveAmount ts → HaveAmount rest
-left_amounts next a = a.1
-left_amounts (later b) a = left_amounts b a.1
+left_amounts b a = behind_each HasAmount b a
 
 -- What is spelled by tokens whose numbers are amounts has amounts, and so have the tokens that are left.
 abbrev pub Keeps : {A : Type 0} → (A → Type 0) → (A → List Token → List Token → Type 0) → Type 0

@@ -22,6 +22,7 @@ use Rattle.m_symbols.specs.Declarations.{Declared, names_of, owners_from, placed
 use Rattle.m_requests.specs.Cells.{cell_text, printed_cell, cell_name, variable_named, with_first, split_at_bracket, before_closing, may_be_plain, plain_number, index_said, cell_within, cell_by, named_cell, request_cell}
 use Rattle.m_requests.specs.Placed.{IsPlaced, items_of}
 use Rattle.m_requests.proofs.Placing.{known_by}
+use Rattle.m_compile.proofs.words.Names.{get_more, get_behind}
 
 -- ---- the number of a table's cell
 
@@ -99,16 +100,6 @@ variable_back declared i v d e = ap (option_and_then (slice_get declared.variabl
 
 -- ---- the variable of a cell
 
-get_within : (n number : ℕ) (rest : List ℕ) (i : ℕ) → i < n → get_or (replicate n number ++ rest) i 0 ≡ number
-get_within zero number rest i h = absurd (omega (arith, h))
-get_within (suc n) number rest zero h = refl
-get_within (suc n) number rest (suc i) h = get_within n number rest i (omega (arith, h))
-
-get_after : (n number : ℕ) (rest : List ℕ) (i : ℕ) → n ≤ i → get_or (replicate n number ++ rest) i 0 ≡ get_or rest (i - n) 0
-get_after zero number rest i h = let e : i ≡ i - 0 = omega arith in ap (λ k. get_or rest k 0) e
-get_after (suc n) number rest zero h = absurd (omega (arith, h))
-get_after (suc n) number rest (suc i) h = let e : i - n ≡ suc i - suc n = omega (arith, h) in get_after n number rest i (omega (arith, h)) ∙ ap (λ k. get_or rest k 0) e
-
 -- A cell, counted from the first cell of these variables, is one of this variable's, which has this number where the first has `number`.
 record IsOwned (vs : List Variable) (number first cell : ℕ) : Type 0 where
   pub owner : Variable
@@ -122,7 +113,7 @@ placed first v = record { item = v; first_cell = first; cells = variable_cells v
 
 owned_first : (first number cell : ℕ) (v : VariableItem) (rest : List Variable) → cell < variable_cells v → IsOwned (placed first v ∷ rest) number first cell
 owned_first first number cell v rest h =
-    let e = get_within (variable_cells v) number (owners_from (number + 1) rest) cell h in
+    let e = get_more (variable_cells v) number (owners_from (number + 1) rest) cell h in
     let d : 0 ≡ get_or (owners_from number (placed first v ∷ rest)) cell 0 - number = omega (arith, e) in
     record {
       owner = placed first v;
@@ -135,7 +126,7 @@ owned_first first number cell v rest h =
 owned_later : (first number cell : ℕ) (v : VariableItem) (rest : List Variable) → variable_cells v ≤ cell → IsOwned rest (number + 1) (first + variable_cells v) (cell - variable_cells v) → IsOwned (placed first v ∷ rest) number first cell
 owned_later first number cell v rest h o =
     let n = variable_cells v in
-    let e = get_after n number (owners_from (number + 1) rest) cell h in
+    let e = get_behind n number (owners_from (number + 1) rest) cell h in
     let on = o.number_on in
     let d : suc (get_or (owners_from (number + 1) rest) (cell - n) 0 - (number + 1)) ≡ get_or (owners_from number (placed first v ∷ rest)) cell 0 - number = omega (arith, e, on) in
     let b = o.begins in

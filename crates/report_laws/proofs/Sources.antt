@@ -19,12 +19,12 @@ use Rattle.micro_m.specs.declared.base.Base.{Base}
 use Rattle.rule_base.proofs.Steps.{declared_placed, resolved_cells}
 use Rattle.code_file.specs.Printable.{IsPlainName, IsCellName}
 use Rattle.m_compile.specs.Sources.{HasRules}
+use Rattle.m_compile.proofs.Distinct.{distinct_names}
 use Rattle.m_compile.proofs.words.Items.{files_worded}
 use Rattle.m_compile.proofs.words.Declared.{IsGood, items_good, variables_good}
 use Rattle.m_compile.proofs.words.Names.{cell_named}
 use Rattle.report_laws.specs.Readable.{IsInside}
 use Rattle.report_laws.proofs.Named.{IsNoBracket, IsNameable, cell_back, asked_below}
-use Rattle.report_laws.proofs.Distinct.{distinct_names}
 use Rattle.report_laws.proofs.Items.{files_say}
 use Rattle.report_laws.proofs.Expanded.{definitions_say}
 use Rattle.report_laws.proofs.Resolved.{IsMade, base_made}

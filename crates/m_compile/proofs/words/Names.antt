@@ -21,12 +21,12 @@ text_named (Some size) name k cells p s e h = inr (name, k, p, omega (arith, s, 
 
 -- ---- cells of the first variable, and those after
 
-get_more : (n number : ℕ) (rest : List ℕ) (i : ℕ) → i < n → get_or (replicate n number ++ rest) i 0 ≡ number
+pub get_more : (n number : ℕ) (rest : List ℕ) (i : ℕ) → i < n → get_or (replicate n number ++ rest) i 0 ≡ number
 get_more zero number rest i h = absurd (omega (arith, h))
 get_more (suc n) number rest zero h = refl
 get_more (suc n) number rest (suc i) h = get_more n number rest i (omega (arith, h))
 
-get_behind : (n number : ℕ) (rest : List ℕ) (i : ℕ) → n ≤ i → get_or (replicate n number ++ rest) i 0 ≡ get_or rest (i - n) 0
+pub get_behind : (n number : ℕ) (rest : List ℕ) (i : ℕ) → n ≤ i → get_or (replicate n number ++ rest) i 0 ≡ get_or rest (i - n) 0
 get_behind zero number rest i h = let e : i ≡ i - 0 = omega arith in ap (λ k. get_or rest k 0) e
 get_behind (suc n) number rest zero h = absurd (omega (arith, h))
 get_behind (suc n) number rest (suc i) h = let e : i - n ≡ suc i - suc n = omega (arith, h) in get_behind n number rest i (omega (arith, h)) ∙ ap (λ k. get_or rest k 0) e

@@ -26,24 +26,34 @@ IsSpelled (Text inside) = Unit {0}
 IsSpelled (Key k) = Unit {0}
 IsSpelled (Sign s) = Unit {0}
 
-abbrev pub AreSpelled : List Token → Type 0
-AreSpelled tokens = AllByRecursion (λ t. IsSpelled t.kind) tokens
+-- something is known of the kind of each token
+abbrev pub EachKind : (Kind → Type 0) → List Token → Type 0
+EachKind P tokens = AllByRecursion (λ t. P t.kind) tokens
 
-spelled : {t : List ℕ} {kind : Kind} → Spells t kind → IsSpelled kind
-spelled (word w f) = (w, f)
-spelled (key w e) = tt
-spelled (number n e) = tt
-spelled (text q) = tt
-spelled (sign e) = tt
+pub lexed_each : (P : Kind → Type 0) → ((t : List ℕ) (kind : Kind) → Spells t kind → P kind) → {p : Place} {bytes : List ℕ} {tokens : List Token} → Lexes p bytes tokens → EachKind P tokens
+lexed_each P known end = tt
+lexed_each P known (gap l g rest) = lexed_each P known rest
+lexed_each P known (token {t = t} {kind = kind} l s rest) = (known t kind s, lexed_each P known rest)
+
+pub behind_each : (P : Kind → Type 0) → {ts rest : List Token} → Behind rest ts → EachKind P ts → EachKind P rest
+behind_each P next a = a.1
+behind_each P (later b) a = behind_each P b a.1
+
+abbrev pub AreSpelled : List Token → Type 0
+AreSpelled = EachKind IsSpelled
+
+spelled : (t : List ℕ) (kind : Kind) → Spells t kind → IsSpelled kind
+spelled _ _ (word w f) = (w, f)
+spelled _ _ (key w e) = tt
+spelled _ _ (number n e) = tt
+spelled _ _ (text q) = tt
+spelled _ _ (sign e) = tt
 
 pub lexed_spelled : {p : Place} {bytes : List ℕ} {tokens : List Token} → Lexes p bytes tokens → AreSpelled tokens
-lexed_spelled end = tt
-lexed_spelled (gap l g rest) = lexed_spelled rest
-lexed_spelled (token l s rest) = (spelled s, lexed_spelled rest)
+lexed_spelled l = lexed_each IsSpelled spelled l
 
 pub behind_spelled : {ts rest : List Token} → Behind rest ts → AreSpelled ts → AreSpelled rest
-behind_spelled next a = a.1
-behind_spelled (later b) a = behind_spelled b a.1
+behind_spelled b a = behind_each IsSpelled b a
 
 -- ---- words
 
