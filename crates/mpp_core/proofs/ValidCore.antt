@@ -1,5 +1,5 @@
 -- A driver over cells whose names have no fault has its numbers in range.
-use Rattle.std.proofs.Common.{◌≡◌, ◌≤◌, ◌<◌, ◌+◌, ℕ, ℤ, suc, Bool, true, false, cond, nat_lt, List, [], ◌∷◌, ◌++◌, length, map, length-append, All, Option, None, Some, Result, Ok, Err, refl, sym, ap, ◌∙◌, subst, arith, slice_get}
+use Rattle.std.proofs.Common.{◌≡◌, ◌≤◌, ◌<◌, ◌+◌, ◌^◌, ℕ, ℤ, suc, Bool, true, false, cond, nat_lt, List, [], ◌∷◌, ◌++◌, length, map, length-append, All, Option, None, Some, Result, Ok, Err, refl, sym, ap, ◌∙◌, subst, arith, slice_get}
 use Rattle.std.specs.Prelude.{◌&&◌, codes, ◌==◌}
 use Rattle.std.specs.List.{AllByRecursion}
 use Rattle.std.specs.Option.{option_map_or, option_map}
@@ -291,11 +291,15 @@ name_count : (b : Bool) (fault : CoreFault) (before said : List (List ℕ)) (nam
 name_count true fault before said name e = absurd (cc)
 name_count false fault before said name e = let s = ap length (value_of_ok (before ++ name ∷ []) said e) in omega (arith, s, length-append before (name ∷ []))
 
-pub names_count : (before : List (List ℕ)) (fs : List Function) (names : List (List ℕ)) → names_said before fs ≡ Ok names → length names ≡ length before + length fs
+names_count : (before : List (List ℕ)) (fs : List Function) (names : List (List ℕ)) → names_said before fs ≡ Ok names → length names ≡ length before + length fs
 names_count before [] names e = let s = ap length (value_of_ok before names e) in omega (arith, s)
 names_count before (f ∷ fs) names e =
     let k = said_by (λ said. names_said said fs) (name_said before f) names e in
     omega (arith, names_count k.0 fs names k.2, name_count _ (FunctionTwice f.name f.line) before k.0 f.name k.1)
+
+-- a number counts names where it counts functions
+pub few_names : (fs : List Function) (names : List (List ℕ)) → names_said [] fs ≡ Ok names → length fs < 2 ^ 32 → length names < 2 ^ 32
+few_names fs names e few = omega (arith, names_count [] fs names e, few)
 
 -- a driver over cells whose names have no fault has its numbers in range
 pub core_in_range : (driver : Driver) (d : Declared) (core : Core) → IsPlaced d → core_of driver d ≡ Ok core → IsInRange core

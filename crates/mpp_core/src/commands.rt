@@ -28,8 +28,7 @@ fn command(
     names: &Names,
     scope: &Scope<'_>,
 ) -> Result<CCommand, CoreFault>
-    requires placed { IsPlaced scope.now }
-    requires few { length names.now < 2 ^ 32 }
+    requires { IsPlaced scope.now × (length names.now < 2 ^ 32) }
     ensures { Outcome Memory result (λ c. act_said scope.now names.now command.now ≡ Ok c) (λ fault. act_said scope.now names.now command.now ≡ Err fault) }
 {
     match &command.node {
@@ -93,8 +92,7 @@ fn branched(
     names: &Names,
     scope: &Scope<'_>,
 ) -> Result<CCommand, CoreFault>
-    requires placed { IsPlaced scope.now }
-    requires few { length names.now < 2 ^ 32 }
+    requires { IsPlaced scope.now × (length names.now < 2 ^ 32) }
     ensures { Outcome Memory result
         (λ c. if_said (λ t. if_said (λ a. if_said (λ b. Ok (branch line t (block_of a) (block_of b))) (acts_said scope.now names.now [] (acts_of second.now))) (acts_said scope.now names.now [] (acts_of first.now))) (term_said scope.now line condition.now) ≡ Ok c)
         (λ fault. if_said (λ t. if_said (λ a. if_said (λ b. Ok (branch line t (block_of a) (block_of b))) (acts_said scope.now names.now [] (acts_of second.now))) (acts_said scope.now names.now [] (acts_of first.now))) (term_said scope.now line condition.now) ≡ Err fault) }
@@ -115,8 +113,7 @@ fn partitioned(
     names: &Names,
     scope: &Scope<'_>,
 ) -> Result<CCommand, CoreFault>
-    requires placed { IsPlaced scope.now }
-    requires few { length names.now < 2 ^ 32 }
+    requires { IsPlaced scope.now × (length names.now < 2 ^ 32) }
     ensures { Outcome Memory result
         (λ c. if_said (λ a. Ok (partition line (kind_cells scope.now kind.now) (block_of a))) (acts_said scope.now names.now [] (acts_of block.now)) ≡ Ok c)
         (λ fault. if_said (λ a. Ok (partition line (kind_cells scope.now kind.now) (block_of a))) (acts_said scope.now names.now [] (acts_of block.now)) ≡ Err fault) }
@@ -159,8 +156,7 @@ pub(crate) fn commands(
     names: &Names,
     scope: &Scope<'_>,
 ) -> Result<Vec<CCommand>, CoreFault>
-    requires placed { IsPlaced scope.now }
-    requires few { length names.now < 2 ^ 32 }
+    requires { IsPlaced scope.now × (length names.now < 2 ^ 32) }
     ensures { Outcome Memory result (λ said. acts_said scope.now names.now [] (acts_of all.now) ≡ Ok said.items) (λ fault. acts_said scope.now names.now [] (acts_of all.now) ≡ Err fault) }
 {
     let mut said = Vec::with_capacity(alloc, all.len())?;

@@ -17,4 +17,4 @@ command-returns-in-Del t c =
     (sym (ap command_of c.in-Del.is) ∙ c.command.view_is) c.cleared.ensures
 
 pub commands-command-requires : goal.commands-command-requires
-commands-command-requires t c = (omega (arith, act_size c.args.all.now c.loop-one.one-index _ c.loop-one-test.true c.one-item.is), c.requires.placed, c.requires.few)
+commands-command-requires t c = (omega (arith, act_size c.args.all.now c.loop-one.one-index _ c.loop-one-test.true c.one-item.is), c.requires)

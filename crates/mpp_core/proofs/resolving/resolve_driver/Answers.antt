@@ -1,9 +1,12 @@
-use Rattle.std.proofs.Common.{◌<◌, ◌^◌, length, ◌∙◌, arith}
-use Rattle.mpp_core.proofs.ValidCore.{core_in_range, functions_count, names_count}
+use Rattle.std.proofs.Common.{◌∙◌, arith}
+use Rattle.mpp_core.proofs.ValidCore.{core_in_range, few_names, functions_count}
 use Rattle.mpp_core.proofs.resolving.resolve_driver.Goals as goal
 
 pub resolve_names-requires-clause-few : goal.resolve_names-requires-clause-few
-resolve_names-requires-clause-few c = omega (arith, c.requires.few, names_count [] c.args.driver.now.functions c.in_ok-names.names (rw c.as_slice.ensures at c.in_ok-names.ensures))
+resolve_names-requires-clause-few c = few_names c.args.driver.now.functions c.in_ok-names.names (rw c.as_slice.ensures at c.in_ok-names.ensures) c.requires.few
+
+pub overflow_cast-len : goal.overflow_cast-len
+overflow_cast-len c = omega (arith, c.len.ensures, few_names c.args.driver.now.functions c.in_ok-names.names (rw c.as_slice.ensures at c.in_ok-names.ensures) c.requires.few)
 
 pub no_ring-requires-clause-count : goal.no_ring-requires-clause-count
 no_ring-requires-clause-count c =
