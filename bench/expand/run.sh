@@ -17,12 +17,12 @@ for crate in m_places m_fixed m_names m_text m_lexer m_ast m_terms declaration_i
     done
     grep "^$crate:" "$root/crates.txt" >>"$work/repository/crates.txt"
 done
-echo "bench_expand: m_places m_lexer m_items m_symbols plain_rules index_expand anyhow" >>"$work/repository/crates.txt"
+echo "bench_expand: m_places m_lexer m_ast m_items m_symbols plain_rules index_expand anyhow" >>"$work/repository/crates.txt"
 cp "$root/HANDLES" "$work/repository/"
 bench=$work/repository/crates/bench_expand
-mkdir -p "$bench/src" "$bench/proofs/main"
+mkdir -p "$bench/src" "$bench/proofs/expanded"
 cp "$here/main.rt.txt" "$bench/src/main.rt"
-cp "$here/main.antt.txt" "$bench/proofs/main/Answers.antt"
+cp "$here/main.antt.txt" "$bench/proofs/expanded/Answers.antt"
 (cd "$bench" && sh "$root/bench/built.sh" >"$work/rt.log" 2>&1) || { cat "$work/rt.log" >&2; exit 1; }
 
 # The instructions of the program up to this step, in thousands.

@@ -18,12 +18,12 @@ use Rattle.why_report.proofs.ReasonLemmas.{why-reason}
 use Rattle.why_session.specs.Explains.{explanation}
 use Rattle.why_session.specs.Joined.{explains_by}
 use Rattle.m_compile.specs.Sources.{HasRules}
+use Rattle.m_compile.proofs.Distinct.{many_inputs}
 use Rattle.m_compile.proofs.OneLaws.{one_rules}
 use Rattle.command_answers.specs.Explained.{IsExplained}
 use Rattle.command_answers.specs.Prepared.{IsPrepared}
 use Rattle.command_answers.specs.Schemes.{Scheme}
 use Rattle.command_answers.specs.declared.program.Program.{Program}
-use Rattle.command_answers.proofs.LintLemmas.{many_inputs}
 
 -- what cells begin with by a reporter and by a driver
 same_first : (inputs : List Value) (n : ℕ) (role : Role) → start_value inputs n role ≡ first_value inputs n role

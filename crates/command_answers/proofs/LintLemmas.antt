@@ -1,20 +1,16 @@
 -- What a lint answers, from what was told.
 use Rattle.std.proofs.Common.{◌≡◌, ℕ, List, length, map, take, Some, sym, ap, ◌∙◌, subst, inl, inr}
 use Rattle.rule_text.specs.declared.Source.{Source}
-use Rattle.std.proofs.lemmas.List.{length-map}
 use Rattle.m_symbols.specs.Declarations.{Declared, inputs_from}
-use Rattle.m_symbols.proofs.Numbered.{as_many_codes}
 use Rattle.micro_m.specs.declared.base.Base.{Base}
 use Rattle.observables.specs.declared.face.FaceLabel.TheVariants.{Verif}
-use Rattle.observables.specs.declared.inputs.Coded.{Coded}
-use Rattle.driver_core.specs.Inputs.{inputs_said}
 use Rattle.m_compile.specs.Compiled.{IsCompiled}
 use Rattle.m_compile.specs.Faults.{IsBaseFault, IsSourceFault}
 use Rattle.m_compile.specs.Lines.{source_line}
 use Rattle.m_compile.specs.Sources.{HasRules}
 use Rattle.m_compile.specs.declared.compiling.Compiled.{Compiled}
 use Rattle.m_compile.specs.declared.fault.SourceFault.{SourceFault}
-use Rattle.m_compile.proofs.Distinct.{codes_said}
+use Rattle.m_compile.proofs.Distinct.{many_inputs}
 use Rattle.m_compile.proofs.OneLaws.{base_fault_of_source, one_rules}
 use Rattle.command_plans.specs.Printing.{IsAnswered, printed, no_memory}
 use Rattle.command_plans.specs.Views.{OutputView}
@@ -50,10 +46,6 @@ pub labels_first : (source : Source) (declared : Declared) (base : Base) (compil
 labels_first source declared base compiled rules is =
     let same = (one_rules source is.declared declared is.base base is.valid.rules rules).1 in
     subst (λ (b : Base). take (length b.labels) compiled.face.labels ≡ map Verif b.labels) same is.first_labels
-
--- there is an input for each that is declared
-pub many_inputs : (declared : Declared) → length (inputs_said declared) ≡ length (inputs_from 0 declared.variables)
-many_inputs declared = sym (length-map (inputs_said declared) (λ (input : Coded). input.code)) ∙ ap length (codes_said declared) ∙ as_many_codes 0 declared.variables
 
 pub inputs_counted : (source : Source) (declared : Declared) (base : Base) (compiled : Compiled) → HasRules source declared base → IsCompiled source compiled
     → compiled.tidy.inputs ≡ length (inputs_from 0 declared.variables)

@@ -1,22 +1,23 @@
 -- The names of variables and the codes of inputs that are declared without a fault are different.
-use Rattle.std.proofs.Common.{◌≡◌, List, [], ◌∷◌, ◌++◌, ℕ, false, Option, None, Some, refl, sym, ap, subst, append_assoc}
+use Rattle.std.proofs.Common.{◌≡◌, ◌∙◌, length, List, [], ◌∷◌, ◌++◌, ℕ, false, Option, None, Some, refl, sym, ap, subst, append_assoc}
 use Rattle.std.specs.Prelude.{IfSome}
 use Rattle.std.specs.List.{cons_option, filter_map}
 use Rattle.std.specs.Option.{option_map}
-use Rattle.std.proofs.lemmas.List.{append-nil}
+use Rattle.std.proofs.lemmas.List.{append-nil, length-map}
 use Rattle.m_ast.specs.declared.item.Item.{Item}
 use Rattle.m_ast.specs.declared.item.Item.TheVariants.{Variable, Rule, Verif, Error, Silent}
 use Rattle.m_ast.specs.declared.variable.VariableItem.{VariableItem}
 use Rattle.m_ast.specs.Items.{code_in}
 use Rattle.m_names.specs.Names.{AreDistinct, has}
 use Rattle.m_names.proofs.Distinct.{AreDistinct-push}
-use Rattle.m_symbols.specs.Declarations.{Declared, code_of, codes_of, declared_by, name_of, names_of}
+use Rattle.m_symbols.specs.Declarations.{Declared, code_of, codes_of, declared_by, inputs_from, name_of, names_of}
 use Rattle.m_symbols.specs.Faults.{fault_at, fault_behind, first_fault, first_of, variable_fault}
 use Rattle.m_symbols.specs.declared.fault.DeclareFault.{DeclareFault}
 use Rattle.m_symbols.specs.declared.variable.Variable.{Variable as Declaration}
 use Rattle.m_symbols.specs.inner.Tables.{with_item, with_variable}
 use Rattle.m_symbols.proofs.Added.{codes-push, declared-push, map-push}
 use Rattle.m_symbols.proofs.Faultless.{new_code, new_name}
+use Rattle.m_symbols.proofs.Numbered.{as_many_codes}
 use Rattle.micro_m.specs.declared.base.Base.{Base}
 use Rattle.observables.specs.declared.inputs.Coded.{Coded}
 use Rattle.observables.specs.declared.inputs.InputType.{InputType}
@@ -80,6 +81,10 @@ said_codes (v ∷ variables) = one_code (code_of v) (type_said v.item.value_word
 
 pub codes_said : (declared : Declared) → codes_shown (inputs_said declared) ≡ codes_of declared.variables
 codes_said declared = said_codes declared.variables
+
+-- and as many as the inputs that are declared
+pub many_inputs : (declared : Declared) → length (inputs_said declared) ≡ length (inputs_from 0 declared.variables)
+many_inputs declared = sym (length-map (inputs_said declared) (λ (input : Coded). input.code)) ∙ ap length (codes_said declared) ∙ as_many_codes 0 declared.variables
 
 -- so they are different
 pub distinct_inputs : (texts : List Text) (application : List ℕ) (declared : Declared) (base : Base) → IsBaseOf texts application declared base → AreDistinct (codes_shown (inputs_said declared))

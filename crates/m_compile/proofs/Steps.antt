@@ -9,7 +9,6 @@ use Rattle.m_places.specs.declared.limits.TheConstants.{DRIVER_WEIGHT, PARTS, RE
 use Rattle.rule_text.specs.declared.Source.{Source}
 use Rattle.rule_text.specs.declared.Text.{Text}
 use Rattle.m_symbols.specs.Declarations.{Declared, inputs_from}
-use Rattle.m_symbols.proofs.Numbered.{as_many_codes}
 use Rattle.m_requests.specs.Cells.{cell_name, returned_cells}
 use Rattle.observables.specs.declared.face.Face.{Face}
 use Rattle.observables.specs.declared.face.FaceLabel.{FaceLabel}
@@ -54,7 +53,7 @@ use Rattle.m_compile.specs.Sources.{HasRules, IsWritten, running}
 use Rattle.m_compile.specs.Faults.{IsBaseFault, of_files, IsSourceFault, of_rules, of_driver, of_core, of_requests, of_weight}
 use Rattle.m_compile.specs.Compiled.{IsCompiled, IsRunnable}
 use Rattle.m_compile.specs.inner.Parts.{IsAsked, IsAskedFault, in_driver, in_requests, IsProgram, IsHeavy, heavy, of_lines, of_names, IsDriverFault, IsReady, compiled_of}
-use Rattle.m_compile.proofs.Distinct.{codes_said, distinct_codes}
+use Rattle.m_compile.proofs.Distinct.{codes_said, distinct_codes, many_inputs}
 use Rattle.m_compile.proofs.Noted.{names_noted, notes_noted}
 use Rattle.m_compile.proofs.words.Faces.{printable_face}
 use Rattle.m_compile.proofs.Tidied.{plain_values, labels_kept, labels_all}
@@ -193,9 +192,8 @@ finished source declared base asked core (Err fault) few r a p = λ m. heavy_tol
 
 -- ---- the program of a driver
 
--- there is an input for each that is declared
 as_many_inputs : (declared : Declared) (said : List Coded) (inputs : ℕ) → said ≡ inputs_said declared → inputs ≡ length (inputs_from 0 declared.variables) → length said ≡ inputs
-as_many_inputs declared said inputs c i = ap length c ∙ sym (length-map (inputs_said declared) (λ input. input.code)) ∙ ap length (codes_said declared) ∙ as_many_codes 0 declared.variables ∙ sym i
+as_many_inputs declared said inputs c i = ap length c ∙ many_inputs declared ∙ sym i
 
 -- the outputs: the notes, and then the names of the cells that are asked for
 abbrev outputs_made : Declared → List ℕ → List ℕ → List FaceOutput
