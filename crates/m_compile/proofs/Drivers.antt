@@ -1,5 +1,5 @@
 -- A driver has no more functions than bytes.
-use Rattle.std.proofs.Common.{◌≡◌, ℕ, ◌+◌, ◌<◌, ◌≤◌, ◌^◌, ◌==◌, ◌&&◌, Bool, true, false, cond, List, [], ◌∷◌, length, arith}
+use Rattle.std.proofs.Common.{◌≡◌, ℕ, ◌+◌, ◌<◌, ◌≤◌, ◌^◌, ◌==◌, ◌&&◌, suc, Bool, true, false, cond, List, [], ◌∷◌, length, arith}
 use Rattle.m_places.specs.declared.limits.TheConstants.{DRIVER_LEVEL, FILE_BYTES}
 use Rattle.m_text.specs.Bytes.{line_feed, carriage_return}
 use Rattle.m_text.specs.Lines.{lines_of, lines_from, onto_first, begins_with_feed}
@@ -32,8 +32,8 @@ texts_few : (bytes : List ℕ) → length (lines_of bytes) ≤ length bytes
 texts_few [] = omega arith
 texts_few (byte ∷ bytes) =
     let more = texts_few bytes in
-    either (byte == line_feed) (length bytes + 1) _ _ (omega (arith, more))
-    (either (byte == carriage_return && begins_with_feed bytes) (length bytes + 1) _ _ (omega (arith, more)) (omega (arith, more, onto_few byte (lines_of bytes))))
+    either (byte == line_feed) (suc (length bytes)) _ _ (omega (arith, more))
+    (either (byte == carriage_return && begins_with_feed bytes) (suc (length bytes)) _ _ (omega (arith, more)) (omega (arith, more, onto_few byte (lines_of bytes))))
 
 -- a number counts the functions of a driver
 pub functions_counted : (bytes : List ℕ) (driver : Driver) → IsDriver bytes driver → length bytes ≤ FILE_BYTES → length driver.functions < 2 ^ 32
