@@ -92,8 +92,8 @@ fn start_cells(
     requires { AreDistinct (codes_of (inputs_said symbols.now)) }
     ensures { Outcome Memory result (λ env. IsStart symbols.now household.now env.items) (λ fault. household_of (inputs_said symbols.now) household.now ≡ Err fault) }
 {
-    let inputs = inputs_of(alloc, symbols)?;
-    let (codes, given) = read_given(alloc, inputs.as_slice(), symbols.inputs(), household)?;
+    let said = inputs_of(alloc, symbols)?;
+    let (codes, given) = read_given(alloc, said.as_slice(), symbols.inputs(), household)?;
     let amounts = values(alloc, &given, codes.len())?;
     Ok(first_cells(alloc, symbols, &amounts)?)
 }

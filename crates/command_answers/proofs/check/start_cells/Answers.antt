@@ -3,4 +3,4 @@ use Rattle.m_compile.proofs.Distinct.{many_inputs}
 use Rattle.command_answers.proofs.check.start_cells.Goals as goal
 
 pub read_given-requires-clause-count : goal.read_given-requires-clause-count
-read_given-requires-clause-count c = c.inputs.ensures ∙ sym (many_inputs c.args.symbols.now) ∙ ap length (sym c.in_ok-inputs.ensures) ∙ ap length (sym c.as_slice.ensures)
+read_given-requires-clause-count c = c.inputs.ensures ∙ sym (many_inputs c.args.symbols.now) ∙ ap length (sym c.in_ok-said.ensures) ∙ ap length (sym c.as_slice.ensures)
