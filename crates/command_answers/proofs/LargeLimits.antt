@@ -75,4 +75,4 @@ requests_within n few =
     omega (arith, e, digits)
 
 pub large_within : (n : ℕ) → 1 ≤ n → n ≤ 100000 → SourceKeepsLimits (large_source n)
-large_within n some few = record { texts = record { few = omega arith; each = (base_within n some few, tt) }; driver = tt; requests = requests_within n few }
+large_within n some few = record { texts = record { few = omega arith; each = (base_within n some few, tt); total = omega (arith, base_within n some few) }; driver = tt; requests = requests_within n few }

@@ -191,6 +191,9 @@ fn shown(alloc: Global, driver: &Driver, symbols: &Symbols) -> Vec<u8>
     requires { IsPlaced symbols.now }
 {
     let mut out = Vec::new(alloc);
+    if driver.functions.as_slice().len() >= 4_294_967_296 {
+        return out;
+    }
     match resolve_driver(alloc, driver, symbols) {
         Ok(core) => add_core(alloc, &mut out, &core),
         Err(fault) => add_fault(alloc, &mut out, &fault),

@@ -52,6 +52,9 @@ pub fn one_pair(alloc: Global, word: &[u8], units: u32) -> Result<Seq<(Name, Amo
 pub fn symbols_of(alloc: Global, items: &[Item]) -> Option<Symbols>
     ensures { IfSome result IsPlaced }
 {
+    if items.len() >= 4_294_967_296 {
+        return None;
+    }
     match declare(alloc, items) {
         Ok(symbols) => Some(symbols),
         Err(_) => None,

@@ -91,6 +91,9 @@ fn kind(alloc: Global) -> Option<KindCells> {
     let Ok(all) = items(alloc, None) else {
         return None;
     };
+    if all.len() >= 4_294_967_296 {
+        return None;
+    }
     match declare(alloc, &all) {
         Ok(symbols) => kind_in(alloc, &symbols).ok(),
         Err(_) => None,
@@ -296,6 +299,9 @@ fn core(alloc: Global, driver: u32) -> Core {
 // What a driver tells of C over the items.
 #[tactic(auto, using(crate::proofs::Placing::placed))]
 fn told_over(alloc: Global, core: &Core, all: &[Item], a: Value) -> Told {
+    if all.len() >= 4_294_967_296 {
+        return Told::Nothing;
+    }
     match declare(alloc, all) {
         Ok(symbols) => told_by(alloc, core, &symbols, a),
         Err(_) => Told::Nothing,

@@ -192,6 +192,9 @@ fn told_over(
     asked: u32,
     a: Value,
 ) -> (u64, Value) {
+    if all.len() >= 4_294_967_296 {
+        return nothing();
+    }
     match declare(alloc, all) {
         Ok(symbols) => told_by(alloc, core, &symbols, kinds, asked, a),
         Err(_) => nothing(),

@@ -261,6 +261,9 @@ fn source(alloc: Global, formulas: &[u8]) -> Vec<u8> {
 fn declared(alloc: Global, items: &[Item]) -> Option<Symbols>
     ensures { IfSome result TablesHaveCells }
 {
+    if items.len() >= 4_294_967_296 {
+        return None;
+    }
     match declare(alloc, items) {
         Ok(symbols) => Some(symbols),
         Err(_) => None,

@@ -185,6 +185,9 @@ fn fault_told(fault: &DeclareFault) -> Told {
 }
 
 fn is_told(alloc: Global, items: &[Item], wanted: Told) -> bool {
+    if items.len() >= 4_294_967_296 {
+        return false;
+    }
     match declare(alloc, items) {
         Ok(_) => wanted == Told::Nothing,
         Err(fault) => wanted == fault_told(&fault),
@@ -254,7 +257,9 @@ fn check(symbols: &Symbols) -> Result<(), Fail> {
 
 #[test]
 fn declarations_are_numbered_and_found(rt: HostRuntime) -> Result<(), Fail> {
-    match declare(rt.alloc(), &declared(rt.alloc())) {
+    let items = declared(rt.alloc());
+    assert!(rt; items.len() < 4_294_967_296);
+    match declare(rt.alloc(), &items) {
         Ok(symbols) => check(&symbols),
         Err(_) => Err(Fail::from("refused")),
     }
