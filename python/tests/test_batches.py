@@ -2,7 +2,6 @@
 import io
 import os
 import pickle
-import tempfile
 import time
 import unittest
 from collections import OrderedDict, deque
@@ -11,9 +10,9 @@ from fractions import Fraction
 from types import MappingProxyType
 from unittest import mock
 
+from room import Room
 from test_vodmejka import RULES
-from vodmejka import OVER, Interrupted, Refused, Rules, batches, tables
-from vodmejka.program import program_path
+from vodmejka import OVER, Interrupted, Refused, batches, tables
 from vodmejka.tables import Tables, by_columns
 
 
@@ -24,36 +23,7 @@ def written(made, rows):
     return out.getvalue().decode()
 
 
-class Batches(unittest.TestCase):
-    def setUp(self):
-        self.room = tempfile.TemporaryDirectory()
-        self.addCleanup(self.room.cleanup)
-        self.put("a.m", RULES)
-        self.list = self.put("l.txt", f"iliad\n{self.room.name}/a.m\n")
-        self.rules = self.rules_by()
-
-    def put(self, name, text):
-        path = os.path.join(self.room.name, name)
-        with open(path, "w", encoding="latin-1") as file:
-            file.write(text)
-        return path
-
-    def rules_by(self, script=None, **words):
-        """The rules by the program, or by a script that hands most words to it."""
-        if script is None:
-            return Rules(self.list, cache=self.room.name + "/cache", **words)
-        path = self.put("script", f'#!/bin/sh\ncd {self.room.name}\n[ "$1" = batch ] && {{ {script} }}\ncd - >/dev/null\nexec {program_path()} "$@"\n')
-        os.chmod(path, 0o755)
-        return Rules(self.list, cache=self.room.name + "/cache", program=path, **words)
-
-    def told_before(self, rows, size, error):
-        """The values that are told before a batch ends with an error, and the error."""
-        told = []
-        with self.assertRaises(error) as caught:
-            for answer in self.rules.batch(rows, rows_at_once=size):
-                told.append(answer["IRN"])
-        return told, caught.exception
-
+class Batches(Room):
     def test_a_bad_household_has_its_row_among_all(self):
         """Line 1 is the header, so household k (from 0) has line k + 2; all before it are told."""
         for size in (300, 1000, 2000):

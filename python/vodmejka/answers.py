@@ -3,19 +3,24 @@ from __future__ import annotations
 
 import mmap
 import re
-import sys
 from dataclasses import dataclass
 from decimal import Decimal, InvalidOperation
-from typing import Callable, Iterator, Union
+from typing import TYPE_CHECKING, Callable, Iterator, Union
 
 from .errors import Broken
 from .program import ENCODING
+
+if TYPE_CHECKING:
+    from .blocks import Block
 
 
 class Over:
     """The value of what overflows: it is beyond the greatest amount. There is one, `OVER`."""
 
     def __repr__(self) -> str:
+        return "OVER"
+
+    def __reduce__(self) -> str:
         return "OVER"
 
 
@@ -128,99 +133,6 @@ class Answer:
         block.is_left = True
 
 
-class Told(Answer):
-    """An answer whose lines are in a block with others; made without a call of Python."""
-
-    __slots__ = ()
-    __init__ = object.__init__  # type: ignore[assignment]
-
-
-class Block:
-    """The lines of some hundred answers: a piece of what the program printed, with the label of each.
-
-    `columns` has, by each name that was asked for, the values in order; None where one of them isn't an amount. `is_left` says that an answer took its own
-    lines out of it.
-    """
-
-    __slots__ = ("form", "printed", "begin", "end", "count", "columns", "is_left", "_parts")
-
-    def __init__(self, form: Form):
-        self.form = form
-        self.columns: dict[str, list[Decimal] | None] = {}
-        self.take(b"", 0, 0, 0, {})
-
-    def take(self, printed: Printed, begin: int, end: int, count: int, columns: dict[str, list[Decimal]]) -> None:
-        """Has these lines from now on, of so many answers, and these columns."""
-        self.printed, self.begin, self.end, self.count = printed, begin, end, count
-        self.columns.clear()
-        self.columns.update(columns)
-        self.is_left = False
-        self._parts: list[str] | None = None
-
-    def keep(self) -> None:
-        """Has its lines for itself, and nothing else of what was printed."""
-        self.printed, self.begin, self.end = self.printed[self.begin : self.end], 0, self.end - self.begin
-
-    def column(self, name: str) -> list[Decimal] | None:
-        """The values of a name, when they are asked for the first time."""
-        found = self.form.column(name, self.printed, self.begin, self.end)
-        column = self.columns[name] = found if len(found) == self.count else None
-        return column
-
-    def lines(self, index: int) -> str:
-        """The lines of an answer, with a line feed before the first one."""
-        if self._parts is None and index == self.count - 1:
-            last = self.printed.rfind(NEXT_LABEL, self.begin, self.end) + 1 or self.begin
-            return "\n" + self.printed[last + len(LABEL_LINE) : self.end].decode(ENCODING)
-        if self._parts is None:
-            self._parts = ("\n" + self.printed[self.begin : self.end - 1].decode(ENCODING)).split("\n" + LABEL_LINE)[1:]
-        return f"\n{self._parts[index]}\n"
-
-
-class Hands:
-    """Hands out the answers of one block after the other. Most are made once: an answer that nobody else holds is one of the next block."""
-
-    def __init__(self, form: Form):
-        self.block = Block(form)
-        self._told: list[Told] = []
-
-    def answers(self, printed: Printed, begin: int, end: int, count: int, columns: dict[str, list[Decimal]]) -> list[Told]:
-        """The answers of a block, which are to be settled before the next one's."""
-        self.block.take(printed, begin, end, count, columns)
-        while len(self._told) < count:
-            self._told.append(self._made(len(self._told)))
-        return self._told[:count]
-
-    def asked(self) -> str | None:
-        """A name of which the block has a column, if there is one."""
-        return next((name for name, column in self.block.columns.items() if column is not None), None)
-
-    def settle(self, answers: list[Told]) -> None:
-        """Lets those that are still held elsewhere, where they are the fewer, have their own lines, so that they don't hold the block; else it is theirs."""
-        counts = list(map(sys.getrefcount, answers))
-        held = len(counts) - counts.count(LISTED_TWICE)
-        if 1 < held > len(counts) // 2:
-            self.block.keep()
-            self.block, self._told = Block(self.block.form), []
-            return
-        is_left = self.block.is_left
-        if held:
-            last = len(counts) - 1
-            only_last = held == 1 and counts[last] != LISTED_TWICE
-            for index in [last] if only_last else [index for index, count in enumerate(counts) if count != LISTED_TWICE]:
-                if answers[index]._block is not None:
-                    answers[index]._leave(self.block)
-                self._told[index] = self._made(index)
-        if is_left:
-            for answer in self._told:
-                answer._block, answer._columns = self.block, self.block.columns
-
-    def _made(self, index: int) -> Told:
-        answer = Told()
-        answer._block, answer._columns, answer._index = self.block, self.block.columns, index
-        return answer
-
-
 class Known(dict):  # type: ignore[type-arg]
     """Decimals by their texts."""
 
@@ -296,16 +208,6 @@ LABELLED = re.compile(r"(failed|noted) ([0-9]+) ([^ ]+) (anomalie|discordance|in
 OVER_LINE = re.compile(r"over (?:verification ([0-9]+) ([^ ]+)|driver line ([0-9]+))")
 VALUE = re.compile(r"([^ \n]+)(?: = (-?[0-9]+(?:\.[0-9]+)?)|( undefined)|( over))")
 VALUES = re.compile("(?m)^" + VALUE.pattern + "$")
-
-
-def listed_twice() -> int:
-    """How many references are counted to what is in two lists, and nowhere else."""
-    first = [object()]
-    second = [*first]
-    return max(map(sys.getrefcount, second))
-
-
-LISTED_TWICE = listed_twice()
 
 
 def lines_of(lines: str) -> Iterator[str]:

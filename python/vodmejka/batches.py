@@ -1,4 +1,8 @@
-"""Any number of households by the command `batch`, some thousand at a time: while it computes a part, the next one is read and written."""
+"""Any number of households by the command `batch`, some thousand at a time: while it computes a part, the next one is read and written.
+
+Where values of a few names alone are read of the answers, the program is asked for no others from the next part on; where something else is wanted of such a part, the
+program computes it a second time, and is asked for all from then on.
+"""
 from __future__ import annotations
 
 import itertools
@@ -6,10 +10,12 @@ import mmap
 import os
 import re
 import subprocess
+import weakref
 from decimal import Decimal
 from typing import BinaryIO, Callable, Generator, Iterable, Iterator
 
-from .answers import LABEL_LINE, NEXT_LABEL, Answer, Form, Hands, Printed, Told
+from .answers import LABEL_LINE, NEXT_LABEL, Answer, Form, Printed
+from .blocks import Hands, Piece, Told
 from .errors import Broken, NotFound, Refused
 from .program import ENCODING, raise_for
 from .tables import Household, Tables, by_columns
@@ -19,10 +25,6 @@ TABLE_BYTES = 16_777_216
 SLICE = 24_576
 TABLE_NAME = "table.csv"
 ROW = re.compile(r"(refused household line )([0-9]+)(: .*)", re.DOTALL)
-
-
-Piece = tuple[Printed, int, int, int, dict[str, list[Decimal]]]
-"""A piece of what was printed: where it begins and ends, how many answers it has, and the values of names that were looked for already."""
 
 
 class Answers:
@@ -56,25 +58,44 @@ class Batch:
         self.words, self.folder, self.form, self.size = words, folder, form, size
         self.codes, self.told, self.tables = frozenset(codes), told, Tables()
         self.asked: str | None = None
+        self.few: Form | None = None
+        self.read: Callable[[], dict[str, None] | None] = unknown
 
     def answers(self, rows: Iterable[Household]) -> Answers:
         """The answers of households, in their order."""
         return Answers(self._handed(rows))
 
+    def started(self, table: int, printed: int, requests: int | None = None) -> subprocess.Popen[bytes]:
+        """The program on a table, which prints to a file; it is asked for what these requests name, or for all. All are files in memory."""
+        given = [table] if requests is None else [table, requests]
+        words = [*self.words[:-1], self.words[-1] if requests is None else f"/proc/self/fd/{requests}", f"/proc/self/fd/{table}"]
+        return subprocess.Popen(words, cwd=self.folder, pass_fds=given, stdin=subprocess.DEVNULL, stdout=printed, stderr=subprocess.DEVNULL)
+
     def _handed(self, rows: Iterable[Household]) -> Generator[list[Told], None, None]:
         """The same, some hundred at a time."""
-        hands, parts = Hands(self.form), self._parts(iter(rows))
+        hands, parts = Hands(), self._parts(iter(rows))
+        self.read = hands.read
         handed: list[Told] = []
         try:
             for piece in parts:
-                handed = hands.answers(*piece)
+                handed = hands.answers(piece)
                 yield handed
-                self.asked = hands.asked()
-                hands.settle(handed)
+                self.asked = hands.column()
         finally:
             parts.close()
             handed.clear()
-            hands.block.keep()
+            hands.end()
+            self.read = unknown
+
+    def _few(self) -> Form | None:
+        """The form of answers that tell what is read and nothing else, of the first name where that is nothing; None where it is no less than half of all."""
+        read, names = self.read(), list(dict.fromkeys(self.form.names))
+        wanted = names if read is None else [name for name in names if name in read] or names[:1]
+        if 2 * len(wanted) > len(names):
+            return None
+        if self.few is None or self.few.names != wanted:
+            self.few = Form(wanted)
+        return self.few
 
     def _parts(self, left: Iterator[Household]) -> Generator[Piece, None, None]:
         """The pieces of what is printed for them."""
@@ -86,7 +107,7 @@ class Batch:
                 households, fault = filled(left, self.size)
                 if fault is None and not households:
                     break
-                part = Part(self, households, first, fault)
+                part = Part(self, households, first, fault, self._few())
                 first += len(households)
                 if waiting is not None:
                     yield from waiting.pieces()
@@ -103,13 +124,14 @@ class Batch:
 
 
 class Part:
-    """Some households, the first of which has a number from 0 among all; they are computed from now on. `fault` is what is raised after their answers.
+    """Some households, the first of which has a number from 0 among all; they are computed from now on. `fault` is what is raised after their answers, and
+    `few` the form of answers that tell some values alone, where no others are asked for.
 
     Where an amount is none, it ends before the first household with one, and has that fault.
     """
 
-    def __init__(self, batch: Batch, households: list[Household], first: int, fault: BaseException | None = None):
-        self.batch, self.households, self.first, self.fault = batch, households, first, fault
+    def __init__(self, batch: Batch, households: list[Household], first: int, fault: BaseException | None = None, few: Form | None = None):
+        self.batch, self.households, self.first, self.fault, self.few = batch, households, first, fault, few
         self.child: subprocess.Popen[bytes] | None = None
         self.inner: Part | None = None
         self.files: list[int] = []
@@ -120,14 +142,23 @@ class Part:
             raise
 
     def _begin(self) -> None:
-        """Starts the program on the table, both with files in memory, where the table isn't too long."""
-        given, printed = self.files = [os.memfd_create(name) for name in ("table", "answers")]
-        with open(given, "wb", closefd=False) as file:
+        """Starts the program on the table, where the table isn't too long."""
+        self.files.append(os.memfd_create("table"))
+        with open(self.files[0], "wb", closefd=False) as file:
             self._write(file)
-        if self.households and (os.fstat(given).st_size <= TABLE_BYTES or len(self.households) == 1):
-            words = [*self.batch.words, f"/proc/self/fd/{given}"]
-            to = {"stdin": subprocess.DEVNULL, "stdout": printed, "stderr": subprocess.DEVNULL}
-            self.child = subprocess.Popen(words, cwd=self.batch.folder, pass_fds=(given,), **to)  # type: ignore[call-overload]
+        if self.households and (os.fstat(self.files[0]).st_size <= TABLE_BYTES or len(self.households) == 1):
+            self._start()
+
+    def _start(self) -> None:
+        """Starts the program, which is asked for all values, or for those of some names."""
+        requests = None
+        self.files[1:] = [os.memfd_create("answers")]
+        if self.few is not None:
+            requests = os.memfd_create("requests")
+            self.files.append(requests)
+            with open(requests, "wb", closefd=False) as file:
+                file.write("".join(f"{name}\n" for name in self.few.names).encode(ENCODING))
+        self.child = self.batch.started(self.files[0], self.files[1], requests)
 
     def _write(self, file: BinaryIO) -> None:
         """Writes the table, of the households before the first one with what is no amount."""
@@ -159,6 +190,12 @@ class Part:
         """The same of a table that the program takes, or rejects."""
         assert self.child is not None
         status = self.child.wait()
+        if self.few is not None:
+            some = self._some(self.few) if status == 0 else None
+            if some is not None:
+                yield from some
+                return
+            status = self._anew()
         try:
             raise_for(b"" if status == 0 else self._printed()[:], status)
         except NotFound as missing:
@@ -171,9 +208,29 @@ class Part:
                 self.inner = Part(self.batch, self.households[:before], self.first)
                 yield from self.inner.pieces()
             return
-        pieces = self._counted()
+        pieces = self._counted(self.batch.form)
         self.end()
         yield from pieces
+
+    def _some(self, few: Form) -> list[Piece] | None:
+        """The pieces where some values alone were asked for; None where it isn't clear which answer is whose."""
+        try:
+            pieces = self._counted(few)
+        except Broken:
+            return None
+        whole = AllLines(self.batch, self.files.pop(0), len(self.households))
+        self.end()
+        firsts = itertools.accumulate((piece.count for piece in pieces), initial=0)
+        return [piece._replace(whole=whole, first=first) for piece, first in zip(pieces, firsts)]
+
+    def _anew(self) -> int:
+        """Has the program compute the same table, asked for all; its status."""
+        self.few = None
+        while len(self.files) > 1:
+            os.close(self.files.pop())
+        self._start()
+        assert self.child is not None
+        return self.child.wait()
 
     def _taken(self, line: str) -> int:
         """How many households stand before the one that the program rejects with this line: of a fault in the header the first with an unknown code."""
@@ -194,9 +251,9 @@ class Part:
         size = os.fstat(self.files[1]).st_size
         return mmap.mmap(self.files[1], size, access=mmap.ACCESS_READ) if size else b""
 
-    def _counted(self) -> list[Piece]:
-        """What the program printed, in pieces with as many answers as there are households."""
-        form, due, printed = self.batch.form, len(self.households), self._printed()
+    def _counted(self, form: Form) -> list[Piece]:
+        """What the program printed, in pieces with as many answers as there are households, which tell the values of a form."""
+        due, printed = len(self.households), self._printed()
         if printed and not (printed[: len(LABEL_LINE)] == LABEL_LINE.encode() and printed[-1:] == b"\n"):
             raise Broken(f"a first line without a label, or a last line without its end: {printed[:200]!r}, {printed[-200:]!r}")
         places = list(cuts(printed))
@@ -204,12 +261,12 @@ class Part:
         if asked is not None:  # each answer has at most one amount of a name
             columns = [form.column(asked, printed, *place) for place in places]
             if sum(map(len, columns)) == due:
-                return [(printed, *place, len(column), {asked: column}) for place, column in zip(places, columns)]
-        pieces: list[Piece] = [(printed, begin, end, printed[begin:end].count(NEXT_LABEL) + 1, {}) for begin, end in places]
-        if not form.names or sum(piece[3] for piece in pieces) != due:
-            pieces = [(text, 0, len(text), 1, {}) for text in by_line(printed[:])]
-        if sum(piece[3] for piece in pieces) != due:
-            raise Broken(f"{sum(piece[3] for piece in pieces)} answers for {due} households")
+                return [Piece(form, printed, *place, len(column), {asked: column}) for place, column in zip(places, columns)]
+        pieces = [Piece(form, printed, begin, end, printed[begin:end].count(NEXT_LABEL) + 1, {}) for begin, end in places]
+        if not form.names or sum(piece.count for piece in pieces) != due:
+            pieces = [Piece(form, text, 0, len(text), 1, {}) for text in by_line(printed[:])]
+        if sum(piece.count for piece in pieces) != due:
+            raise Broken(f"{sum(piece.count for piece in pieces)} answers for {due} households")
         return pieces
 
     def end(self) -> None:
@@ -221,6 +278,49 @@ class Part:
             self.child.wait()
         while self.files:
             os.close(self.files.pop())
+
+
+class AllLines:
+    """All lines of the answers of a table, which the program computes when they are wanted first. The table is its own, and closed with it."""
+
+    def __init__(self, batch: Batch, table: int, due: int):
+        self.form = batch.form
+        self._batch, self._table, self._due = batch, table, due
+        self._texts: list[bytes] = []
+        weakref.finalize(self, os.close, table)
+
+    def lines(self, first: int, count: int) -> bytes:
+        """The lines of so many answers, from one of them on, with their labels."""
+        if not self._texts:
+            self._texts = self._computed()
+        return b"".join(self._texts[first : first + count])
+
+    def _computed(self) -> list[bytes]:
+        """The lines of each answer."""
+        printed = os.memfd_create("answers")
+        try:
+            with self._batch.started(self._table, printed) as child:
+                try:
+                    status = child.wait()
+                except BaseException:
+                    child.kill()
+                    raise
+            with open(printed, "rb", closefd=False) as file:
+                file.seek(0)
+                text = file.read()
+        finally:
+            os.close(printed)
+        raise_for(b"" if status == 0 else text, status)
+        texts = [LABEL_LINE.encode() + one + b"\n" for one in (b"\n" + text[:-1]).split(NEXT_LABEL)[1:]]
+        if len(texts) != self._due:
+            texts = by_line(text)
+        if len(texts) != self._due:
+            raise Broken(f"{len(texts)} answers for {self._due} households")
+        return texts
+
+
+def unknown() -> None:
+    """What is read of answers before any is handed out."""
 
 
 def filled(left: Iterator[Household], size: int) -> tuple[list[Household], Exception | None]:
