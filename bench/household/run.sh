@@ -86,7 +86,10 @@ fn codes_of_names(alloc: Global, names: &[Name]) -> Result<Option<Codes>> {
     match Names::of(alloc, names) {
         Ok(_) => {
             let inputs = inputs_of(alloc, names)?;
-            Ok(Some(Codes::new(alloc, &inputs)?))
+            match u32::try_from(inputs.len()) {
+                Ok(count) => Ok(Some(Codes::new(alloc, &inputs, count)?)),
+                Err(_) => Ok(None),
+            }
         }
         Err(_) => Ok(None),
     }

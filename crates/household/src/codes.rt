@@ -60,10 +60,7 @@ impl Codes {
         ensures number { result ≡ index_of code.now (codes_of self.now) }
         ensures within { IfSome result (λ number. number < length self.now) }
     {
-        match self.names.find(code) {
-            Some(number) => Some(number as u32),
-            None => None,
-        }
+        self.names.number(code)
     }
 
     /// Whether an amount is of the type of the input with this number: 2.5 is not, where that is `Whole`. A number that no

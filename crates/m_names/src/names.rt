@@ -1,4 +1,4 @@
-ghost use Rattle.std.specs.Prelude.{◌≡◌, ◌<◌, true, OnErr, IfOk, IfSome, length, not, if◌then◌else◌, ◌++◌, ◌∷◌, [], Some};
+ghost use Rattle.std.specs.Prelude.{◌≡◌, ◌<◌, ◌^◌, true, OnErr, IfOk, IfSome, length, not, if◌then◌else◌, ◌++◌, ◌∷◌, [], Some};
 ghost use Rattle.m_places.specs.Refusals.{Outcome};
 ghost use Rattle.m_names.specs.Names.{index_of, has, AreDistinct};
 ghost use Rattle.m_names.specs.Faults.{Repeats};
@@ -78,6 +78,18 @@ impl Names {
         ensures within { IfSome result (λ number. number < length self.now) }
     {
         self.known.get_index_of(name)
+    }
+
+    /// The same of fewer than 2^32 names: the number of a name, from 0, if it is there. Takes no memory.
+    pub fn number(&self, name: &[u8]) -> Option<u32>
+        requires { length self.now < 2 ^ 32 }
+        ensures number { result ≡ index_of name.now self.now }
+        ensures within { IfSome result (λ number. number < length self.now) }
+    {
+        match self.find(name) {
+            Some(number) => Some(number as u32),
+            None => None,
+        }
     }
 
     /// Adds a name at the end, and says whether it is new. A name that is there already stays

@@ -1,5 +1,5 @@
 -- How the rule files are gathered one after the other.
-use Rattle.std.proofs.Common.{◌≡◌, ◌≤◌, ◌<◌, ◌+◌, ℕ, suc, ◌-◌, arith, get_or, drop, List, [], ◌∷◌, ◌++◌, length, min, Result, Ok, Err, sym, ap, ◌∙◌, subst, append_assoc, length-append}
+use Rattle.std.proofs.Common.{◌≡◌, ◌≤◌, ◌<◌, ◌+◌, ℕ, suc, ◌-◌, arith, get_or, drop, List, [], ◌∷◌, ◌++◌, length, min, Result, Ok, Err, sym, ◌∙◌, subst, append_assoc}
 use Rattle.std.proofs.Math.Seq.{drop-cons}
 use Rattle.std.proofs.lemmas.List.{append-nil, drop_all}
 use Rattle.std.specs.Prelude.{IsErrAnd}
@@ -11,7 +11,6 @@ use Rattle.command_plans.specs.declared.ending.Ending.{Ending}
 use Rattle.command_plans.specs.declared.ending.Ending.TheVariants.{Memory}
 use Rattle.command_plans.proofs.Trips.{along_then, along_ended, along_done, along_without_memory}
 use Rattle.m_source.specs.Source.{rules_plan}
-use Rattle.rule_text.specs.Limits.{EachIsWithin, all_bytes}
 use Rattle.rule_text.specs.declared.Text.{Text}
 
 -- texts that were gathered, and what comes of the rest
@@ -87,24 +86,3 @@ pub rules_whole : (names : List (List ℕ)) (i : ℕ) (whole : Plan (List Text))
 rules_whole names i whole before now texts all left h e r =
     subst (λ (l : List Text). GoesAlong whole before now (Ok l)) (append-nil texts ∙ sym e)
     (subst (λ (l : List (List ℕ)). Resumes whole before (rules_plan left l) now texts) (drop_all i names h) r now (Ok []) (along_done now []))
-
--- one more text that keeps its limit
-within_one : (texts : List Text) (text : Text) → EachIsWithin texts → length text.bytes ≤ FILE_BYTES → EachIsWithin (texts ++ text ∷ [])
-within_one [] text w l = (l, tt)
-within_one (one ∷ texts) text w l = (w.0, within_one texts text w.1 l)
-
-pub within_push : (texts new : List Text) (text : Text) (left limit : ℕ) → new ≡ texts ++ text ∷ [] → limit ≡ min FILE_BYTES left → EachIsWithin texts → length text.bytes ≤ limit → EachIsWithin new
-within_push texts new text left limit e m w l = subst EachIsWithin (sym e) (within_one texts text w (omega (arith, m, l)))
-
--- and has its bytes beside those of the others
-bytes_one : (texts : List Text) (text : Text) → all_bytes (texts ++ text ∷ []) ≡ all_bytes texts + length text.bytes
-bytes_one [] text = omega arith
-bytes_one (one ∷ texts) text = omega (arith, bytes_one texts text)
-
-pub bytes_push : (texts new : List Text) (text : Text) (left limit all read : ℕ) → new ≡ texts ++ text ∷ [] → limit ≡ min FILE_BYTES left → length text.bytes ≤ limit → read ≡ length text.bytes → all_bytes texts + left ≡ all
-    → all_bytes new + (left - read) ≡ all
-bytes_push texts new text left limit all read e m l r h = omega (arith, m, l, r, h, ap all_bytes e, bytes_one texts text)
-
--- and they are one more
-pub pushed : (texts new : List Text) (text : Text) (n : ℕ) → new ≡ texts ++ text ∷ [] → length texts ≡ n → length new ≡ n + 1
-pushed texts new text n e l = ap length e ∙ length-append texts (text ∷ []) ∙ ap (λ k. k + 1) l

@@ -20,7 +20,8 @@ use std::alloc::{AllocError, Global};
 /// has one. At one declaration the name's fault comes first, then the code's, the size's, and the
 /// count of cells.
 ///
-/// Variables, cells and inputs are numbered in order of declaration, from 0.
+/// Variables, cells and inputs are numbered in order of declaration, from 0, each by a number of 32 bits. Items are fewer than 2^32,
+/// as are those of files that a list of rules may have: no file has more items than bytes.
 pub fn declare(alloc: Global, items: &[Item]) -> Result<Symbols, DeclareFault>
     requires { length items.now < 2 ^ 32 }
     ensures outcome { Outcome DeclareFault.Memory result

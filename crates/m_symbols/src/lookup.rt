@@ -27,10 +27,7 @@ impl Symbols {
         ensures number { result ≡ index_of name.now (names_of self.now.variables) }
         ensures within { IfSome result (λ v. v < length self.now.variables) }
     {
-        match self.tables.names.find(name) {
-            Some(number) => Some(number as u32),
-            None => None,
-        }
+        self.tables.names.number(name)
     }
 
     /// How many cells there are.
@@ -70,10 +67,7 @@ impl Symbols {
         ensures number { result ≡ index_of code.now (codes_of self.now.variables) }
         ensures within { IfSome result (λ n. n < length (inputs_from 0 self.now.variables)) }
     {
-        match self.tables.codes.find(code) {
-            Some(number) => Some(number as u32),
-            None => None,
-        }
+        self.tables.codes.number(code)
     }
 
     /// How many errors there are.
@@ -96,9 +90,6 @@ impl Symbols {
         ensures number { result ≡ index_of name.now (error_names_of self.now.errors) }
         ensures within { IfSome result (λ e. e < length self.now.errors) }
     {
-        match self.tables.error_names.find(name) {
-            Some(number) => Some(number as u32),
-            None => None,
-        }
+        self.tables.error_names.number(name)
     }
 }

@@ -2,7 +2,7 @@
 
 ghost use Rattle.std.specs.Prelude.{◌≡◌, ◌∷◌, [], ◌++◌, OnOk, IfOk, length};
 ghost use Rattle.driver_core.specs.ActionView.{block_of};
-ghost use Rattle.mpp_core.specs.inner.Calls.{action_steps, block_steps, call_step, calls_base, calls_term};
+ghost use Rattle.mpp_core.specs.inner.Calls.{action_steps, block_steps, call_step, calls_base, calls_from, calls_term};
 
 use driver_core::{CCommand, CCommandNode};
 use m_fixed::{Op, Value};
@@ -27,10 +27,7 @@ pub(crate) fn calls_base(
     ensures { IfOk result (λ base. base ≡ calls_base bodies.now) }
 {
     let mut definitions = Vec::with_capacity(alloc, functions as usize)?;
-    for f in 0..functions {
-        let calls = calls_term(alloc, bodies[f as usize].as_slice())?;
-        definitions.push((f, calls, NO_PLACE))?;
-    }
+    add_definitions(alloc, bodies, functions, &mut definitions)?;
     Ok(Base {
         cells: functions,
         constants: Seq::from_vec(Vec::new(alloc)),
@@ -38,6 +35,23 @@ pub(crate) fn calls_base(
         checks: Seq::from_vec(Vec::new(alloc)),
         labels: Seq::from_vec(Vec::new(alloc)),
     })
+}
+
+// Adds a definition of each function.
+fn add_definitions(
+    alloc: Global,
+    bodies: &[Seq<CCommand>],
+    functions: u32,
+    definitions: &mut Vec<(u32, MTerm, Place)>,
+) -> Result<(), AllocError>
+    requires { functions ≡ length bodies.now }
+    ensures { OnOk result (definitions.new.items ≡ definitions.old.items ++ calls_from 0 bodies.now) }
+{
+    for f in 0..functions {
+        let calls = calls_term(alloc, bodies[f as usize].as_slice())?;
+        definitions.push((f, calls, NO_PLACE))?;
+    }
+    Ok(())
 }
 
 // A sum of the functions that are called in a block.

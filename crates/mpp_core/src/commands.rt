@@ -139,11 +139,8 @@ fn called(
     if name.bytes() == b"call_m".as_slice() {
         return Ok(CCommand::new(CCommandNode::Rules(line, count, cells)));
     }
-    match names.find(name.bytes()) {
-        Some(function) => {
-            let function = function as u32;
-            Ok(CCommand::new(CCommandNode::Call(line, count, cells, function)))
-        }
+    match names.number(name.bytes()) {
+        Some(function) => Ok(CCommand::new(CCommandNode::Call(line, count, cells, function))),
         None => Err(unknown(alloc, name, line)),
     }
 }

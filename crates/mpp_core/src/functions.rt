@@ -64,8 +64,8 @@ pub(crate) fn main_of(names: &Names) -> Result<u32, CoreFault>
     requires { length names.now < 2 ^ 32 }
     ensures { Outcome Memory result (λ main. main_said names.now ≡ Ok main) (λ fault. main_said names.now ≡ Err fault) }
 {
-    match names.find(b"main") {
-        Some(main) => Ok(main as u32),
+    match names.number(b"main") {
+        Some(main) => Ok(main),
         None => Err(CoreFault::NoMain),
     }
 }

@@ -21,7 +21,7 @@ use std::alloc::Global;
 
 /// The driver over the cells of what is declared, or the first fault of the driver: a name that two functions have, then that there is
 /// no `main`, then the first name from the top and from left to right that isn't what is needed there, and then functions that call
-/// each other in a ring.
+/// each other in a ring. Functions are numbered by 32 bits: there are fewer than 2^32, as in any file that a driver may be.
 pub fn resolve_driver(alloc: Global, driver: &Driver, symbols: &Symbols) -> Result<Core, CoreFault>
     requires placed { IsPlaced symbols.now }
     requires few { length driver.now.functions < 2 ^ 32 }

@@ -1,10 +1,10 @@
 //! Whether functions call each other in a ring: where their calls, as a base of rules, have no order, the cycle is one.
 
-ghost use Rattle.std.specs.Prelude.{◌≡◌, IfOk, length, map};
+ghost use Rattle.std.specs.Prelude.{◌≡◌, ◌≢◌, IfOk, length, map};
 ghost use Rattle.m_places.specs.Refusals.{Outcome};
 ghost use Rattle.driver_core.specs.Valid.{HasNoRing, IsInRange};
 ghost use Rattle.mpp_core.specs.Cores.{IsRecursion, function_name};
-ghost use Rattle.mpp_core.specs.declared.fault.CoreFault.TheVariants.{Memory};
+ghost use Rattle.mpp_core.specs.declared.fault.CoreFault.TheVariants.{Memory, DriverRecursion};
 
 use crate::CoreFault;
 use crate::calls::calls_base;
@@ -24,9 +24,18 @@ pub(crate) fn no_ring(alloc: Global, core: &Core, functions: u32) -> Result<(), 
         Ok(_) => Ok(()),
         Err(OrderFault::Memory) => Err(CoreFault::Memory),
         Err(OrderFault::Cycle(ring)) => {
-            let names = shown_names(alloc, core.names.as_slice(), ring.as_slice())?;
-            Err(CoreFault::DriverRecursion(names))
+            Err(recursion(alloc, core.names.as_slice(), ring.as_slice()))
         }
+    }
+}
+
+// The fault of functions that call each other in a ring.
+fn recursion(alloc: Global, names: &[Name], ring: &[u32]) -> CoreFault
+    ensures { result ≢ Memory → result ≡ DriverRecursion (map (function_name names.now) ring.now) }
+{
+    match shown_names(alloc, names, ring) {
+        Ok(shown) => CoreFault::DriverRecursion(shown),
+        Err(_) => CoreFault::Memory,
     }
 }
 

@@ -1,6 +1,7 @@
-use Rattle.m_source.proofs.Rules.{resumes_first, rules_turn, rules_end, rules_stop, rules_whole, within_push, bytes_push, pushed}
-use Rattle.std.proofs.Common.{arith, length, length-append, sym, subst, ap, ◌∷◌, []}
+use Rattle.m_source.proofs.Rules.{resumes_first, rules_turn, rules_end, rules_stop, rules_whole}
+use Rattle.std.proofs.Common.{arith, length, sym, subst, ap, ◌∷◌, []}
 use Rattle.rule_text.specs.Limits.{EachIsWithin, TextsAreWithin, all_bytes}
+use Rattle.rule_text.proofs.Pushed.{within_push, bytes_push, count_push}
 use Rattle.m_source.proofs.gather.gather_rules.Goals as goal
 
 pub loop-name-init : goal.loop-name-init
@@ -10,9 +11,10 @@ pub loop-name-preserved : goal.loop-name-preserved
 loop-name-preserved g c = record {
   resumes = rules_turn c.args.names.now c.loop-name.name-index _ _ _ _ _ _ _ _ _ _ _ _ c.loop-name-test.true c.name-item.is c.min.ensures c.in_ok-name.ensures c.as_slice.ensures c.in_ok-push.ensures.items
       c.loop-name.invariant.resumes c.in_ok-bytes.ensures.along;
-  each = within_push _ _ _ _ _ c.in_ok-push.ensures.items c.min.ensures c.loop-name.invariant.each c.in_ok-bytes.ensures.within;
-  spent = bytes_push _ _ _ _ _ _ _ c.in_ok-push.ensures.items c.min.ensures c.in_ok-bytes.ensures.within (ap length c.as_slice.ensures) c.loop-name.invariant.spent;
-  counted = pushed c.loop-name.texts.items _ _ c.loop-name.name-index c.in_ok-push.ensures.items c.loop-name.invariant.counted;
+  each = let least = c.min.ensures in let within = c.in_ok-bytes.ensures.within in within_push _ _ _ c.in_ok-push.ensures.items c.loop-name.invariant.each (omega (arith, least, within));
+  spent = let least = c.min.ensures in let within = c.in_ok-bytes.ensures.within in
+      omega (arith, least, within, ap length c.as_slice.ensures, c.loop-name.invariant.spent, bytes_push _ _ _ c.in_ok-push.ensures.items);
+  counted = omega (arith, c.loop-name.invariant.counted, count_push _ _ _ c.in_ok-push.ensures.items);
   reached = let h = c.loop-name-test.true in omega (arith, h);
 }
 

@@ -1,5 +1,6 @@
-use Rattle.std.proofs.Common.{◌∙◌, ap, subst}
+use Rattle.std.proofs.Common.{◌∙◌, ap, sym, subst}
 use Rattle.micro_m.specs.Reads.{IsCycle, HasNoCycle}
+use Rattle.mpp_core.specs.Cores.{IsRecursion}
 use Rattle.mpp_core.specs.inner.Calls.{calls_base}
 use Rattle.mpp_core.proofs.CallLemmas.{valid_base, no_ring, is_ring}
 use Rattle.mpp_core.proofs.rings.no_ring.Goals as goal
@@ -13,9 +14,9 @@ returns-in-Ok c = no_ring c.args.core.now (subst HasNoCycle (c.in_ok-base.ensure
 pub returns : goal.returns
 returns c = λ n.
     let shown = rw c.in-Err-Cycle.field-0-is at (c.in-Err-Cycle.ensures.outcome (rw c.in-Err-Cycle.field-0-is (λ e. absurd (cc)))) in
-    record {
+    subst (IsRecursion c.args.core.now) (sym (c.recursion.ensures n)) (record {
       functions = c.in-Err-Cycle.ring;
       ring = is_ring c.args.core.now c.in-Err-Cycle.ring (subst (λ base. IsCycle base c.in-Err-Cycle.ring) (c.in_ok-base.ensures ∙ ap calls_base c.as_slice.ensures) shown.0);
       first = shown.1;
-      shown = rw c.as_slice-in-Err-Cycle.ensures at (rw c.as_slice-in-Err-Cycle-2.ensures at c.in_ok-names-in-Err-Cycle.ensures);
-    }
+      shown = rw c.as_slice-in-Err-Cycle.ensures (rw c.as_slice-in-Err-Cycle-2.ensures (cc));
+    })
