@@ -220,7 +220,7 @@ class Part:
             return None
         whole = AllLines(self.batch, self.files.pop(0), len(self.households))
         self.end()
-        firsts = itertools.accumulate((piece.count for piece in pieces), initial=0)
+        firsts = itertools.accumulate((piece.size for piece in pieces), initial=0)
         return [piece._replace(whole=whole, first=first) for piece, first in zip(pieces, firsts)]
 
     def _anew(self) -> int:
@@ -263,10 +263,10 @@ class Part:
             if sum(map(len, columns)) == due:
                 return [Piece(form, printed, *place, len(column), {asked: column}) for place, column in zip(places, columns)]
         pieces = [Piece(form, printed, begin, end, printed[begin:end].count(NEXT_LABEL) + 1, {}) for begin, end in places]
-        if not form.names or sum(piece.count for piece in pieces) != due:
+        if not form.names or sum(piece.size for piece in pieces) != due:
             pieces = [Piece(form, text, 0, len(text), 1, {}) for text in by_line(printed[:])]
-        if sum(piece.count for piece in pieces) != due:
-            raise Broken(f"{sum(piece.count for piece in pieces)} answers for {due} households")
+        if sum(piece.size for piece in pieces) != due:
+            raise Broken(f"{sum(piece.size for piece in pieces)} answers for {due} households")
         return pieces
 
     def end(self) -> None:

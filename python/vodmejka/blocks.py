@@ -34,7 +34,7 @@ class Piece(NamedTuple):
     printed: Printed
     begin: int
     end: int
-    count: int
+    size: int
     columns: dict[str, list[Decimal]]
     whole: Whole | None = None
     first: int = 0
@@ -105,9 +105,9 @@ class Turn:
     def answers(self, piece: Piece) -> list[Told]:
         """The answers of a piece, where those of the one before it are settled."""
         self.block.take(piece)
-        while len(self._made) < piece.count:
+        while len(self._made) < piece.size:
             self._made.append(self._new(len(self._made)))
-        return self._made[: piece.count]
+        return self._made[: piece.size]
 
     def settle(self) -> bool:
         """Lets those that are still held elsewhere, where they are the fewer, have their own lines, so that they don't hold the block; else it is theirs.
