@@ -13,6 +13,7 @@ import os
 import re
 import resource
 import sys
+import time
 from decimal import Decimal
 from types import SimpleNamespace
 
@@ -36,13 +37,14 @@ def made():
 
 
 def by_package(program, what, rows, folder):
-    """The part of a process of its own: the sum of what is paid, where it is read, and seconds of this process and of the programs that it started."""
+    """The part of a process of its own: the sum of what is paid, where it is read, and seconds of this process, of the programs that it started, by the clock, and of the
+    bench's own loop."""
     from vodmejka import Rules
 
     rules, households, read = Rules(*WORDS, program=program, cache=os.path.join(folder, "cache")), made(), READ[what]
-    begun = seconds_of(resource.RUSAGE_SELF), seconds_of(resource.RUSAGE_CHILDREN)
+    begun = seconds_of(resource.RUSAGE_SELF), seconds_of(resource.RUSAGE_CHILDREN), time.monotonic()
     paid = sum(read(answer) for answer in rules.batch(households[k % MADE] for k in range(rows)))
-    spent = seconds_of(resource.RUSAGE_SELF) - begun[0], seconds_of(resource.RUSAGE_CHILDREN) - begun[1]
+    spent = seconds_of(resource.RUSAGE_SELF) - begun[0], seconds_of(resource.RUSAGE_CHILDREN) - begun[1], time.monotonic() - begun[2]
     print(paid, *spent, by_loop(read, households, rows))
 
 
@@ -92,11 +94,11 @@ def main():
     for what in READ:
         alone, alone_clock, paid = by_command(program, rows, folder)
         print(f"| the command `batch` | {alone:.2f} | | 1.00 | {alone_clock:.2f} |", flush=True)
-        _, _, status, text, clock = timed([sys.executable, "-B", __file__, program, folder, str(rows), what], ROOT)
+        _, _, status, text, _ = timed([sys.executable, "-B", __file__, program, folder, str(rows), what], ROOT)
         told = text.split()
         if status or int(told[0]) not in (paid, 0 if what == "nothing" else paid):
             sys.exit(f"{what}: status {status}, {text!r}, where the command says {paid}")
-        own, children, loop = map(float, told[1:])
+        own, children, clock, loop = map(float, told[1:])
         print(f"| `.batch`, reading {what} of each answer | {own + children:.2f} | {own:.2f} | {(own + children) / alone:.2f} | {clock:.2f} |", flush=True)
         print(f"| of these the bench's own loop | {loop:.2f} | {loop:.2f} | | |", flush=True)
         ratios[what] = (own + children) / alone, clock / alone_clock

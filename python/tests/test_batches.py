@@ -229,6 +229,16 @@ class Batches(Room):
         os.remove(self.list)
         self.assertEqual([answer["IRN"] for answer in batch], list(range(1, 3000)))
 
+    def test_a_name_that_is_requested_twice(self):
+        """It is printed twice, so that as many lines of it as there are households say nothing, where half of these stop."""
+        for requests in ("IRN\nIRN\n", "IRN\nC\nIRN\n"):
+            self.rules = self.rules_by(requests=self.put("r.txt", requests))
+            for k, answer in enumerate(self.rules.batch([{"1AJ": -1 if k % 2 else 5000 + k} for k in range(400)])):
+                if k % 2:
+                    self.assertRaises(KeyError, lambda: answer["IRN"])
+                else:
+                    self.assertEqual(answer["IRN"], 4000 + k)
+
     def test_nothing_requested(self):
         self.rules = self.rules_by(requests=self.put("r.txt", ""))
         found = list(self.rules.batch([{"1AJ": 2500}, {"1AJ": 9001}, {"1AJ": -1}]))

@@ -163,6 +163,17 @@ class Few(Room):
                 self.assertEqual(answer.values, {"IRN": k, "C": (1000 + k) ** 3})
             self.assertEqual(answer["IRN"], k)
 
+    def test_a_program_that_says_too_little_where_all_are_wanted_later(self):
+        """A last line without its end may be a part of an amount, and is told to nobody."""
+        whole = "household ~\\nIRN = 7\\nC = 77"
+        cut = f"printf '{whole}\\n%.0s' $(seq {PART - 1}); printf '{whole}'"
+        self.rules = self.rules_by('[ "$4" = - ] && [ -e later ] && { ' + cut + "; exit 0; };")
+        for k, answer in enumerate(self.batch()):
+            if k == ALL - 1:
+                self.put("later", "")
+                self.assertRaisesRegex(batches.Broken, "without its end", lambda: answer.values)
+            self.assertEqual(answer["IRN"], k)
+
     def test_a_household_that_is_not_taken(self):
         for wrong, line in (("x", "bad amount"), (10**20, "bad amount")):
             self.rows[2_021] = {"1AJ": wrong}

@@ -163,9 +163,9 @@ class Form:
         self.match = re.compile(together if 0 < len(names) <= MOST_TOGETHER else "(?!)").fullmatch
 
     def column(self, name: str, printed: Printed, begin: int, end: int) -> list[Decimal]:
-        """The amounts of all lines of a name in a piece of what was printed; nothing where one of them is no amount."""
+        """The amounts of all lines of a name in a piece of what was printed; nothing where one of them is no amount, or where answers have two such lines."""
         if name not in self._finders:
-            if name not in self.begins:
+            if self.names.count(name) != 1:
                 return []
             self._finders[name] = re.compile(re.escape(self.begins[name].encode(ENCODING)) + rb"([-0-9.]+)\n").findall
         try:

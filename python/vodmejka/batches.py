@@ -57,9 +57,8 @@ class Batch:
     def __init__(self, words: list[str], folder: str, form: Form, size: int, codes: Iterable[str], told: Callable[[str], str]):
         self.words, self.folder, self.form, self.size = words, folder, form, size
         self.codes, self.told, self.tables = frozenset(codes), told, Tables()
-        self.asked: str | None = None
+        self.hands = Hands()
         self.few: Form | None = None
-        self.read: Callable[[], dict[str, None] | None] = unknown
 
     def answers(self, rows: Iterable[Household]) -> Answers:
         """The answers of households, in their order."""
@@ -73,23 +72,21 @@ class Batch:
 
     def _handed(self, rows: Iterable[Household]) -> Generator[list[Told], None, None]:
         """The same, some hundred at a time."""
-        hands, parts = Hands(), self._parts(iter(rows))
-        self.read = hands.read
+        parts = self._parts(iter(rows))
         handed: list[Told] = []
         try:
             for piece in parts:
-                handed = hands.answers(piece)
+                handed = self.hands.answers(piece)
                 yield handed
-                self.asked = hands.column()
         finally:
             parts.close()
             handed.clear()
-            hands.end()
-            self.read = unknown
+            self.hands.end()
+            self.hands = Hands()  # an answer that is held may hold this batch, and is to go when nobody holds it
 
     def _few(self) -> Form | None:
         """The form of answers that tell what is read and nothing else, of the first name where that is nothing; None where it is no less than half of all."""
-        read, names = self.read(), list(dict.fromkeys(self.form.names))
+        read, names = self.hands.read(), list(dict.fromkeys(self.form.names))
         wanted = names if read is None else [name for name in names if name in read] or names[:1]
         if 2 * len(wanted) > len(names):
             return None
@@ -197,7 +194,7 @@ class Part:
                 return
             status = self._anew()
         try:
-            raise_for(b"" if status == 0 else self._printed()[:], status)
+            raise_for(b"" if status == 0 else printed_in(self.files[1])[:], status)
         except NotFound as missing:
             raise NotFound(self.batch.told(str(missing))) from None
         except Refused as refused:
@@ -208,14 +205,14 @@ class Part:
                 self.inner = Part(self.batch, self.households[:before], self.first)
                 yield from self.inner.pieces()
             return
-        pieces = self._counted(self.batch.form)
+        pieces = self._pieces_of(self.batch.form)
         self.end()
         yield from pieces
 
     def _some(self, few: Form) -> list[Piece] | None:
         """The pieces where some values alone were asked for; None where it isn't clear which answer is whose."""
         try:
-            pieces = self._counted(few)
+            pieces = self._pieces_of(few)
         except Broken:
             return None
         whole = AllLines(self.batch, self.files.pop(0), len(self.households))
@@ -246,28 +243,9 @@ class Part:
         match = ROW.fullmatch(line)
         return f"{match[1]}{int(match[2]) + self.first}{match[3]}" if match and match[2] != "1" else line
 
-    def _printed(self) -> Printed:
-        """All that the program printed, where it stands."""
-        size = os.fstat(self.files[1]).st_size
-        return mmap.mmap(self.files[1], size, access=mmap.ACCESS_READ) if size else b""
-
-    def _counted(self, form: Form) -> list[Piece]:
-        """What the program printed, in pieces with as many answers as there are households, which tell the values of a form."""
-        due, printed = len(self.households), self._printed()
-        if printed and not (printed[: len(LABEL_LINE)] == LABEL_LINE.encode() and printed[-1:] == b"\n"):
-            raise Broken(f"a first line without a label, or a last line without its end: {printed[:200]!r}, {printed[-200:]!r}")
-        places = list(cuts(printed))
-        asked = self.batch.asked
-        if asked is not None:  # each answer has at most one amount of a name
-            columns = [form.column(asked, printed, *place) for place in places]
-            if sum(map(len, columns)) == due:
-                return [Piece(form, printed, *place, len(column), {asked: column}) for place, column in zip(places, columns)]
-        pieces = [Piece(form, printed, begin, end, printed[begin:end].count(NEXT_LABEL) + 1, {}) for begin, end in places]
-        if not form.names or sum(piece.size for piece in pieces) != due:
-            pieces = [Piece(form, text, 0, len(text), 1, {}) for text in by_line(printed[:])]
-        if sum(piece.size for piece in pieces) != due:
-            raise Broken(f"{sum(piece.size for piece in pieces)} answers for {due} households")
-        return pieces
+    def _pieces_of(self, form: Form) -> list[Piece]:
+        """The pieces of what the program printed, which tell the values of a form."""
+        return pieces_of(form, printed_in(self.files[1]), len(self.households), self.batch.hands.column())
 
     def end(self) -> None:
         """Ends the program, and drops its files."""
@@ -305,22 +283,34 @@ class AllLines:
                 except BaseException:
                     child.kill()
                     raise
-            with open(printed, "rb", closefd=False) as file:
-                file.seek(0)
-                text = file.read()
+            text = printed_in(printed)
         finally:
             os.close(printed)
-        raise_for(b"" if status == 0 else text, status)
-        texts = [LABEL_LINE.encode() + one + b"\n" for one in (b"\n" + text[:-1]).split(NEXT_LABEL)[1:]]
-        if len(texts) != self._due:
-            texts = by_line(text)
-        if len(texts) != self._due:
-            raise Broken(f"{len(texts)} answers for {self._due} households")
-        return texts
+        raise_for(b"" if status == 0 else text[:], status)
+        return [lines for piece in pieces_of(self.form, text, self._due) for lines in piece.texts()]
 
 
-def unknown() -> None:
-    """What is read of answers before any is handed out."""
+def printed_in(file: int) -> Printed:
+    """All that was printed to a file, where it stands."""
+    size = os.fstat(file).st_size
+    return mmap.mmap(file, size, access=mmap.ACCESS_READ) if size else b""
+
+
+def pieces_of(form: Form, printed: Printed, due: int, asked: str | None = None) -> list[Piece]:
+    """What the program printed, in pieces with as many answers as are due, which tell the values of a form. `asked` is a name that each may have an amount of."""
+    if printed and not (printed[: len(LABEL_LINE)] == LABEL_LINE.encode() and printed[-1:] == b"\n"):
+        raise Broken(f"a first line without a label, or a last line without its end: {printed[:200]!r}, {printed[-200:]!r}")
+    places = list(cuts(printed))
+    if asked is not None:  # each answer has at most one amount of a name
+        columns = [form.column(asked, printed, *place) for place in places]
+        if sum(map(len, columns)) == due:
+            return [Piece(form, printed, *place, len(column), {asked: column}) for place, column in zip(places, columns)]
+    pieces = [Piece(form, printed, begin, end, printed[begin:end].count(NEXT_LABEL) + 1, {}) for begin, end in places]
+    if not form.names or sum(piece.size for piece in pieces) != due:
+        pieces = [Piece(form, text, 0, len(text), 1, {}) for text in by_line(printed[:])]
+    if sum(piece.size for piece in pieces) != due:
+        raise Broken(f"{sum(piece.size for piece in pieces)} answers for {due} households")
+    return pieces
 
 
 def filled(left: Iterator[Household], size: int) -> tuple[list[Household], Exception | None]:

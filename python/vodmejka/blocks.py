@@ -39,6 +39,11 @@ class Piece(NamedTuple):
     whole: Whole | None = None
     first: int = 0
 
+    def texts(self) -> list[bytes]:
+        """The lines of each answer, with its label."""
+        lines = self.printed[self.begin : self.end]
+        return [lines] if self.size == 1 else [NEXT_LABEL[1:] + one + b"\n" for one in (b"\n" + lines[:-1]).split(NEXT_LABEL)[1:]]
+
 
 class Block:
     """The lines of some hundred answers: a piece of what the program printed.
