@@ -25,7 +25,7 @@ class Files:
     """The rule files of a list, each with its items, and the faults so far."""
 
     def __init__(self, application, names):
-        self.application, self.found, self.files = application, [], []
+        self.application, self.found, self.files, self.lines = application, [], [], {}
         for name in dict.fromkeys(names):
             content = m_source.fetch(name)
             reader, faults = m_items.read(content)
@@ -34,7 +34,9 @@ class Files:
                 self.add(name, content, fault.byte, fault.what, fault)
 
     def add(self, name, content, byte, what, fault=None):
-        self.found.append(Found(name, content.count(b"\n", 0, byte) + 1, byte, what, fault))
+        if name not in self.lines:
+            self.lines[name] = m_source.Lines(content)
+        self.found.append(Found(name, self.lines[name].number(byte), byte, what, fault))
 
 
 class Names:
@@ -145,6 +147,6 @@ def all_faults(list_name, driver, names):
             declared = Names(files, list_name)
             declared.look_at_all()
             variables = declared.variables
-    order = [name for name, _, _ in files.files]
-    found = sorted(files.found, key=lambda fault: (order.index(fault.name), fault.byte))
+    order = {name: number for number, (name, _, _) in enumerate(files.files)}
+    found = sorted(files.found, key=lambda fault: (order[fault.name], fault.byte))
     return found + (driver_faults(driver, variables) if driver not in (None, "-") else [])

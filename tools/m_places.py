@@ -47,13 +47,21 @@ def pointer(line, number, byte):
     return pieces
 
 
-def line_at(name, number):
+def text_at(name, texts=None):
+    """The lines of a file, or nothing where it can't be read. Those that were read before are in `texts`, if that is given."""
+    texts = {} if texts is None else texts
+    if name not in texts:
+        try:
+            texts[name] = m_source.Lines(m_source.fetch(name))
+        except m_source.Refused:
+            texts[name] = None
+    return texts[name]
+
+
+def line_at(name, number, texts=None):
     """The bytes of a line of a file, from 1, or nothing."""
-    try:
-        lines = m_source.fetch(name).split(b"\n")
-    except m_source.Refused:
-        return None
-    return lines[number - 1].removesuffix(b"\r") if number <= len(lines) else None
+    text = text_at(name, texts)
+    return text and text.line(number)
 
 
 def records(content):

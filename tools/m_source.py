@@ -3,6 +3,7 @@
 These tools read files that the program accepts, and look at the heads of items alone: what a formula says is passed over. A byte order mark is passed over
 too; `slips` and `explain` tell it. m_grammar.py reads formulas.
 """
+import bisect
 import dataclasses
 import os
 import re
@@ -98,18 +99,42 @@ def read_list_text(name, content):
     return application, [os.fsdecode(line) for line in lines[1:] if line]
 
 
+class Lines:
+    """A text by its lines, which have numbers from 1."""
+
+    def __init__(self, content):
+        self.content = content
+        self.feeds = [match.start() for match in re.finditer(b"\n", content)]
+
+    def number(self, byte):
+        """The number of the line in which a byte is; a line feed is in the line that it ends."""
+        return bisect.bisect_left(self.feeds, byte) + 1
+
+    def begin(self, number):
+        """The byte at which a line begins."""
+        return self.feeds[number - 2] + 1 if number > 1 else 0
+
+    def line(self, number):
+        """A line without its end, or nothing where there are fewer."""
+        if number > len(self.feeds) + 1:
+            return None
+        end = self.feeds[number - 1] if number <= len(self.feeds) else len(self.content)
+        return self.content[self.begin(number) : end].removesuffix(b"\r")
+
+
 class RuleFile:
     """The items of one rule file."""
 
     def __init__(self, name):
         self.name = name
         self.bytes = fetch(name)
+        self.lines = Lines(self.bytes)
         self.tokens = self.read_tokens()
         self.variables, self.rules = [], []
         self.read_items()
 
     def place(self, byte):
-        return f"{self.name} line {self.bytes.count(10, 0, byte) + 1} byte {byte}"
+        return f"{self.name} line {self.lines.number(byte)} byte {byte}"
 
     def read_tokens(self):
         tokens, byte = [], len(MARK) if self.bytes.startswith(MARK) else 0

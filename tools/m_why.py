@@ -1,4 +1,5 @@
 """Reports for people: which formula sets a cell, with its letters, and which cells it reads; what a declaration says of it."""
+import bisect
 import re
 
 import m_items
@@ -6,21 +7,42 @@ import m_source
 from m_loops import instances, reads_of, replaced
 
 
-class Formula:
-    """The formula of a cell: its text as the file has it, its file, line and rule, the letters of its instance, the cell's number in a whole table."""
+class Written:
+    """A file as it is written: its tokens by their bytes, which of them begin rules, and which end items."""
 
-    def __init__(self, name, content, reader, formula, letters, number):
-        self.formula, self.letters, self.number = formula, letters, number
-        self.name, self.line = name, content.count(b"\n", 0, formula.byte) + 1
-        tokens = reader.tokens
-        first = next(k for k, token in enumerate(tokens) if token.byte == formula.byte)
-        end = next((k for k in range(first, len(tokens)) if tokens[k].text == ";" and tokens[k].kind == "sign"), len(tokens) - 1)
-        self.text = plain(content[formula.byte : tokens[end].byte])
-        rule = max(k for k in range(first) if tokens[k].text == "regle")
-        self.rule = next(token.text for token in tokens[rule:first] if token.kind == "number")
+    def __init__(self, name, content, tokens):
+        self.name, self.content, self.tokens = name, content, tokens
+        self.lines = m_source.Lines(content)
+        self.bytes = [token.byte for token in tokens]
+        self.rules = [k for k, token in enumerate(tokens) if token.text == "regle"]
+        self.ends = [k for k, token in enumerate(tokens) if token.text == ";" and token.kind == "sign"]
+
+    def formula(self, byte):
+        """The text of the formula that begins at a byte."""
+        at = bisect.bisect_left(self.ends, bisect.bisect_left(self.bytes, byte))
+        end = self.ends[at] if at < len(self.ends) else len(self.tokens) - 1
+        return plain(self.content[byte : self.tokens[end].byte])
+
+    def place(self, byte):
+        """The file, the line and the rule of a formula."""
+        first = bisect.bisect_left(self.bytes, byte)
+        rule = self.rules[bisect.bisect_left(self.rules, first) - 1]
+        number = next(self.tokens[k].text for k in range(rule, first) if self.tokens[k].kind == "number")
+        return f"{self.name} line {self.lines.number(byte)}, rule {number}"
+
+
+class Formula:
+    """The formula of a cell: where it is written, the letters of its instance, the cell's number in a whole table."""
+
+    def __init__(self, written, formula, letters, number):
+        self.written, self.formula, self.letters, self.number = written, formula, letters, number
+
+    @property
+    def text(self):
+        return self.written.formula(self.formula.byte)
 
     def place(self):
-        return f"{self.name} line {self.line}, rule {self.rule}"
+        return self.written.place(self.formula.byte)
 
     def reads(self, sizes):
         """The cells that the formula reads, each once, in their order. `sizes` has the number of cells of each table."""
@@ -67,9 +89,10 @@ class Rules:
         for file in base.files:
             self.describe(file)
             reader, _ = m_items.read(file.bytes)
+            written = Written(file.name, file.bytes, reader.tokens)
             for formula in reader.formulas:
                 if base.application in formula.applications and not formula.is_chained:
-                    self.add(file.name, file.bytes, reader, formula)
+                    self.add(written, formula)
 
     def describe(self, file):
         """Takes the last text of each declaration of a file."""
@@ -82,14 +105,14 @@ class Rules:
             if token.text == ";" and token.kind == "sign":
                 name = None
 
-    def add(self, name, content, reader, formula):
+    def add(self, written, formula):
         letters_of_target = [letter for header in formula.loops for letter, _ in header]
         for letters in instances(formula.loops, ["".join(letters_of_target)]):
             word = replaced(formula.target, letters)
             numbers = range(self.sizes.get(word, 0)) if formula.slot == "X" else [None if formula.slot is None else int(formula.slot)]
             for number in numbers:
                 cell = word if number is None else f"{word}[{number}]"
-                self.formulas.setdefault(cell, Formula(name, content, reader, formula, letters, number))
+                self.formulas.setdefault(cell, Formula(written, formula, letters, number))
 
     def description(self, cell):
         return self.descriptions.get(cell.split("[")[0], "")

@@ -1,5 +1,6 @@
 """Tests of batches: their parts, what is told before an end, and what is written and read otherwise than one by one. They need the program."""
 import io
+import itertools
 import os
 import pickle
 import time
@@ -238,6 +239,21 @@ class Batches(Room):
                     self.assertRaises(KeyError, lambda: answer["IRN"])
                 else:
                     self.assertEqual(answer["IRN"], 4000 + k)
+
+    def test_one_name_alone(self):
+        """Its lines and the labels are all that is printed, but where a household is noted or stopped, or has no amount of it."""
+        for name, value in (("IRN", lambda amount: amount - 1000), ("C", lambda amount: amount**3)):
+            self.rules = self.rules_by(requests=self.put("r.txt", f"{name}\n"))
+            for place, other in itertools.product((0, 7, 399), (2500, 9001, -1, None)):
+                amounts = [2000 + k for k in range(400)]
+                amounts[place] = other
+                for amount, answer in zip(amounts, self.rules.batch([{"1AJ": amount} for amount in amounts])):
+                    if amount == -1:
+                        self.assertRaises(KeyError, lambda: answer[name])
+                    elif amount is None:
+                        self.assertEqual(answer[name], 0 if name == "IRN" else None)
+                    else:
+                        self.assertEqual(answer[name], value(amount))
 
     def test_nothing_requested(self):
         self.rules = self.rules_by(requests=self.put("r.txt", ""))

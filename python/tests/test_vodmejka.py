@@ -193,20 +193,5 @@ class Package(unittest.TestCase):
         self.assertEqual(Rules(self.list, cache=self.room.name + "/cache").run({"1AJ": 2500})["IRN"], 500)
 
 
-class Frames(Package):
-    """The same with pandas, where it is there."""
-
-    def test_frames(self):
-        try:
-            import pandas
-        except ImportError:
-            self.skipTest("no pandas")
-        frame = pandas.DataFrame({"1AJ": [2500.0, None, -1], "1BB": [1, 0, 1]}, index=["a", "b", "c"])
-        found = self.rules.batch(frame)
-        self.assertEqual(list(found.index), ["a", "b", "c"])
-        self.assertEqual(list(found["IRN"]), [1501, 0, None])
-        self.assertEqual(list(found["stop"]), [None, None, "failed 20 A20 anomalie"])
-
-
 if __name__ == "__main__":
     unittest.main()

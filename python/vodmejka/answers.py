@@ -164,14 +164,25 @@ class Form:
 
     def column(self, name: str, printed: Printed, begin: int, end: int) -> list[Decimal]:
         """The amounts of all lines of a name in a piece of what was printed; nothing where one of them is no amount, or where answers have two such lines."""
-        if name not in self._finders:
-            if self.names.count(name) != 1:
-                return []
-            self._finders[name] = re.compile(re.escape(self.begins[name].encode(ENCODING)) + rb"([-0-9.]+)\n").findall
+        if self.names.count(name) != 1:
+            return []
         try:
-            return self._decimals(self._finders[name](printed, begin, end))
+            return self._decimals((self.names == [name] and self._alone(name, printed[begin:end])) or self._found(name, printed, begin, end))
         except InvalidOperation:
             return []
+
+    def _alone(self, name: str, lines: bytes) -> list[bytes]:
+        """The same as texts, where each answer is its label and this line; nothing where one isn't."""
+        front = (LABEL_LINE[:-1] + self.begins[name]).encode(ENCODING)
+        texts = lines[len(front) : -1].split(b"\n" + front)
+        others = (front + b"\n").translate(None, AMOUNTS) * len(texts)
+        return texts if lines.startswith(front) and lines.endswith(b"\n") and lines.translate(None, AMOUNTS) == others else []
+
+    def _found(self, name: str, printed: Printed, begin: int, end: int) -> list[bytes]:
+        """The same as texts, where there may be other lines."""
+        if name not in self._finders:
+            self._finders[name] = re.compile(re.escape(self.begins[name].encode(ENCODING)) + rb"([-0-9.]+)\n").findall
+        return self._finders[name](printed, begin, end)
 
     def _decimals(self, texts: list[bytes]) -> list[Decimal]:
         """Texts as decimals. Most amounts are met again and again, and are kept; where most are new, none is kept from then on."""
@@ -202,6 +213,7 @@ NEXT_LABEL = b"\n" + LABEL_LINE.encode()
 MOST_KNOWN = 20_000
 MOST_TOGETHER = 100
 NO_FORM = Form([])
+AMOUNTS = b"0123456789.-"
 NO_COLUMNS: dict[str, list[Decimal] | None] = {}
 STOPS = ("failed ", "over ")
 LABELLED = re.compile(r"(failed|noted) ([0-9]+) ([^ ]+) (anomalie|discordance|informative)")

@@ -11,7 +11,6 @@ import os
 import re
 import subprocess
 import weakref
-from decimal import Decimal
 from typing import BinaryIO, Callable, Generator, Iterable, Iterator
 
 from .answers import LABEL_LINE, NEXT_LABEL, Answer, Form, Printed

@@ -25,6 +25,22 @@ def program_path(program: str | None = None) -> str:
     raise Broken("there is no program m_tax: name it by M_TAX, or run ./build in the repository")
 
 
+def program_digest(program: str) -> str:
+    """A digest of the program: of the repository's script that of what ./build made, or without it that of the sources of which the script makes a trial."""
+    folder = os.path.dirname(os.path.realpath(program))
+    built, sources = os.path.join(folder, "out", "m_tax"), os.path.join(folder, "crates")
+    names = [program]
+    if os.path.exists(built):
+        names = [built]
+    elif os.path.isdir(sources):
+        names += sorted(os.path.join(at, name) for at, _, found in os.walk(sources) for name in found if name.endswith(".rt"))
+    pieces = []
+    for name in names:
+        with open(name, "rb") as file:
+            pieces.append(file.read())
+    return digest_of(*pieces)
+
+
 def digest_of(*pieces: bytes) -> str:
     """A digest of pieces, each with its length."""
     made = hashlib.sha256()

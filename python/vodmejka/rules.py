@@ -1,6 +1,7 @@
 """A rule base that is ready to compute."""
 from __future__ import annotations
 
+import itertools
 import os
 import re
 import shutil
@@ -10,21 +11,32 @@ from typing import Any, Iterable, Iterator
 from .answers import Answer, Form, answer_of
 from .batches import Batch
 from .errors import Broken, NotFound, Refused
-from .program import ENCODING, Amount, digest_of, household_bytes, program_path, run, spelled
+from .program import ENCODING, Amount, digest_of, household_bytes, program_digest, program_path, run, spelled
 from .session import Session
 from .tables import Household
 
 ROWS, MOST_ROWS = 50_000, 100_000
 VALUES = 4_000_000
+FILE_BYTES, RULE_BYTES, CODE_FILE_BYTES, LIST_FILES = 16_777_216, 67_108_864, 1_073_741_824, 1_024
 
 
-def fetched(name: str) -> bytes:
-    """The bytes of a file."""
+def fetched(name: str, longest: int = FILE_BYTES) -> bytes:
+    """The bytes of a file, of one that is too long so many that the program says so."""
     try:
         with open(name, "rb") as file:
-            return file.read()
+            return file.read(longest + 1)
     except OSError as fault:
         raise NotFound(f"unreadable {name}") from fault
+
+
+def fetched_rules(names: list[str]) -> list[tuple[str, bytes]]:
+    """The rule files of a list, each with its bytes; of what the program doesn't read, since there are too many names or bytes before, none."""
+    rules, left = [], RULE_BYTES if len(names) <= LIST_FILES else -1
+    for name in names:
+        content = fetched(name, min(FILE_BYTES, left)) if left >= 0 else b""
+        rules.append((name, content))
+        left -= len(content) if len(content) <= FILE_BYTES else left + 1
+    return rules
 
 
 def named(content: bytes) -> list[str]:
@@ -43,16 +55,16 @@ class Rules:
 
     def __init__(self, list: str, driver: str | None = None, requests: str | None = None, *, program: str | None = None, cache: str | None = None):
         self.program = program_path(program)
-        self._room = tempfile.TemporaryDirectory(prefix="vodmejka-")
+        self._room, self._numbers = tempfile.TemporaryDirectory(prefix="vodmejka-"), itertools.count()
         content = fetched(list)
-        rules = [(name, fetched(name)) for name in named(content)]
+        rules = fetched_rules(named(content))
         given = [None if name is None else fetched(name) for name in (driver, requests)]
         self._names = {f"r{k}.m": name for k, (name, _) in enumerate(rules)}
         self._put("list", b"\n".join([content.replace(b"\r\n", b"\n").split(b"\n")[0], *(name.encode() for name in self._names), b""]))
         for copy, (_, text) in zip(self._names, rules):
             self._put(copy, text)
         self._words = ["list", *("-" if text is None else self._put(name, text) for name, text in zip(("driver", "requests"), given))]
-        pieces = [fetched(self.program), content, *(text for _, text in rules), *(b"none" if text is None else b"some" + text for text in given)]
+        pieces = [program_digest(self.program).encode(), content, *(text for _, text in rules), *(b"none" if text is None else b"some" + text for text in given)]
         self._code = self._compiled(digest_of(*pieces), cache)
         self._lines = self._interface()
 
@@ -61,9 +73,9 @@ class Rules:
         """Rules by a code file, without their sources: they run households, and have no sessions."""
         made = cls.__new__(cls)
         made.program = program_path(program)
-        made._room = tempfile.TemporaryDirectory(prefix="vodmejka-")
+        made._room, made._numbers = tempfile.TemporaryDirectory(prefix="vodmejka-"), itertools.count()
         made._names, made._words = {}, []
-        made._code = made._path(made._put("code", fetched(file)))
+        made._code = made._path(made._put("code", fetched(file, CODE_FILE_BYTES)))
         made._lines = made._interface()
         return made
 
@@ -71,8 +83,11 @@ class Rules:
 
     def run(self, household: Household) -> Answer:
         """What the household is told. `household` has amounts by codes: Decimal, int or text, and None for nothing."""
-        path = self._put("household.csv", household_bytes(household))
-        text, _ = self._run("exec", self._code, path)
+        name = self._put_household(household)
+        try:
+            text, _ = self._run("exec", self._code, name)
+        finally:
+            os.unlink(self._path(name))
         return answer_of(iter(lines_of(text).split("\n")[:-1]))
 
     def batch(self, rows: Any, rows_at_once: int = ROWS) -> Any:
@@ -89,8 +104,7 @@ class Rules:
         """A session that begins with a household; it is ended by `close`, or at the end of a `with`."""
         if not self._words:
             raise Broken("a session needs rules: a code file has no sources")
-        path = self._put("session.csv", household_bytes(household or {}))
-        return Session([self.program, "serve", *self._words, path], self._room.name)
+        return Session([self.program, "serve", *self._words, self._put_household(household or {})], self._room)
 
     def inputs(self) -> dict[str, str]:
         """The codes of the inputs in order, each with its type: `truth`, `whole`, or nothing."""
@@ -98,6 +112,10 @@ class Rules:
         return {line[1]: line[2] if len(line) > 2 else "" for line in words}
 
     # ---- inside
+
+    def _outputs(self) -> list[str]:
+        """The names of what is asked for, in order."""
+        return [line.split(" ")[1] for line in self._lines if line.startswith("output ")]
 
     def _interface(self) -> list[str]:
         """The lines of the code file before its instructions. Answers are read line by line, so a label whose text has more than one is rejected."""
@@ -120,6 +138,10 @@ class Rules:
             out.write(content)
         return name
 
+    def _put_household(self, household: Household) -> str:
+        """The name of a file that no other call has."""
+        return self._put(f"household-{next(self._numbers)}.csv", household_bytes(household))
+
     def _run(self, *words: str) -> tuple[bytes, int]:
         try:
             return run(self.program, *words, folder=self._room.name)
@@ -130,6 +152,7 @@ class Rules:
 
     def _told(self, line: str) -> str:
         """A line of the program, with the names of the files as they are."""
+        line = re.sub(r"\bhousehold-[0-9]+\.csv\b", "household.csv", line)
         return re.sub(r"\br[0-9]+\.m\b", lambda match: self._names.get(match[0], match[0]), line)
 
     def _compiled(self, digest: str, cache: str | None) -> str:
@@ -140,9 +163,7 @@ class Rules:
             text, _ = self._run("compile", *self._words)
             try:
                 os.makedirs(folder, exist_ok=True)
-                with tempfile.NamedTemporaryFile(dir=folder, delete=False) as out:
-                    out.write(text)
-                os.replace(out.name, kept)
+                put_whole(kept, text)
             except OSError:
                 return self._path(self._put("code", text))
         shutil.copyfile(kept, self._path("code"))
@@ -151,7 +172,7 @@ class Rules:
     def _answers(self, rows: Iterable[Household], at_once: int) -> Iterator[Answer]:
         if not self._words:
             return (self.run(row) for row in rows)
-        form = Form([line.split(" ")[1] for line in self._lines if line.startswith("output ")])
+        form = Form(self._outputs())
         notes = sum(line.startswith("note ") for line in self._lines)
         size = max(1, min(at_once, MOST_ROWS, VALUES // (len(form.names) + notes + 1)))
         return Batch([self.program, "batch", *self._words], self._room.name, form, size, self.inputs(), self._told).answers(rows)
@@ -161,13 +182,28 @@ class Rules:
         import pandas
 
         codes = [str(column) for column in frame.columns]
+        if len(set(codes)) < len(codes):
+            raise Refused("refused household line 1: code twice")
         households = ({code: None if pandas.isna(value) else exact(code, value) for code, value in zip(codes, row)} for row in frame.itertuples(index=False, name=None))
         answers = list(self._answers(households, at_once))
-        names = list(dict.fromkeys(name for answer in answers for name in answer.values))
+        names = list(dict.fromkeys(self._outputs()))
         made = {name: [answer.values.get(name) for answer in answers] for name in names}
         made["stop"] = [answer.stop.line if answer.stop else None for answer in answers]
         made["notes"] = [answer.notes for answer in answers]
         return pandas.DataFrame(made, index=frame.index, columns=[*names, "stop", "notes"], dtype=object)
+
+
+def put_whole(path: str, content: bytes) -> None:
+    """Writes a file whole, or not at all."""
+    with tempfile.NamedTemporaryFile(dir=os.path.dirname(path), delete=False) as out:
+        try:
+            out.write(content)
+            out.flush()
+            os.fsync(out.fileno())
+            os.replace(out.name, path)
+        except BaseException:
+            os.unlink(out.name)
+            raise
 
 
 def lines_of(output: bytes) -> str:

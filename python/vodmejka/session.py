@@ -1,7 +1,10 @@
 """A session: one household that is edited, and what it is told."""
 from __future__ import annotations
 
+import contextlib
+import os
 import subprocess
+import tempfile
 from types import TracebackType
 
 from .answers import Answer, answer_of
@@ -10,10 +13,14 @@ from .program import ENCODING, Amount, raise_for, spelled
 
 
 class Session:
-    """A household of rules, held by the program, which computes only what edits touch."""
+    """A household of rules, held by the program, which computes only what edits touch.
 
-    def __init__(self, words: list[str], folder: str):
-        self._child = subprocess.Popen(words, cwd=folder, stdin=subprocess.PIPE, stdout=subprocess.PIPE, stderr=subprocess.DEVNULL)
+    The words of the program end with the name of the household's file, which goes with the session. All files stand in a folder of the rules.
+    """
+
+    def __init__(self, words: list[str], room: tempfile.TemporaryDirectory[str]):
+        self._room, self._given = room, os.path.join(room.name, words[-1])
+        self._child = subprocess.Popen(words, cwd=room.name, stdin=subprocess.PIPE, stdout=subprocess.PIPE, stderr=subprocess.DEVNULL)
 
     def __enter__(self) -> Session:
         return self
@@ -38,15 +45,15 @@ class Session:
         return answer_of(iter(self._lines()))
 
     def close(self) -> None:
-        """Ends the session. A session that is closed can be closed again."""
+        """Ends the session. A session that is closed, or whose program has ended, can be closed again."""
         child = self._child
-        if child.poll() is None:
-            if child.stdin is not None:
-                child.stdin.close()
-            child.wait()
-        for pipe in (child.stdin, child.stdout):
-            if pipe is not None:
-                pipe.close()
+        assert child.stdin is not None and child.stdout is not None
+        with contextlib.suppress(BrokenPipeError):  # a line that the program didn't take: it has ended
+            child.stdin.close()
+        child.stdout.close()  # before it is waited for: a reply of which nobody reads the rest ends the program
+        child.wait()
+        with contextlib.suppress(FileNotFoundError):
+            os.unlink(self._given)
 
     # ---- lines
 

@@ -9,7 +9,7 @@ import re
 from decimal import Decimal
 from typing import BinaryIO, Iterable, Mapping, Sequence
 
-from .answers import LABEL
+from .answers import AMOUNTS, LABEL
 from .program import ENCODING, Amount, spelled
 
 Household = Mapping[str, Amount]
@@ -19,7 +19,6 @@ FIRST = 64
 PLAIN = {int, str, Decimal, type(None)}
 WORDS = re.compile("[EeIN]")
 CODE = re.compile("[0-9A-Za-z_]+")
-AMOUNTS = b"0123456789.-"
 
 
 class UnknownList(Exception):

@@ -1,0 +1,68 @@
+"""Tests of the files that rules are made of, and of the code files that are kept."""
+import os
+import unittest
+
+from room import Room
+from test_vodmejka import RULES
+from vodmejka import Refused, Rules
+from vodmejka.program import program_path
+
+FILE_BYTES, RULE_BYTES, LIST_FILES = 16_777_216, 67_108_864, 1_024
+
+
+class Files(Room):
+    def told(self, names):
+        """What is told of a list of these rule files."""
+        with self.assertRaises(Refused) as caught:
+            Rules(self.put("l.txt", "\n".join(["iliad", *names, ""])), cache=self.room.name + "/cache")
+        return caught.exception.line
+
+    def blank(self, name, size):
+        """A rule file of so many blanks."""
+        return self.put(name, " " * size)
+
+    def test_a_file_without_an_end(self):
+        self.assertEqual(self.told(["/dev/zero"]), "refused file too long /dev/zero")
+
+    def test_a_file_that_is_too_long(self):
+        name = self.blank("long.m", FILE_BYTES + 1)
+        self.assertEqual(self.told([f"{self.room.name}/a.m", name, "/dev/zero"]), f"refused file too long {name}")
+
+    def test_files_that_are_too_long_together(self):
+        name = self.blank("blank.m", FILE_BYTES)
+        more = self.blank("more.m", 1)
+        self.assertEqual(self.told([name] * (RULE_BYTES // FILE_BYTES) + [more, "/dev/zero"]), f"refused file too long {more}")
+
+    def test_too_many_files(self):
+        self.assertEqual(self.told(["/dev/zero"] * (LIST_FILES + 1)), "refused too many files")
+
+
+class Cache(Room):
+    def kept(self, program):
+        """How many code files are kept after rules were made by this program once more."""
+        self.assertEqual(Rules(self.list, cache=self.room.name + "/kept", program=program).run({"1AJ": 2500})["IRN"], 1500)
+        return len(os.listdir(self.room.name + "/kept"))
+
+    def put_program(self, name, text=""):
+        os.makedirs(os.path.dirname(os.path.join(self.room.name, name)), exist_ok=True)
+        path = self.put(name, f'#!/bin/sh\n{text}\nexec {program_path()} "$@"\n')
+        os.chmod(path, 0o755)
+        return path
+
+    def test_a_script_beside_the_program(self):
+        """The script of the repository runs what ./build made, or else a trial of the sources."""
+        script = self.put_program("repo/m_tax")
+        self.assertEqual([self.kept(script), self.kept(script)], [1, 1])
+        for k, name in enumerate(("crates/one/src/lib.rt", "out/m_tax")):
+            for j, text in enumerate(("# first", "# second")):
+                self.put_program(f"repo/{name}", text)
+                self.assertEqual([self.kept(script), self.kept(script)], [2 + 2 * k + j] * 2)
+
+    def test_rules_that_change(self):
+        self.assertEqual(self.kept(None), 1)
+        self.put("a.m", RULES + "\n")
+        self.assertEqual(self.kept(None), 2)
+
+
+if __name__ == "__main__":
+    unittest.main()
