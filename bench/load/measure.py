@@ -7,8 +7,8 @@ Each shape of shapes.py is written into FOLDER, with what must be printed for it
 runs, and what it prints is compared byte by byte. A row is told on standard output: user and system time at a tenth and at the full size, how
 many times as much that is, the peak of memory, the answer (its first bytes) and the status. Only shapes with one of the WORDs in their
 names run, if any are given. With --stack each shape runs once, with a stack of so many KB; with --memory a run has so many MB of addresses in the place of
-8 GB. A shape fails where it prints anything else, ends by a signal, takes more than a minute of processor or five by the clock, or takes more than 12 times
-as long for 10 times the size. The status is 1 where one failed.
+8 GB. A shape fails where it prints anything else, ends by a signal, takes more than a minute of processor or five by the clock, or takes more than 1.2 times
+as long as its size tells: more than 12 times for 10 times the size. The status is 1 where one failed.
 """
 import filecmp
 import json
@@ -24,7 +24,7 @@ sys.path.insert(0, os.path.dirname(os.path.dirname(os.path.abspath(__file__))))
 from measured import figure  # noqa: E402
 
 MINUTE = 60
-GROWTH = 12
+GROWTH = 1.2
 MEMORY = 8 << 30  # bytes that a run may take: past it the program says by its status that there was no memory
 
 
@@ -119,12 +119,12 @@ def told(program, shape, room, stack, memory):
     faults = [*(f"at a tenth: {f}" for f in (small["faults"] if small else [])), *big["faults"]]
     times = big["seconds"] / small["seconds"] if small else 0
     # Under some hundredths of a second the growth says more of the machine than of the program.
-    if small and times > GROWTH and big["seconds"] > 0.05:
+    if small and times > GROWTH * shape.grows and big["seconds"] > 0.05:
         small = min(small, measure(program, shape, shape.full // 10, room, stack, memory), key=lambda one: one["seconds"])
         big = min(big, measure(program, shape, shape.full, room, stack, memory), key=lambda one: one["seconds"])
         times = big["seconds"] / small["seconds"]
-        if times > GROWTH:
-            faults.append(f"{times:.1f} times for 10 times the size")
+        if times > GROWTH * shape.grows:
+            faults.append(f"{times:.1f} times for {shape.grows} times the size")
     tenth = f"{small['seconds']:.3f}" if small else ""
     growth = f"{times:.1f}" if small else ""
     answer = big["answer"].replace("|", "\\|")

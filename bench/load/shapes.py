@@ -17,7 +17,8 @@ class Shape:
         self.name, self.make, self.full, self.grows, self.stacks = name, make, full, grows, stacks
 
 
-def shape(name, full, grows=True, stacks=(8192,)):
+def shape(name, full, grows=10, stacks=(8192,)):
+    """A shape of a size; how many times as great it is as at a tenth of that, or nothing where it isn't compared."""
     def add(make):
         SHAPES.append(Shape(name, make, full, grows, stacks))
         return make
@@ -412,7 +413,7 @@ def _(n):
     return case([ONE, RULE, "A = somme(i=1..10000: ", *many("B", n), "i) ;"], [f"refused a.m line 3 byte {len(ONE) + len(RULE) + 22}: unknown name ", *many("B", n), "1\n"], 1)
 
 
-@shape("a word of 10,000 letters, each 10,000 bytes", 10_000)
+@shape("a word of 10,000 letters, each 10,000 bytes", 10_000, grows=100)
 def _(n):
     return case(
         [ONE, RULE, "A = somme(i=", *many("B", n), ": ", *many("i", n), ") ;"],
