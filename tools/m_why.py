@@ -8,11 +8,10 @@ from m_loops import instances, reads_of, replaced
 
 
 class Written:
-    """A file as it is written: its tokens by their bytes, which of them begin rules, and which end items."""
+    """A rule file as it is written: its tokens by their bytes, which of them begin rules, and which end items."""
 
-    def __init__(self, name, content, tokens):
-        self.name, self.content, self.tokens = name, content, tokens
-        self.lines = m_source.Lines(content)
+    def __init__(self, file, tokens):
+        self.file, self.tokens = file, tokens
         self.bytes = [token.byte for token in tokens]
         self.rules = [k for k, token in enumerate(tokens) if token.text == "regle"]
         self.ends = [k for k, token in enumerate(tokens) if token.text == ";" and token.kind == "sign"]
@@ -21,14 +20,14 @@ class Written:
         """The text of the formula that begins at a byte."""
         at = bisect.bisect_left(self.ends, bisect.bisect_left(self.bytes, byte))
         end = self.ends[at] if at < len(self.ends) else len(self.tokens) - 1
-        return plain(self.content[byte : self.tokens[end].byte])
+        return plain(self.file.bytes[byte : self.tokens[end].byte])
 
     def place(self, byte):
         """The file, the line and the rule of a formula."""
         first = bisect.bisect_left(self.bytes, byte)
         rule = self.rules[bisect.bisect_left(self.rules, first) - 1]
         number = next(self.tokens[k].text for k in range(rule, first) if self.tokens[k].kind == "number")
-        return f"{self.name} line {self.lines.number(byte)}, rule {number}"
+        return f"{self.file.name} line {self.file.lines.number(byte)}, rule {number}"
 
 
 class Formula:
@@ -89,7 +88,7 @@ class Rules:
         for file in base.files:
             self.describe(file)
             reader, _ = m_items.read(file.bytes)
-            written = Written(file.name, file.bytes, reader.tokens)
+            written = Written(file, reader.tokens)
             for formula in reader.formulas:
                 if base.application in formula.applications and not formula.is_chained:
                     self.add(written, formula)

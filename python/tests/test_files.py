@@ -57,6 +57,8 @@ class Cache(Room):
             for j, text in enumerate(("# first", "# second")):
                 self.put_program(f"repo/{name}", text)
                 self.assertEqual([self.kept(script), self.kept(script)], [2 + 2 * k + j] * 2)
+        self.put_program("repo/m_tax", "# another one")
+        self.assertEqual(self.kept(script), 6)
 
     def test_rules_that_change(self):
         self.assertEqual(self.kept(None), 1)

@@ -26,18 +26,16 @@ def program_path(program: str | None = None) -> str:
 
 
 def program_digest(program: str) -> str:
-    """A digest of the program: of the repository's script that of what ./build made, or without it that of the sources of which the script makes a trial."""
+    """A digest of the program: of the repository's script also what ./build made, or without it the sources of which the script makes a trial."""
     folder = os.path.dirname(os.path.realpath(program))
-    built, sources = os.path.join(folder, "out", "m_tax"), os.path.join(folder, "crates")
-    names = [program]
-    if os.path.exists(built):
-        names = [built]
-    elif os.path.isdir(sources):
-        names += sorted(os.path.join(at, name) for at, _, found in os.walk(sources) for name in found if name.endswith(".rt"))
+    below = ["out/m_tax"] if os.path.exists(os.path.join(folder, "out", "m_tax")) else []
+    if not below:
+        sources = os.walk(os.path.join(folder, "crates"))
+        below = sorted(os.path.relpath(os.path.join(at, name), folder) for at, _, names in sources for name in names if name.endswith(".rt"))
     pieces = []
-    for name in names:
-        with open(name, "rb") as file:
-            pieces.append(file.read())
+    for name, path in [("", program), *((name, os.path.join(folder, name)) for name in below)]:
+        with open(path, "rb") as file:
+            pieces += [os.fsencode(name), file.read()]
     return digest_of(*pieces)
 
 
