@@ -1,6 +1,6 @@
 #!/bin/sh
-# The budget of the gate. Edits that must be refused are most of its time: at most 10 in a crate, at most 5 in one that stands
-# on eight or more others, 60 in all. Prints a line for each crate that is over, and a count; the status is 0 where none is.
+# The budget of the gate. An edit that must be refused is a check of its crate: at most 4 in a crate, 40 in all. Prints a line for each
+# crate that is over, and a count; the status is 0 where none is.
 #
 # tests/budget.sh FIGURES also looks at the figures that bench/gate/measure.py wrote: the check of a library takes at most
 # 20 s of CPU, for those that it stands on, and 100 s for 1,000 lines of its code, definitions and proofs, and its tests no
@@ -17,7 +17,7 @@ done | awk -v figures="$figures" '
     # whether the crates that this one stands on, and theirs, are marked in below
     function stands_on(crate,    k, n, names) {
         n = split(uses[crate], names, " ")
-        for (k = 1; k <= n; k++) if (names[k] in uses && !(names[k] in below)) { below[names[k]]; count++; stands_on(names[k]) }
+        for (k = 1; k <= n; k++) if (names[k] in uses && !(names[k] in below)) { below[names[k]]; stands_on(names[k]) }
     }
     function over(what) { print "budget: " what; failed++ }
     BEGIN {
@@ -26,9 +26,8 @@ done | awk -v figures="$figures" '
         while ((getline line < figures) > 0) { split(line, f, " "); check[f[1]] = f[2]; tests[f[1]] = f[3] }
     }
     {
-        split("", below); count = 0; stands_on($1)
-        most = count >= 8 ? 5 : 10
-        if ($2 > most) over($1 " has " $2 " must-fail edits, and may have " most)
+        split("", below); stands_on($1)
+        if ($2 > 4) over($1 " has " $2 " must-fail edits, and may have 4")
         all += $2
         may = 20 + $3 * 0.1
         if ($4 == "library" && $1 in check && check[$1] > may) over($1 " takes " check[$1] " s of CPU for its check, and may take " may)
@@ -38,7 +37,7 @@ done | awk -v figures="$figures" '
         crates++
     }
     END {
-        if (all > 60) over("there are " all " must-fail edits, and may be 60")
+        if (all > 40) over("there are " all " must-fail edits, and may be 40")
         print "budget: " crates " crates, " all " must-fail edits, " failed + 0 " over"
         exit failed > 0
     }'

@@ -66,13 +66,13 @@ def program_path():
 
 
 def digest_of_program(program):
-    """The digest of the program: of a script beside out/m_tax that one, and without it the sources that a trial compiles."""
+    """The digest of the program: of the repository's script also what ./build made, or without it the sources of which the script makes a trial."""
     folder = os.path.dirname(os.path.realpath(program))
-    built = os.path.join(folder, "out", "m_tax")
-    if os.path.exists(built) or not os.path.isdir(os.path.join(folder, "crates")):
-        return file_digest(built if os.path.exists(built) else program)
-    files = sorted(os.path.join(at, name) for at, _, names in os.walk(os.path.join(folder, "crates")) for name in names if name.endswith(".rt"))
-    return digest(*(file_digest(name).encode() for name in [program, *files]))
+    below = [name for name in [os.path.join(folder, "out", "m_tax")] if os.path.exists(name)]
+    if not below:
+        sources = os.walk(os.path.join(folder, "crates"))
+        below = sorted(os.path.join(at, name) for at, _, names in sources for name in names if name.endswith(".rt"))
+    return digest(*(file_digest(name).encode() for name in [program, *below]))
 
 
 # ---- children

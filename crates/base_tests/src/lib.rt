@@ -1,14 +1,23 @@
-//! Tests of the crates that the language stands on, through their public calls: amounts, facts, names,
-//! places, lines, lists, the files and streams of the outside, and buffers. They stand apart from those crates, so that
-//! a crate isn't proved a second time with its tests.
+//! Tests of the crates that the language stands on and of those at the edges of the program, through their public calls: amounts,
+//! facts, names, places, lines, lists, the files and streams of the outside, and buffers; what the files of households and tables
+//! say, and what is printed. They stand apart from those crates, so that a crate isn't proved a second time with its tests; and
+//! crates that are tested over the same libraries are tested by one, since each crate of tests reads its libraries anew.
 #![tactic(auto)]
 
 #[cfg(test)]
 mod amounts;
 #[cfg(test)]
+mod answers;
+#[cfg(test)]
 mod buffers;
 #[cfg(test)]
 mod facts;
+#[cfg(test)]
+mod faults;
+#[cfg(test)]
+mod households;
+#[cfg(test)]
+mod large;
 #[cfg(test)]
 mod lists;
 #[cfg(test)]
@@ -16,7 +25,12 @@ mod names;
 #[cfg(test)]
 mod operators;
 #[cfg(test)]
+mod pairs;
+#[cfg(test)]
+mod parts;
+#[cfg(test)]
 mod ports;
+mod records;
 #[cfg(test)]
 mod rows;
 #[cfg(test)]
@@ -24,8 +38,12 @@ mod shared;
 #[cfg(test)]
 mod system;
 #[cfg(test)]
+mod tables;
+#[cfg(test)]
 mod texts;
 #[cfg(test)]
 mod threads;
+#[cfg(test)]
+mod types;
 #[cfg(test)]
 mod widths;

@@ -1,7 +1,9 @@
 //! Types that may be sent to other threads and shared with them. That this compiles is the test.
+use household::{Household, HouseholdFault, Row};
 use m_fixed::{Amount, AmountFault, Op, Value};
 use m_list::{ListFault, Listing};
 use m_places::{ErrorKind, Label, Name, Place, Seq, SharedName};
+use observables::{Answer, Face, FaceLabel, Stop};
 
 fn crosses_threads<T: Send + Sync>() {}
 
@@ -19,4 +21,11 @@ fn types_cross_threads() {
     crosses_threads::<Label>();
     crosses_threads::<Listing>();
     crosses_threads::<ListFault>();
+    crosses_threads::<Household>();
+    crosses_threads::<HouseholdFault>();
+    crosses_threads::<Row>();
+    crosses_threads::<Stop>();
+    crosses_threads::<Answer>();
+    crosses_threads::<FaceLabel>();
+    crosses_threads::<Face>();
 }

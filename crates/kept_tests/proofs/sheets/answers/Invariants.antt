@@ -1,4 +1,0 @@
-use Rattle.kept_tests.proofs.sheets.answers.Given as goal
-
-abbrev pub ghosts-tells : goal.ghosts-tells
-ghosts-tells g a = record { name = a.blank.name; parts = a.blank.parts }
