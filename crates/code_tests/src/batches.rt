@@ -4,7 +4,8 @@ ghost use Rattle.std.specs.Prelude.{◌≡◌, ◌<◌, IfOk, length};
 ghost use Rattle.std.specs.List.{AllByRecursion};
 ghost use Rattle.household.specs.Household.{inputs_of};
 
-use crate::sessions::{codes, number, one_input};
+use crate::numbers::number;
+use crate::sessions::{codes, one_input};
 use household::{Codes, Household, Pair, read_table};
 use m_batch::{run_batch, run_household};
 use m_fixed::{Amount, Op, Value};

@@ -4,7 +4,7 @@ ghost use Rattle.std.specs.List.{AllByRecursion};
 ghost use Rattle.household.specs.Household.{inputs_of};
 ghost use Rattle.m_batch.specs.Batch.{HasInputsBelow};
 
-use crate::two_threads::number;
+use crate::numbers::number;
 use household::{Household, Pair, Row};
 use m_batch::{run_batch, run_household};
 use m_fixed::{Amount, Op};

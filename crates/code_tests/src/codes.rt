@@ -3,7 +3,8 @@ ghost use Rattle.std.specs.Prelude.{◌≡◌, ◌<◌, All, IfOk, IsTrue, lengt
 ghost use Rattle.std.specs.List.{AllByRecursion};
 ghost use Rattle.flat_code.specs.Runs.{AreNodes, IsCheck, IsFlat};
 
-use crate::programs::{one_output, unchecked, units};
+use crate::numbers::units;
+use crate::programs::{one_output, unchecked};
 use dead_rules::tidy;
 use flat_code::{Check, Flat, Node, Tidy};
 use m_fixed::Op;

@@ -16,6 +16,8 @@ mod faults;
 #[cfg(test)]
 mod machines;
 #[cfg(test)]
+mod numbers;
+#[cfg(test)]
 mod programs;
 #[cfg(test)]
 mod reads;

@@ -1,17 +1,11 @@
 //! Code that is made, refused and run.
 ghost use Rattle.std.specs.Prelude.{◌≡◌, ◌<◌};
 
-use m_fixed::{Amount, Op, Value};
+use crate::numbers::number;
+use m_fixed::{Op, Value};
 use observables::Stop;
 use reg_machine::{Code, CodeWrong, Instr, Machine, make_code};
 use std::alloc::Global;
-
-fn millionths(millionths: i128) -> Value {
-    match Amount::new(millionths) {
-        Some(amount) => Value::Num(amount),
-        None => Value::Over,
-    }
-}
 
 /// What a run of code with one input and one output answers.
 #[derive(Clone, Copy, PartialEq, Eq)]
@@ -58,18 +52,18 @@ fn answers(alloc: Global, instrs: &[Instr], outputs: u32, input: Value, wanted: 
 fn code_is_made_and_run(rt: HostRuntime) {
     let instrs = [
         Instr::Take(0, 0),
-        Instr::Lit(1, millionths(1_000_000_000)),
+        Instr::Lit(1, number(1_000_000_000)),
         Instr::Do(Op::Sub, 0, 0, 1, 0),
         Instr::Output(0, 0),
     ];
-    let wanted = Told::Value(millionths(1_500_500_000));
-    assert!(rt; answers(rt.alloc(), &instrs, 1, millionths(2_500_500_000), wanted));
+    let wanted = Told::Value(number(1_500_500_000));
+    assert!(rt; answers(rt.alloc(), &instrs, 1, number(2_500_500_000), wanted));
 }
 
 #[test]
 fn nothing_is_read_before_it_is_written(rt: HostRuntime) {
     let instrs = [
-        Instr::Lit(1, millionths(1_000_000_000)),
+        Instr::Lit(1, number(1_000_000_000)),
         Instr::Do(Op::Sub, 0, 0, 1, 0),
         Instr::Output(0, 0),
     ];
@@ -81,7 +75,7 @@ fn nothing_is_read_before_it_is_written(rt: HostRuntime) {
 fn registers_are_sixteen(rt: HostRuntime) {
     let instrs = [
         Instr::Take(16, 0),
-        Instr::Lit(1, millionths(1_000_000_000)),
+        Instr::Lit(1, number(1_000_000_000)),
         Instr::Do(Op::Sub, 0, 0, 1, 0),
         Instr::Output(0, 0),
     ];
@@ -93,7 +87,7 @@ fn registers_are_sixteen(rt: HostRuntime) {
 fn outputs_are_given(rt: HostRuntime) {
     let none = [
         Instr::Take(0, 0),
-        Instr::Lit(1, millionths(1_000_000_000)),
+        Instr::Lit(1, number(1_000_000_000)),
         Instr::Do(Op::Sub, 0, 0, 1, 0),
     ];
     let wanted = Told::Wrong(CodeWrong::NoOutput);
@@ -118,8 +112,8 @@ fn counts_take_no_room(rt: HostRuntime) {
         Instr::Load(5, 4_294_967_294),
         Instr::Output(0, 5),
     ];
-    let wanted = Told::Value(millionths(3_000_000));
-    assert!(rt; answers(rt.alloc(), &instrs, 1, millionths(3_000_000), wanted));
+    let wanted = Told::Value(number(3_000_000));
+    assert!(rt; answers(rt.alloc(), &instrs, 1, number(3_000_000), wanted));
     let wanted = Told::Wrong(CodeWrong::NoOutput);
     assert!(rt; answers(rt.alloc(), &instrs, 4_294_967_295, Value::Undef, wanted));
 }
@@ -130,7 +124,7 @@ fn runs_end_at_checks(rt: HostRuntime) {
     let instrs = [
         Instr::Take(0, 0),
         Instr::Output(0, 0),
-        Instr::Lit(1, millionths(1_000_000)),
+        Instr::Lit(1, number(1_000_000)),
         Instr::Check(1, 0, true, 0),
         Instr::Check(0, 1, false, 1),
     ];
@@ -143,8 +137,8 @@ fn runs_end_at_checks(rt: HostRuntime) {
             Told::Stopped(Stop::Over(0))
         )
     );
-    let one = millionths(1_000_000);
+    let one = number(1_000_000);
     assert!(rt; answers(rt.alloc(), &instrs, 1, one, Told::Stopped(Stop::Failed(1))));
-    let wanted = Told::Value(millionths(2_000_000));
-    assert!(rt; answers(rt.alloc(), &instrs, 1, millionths(2_000_000), wanted));
+    let wanted = Told::Value(number(2_000_000));
+    assert!(rt; answers(rt.alloc(), &instrs, 1, number(2_000_000), wanted));
 }

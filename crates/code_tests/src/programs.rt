@@ -3,20 +3,13 @@ ghost use Rattle.std.specs.Prelude.{◌≡◌, ◌<◌, [], ◌∷◌, IfOk, len
 ghost use Rattle.std.specs.List.{AllByRecursion};
 ghost use Rattle.flat_code.specs.Runs.{AreNodes, IsCheck, IsFlat};
 
+use crate::numbers::units;
 use dead_rules::tidy;
 use flat_code::{Check, Flat, Node};
-use m_fixed::{Amount, Op, Value};
+use m_fixed::Op;
 use m_places::Seq;
 use std::alloc::{AllocError, Global};
 use std::test::Fail;
-
-// So many whole units.
-pub fn units(n: i64) -> Value {
-    match Amount::new(n as i128 * 1_000_000) {
-        Some(amount) => Value::Num(amount),
-        None => Value::Over,
-    }
-}
 
 // A list of one number.
 pub fn one_output(alloc: Global, number: u32) -> Result<Seq<u32>, AllocError>

@@ -4,11 +4,12 @@ ghost use Rattle.std.specs.Prelude.{◌≡◌, ◌≤◌, ◌<◌, IfOk, length}
 ghost use Rattle.std.specs.List.{AllByRecursion};
 ghost use Rattle.flat_code.specs.Runs.{AreNodes, IsCheck, IsFlat};
 
+use crate::numbers::number;
 use dead_rules::tidy;
 use flat_code::{Check, Flat, Node, Tidy};
 use household::{Codes, Household};
 use household_session::Session;
-use m_fixed::{Amount, Op, Value};
+use m_fixed::Op;
 use m_places::{Name, Seq};
 use m_ports::{MemSink, MemSource};
 use observables::{Coded, Face, FaceLabel, InputType, named_face};
@@ -18,13 +19,6 @@ use std::marker::Brand;
 use std::sync::ledger::{Blank, Ledger};
 use std::test::Fail;
 use steps::Steps;
-
-pub(crate) fn number(millionths: i128) -> Value {
-    match Amount::new(millionths) {
-        Some(amount) => Value::Num(amount),
-        None => Value::Over,
-    }
-}
 
 // Two literals and what is made of them and the input.
 fn nodes(alloc: Global) -> Result<Seq<Node>, AllocError>

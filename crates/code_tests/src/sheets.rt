@@ -3,9 +3,10 @@ ghost use Rattle.std.specs.Prelude.{◌≡◌, ◌≤◌, ◌<◌, IfOk, length}
 ghost use Rattle.std.specs.List.{AllByRecursion};
 ghost use Rattle.flat_code.specs.Runs.{AreNodes, IsCheck, IsFlat};
 
+use crate::numbers::units;
 use dead_rules::tidy;
 use flat_code::{Check, Flat, Node, Tidy};
-use m_fixed::{Amount, Op, Value};
+use m_fixed::Op;
 use m_places::Seq;
 use observables::Stop;
 use std::alloc::{AllocError, Global};
@@ -15,20 +16,13 @@ use std::test::Fail;
 use steps::Steps;
 use value_sheet::Sheet;
 
-fn number(units: i128) -> Value {
-    match Amount::new(units.wrapping_mul(1_000_000)) {
-        Some(amount) => Value::Num(amount),
-        None => Value::Over,
-    }
-}
-
 // Three literals and what is made of them and the two inputs.
 fn nodes(alloc: Global) -> Result<Seq<Node>, AllocError>
     ensures { IfOk result (λ nodes. AreNodes 2 0 nodes × (length nodes ≡ 7)) }
 {
-    let thousand = number(1_000);
-    let two = number(2);
-    let one = number(1);
+    let thousand = units(1_000);
+    let two = units(2);
+    let one = units(1);
     let nodes = vec![in alloc;
         Node::Input(0),
         Node::Lit(thousand),
@@ -96,16 +90,16 @@ fn tells<L: Ledger>(sheet: &mut Sheet, blank: Blank) -> bool
 {
     let mut steps = Steps::<L>::begin(blank);
     let fresh = sheet.settled();
-    sheet.put(0, number(1_000));
-    sheet.put(1, number(21));
-    let put = !sheet.settled() && sheet.input_value(1) == number(21);
+    sheet.put(0, units(1_000));
+    sheet.put(1, units(21));
+    let put = !sheet.settled() && sheet.input_value(1) == units(21);
     sheet.settle(&mut steps);
     let passed = sheet.stop().is_none();
-    let shown = sheet.output(0) == number(0) && sheet.output(1) == number(42);
-    sheet.put(0, number(5_000));
+    let shown = sheet.output(0) == units(0) && sheet.output(1) == units(42);
+    sheet.put(0, units(5_000));
     sheet.settle(&mut steps);
     let stopped = sheet.stop() == Some(Stop::Failed(3));
-    let kept = sheet.output(0) == number(4_000) && sheet.output(1) == number(42);
+    let kept = sheet.output(0) == units(4_000) && sheet.output(1) == units(42);
     fresh && put && passed && shown && stopped && kept
 }
 

@@ -1,7 +1,7 @@
 //! Numbers of nodes, and nodes that are pushed.
 ghost use Rattle.std.specs.Prelude.{◌≡◌};
 
-use crate::programs::units;
+use crate::numbers::units;
 use common_terms::NodeTable;
 use flat_code::Node;
 use fold_terms::Builder;

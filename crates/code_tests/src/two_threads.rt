@@ -3,9 +3,10 @@ ghost use Rattle.std.specs.Prelude.{◌≡◌, IfOk};
 ghost use Rattle.std.specs.List.{AllByRecursion};
 ghost use Rattle.m_batch.specs.Batch.{HasInputsBelow};
 
+use crate::numbers::number;
 use household::{Household, Pair, Row};
 use m_batch::run_batch;
-use m_fixed::{Amount, Op, Value};
+use m_fixed::{Amount, Op};
 use m_places::{Gate, Name, Open, Seq};
 use observables::Answer;
 use reg_machine::{Code, Instr, make_code};
@@ -49,13 +50,6 @@ impl Gate for Both {
             255 => meet(&self.last, &self.first, &self.last_saw),
             _ => {}
         }
-    }
-}
-
-pub(crate) fn number(millionths: i128) -> Value {
-    match Amount::new(millionths) {
-        Some(amount) => Value::Num(amount),
-        None => Value::Over,
     }
 }
 

@@ -3,9 +3,9 @@ ghost use Rattle.std.specs.Prelude.{All, IfSome};
 ghost use Rattle.m_ast.specs.Whole.{IsWholeItem};
 ghost use Rattle.plain_rules.specs.Plain.{TablesHaveCells};
 
+use crate::source::{add, add_bar, add_literal, add_number, other_at, source};
 use index_expand::{ExpandFault, expand};
 use m_ast::{Item, Slot};
-use m_fixed::Value;
 use m_items::parse;
 use m_lexer::{Token, lex};
 use m_places::Place;
@@ -14,6 +14,9 @@ use m_symbols::{Symbols, declare};
 use plain_rules::{Condition, Definition, PNode, PTerm, Plain};
 use std::alloc::Global;
 use std::test::Fail;
+
+// The tables T of three cells and TA of two.
+const TABLES: &[u8] = b" T : tableau[3] calculee : \"t\" ; TA : tableau[2] calculee : \"t\" ;";
 
 // Items, and what the application iliad has of them. A number is shown as `#` and its whole units, `X` that stays as `?`, an
 // operator as brackets round its operands.
@@ -122,29 +125,10 @@ fn all_faults() -> &'static [(&'static [u8], &'static [u8])] {
     &FAULTS
 }
 
-// Adds bytes. Where there is no memory the text stays as it is, so it isn't what was wanted.
-fn add(text: &mut Vec<u8>, bytes: &[u8]) {
-    let _added = text.extend_from_slice(bytes);
-}
-
-fn add_number(alloc: Global, text: &mut Vec<u8>, number: i128) {
-    if let Ok(digits) = format!(in alloc; "{number}") {
-        add(text, digits.as_bytes());
-    }
-}
-
-fn add_value(alloc: Global, text: &mut Vec<u8>, value: Value) {
-    add(text, b"#");
-    match value {
-        Value::Num(amount) => add_number(alloc, text, amount.millionths() / 1_000_000),
-        _ => add(text, b"undefined"),
-    }
-}
-
 #[cycle(add_term)]
 fn add_term(alloc: Global, text: &mut Vec<u8>, term: &PTerm) {
     match &term.node {
-        PNode::Lit(value) => add_value(alloc, text, *value),
+        PNode::Lit(value) => add_literal(alloc, text, *value),
         PNode::Named(word, _) => add(text, word.bytes()),
         PNode::X(_) => add(text, b"?"),
         PNode::Cell(word, index, _) => {
@@ -208,12 +192,6 @@ fn add_condition(alloc: Global, text: &mut Vec<u8>, condition: &Condition) {
     add_term(alloc, text, &condition.term);
 }
 
-fn add_bar(text: &mut Vec<u8>) {
-    if !text.is_empty() {
-        add(text, b" | ");
-    }
-}
-
 // Whether rules are shown so, or are too long to be shown where that is wanted.
 fn are_shown(alloc: Global, plain: &Plain, wanted: &[u8]) -> bool {
     let mut text = Vec::new(alloc);
@@ -243,18 +221,6 @@ fn is_told(alloc: Global, fault: ExpandFault, wanted: &[u8]) -> bool {
         ExpandFault::TooManyParts(place) => is_line(alloc, b"too many ", place, wanted),
         ExpandFault::Memory => false,
     }
-}
-
-// A rule of iliad with these formulas, whatever stands after them, and the tables T of three cells and TA of two.
-fn source(alloc: Global, formulas: &[u8]) -> Vec<u8> {
-    let mut text = Vec::new(alloc);
-    add(&mut text, b"regle 1 : application : iliad ; ");
-    add(&mut text, formulas);
-    add(
-        &mut text,
-        b" T : tableau[3] calculee : \"t\" ; TA : tableau[2] calculee : \"t\" ;",
-    );
-    text
 }
 
 // What items declare, if they have no fault.
@@ -307,9 +273,9 @@ fn text_gives(alloc: Global, text: &[u8], wanted: &[u8]) -> bool {
     }
 }
 
-// Whether these formulas give this.
+// Whether a rule with these formulas, and the tables, gives this.
 fn gives(alloc: Global, formulas: &[u8], wanted: &[u8]) -> bool {
-    text_gives(alloc, &source(alloc, formulas), wanted)
+    text_gives(alloc, &source(alloc, formulas, TABLES), wanted)
 }
 
 // Fails at the first formulas that give something else.
@@ -320,14 +286,6 @@ fn check_all(alloc: Global, rows: &[(&'static [u8], &'static [u8])]) -> Result<(
         }
     }
     Ok(())
-}
-
-// Fails at these formulas.
-fn other_at(alloc: Global, formulas: &[u8]) -> Fail {
-    match format!(in alloc; "another answer at {formulas:?}") {
-        Ok(told) => Fail::from(told),
-        Err(_) => Fail::from("another answer"),
-    }
 }
 
 #[test]

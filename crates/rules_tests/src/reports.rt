@@ -5,8 +5,9 @@ ghost use Rattle.m_symbols.specs.Declarations.{owners_from};
 ghost use Rattle.m_requests.specs.Placed.{IsPlaced};
 ghost use Rattle.micro_m.specs.Bases.{IsValidBase};
 
-use crate::rules::{base_of, other_at, refused};
-use m_fixed::{Amount, Value};
+use crate::rules::{base_of, refused};
+use crate::source::{number, other_at};
+use m_fixed::Value;
 use m_places::limits::CODE_FILE_BYTES;
 use m_ports::{MemSink, Sink};
 use m_symbols::Symbols;
@@ -198,22 +199,15 @@ fn all_printed() -> &'static [(&'static [u8], &'static [u8])] {
     &PRINTED
 }
 
-fn amount(millionths: i128) -> Value {
-    match Amount::new(millionths) {
-        Some(amount) => Value::Num(amount),
-        None => Value::Over,
-    }
-}
-
 // Undefined for each cell, but for the constant and what is given for REV.
 fn environment(alloc: Global, cells: u32, given: Option<i128>) -> Result<Vec<Value>, AllocError>
     ensures { IfOk result (λ values. length values.items ≡ cells) }
 {
     let mut values = vec![in alloc; Value::Undef; cells as usize]?;
     if SEUIL < values.len() {
-        values[SEUIL] = amount(1_000_000_000);
+        values[SEUIL] = number(1_000_000_000);
         if let Some(millionths) = given {
-            values[REV] = amount(millionths);
+            values[REV] = number(millionths);
         }
     }
     Ok(values)

@@ -1,5 +1,5 @@
 //! Bases of rules, shown as texts, and faults of names with their places.
-use crate::source::{add, add_number, base_of, other_at};
+use crate::source::{add, add_bar, add_literal, add_number, base_of, other_at};
 use m_fixed::{Op, Value};
 use m_places::{Label, Name, Place};
 use m_resolve::ResolveFault;
@@ -73,14 +73,6 @@ fn all_faults() -> &'static [(&'static [u8], &'static [u8])] {
     &FAULTS
 }
 
-fn add_value(alloc: Global, text: &mut Vec<u8>, value: Value) {
-    add(text, b"#");
-    match value {
-        Value::Num(amount) => add_number(alloc, text, amount.millionths() / 1_000_000),
-        _ => add(text, b"undefined"),
-    }
-}
-
 fn sign(op: Op) -> &'static [u8] {
     match op {
         Op::Eq => b"=",
@@ -99,7 +91,7 @@ fn sign(op: Op) -> &'static [u8] {
 #[cycle(add_tree)]
 fn add_tree(alloc: Global, text: &mut Vec<u8>, term: &MTerm) {
     match &term.node {
-        MNode::Lit(value) => add_value(alloc, text, *value),
+        MNode::Lit(value) => add_literal(alloc, text, *value),
         MNode::Cell(cell) => add_number(alloc, text, *cell as i128),
         MNode::Pick(first, size, index) => {
             add_number(alloc, text, *first as i128);
@@ -138,12 +130,6 @@ fn add_operand(alloc: Global, text: &mut Vec<u8>, term: &MTerm) {
     add_tree(alloc, text, term);
 }
 
-fn add_bar(text: &mut Vec<u8>) {
-    if !text.is_empty() {
-        add(text, b" | ");
-    }
-}
-
 fn add_label(text: &mut Vec<u8>, labels: &[Label], number: u32) {
     if let Some(label) = labels.get(number as usize) {
         add(text, label.verif.bytes());
@@ -158,7 +144,7 @@ fn add_constants(alloc: Global, text: &mut Vec<u8>, base: &Base) {
     for (cell, amount) in base.constants.as_slice() {
         add_number(alloc, text, *cell as i128);
         add(text, b" is ");
-        add_value(alloc, text, Value::Num(*amount));
+        add_literal(alloc, text, Value::Num(*amount));
     }
 }
 

@@ -3,8 +3,8 @@ ghost use Rattle.std.specs.Prelude.{◌≡◌, IfOk, length};
 ghost use Rattle.micro_m.specs.Bases.{IsValidBase};
 ghost use Rattle.rule_order.specs.Orders.{IsOrder};
 
-use crate::source::{CELLS, add, add_number, add_space, base_of, other_at};
-use m_fixed::{Amount, Value};
+use crate::source::{CELLS, add, add_number, add_space, base_of, number, other_at};
+use m_fixed::Value;
 use micro_m::{Base, Failure, slow_value};
 use rule_order::{Ordered, fill_values, first_failure};
 use std::alloc::{AllocError, Global};
@@ -99,13 +99,6 @@ static RUNS: [(&[u8], Option<i128>, &[u8]); 20] = [
 // Turns, and the value of B with so many, where E is 3. Without turns a cell is undefined, E too, and what is undefined less 1 is -1.
 static BY_TURNS: [(u32, &[u8]); 5] = [(0, b"?"), (1, b"0"), (2, b"0"), (3, b"2"), (ENOUGH, b"2")];
 
-fn amount(millionths: i128) -> Value {
-    match Amount::new(millionths) {
-        Some(amount) => Value::Num(amount),
-        None => Value::Over,
-    }
-}
-
 // Undefined for each cell, and what is given for E.
 fn environment(alloc: Global, cells: u32, given: Option<i128>) -> Result<Vec<Value>, AllocError>
     ensures { IfOk result (λ values. length values.items ≡ cells) }
@@ -113,7 +106,7 @@ fn environment(alloc: Global, cells: u32, given: Option<i128>) -> Result<Vec<Val
     let mut values = vec![in alloc; Value::Undef; cells as usize]?;
     if let Some(millionths) = given {
         if GIVEN < values.len() {
-            values[GIVEN] = amount(millionths);
+            values[GIVEN] = number(millionths);
         }
     }
     Ok(values)

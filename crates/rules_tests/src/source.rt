@@ -1,8 +1,11 @@
-//! The base that a test's formulas come to.
+//! The base that a test's formulas come to, and what a test shows of it.
 ghost use Rattle.std.specs.Prelude.{◌≡◌, ◌≤◌, IfOk, length};
+ghost use Rattle.m_symbols.specs.Declarations.{owners_from};
+ghost use Rattle.m_requests.specs.Placed.{IsPlaced};
 ghost use Rattle.micro_m.specs.Bases.{IsValidBase};
 ghost use Rattle.rule_order.specs.Orders.{IsOrder};
 
+use m_fixed::{Amount, Value};
 use m_places::{Name, Seq};
 use rule_base::{RuleBase, RuleFault, rule_base};
 use rule_text::Text;
@@ -23,6 +26,8 @@ pub fn base_of<R: Threads + Sync>(
 ) -> Result<RuleBase, RuleFault>
     ensures valid { IfOk result (λ made. IsValidBase made.ordered.base) }
     ensures order { IfOk result (λ made. IsOrder made.ordered.base made.ordered.sequence) }
+    ensures placed { IfOk result (λ made. IsPlaced made.symbols) }
+    ensures cells { IfOk result (λ made. made.ordered.base.cells ≡ length (owners_from 0 made.symbols.variables)) }
 {
     let bytes = source(alloc, formulas, declared);
     if bytes.len() > 4_096 {
@@ -31,7 +36,8 @@ pub fn base_of<R: Threads + Sync>(
     base_over(rt, alloc, bytes)
 }
 
-fn source(alloc: Global, formulas: &[u8], declared: &[u8]) -> Vec<u8> {
+/// A rule of iliad with these formulas, whatever stands after them, and declarations.
+pub fn source(alloc: Global, formulas: &[u8], declared: &[u8]) -> Vec<u8> {
     let mut text = Vec::new(alloc);
     add(&mut text, b"regle 1 : application : iliad ; ");
     add(&mut text, formulas);
@@ -47,6 +53,8 @@ fn base_over<R: Threads + Sync>(
     requires { length bytes.items ≤ 4096 }
     ensures valid { IfOk result (λ made. IsValidBase made.ordered.base) }
     ensures order { IfOk result (λ made. IsOrder made.ordered.base made.ordered.sequence) }
+    ensures placed { IfOk result (λ made. IsPlaced made.symbols) }
+    ensures cells { IfOk result (λ made. made.ordered.base.cells ≡ length (owners_from 0 made.symbols.variables)) }
 {
     let text = Text {
         name: Name::new(alloc, b"rules.m")?,
@@ -71,6 +79,30 @@ pub fn add_number(alloc: Global, text: &mut Vec<u8>, number: i128) {
 pub fn add_space(text: &mut Vec<u8>) {
     if !text.is_empty() {
         add(text, b" ");
+    }
+}
+
+/// Adds a bar, unless nothing stands there yet.
+pub fn add_bar(text: &mut Vec<u8>) {
+    if !text.is_empty() {
+        add(text, b" | ");
+    }
+}
+
+/// Adds `#` and whole units.
+pub fn add_literal(alloc: Global, text: &mut Vec<u8>, value: Value) {
+    add(text, b"#");
+    match value {
+        Value::Num(amount) => add_number(alloc, text, amount.millionths() / 1_000_000),
+        _ => add(text, b"undefined"),
+    }
+}
+
+/// So many millionths, or over.
+pub fn number(millionths: i128) -> Value {
+    match Amount::new(millionths) {
+        Some(amount) => Value::Num(amount),
+        None => Value::Over,
     }
 }
 

@@ -5,8 +5,9 @@ ghost use Rattle.m_requests.specs.Placed.{IsPlaced};
 ghost use Rattle.micro_m.specs.Bases.{IsValidBase};
 ghost use Rattle.rule_order.specs.Orders.{IsOrder};
 
-use crate::rules::{add, base_of, other_at};
-use m_fixed::{Amount, Value};
+use crate::rules::base_of;
+use crate::source::{add, number, other_at};
+use m_fixed::Value;
 use m_ports::{MemSink, Sink};
 use m_requests::find_request;
 use m_symbols::Symbols;
@@ -135,10 +136,7 @@ fn all_told() -> &'static [(
 fn value_of(given: Option<i128>) -> Value {
     match given {
         None => Value::Undef,
-        Some(millionths) => match Amount::new(millionths) {
-            Some(amount) => Value::Num(amount),
-            None => Value::Over,
-        },
+        Some(millionths) => number(millionths),
     }
 }
 
