@@ -1,5 +1,5 @@
 #!/bin/sh
-# The budget of the gate. An edit that must be refused is a check of its crate: at most 4 in a crate, 40 in all. Prints a line for each
+# The budget of the gate. An edit that must be refused is a check of its crate: at most 4 in a crate, 24 in all. Prints a line for each
 # crate that is over, and a count; the status is 0 where none is.
 #
 # tests/budget.sh FIGURES also looks at the figures that bench/gate/measure.py wrote: the check of a library takes at most
@@ -37,7 +37,7 @@ done | awk -v figures="$figures" '
         crates++
     }
     END {
-        if (all > 40) over("there are " all " must-fail edits, and may be 40")
+        if (all > 24) over("there are " all " must-fail edits, and may be 24")
         print "budget: " crates " crates, " all " must-fail edits, " failed + 0 " over"
         exit failed > 0
     }'
