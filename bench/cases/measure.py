@@ -4,7 +4,7 @@
     measure.py [PROGRAM]
 
 It writes tables of 800, 4,000 and 8,000 rows over a base of 1,000 sums into a folder of its own, and prints user and system seconds of `cases`, the least of three runs,
-and the times of the time for the times of the rows. The last line of each answer is compared with the count that follows from how the table is made.
+and the times of the time for the times of the rows, the last of which is a figure. The last line of each answer is compared with the count that follows from how the table is made.
 """
 import os
 import resource
@@ -12,7 +12,11 @@ import subprocess
 import sys
 import tempfile
 
-ROOT = os.path.dirname(os.path.dirname(os.path.dirname(os.path.abspath(__file__))))
+BENCH = os.path.dirname(os.path.dirname(os.path.abspath(__file__)))
+sys.path.append(BENCH)
+from measured import figure  # noqa: E402
+
+ROOT = os.path.dirname(BENCH)
 OUTPUTS, ROWS = 1_000, (800, 4_000, 8_000)
 
 
@@ -62,6 +66,7 @@ def main():
             first = first or took
             size = os.path.getsize(os.path.join(folder, "t.csv")) / 1e6
             print(f"| {rows:,} | {size:.1f} | {rows * OUTPUTS // 5:,} | {took:.2f} | {rows / ROWS[0]:.0f} | {took / first:.1f} |", flush=True)
+    figure("cases.8000_rows_to_800", took / first, "<=11")
 
 
 main()

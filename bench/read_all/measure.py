@@ -2,7 +2,7 @@
 """Times rule files of 64 MB in eight files on four processors and on one: measure.py PROGRAM FOLDER [MEGABYTES]
 
 FOLDER gets the files of generate.py. Elapsed seconds, the least of three runs; one processor is `taskset -c 0`. A whole `run` is timed, and one of files whose last line can't be
-read, which does no more than reading. The bytes and the status of both must be equal, and those of the fault at its place. Prints one line with both ratios.
+read, which does no more than reading. The bytes and the status of both must be equal, and those of the fault at its place. Prints one line with both ratios, and both as figures.
 """
 import os
 import subprocess
@@ -10,6 +10,9 @@ import sys
 import time
 
 HERE = os.path.dirname(os.path.abspath(__file__))
+sys.path.append(os.path.dirname(HERE))
+from measured import figure  # noqa: E402
+
 RUNS = 3
 
 
@@ -26,12 +29,14 @@ def timed(words, folder):
     return least, said
 
 
-def ratio(program, folder, listed, wanted):
+def ratio(name, program, folder, listed, wanted):
     words = [program, "run", listed, "-", "-", "household.csv"]
     (many, said), (one, alone) = timed(words, folder), timed(["taskset", "-c", "0", *words], folder)
     if said != alone or not wanted(*said):
         sys.exit(f"{listed}: {said} on all processors, {alone} on one")
-    return f"{many:.2f} s on {min(4, os.cpu_count() or 1)} processors, {one:.2f} s on one: {many / one:.2f}"
+    processors = min(4, os.cpu_count() or 1)
+    figure(f"read_all.{name}_{processors}_processors_to_one", many / one, "<=0.45")
+    return f"{many:.2f} s on {processors} processors, {one:.2f} s on one: {many / one:.2f}"
 
 
 def main():
@@ -41,8 +46,8 @@ def main():
     with open(os.path.join(folder, "fault.m"), "rb") as file:
         text = file.read()
     place = f"line {text.count(10)} byte {text.rindex(b'RESULTAT = ;')}: syntax\n".encode()
-    whole = ratio(program, folder, "list.txt", lambda out, status: status == 0 and out.startswith(b"RESULTAT = "))
-    reading = ratio(program, folder, "fault.txt", lambda out, status: status == 1 and out == b"refused fault.m " + place)
+    whole = ratio("run", program, folder, "list.txt", lambda out, status: status == 0 and out.startswith(b"RESULTAT = "))
+    reading = ratio("reading", program, folder, "fault.txt", lambda out, status: status == 1 and out == b"refused fault.m " + place)
     print(f"{size / 1e6:.0f} MB in 8 files: a run {whole}; reading alone {reading}")
 
 
