@@ -141,14 +141,14 @@ impl Read for Failing<'_> {
 }
 
 #[test]
-fn input_of_the_system(rt: HostRuntime) {
+fn input_over_a_reader(rt: HostRuntime) {
     let text = b"seven77";
     let mut input = HostSource::new(text.as_slice());
     assert!(rt; is_drained(&mut input, rt.alloc(), text, 0));
 }
 
 #[test]
-fn input_of_the_system_fails(rt: HostRuntime) {
+fn input_over_a_reader_that_fails(rt: HostRuntime) {
     let text = b"seven77";
     let failing = Failing {
         rest: text,
@@ -194,7 +194,7 @@ fn is_taken(alloc: Global, text: &[u8], given: bool, want: &[u8]) -> bool {
 }
 
 #[test]
-fn output_of_the_system(rt: HostRuntime) {
+fn output_over_a_writer(rt: HostRuntime) {
     assert!(rt; is_taken(rt.alloc(), b"IRN", true, b"IRN"));
     assert!(rt; is_taken(rt.alloc(), b"IRN = 1", false, b"IRN "));
 }
@@ -213,6 +213,6 @@ fn goes_on(alloc: Global) -> bool {
 }
 
 #[test]
-fn output_of_the_system_goes_on(rt: HostRuntime) {
+fn output_over_a_writer_goes_on(rt: HostRuntime) {
     assert!(rt; goes_on(rt.alloc()));
 }
