@@ -106,6 +106,11 @@ IRN = -1000" batch $list - - examples/first/table.csv
 row 0 "large 3
 T2 = 994" large 3
 
+# A table of cases that is computed in two windows, the first of 8,192 rows: an expectation in the first row of the second one isn't met.
+awk 'BEGIN { print "name,1AJ,=IRN"; for (k = 0; k < 8194; k++) print "h" k "," k "," (k == 8192 ? 0 : k - 1000) }' >"$dir/cases.csv"
+row 6 "mismatch h8192 IRN expected 0 got 7192
+cases 8194 mismatches 1" cases $list - - "$dir/cases.csv"
+
 # A code file, and what is wrong with others.
 printf 'mcode 1\nslots 0\ninput 1AJ\noutput IRN\ncode\nin 0 0\nlit 1 1000000000\ndo 0 sub 0 1\nout 0 0\nend\n' >"$dir/code"
 row 0 "IRN = 1500.5" exec "$dir/code" $household

@@ -1,4 +1,4 @@
-"""Compares the second reading with the worked rows, and with a program on changed rows.
+"""Compares the reference implementation with the worked rows, and with a program on changed rows.
 
     python3 compare.py                           the rows of crates/rows/data by the reading alone
     python3 compare.py PROGRAM [COUNT [SEED]]    these, and so many changed rows by the program and by the reading

@@ -54,7 +54,7 @@ fn add_row(alloc: Global, table: &mut Vec<u8>, k: u32) {
     }
 }
 
-/// A table of so many rows, which is more than one group.
+/// A table of so many rows.
 fn table(alloc: Global, rows: u32) -> Vec<u8> {
     let mut table = Vec::new(alloc);
     add(&mut table, b"name,1AJ\n");
@@ -171,10 +171,23 @@ fn writes(rt: HostRuntime) {
     }
 }
 
-/// Writes that fail: some of the first group, all around its end, and one after the last.
-const FAILING: [usize; 11] = [
-    1, 2, 100, 5_777, 5_778, 5_779, 5_780, 5_800, 5_870, 5_871, 6_000,
-];
+/// Writes that fail where the lines of the first window end after so many bytes, and all lines after so many: some of the first window, all around
+/// its end, the last, and two after it.
+fn failing_writes(window: usize, all: usize) -> [usize; 11] {
+    [
+        1,
+        2,
+        100,
+        window.saturating_sub(1),
+        window,
+        window.saturating_add(1),
+        window.saturating_add(2),
+        window.saturating_add(20),
+        all,
+        all.saturating_add(1),
+        all.saturating_add(100),
+    ]
+}
 
 /// Whether a batch whose write of this number fails writes the lines before it.
 fn is_batch_so<R: Threads + Sync>(
@@ -201,8 +214,14 @@ fn is_batch_so<R: Threads + Sync>(
     )
 }
 
-fn are_batches_so<R: Threads + Sync>(rt: &R, alloc: Global, table: &[u8], lines: &[u8]) -> bool {
-    for write in FAILING {
+fn are_batches_so<R: Threads + Sync>(
+    rt: &R,
+    alloc: Global,
+    table: &[u8],
+    lines: &[u8],
+    window: usize,
+) -> bool {
+    for write in failing_writes(window, lines.len()) {
         if !is_batch_so(rt, alloc, table, lines, write) {
             return false;
         }
@@ -212,7 +231,8 @@ fn are_batches_so<R: Threads + Sync>(rt: &R, alloc: Global, table: &[u8], lines:
 
 #[test]
 fn batches(rt: HostRuntime) {
-    let table = table(rt.alloc(), 260);
-    let lines = answers(rt.alloc(), 260);
-    assert!(rt; are_batches_so(&rt, rt.alloc(), &table, &lines));
+    let table = table(rt.alloc(), 8_194);
+    let lines = answers(rt.alloc(), 8_194);
+    let window = answers(rt.alloc(), 8_192).len();
+    assert!(rt; are_batches_so(&rt, rt.alloc(), &table, &lines, window));
 }

@@ -1,4 +1,4 @@
-"""A second reading of what the program does, in Python, which stands on the documents and on no code of the program.
+"""The reference implementation: what the program does, in Python. It stands on the documents and on no code of the program.
 
 `commands.output(words, files, typed)` is what the program prints for the words of its command line, the files and what
 is typed into its input, and the number that it ends with. The modules, in the order in which a source meets them:
