@@ -30,6 +30,7 @@ mod pairs;
 mod parts;
 #[cfg(test)]
 mod ports;
+#[cfg(test)]
 mod records;
 #[cfg(test)]
 mod rows;
