@@ -82,43 +82,43 @@ fn codes(rt: HostRuntime) -> Result<(), Fail> {
 }
 
 /// Households, and the inputs and millionths of their pairs.
-static HOUSEHOLDS: [(&[u8], &[(u32, i128)]); 15] = [
-    (b"code,amount\n1AJ,2500.5\n", &[(0, 2_500_500_000)]),
-    (b"code,amount", &[]),
-    (b"code,amount\n", &[]),
+static HOUSEHOLDS: [(&str, &[(u32, i128)]); 15] = [
+    ("code,amount\n1AJ,2500.5\n", &[(0, 2_500_500_000)]),
+    ("code,amount", &[]),
+    ("code,amount\n", &[]),
     (
-        b"code,amount\n2AA,-0.1234565\n1AJ,03",
+        "code,amount\n2AA,-0.1234565\n1AJ,03",
         &[(2, -123_457), (0, 3_000_000)],
     ),
     (
-        b"code,amount\nC08,10000000000000.0000004",
+        "code,amount\nC08,10000000000000.0000004",
         &[(1, 10_000_000_000_000_000_000)],
     ),
-    (b"code,amount\nC08,-0", &[(1, 0)]),
+    ("code,amount\nC08,-0", &[(1, 0)]),
     (
-        b"code,amount\nC08,-10000000000000.0000004",
+        "code,amount\nC08,-10000000000000.0000004",
         &[(1, -10_000_000_000_000_000_000)],
     ),
-    (b"code,amount\r\n1AJ,1\r\n", &[(0, 1_000_000)]),
-    (b"code,amount\r1AJ,1\r", &[(0, 1_000_000)]),
-    (b"\n\ncode,amount\n\n1AJ,1\n\n", &[(0, 1_000_000)]),
-    (b"\xef\xbb\xbfcode,amount\n1AJ,1", &[(0, 1_000_000)]),
-    (b"\"code\",\"amount\"\n\"1AJ\",\"1\"\n", &[(0, 1_000_000)]),
-    (b"code,amount\n1AJ,\"1", &[(0, 1_000_000)]),
-    (b"code,amount\n\"1A\"J,1", &[(0, 1_000_000)]),
+    ("code,amount\r\n1AJ,1\r\n", &[(0, 1_000_000)]),
+    ("code,amount\r1AJ,1\r", &[(0, 1_000_000)]),
+    ("\n\ncode,amount\n\n1AJ,1\n\n", &[(0, 1_000_000)]),
+    ("\u{feff}code,amount\n1AJ,1", &[(0, 1_000_000)]),
+    ("\"code\",\"amount\"\n\"1AJ\",\"1\"\n", &[(0, 1_000_000)]),
+    ("code,amount\n1AJ,\"1", &[(0, 1_000_000)]),
+    ("code,amount\n\"1A\"J,1", &[(0, 1_000_000)]),
     (
-        b"code,amount\nC08,3\n1AJ,1\n2AA,2",
+        "code,amount\nC08,3\n1AJ,1\n2AA,2",
         &[(1, 3_000_000), (0, 1_000_000), (2, 2_000_000)],
     ),
 ];
 
 // The tables, out of reach of the proofs of what goes over them.
 
-fn all_households() -> &'static [(&'static [u8], &'static [(u32, i128)])] {
+fn all_households() -> &'static [(&'static str, &'static [(u32, i128)])] {
     &HOUSEHOLDS
 }
 
-fn all_refused() -> &'static [(&'static [u8], HouseholdFault)] {
+fn all_refused() -> &'static [(&'static str, HouseholdFault)] {
     &REFUSED
 }
 
@@ -153,9 +153,10 @@ fn is_refused(alloc: Global, bytes: &[u8], codes: &Codes, wanted: HouseholdFault
 pub fn check_read(
     alloc: Global,
     codes: &Codes,
-    rows: &[(&'static [u8], &'static [(u32, i128)])],
+    rows: &[(&'static str, &'static [(u32, i128)])],
 ) -> Result<(), Fail> {
     for (bytes, pairs) in rows {
+        let bytes = bytes.as_bytes();
         if !is_read_as(alloc, bytes, codes, pairs) {
             return Err(other_at(alloc, bytes));
         }
@@ -167,9 +168,10 @@ pub fn check_read(
 pub fn check_refused(
     alloc: Global,
     codes: &Codes,
-    rows: &[(&'static [u8], HouseholdFault)],
+    rows: &[(&'static str, HouseholdFault)],
 ) -> Result<(), Fail> {
     for (bytes, fault) in rows {
+        let bytes = bytes.as_bytes();
         if !is_refused(alloc, bytes, codes, *fault) {
             return Err(other_at(alloc, bytes));
         }
@@ -184,68 +186,59 @@ fn households(rt: HostRuntime) -> Result<(), Fail> {
 }
 
 /// Refused households, and the first fault of each.
-static REFUSED: [(&[u8], HouseholdFault); 40] = [
-    (b"", HouseholdFault::BadHeader),
-    (b"\n\n", HouseholdFault::BadHeader),
-    (b"code;amount\n1AJ,1\n", HouseholdFault::BadHeader),
-    (b"code,amount \n", HouseholdFault::BadHeader),
-    (b"code, amount\n", HouseholdFault::BadHeader),
-    (b"Code,amount\n", HouseholdFault::BadHeader),
-    (b"code\n", HouseholdFault::BadHeader),
-    (b"code,amount,\n", HouseholdFault::BadHeader),
-    (b"amount,code\n", HouseholdFault::BadHeader),
-    (b"1AJ,1\n", HouseholdFault::BadHeader),
+static REFUSED: [(&str, HouseholdFault); 40] = [
+    ("", HouseholdFault::BadHeader),
+    ("\n\n", HouseholdFault::BadHeader),
+    ("code;amount\n1AJ,1\n", HouseholdFault::BadHeader),
+    ("code,amount \n", HouseholdFault::BadHeader),
+    ("code, amount\n", HouseholdFault::BadHeader),
+    ("Code,amount\n", HouseholdFault::BadHeader),
+    ("code\n", HouseholdFault::BadHeader),
+    ("code,amount,\n", HouseholdFault::BadHeader),
+    ("amount,code\n", HouseholdFault::BadHeader),
+    ("1AJ,1\n", HouseholdFault::BadHeader),
+    ("\u{feff}\u{feff}code,amount\n", HouseholdFault::BadHeader),
+    ("code,amount\n1AJ\n", HouseholdFault::BadRow(2)),
+    ("code,amount\n1AJ,1,2\n", HouseholdFault::BadRow(2)),
+    ("code,amount\n1AJ,1,\n", HouseholdFault::BadRow(2)),
+    ("code,amount\n\"1AJ,1\"\n", HouseholdFault::BadRow(2)),
+    ("code,amount\n \n", HouseholdFault::BadRow(2)),
+    ("code,amount\n1AJ,1\nC08", HouseholdFault::BadRow(3)),
+    ("code,amount\n9ZZ,1\n", HouseholdFault::UnknownCode(2)),
+    ("code,amount\n1aj,1\n", HouseholdFault::UnknownCode(2)),
+    ("code,amount\n 1AJ,1\n", HouseholdFault::UnknownCode(2)),
+    ("code,amount\n,1\n", HouseholdFault::UnknownCode(2)),
+    ("code,amount\ncode,amount\n", HouseholdFault::UnknownCode(2)),
+    ("code,amount\n\"1AJ\n\",1\n", HouseholdFault::UnknownCode(2)),
+    ("code,amount\n1AJ,x\n", HouseholdFault::BadAmount(2)),
+    ("code,amount\n1AJ, 1\n", HouseholdFault::BadAmount(2)),
+    ("code,amount\n1AJ,\n", HouseholdFault::BadAmount(2)),
+    ("code,amount\n1AJ,.5\n", HouseholdFault::BadAmount(2)),
+    ("code,amount\n1AJ,1.\n", HouseholdFault::BadAmount(2)),
+    ("code,amount\n1AJ,+1\n", HouseholdFault::BadAmount(2)),
+    ("code,amount\n1AJ,1e3\n", HouseholdFault::BadAmount(2)),
+    ("code,amount\n1AJ,\"1,5\"\n", HouseholdFault::BadAmount(2)),
     (
-        b"\xef\xbb\xbf\xef\xbb\xbfcode,amount\n",
-        HouseholdFault::BadHeader,
-    ),
-    (b"code,amount\n1AJ\n", HouseholdFault::BadRow(2)),
-    (b"code,amount\n1AJ,1,2\n", HouseholdFault::BadRow(2)),
-    (b"code,amount\n1AJ,1,\n", HouseholdFault::BadRow(2)),
-    (b"code,amount\n\"1AJ,1\"\n", HouseholdFault::BadRow(2)),
-    (b"code,amount\n \n", HouseholdFault::BadRow(2)),
-    (b"code,amount\n1AJ,1\nC08", HouseholdFault::BadRow(3)),
-    (b"code,amount\n9ZZ,1\n", HouseholdFault::UnknownCode(2)),
-    (b"code,amount\n1aj,1\n", HouseholdFault::UnknownCode(2)),
-    (b"code,amount\n 1AJ,1\n", HouseholdFault::UnknownCode(2)),
-    (b"code,amount\n,1\n", HouseholdFault::UnknownCode(2)),
-    (
-        b"code,amount\ncode,amount\n",
-        HouseholdFault::UnknownCode(2),
-    ),
-    (
-        b"code,amount\n\"1AJ\n\",1\n",
-        HouseholdFault::UnknownCode(2),
-    ),
-    (b"code,amount\n1AJ,x\n", HouseholdFault::BadAmount(2)),
-    (b"code,amount\n1AJ, 1\n", HouseholdFault::BadAmount(2)),
-    (b"code,amount\n1AJ,\n", HouseholdFault::BadAmount(2)),
-    (b"code,amount\n1AJ,.5\n", HouseholdFault::BadAmount(2)),
-    (b"code,amount\n1AJ,1.\n", HouseholdFault::BadAmount(2)),
-    (b"code,amount\n1AJ,+1\n", HouseholdFault::BadAmount(2)),
-    (b"code,amount\n1AJ,1e3\n", HouseholdFault::BadAmount(2)),
-    (b"code,amount\n1AJ,\"1,5\"\n", HouseholdFault::BadAmount(2)),
-    (
-        b"code,amount\n1AJ,10000000000000.0000005\n",
+        "code,amount\n1AJ,10000000000000.0000005\n",
         HouseholdFault::BadAmount(2),
     ),
-    (b"code,amount\n1AJ,1\n1AJ,1\n", HouseholdFault::CodeTwice(3)),
+    ("code,amount\n1AJ,1\n1AJ,1\n", HouseholdFault::CodeTwice(3)),
     (
-        b"code,amount\n1AJ,1\n2AA,1\n1AJ,1\n2AA,x\n",
+        "code,amount\n1AJ,1\n2AA,1\n1AJ,1\n2AA,x\n",
         HouseholdFault::CodeTwice(4),
     ),
     // several faults in one record, and in several
-    (b"code,amount\n9ZZ,x,\n", HouseholdFault::BadRow(2)),
-    (b"code,amount\n9ZZ,x\n", HouseholdFault::UnknownCode(2)),
-    (b"code,amount\n1AJ,1\n1AJ,x\n", HouseholdFault::BadAmount(3)),
-    (b"code,amount\n1AJ,x\n9ZZ\n", HouseholdFault::BadAmount(2)),
+    ("code,amount\n9ZZ,x,\n", HouseholdFault::BadRow(2)),
+    ("code,amount\n9ZZ,x\n", HouseholdFault::UnknownCode(2)),
+    ("code,amount\n1AJ,1\n1AJ,x\n", HouseholdFault::BadAmount(3)),
+    ("code,amount\n1AJ,x\n9ZZ\n", HouseholdFault::BadAmount(2)),
     // blank lines are no records, and a record may have several lines
     (
-        b"\ncode,amount\r\n\r\n\n1AJ,x\n",
+        "\ncode,amount\r\n\r\n\n1AJ,x\n",
         HouseholdFault::BadAmount(2),
     ),
     (
-        b"code,amount\n1AJ,1\n\"C\n\n08\",1\n9ZZ,1\n",
+        "code,amount\n1AJ,1\n\"C\n\n08\",1\n9ZZ,1\n",
         HouseholdFault::UnknownCode(3),
     ),
 ];

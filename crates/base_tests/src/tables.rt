@@ -71,7 +71,7 @@ fn all_tables() -> &'static [(&'static [u8], &'static [u8])] {
     &TABLES
 }
 
-fn all_refused() -> &'static [(&'static [u8], HouseholdFault)] {
+fn all_refused() -> &'static [(&'static str, HouseholdFault)] {
     &REFUSED
 }
 
@@ -116,9 +116,10 @@ pub fn check_refused<R: Threads + Sync>(
     rt: &R,
     alloc: Global,
     codes: &Codes,
-    rows: &[(&'static [u8], HouseholdFault)],
+    rows: &[(&'static str, HouseholdFault)],
 ) -> Result<(), Fail> {
     for (bytes, fault) in rows {
+        let bytes = bytes.as_bytes();
         if !is_refused(rt, alloc, bytes, codes, *fault) {
             return Err(other_at(alloc, bytes));
         }
@@ -133,40 +134,40 @@ fn tables(rt: HostRuntime) -> Result<(), Fail> {
 }
 
 /// Refused tables, and the first fault of each.
-static REFUSED: [(&[u8], HouseholdFault); 32] = [
-    (b"", HouseholdFault::BadHeader),
-    (b"\n\r\n", HouseholdFault::BadHeader),
-    (b"Name,1AJ\n", HouseholdFault::BadHeader),
-    (b"name ,1AJ\n", HouseholdFault::BadHeader),
-    (b",1AJ\n", HouseholdFault::BadHeader),
-    (b"code,amount\n", HouseholdFault::BadHeader),
-    (b"1AJ,name\n", HouseholdFault::BadHeader),
-    (b"nom,9ZZ\n", HouseholdFault::BadHeader),
-    (b"name,9ZZ\n", HouseholdFault::UnknownCode(1)),
-    (b"name,\n", HouseholdFault::UnknownCode(1)),
-    (b"name,1AJ,\n", HouseholdFault::UnknownCode(1)),
-    (b"name, 1AJ\n", HouseholdFault::UnknownCode(1)),
-    (b"name,name\n", HouseholdFault::UnknownCode(1)),
-    (b"name,1AJ,1AJ\n", HouseholdFault::CodeTwice(1)),
-    (b"name,1AJ,C08,1AJ\na", HouseholdFault::CodeTwice(1)),
-    (b"name,1AJ,9ZZ,1AJ\n", HouseholdFault::UnknownCode(1)),
-    (b"name,1AJ,1AJ,9ZZ\n", HouseholdFault::CodeTwice(1)),
-    (b"name,1AJ\na\n", HouseholdFault::BadRow(2)),
-    (b"name,1AJ\na,1,2\n", HouseholdFault::BadRow(2)),
-    (b"name\na,\n", HouseholdFault::BadRow(2)),
-    (b"name,1AJ\n,1\n", HouseholdFault::BadRow(2)),
-    (b"name,1AJ\na\tb,1\n", HouseholdFault::BadRow(2)),
-    (b"name,1AJ\n\x1f,1\n", HouseholdFault::BadRow(2)),
-    (b"name,1AJ\n\"a\nb\",1\n", HouseholdFault::BadRow(2)),
-    (b"name,1AJ\n\0,1\n", HouseholdFault::BadRow(2)),
-    (b"name,1AJ\na,1\nb,2\nc\n", HouseholdFault::BadRow(4)),
-    (b"name,1AJ\na,x\n", HouseholdFault::BadAmount(2)),
-    (b"name,1AJ\na, \n", HouseholdFault::BadAmount(2)),
-    (b"name,1AJ,C08\na,,1.\n", HouseholdFault::BadAmount(2)),
-    (b"name,1AJ\n\n\na,1\n\nb,x\nc", HouseholdFault::BadAmount(3)),
+static REFUSED: [(&str, HouseholdFault); 32] = [
+    ("", HouseholdFault::BadHeader),
+    ("\n\r\n", HouseholdFault::BadHeader),
+    ("Name,1AJ\n", HouseholdFault::BadHeader),
+    ("name ,1AJ\n", HouseholdFault::BadHeader),
+    (",1AJ\n", HouseholdFault::BadHeader),
+    ("code,amount\n", HouseholdFault::BadHeader),
+    ("1AJ,name\n", HouseholdFault::BadHeader),
+    ("nom,9ZZ\n", HouseholdFault::BadHeader),
+    ("name,9ZZ\n", HouseholdFault::UnknownCode(1)),
+    ("name,\n", HouseholdFault::UnknownCode(1)),
+    ("name,1AJ,\n", HouseholdFault::UnknownCode(1)),
+    ("name, 1AJ\n", HouseholdFault::UnknownCode(1)),
+    ("name,name\n", HouseholdFault::UnknownCode(1)),
+    ("name,1AJ,1AJ\n", HouseholdFault::CodeTwice(1)),
+    ("name,1AJ,C08,1AJ\na", HouseholdFault::CodeTwice(1)),
+    ("name,1AJ,9ZZ,1AJ\n", HouseholdFault::UnknownCode(1)),
+    ("name,1AJ,1AJ,9ZZ\n", HouseholdFault::CodeTwice(1)),
+    ("name,1AJ\na\n", HouseholdFault::BadRow(2)),
+    ("name,1AJ\na,1,2\n", HouseholdFault::BadRow(2)),
+    ("name\na,\n", HouseholdFault::BadRow(2)),
+    ("name,1AJ\n,1\n", HouseholdFault::BadRow(2)),
+    ("name,1AJ\na\tb,1\n", HouseholdFault::BadRow(2)),
+    ("name,1AJ\n\x1f,1\n", HouseholdFault::BadRow(2)),
+    ("name,1AJ\n\"a\nb\",1\n", HouseholdFault::BadRow(2)),
+    ("name,1AJ\n\0,1\n", HouseholdFault::BadRow(2)),
+    ("name,1AJ\na,1\nb,2\nc\n", HouseholdFault::BadRow(4)),
+    ("name,1AJ\na,x\n", HouseholdFault::BadAmount(2)),
+    ("name,1AJ\na, \n", HouseholdFault::BadAmount(2)),
+    ("name,1AJ,C08\na,,1.\n", HouseholdFault::BadAmount(2)),
+    ("name,1AJ\n\n\na,1\n\nb,x\nc", HouseholdFault::BadAmount(3)),
     // several faults in one record, and in several
-    (b"name,1AJ,C08\n,x\n", HouseholdFault::BadRow(2)),
-    (b"name,1AJ\n,x\n", HouseholdFault::BadRow(2)),
+    ("name,1AJ,C08\n,x\n", HouseholdFault::BadRow(2)),
+    ("name,1AJ\n,x\n", HouseholdFault::BadRow(2)),
 ];
 
 #[test]

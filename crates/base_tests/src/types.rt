@@ -37,15 +37,15 @@ fn all_fits() -> &'static [(u32, i128, bool)] {
     &FITS
 }
 
-fn all_households() -> &'static [(&'static [u8], &'static [(u32, i128)])] {
+fn all_households() -> &'static [(&'static str, &'static [(u32, i128)])] {
     &HOUSEHOLDS
 }
 
-fn all_refused() -> &'static [(&'static [u8], HouseholdFault)] {
+fn all_refused() -> &'static [(&'static str, HouseholdFault)] {
     &REFUSED
 }
 
-fn all_refused_tables() -> &'static [(&'static [u8], HouseholdFault)] {
+fn all_refused_tables() -> &'static [(&'static str, HouseholdFault)] {
     &REFUSED_TABLES
 }
 
@@ -74,17 +74,17 @@ fn amounts_that_fit(rt: HostRuntime) -> Result<(), Fail> {
 }
 
 /// Households, and the inputs and millionths of their pairs.
-static HOUSEHOLDS: [(&[u8], &[(u32, i128)]); 6] = [
+static HOUSEHOLDS: [(&str, &[(u32, i128)]); 6] = [
     (
-        b"code,amount\n1AJ,3\nC08,1\n2AA,2.5\n",
+        "code,amount\n1AJ,3\nC08,1\n2AA,2.5\n",
         &[(0, 3_000_000), (1, 1_000_000), (2, 2_500_000)],
     ),
-    (b"code,amount\nC08,0\n1AJ,-7", &[(1, 0), (0, -7_000_000)]),
-    (b"code,amount\n1AJ,2.0000004", &[(0, 2_000_000)]),
-    (b"code,amount\nC08,-0", &[(1, 0)]),
-    (b"code,amount\nC08,0.9999995", &[(1, 1_000_000)]),
+    ("code,amount\nC08,0\n1AJ,-7", &[(1, 0), (0, -7_000_000)]),
+    ("code,amount\n1AJ,2.0000004", &[(0, 2_000_000)]),
+    ("code,amount\nC08,-0", &[(1, 0)]),
+    ("code,amount\nC08,0.9999995", &[(1, 1_000_000)]),
     (
-        b"code,amount\n1AJ,10000000000000",
+        "code,amount\n1AJ,10000000000000",
         &[(0, 10_000_000_000_000_000_000)],
     ),
 ];
@@ -96,43 +96,40 @@ fn households(rt: HostRuntime) -> Result<(), Fail> {
 }
 
 /// Refused households, and the first fault of each.
-static REFUSED: [(&[u8], HouseholdFault); 17] = [
-    (b"code,amount\n1AJ,2500.5\n", HouseholdFault::NotOfType(2)),
+static REFUSED: [(&str, HouseholdFault); 17] = [
+    ("code,amount\n1AJ,2500.5\n", HouseholdFault::NotOfType(2)),
+    ("code,amount\n1AJ,-0.000001\n", HouseholdFault::NotOfType(2)),
+    ("code,amount\nC08,2\n", HouseholdFault::NotOfType(2)),
+    ("code,amount\nC08,-1\n", HouseholdFault::NotOfType(2)),
+    ("code,amount\nC08,0.5\n", HouseholdFault::NotOfType(2)),
+    ("code,amount\nC08,1.000001\n", HouseholdFault::NotOfType(2)),
     (
-        b"code,amount\n1AJ,-0.000001\n",
-        HouseholdFault::NotOfType(2),
-    ),
-    (b"code,amount\nC08,2\n", HouseholdFault::NotOfType(2)),
-    (b"code,amount\nC08,-1\n", HouseholdFault::NotOfType(2)),
-    (b"code,amount\nC08,0.5\n", HouseholdFault::NotOfType(2)),
-    (b"code,amount\nC08,1.000001\n", HouseholdFault::NotOfType(2)),
-    (
-        b"code,amount\n2AA,2.5\n1AJ,2.5\n",
+        "code,amount\n2AA,2.5\n1AJ,2.5\n",
         HouseholdFault::NotOfType(3),
     ),
     // what comes before it in a record
-    (b"code,amount\n1AJ,2.5,3\n", HouseholdFault::BadRow(2)),
-    (b"code,amount\n9ZZ,2.5\n", HouseholdFault::UnknownCode(2)),
-    (b"code,amount\n1AJ,2.5x\n", HouseholdFault::BadAmount(2)),
+    ("code,amount\n1AJ,2.5,3\n", HouseholdFault::BadRow(2)),
+    ("code,amount\n9ZZ,2.5\n", HouseholdFault::UnknownCode(2)),
+    ("code,amount\n1AJ,2.5x\n", HouseholdFault::BadAmount(2)),
     // and after it
     (
-        b"code,amount\n1AJ,1\n1AJ,2.5\n",
+        "code,amount\n1AJ,1\n1AJ,2.5\n",
         HouseholdFault::NotOfType(3),
     ),
-    (b"code,amount\n1AJ,1\n1AJ,2\n", HouseholdFault::CodeTwice(3)),
+    ("code,amount\n1AJ,1\n1AJ,2\n", HouseholdFault::CodeTwice(3)),
     // faults of other records
     (
-        b"code,amount\n1AJ,2.5\n9ZZ,1\n",
+        "code,amount\n1AJ,2.5\n9ZZ,1\n",
         HouseholdFault::NotOfType(2),
     ),
-    (b"code,amount\n1AJ,2.5\n1AJ\n", HouseholdFault::NotOfType(2)),
+    ("code,amount\n1AJ,2.5\n1AJ\n", HouseholdFault::NotOfType(2)),
     (
-        b"code,amount\n9ZZ,1\n1AJ,2.5\n",
+        "code,amount\n9ZZ,1\n1AJ,2.5\n",
         HouseholdFault::UnknownCode(2),
     ),
-    (b"code,amount\n1AJ,x\nC08,2\n", HouseholdFault::BadAmount(2)),
+    ("code,amount\n1AJ,x\nC08,2\n", HouseholdFault::BadAmount(2)),
     (
-        b"code,amount\n\n\nC08,1\n\n1AJ,.5\n",
+        "code,amount\n\n\nC08,1\n\n1AJ,.5\n",
         HouseholdFault::BadAmount(3),
     ),
 ];
@@ -153,28 +150,28 @@ fn tables(rt: HostRuntime) -> Result<(), Fail> {
 }
 
 /// Refused tables, and the first fault of each.
-static REFUSED_TABLES: [(&[u8], HouseholdFault); 12] = [
-    (b"name,1AJ\na,2.5\n", HouseholdFault::NotOfType(2)),
-    (b"name,C08\na,1\nb,2\n", HouseholdFault::NotOfType(3)),
-    (b"name,C08,1AJ\na,2,2.5\n", HouseholdFault::NotOfType(2)),
+static REFUSED_TABLES: [(&str, HouseholdFault); 12] = [
+    ("name,1AJ\na,2.5\n", HouseholdFault::NotOfType(2)),
+    ("name,C08\na,1\nb,2\n", HouseholdFault::NotOfType(3)),
+    ("name,C08,1AJ\na,2,2.5\n", HouseholdFault::NotOfType(2)),
     (
-        b"name,2AA,1AJ\na,2.5,\nb,2.5,2.5\n",
+        "name,2AA,1AJ\na,2.5,\nb,2.5,2.5\n",
         HouseholdFault::NotOfType(3),
     ),
     // a bad amount anywhere in the record comes first
-    (b"name,1AJ,2AA\na,2.5,x\n", HouseholdFault::BadAmount(2)),
-    (b"name,2AA,1AJ\na,x,2.5\n", HouseholdFault::BadAmount(2)),
+    ("name,1AJ,2AA\na,2.5,x\n", HouseholdFault::BadAmount(2)),
+    ("name,2AA,1AJ\na,x,2.5\n", HouseholdFault::BadAmount(2)),
     (
-        b"name,1AJ,C08\na,3,1\nb,2.5,x\nc\n",
+        "name,1AJ,C08\na,3,1\nb,2.5,x\nc\n",
         HouseholdFault::BadAmount(3),
     ),
     // and so does a bad row
-    (b"name,1AJ,C08\na,2.5,1,\n", HouseholdFault::BadRow(2)),
-    (b"name,1AJ\n,2.5\n", HouseholdFault::BadRow(2)),
+    ("name,1AJ,C08\na,2.5,1,\n", HouseholdFault::BadRow(2)),
+    ("name,1AJ\n,2.5\n", HouseholdFault::BadRow(2)),
     // faults of other records
-    (b"name,1AJ\na,2.5\nb,x\n", HouseholdFault::NotOfType(2)),
-    (b"name,1AJ\na,2.5\nb\n", HouseholdFault::NotOfType(2)),
-    (b"name,1AJ,1AJ\na,2.5,x\n", HouseholdFault::CodeTwice(1)),
+    ("name,1AJ\na,2.5\nb,x\n", HouseholdFault::NotOfType(2)),
+    ("name,1AJ\na,2.5\nb\n", HouseholdFault::NotOfType(2)),
+    ("name,1AJ,1AJ\na,2.5,x\n", HouseholdFault::CodeTwice(1)),
 ];
 
 #[test]

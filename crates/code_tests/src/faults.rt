@@ -26,49 +26,49 @@ static CHANGED: [(&[u8], u32, CodeFault); 12] = [
 ];
 
 /// Lines that can't stand in place of the example's line of this number.
-static NO_LINES: [(&[u8], u32); 39] = [
-    (b"slots 4294967296\n", 2),
-    (b"slots 00\n", 2),
-    (b"slots -1\n", 2),
-    (b"slots 1 \n", 2),
-    (b"slots 1\r\n", 2),
-    (b"input regle\n", 3),
-    (b"input 12\n", 3),
-    (b"input 1AJ real\n", 3),
-    (b"input 1AJ whole \n", 3),
-    (b"label verif 2000 A20 anomalie\n", 3),
-    (b"label verif 2000 A20 anomalie \n", 3),
-    (b"label verif 2000 A20 anomalie 4\n", 3),
-    (b"label verif 2000 A20 anomalie 4A\n", 3),
-    (b"label verif 2000 a20 anomalie 41\n", 3),
-    (b"label verif 2000 X anomalie 41\n", 3),
-    (b"label verif 1234567890 A20 anomalie 41\n", 3),
-    (b"label driver 4294967296\n", 3),
-    (b"note 0\n", 3),
-    (b"output irn\n", 4),
-    (b"output X\n", 4),
-    (b"output T[1024]\n", 4),
-    (b"output T[01]\n", 4),
-    (b"output T[1] \n", 4),
-    (b"lit 1 10000000000000000001\n", 7),
-    (b"lit 1 -0\n", 7),
-    (b"lit 1 +1\n", 7),
+static NO_LINES: [(&str, u32); 39] = [
+    ("slots 4294967296\n", 2),
+    ("slots 00\n", 2),
+    ("slots -1\n", 2),
+    ("slots 1 \n", 2),
+    ("slots 1\r\n", 2),
+    ("input regle\n", 3),
+    ("input 12\n", 3),
+    ("input 1AJ real\n", 3),
+    ("input 1AJ whole \n", 3),
+    ("label verif 2000 A20 anomalie\n", 3),
+    ("label verif 2000 A20 anomalie \n", 3),
+    ("label verif 2000 A20 anomalie 4\n", 3),
+    ("label verif 2000 A20 anomalie 4A\n", 3),
+    ("label verif 2000 a20 anomalie 41\n", 3),
+    ("label verif 2000 X anomalie 41\n", 3),
+    ("label verif 1234567890 A20 anomalie 41\n", 3),
+    ("label driver 4294967296\n", 3),
+    ("note 0\n", 3),
+    ("output irn\n", 4),
+    ("output X\n", 4),
+    ("output T[1024]\n", 4),
+    ("output T[01]\n", 4),
+    ("output T[1] \n", 4),
+    ("lit 1 10000000000000000001\n", 7),
+    ("lit 1 -0\n", 7),
+    ("lit 1 +1\n", 7),
     (
-        b"lit 1 999999999999999999999999999999999999999999999999999999999999\n",
+        "lit 1 999999999999999999999999999999999999999999999999999999999999\n",
         7,
     ),
-    (b"lit 16 0\n", 7),
-    (b"lit 1  0\n", 7),
-    (b"lit 1\n", 7),
-    (b"in 0 1\n", 7),
-    (b"in 0 4294967296\n", 7),
-    (b"do 0 neg 0 0\n", 7),
-    (b"do 0 choose 0 0\n", 7),
-    (b"do 0 plus 0 0\n", 7),
-    (b"st 0 0\n", 7),
-    (b"out 1 0\n", 7),
-    (b"co 0 0 0\n", 7),
-    (b"code\n", 7),
+    ("lit 16 0\n", 7),
+    ("lit 1  0\n", 7),
+    ("lit 1\n", 7),
+    ("in 0 1\n", 7),
+    ("in 0 4294967296\n", 7),
+    ("do 0 neg 0 0\n", 7),
+    ("do 0 choose 0 0\n", 7),
+    ("do 0 plus 0 0\n", 7),
+    ("st 0 0\n", 7),
+    ("out 1 0\n", 7),
+    ("co 0 0 0\n", 7),
+    ("code\n", 7),
 ];
 
 /// Notes stand before names, and tell verifications.
@@ -96,7 +96,7 @@ fn all_changed() -> &'static [(&'static [u8], u32, CodeFault)] {
     &CHANGED
 }
 
-fn all_no_lines() -> &'static [(&'static [u8], u32)] {
+fn all_no_lines() -> &'static [(&'static str, u32)] {
     &NO_LINES
 }
 
@@ -205,6 +205,7 @@ fn notes_stand_first(rt: HostRuntime) -> Result<(), Fail> {
 #[test]
 fn forms_that_are_no_lines(rt: HostRuntime) -> Result<(), Fail> {
     for (line, at) in all_no_lines() {
+        let line = line.as_bytes();
         if !is_changed(rt.alloc(), line, *at, CodeFault::BadLine(*at)) {
             return Err(other_at(rt.alloc(), line));
         }

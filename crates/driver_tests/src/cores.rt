@@ -18,113 +18,110 @@ use std::test::Fail;
 // Drivers over the computed A (cell 0), the table T of 3 cells (1 to 3), the constant C (4), and the inputs P, Q and R (5 to 7)
 // with `avfisc` 1, 2 and 3. A driver is shown by its functions, each with its commands; a star stands before the one that runs. Where
 // more names stand left of `<-` than cells, they are counted.
-static CORES: [(&[u8], &[u8]); 16] = [
-    (b"main():\n  A = T[2]\n", b"*main{2: 0 = 3}"),
+static CORES: [(&str, &str); 16] = [
+    ("main():\n  A = T[2]\n", "*main{2: 0 = 3}"),
     (
-        b"f():\n  A = 1\n\nmain():\n  A, T[0] <- f()\n  P <- call_m()\n  del T[1]\n",
-        b"f{2: 0 = 1}*main{5: 0 1 from 0}{6: 5 from rules}{7: del 2}",
+        "f():\n  A = 1\n\nmain():\n  A, T[0] <- f()\n  P <- call_m()\n  del T[1]\n",
+        "f{2: 0 = 1}*main{5: 0 1 from 0}{6: 5 from rules}{7: del 2}",
     ),
     (
-        b"main():\n  A <- f()\nf():\n  A <- g()\ng():\n  A = C\n",
-        b"*main{2: 0 from 1}f{4: 0 from 2}g{6: 0 = 4}",
+        "main():\n  A <- f()\nf():\n  A <- g()\ng():\n  A = C\n",
+        "*main{2: 0 from 1}f{4: 0 from 2}g{6: 0 = 4}",
     ),
     (
-        b"main():\n  T[1], A, T[1], A <- call_m()\n",
-        b"*main{2 of 4 names: 0 2 from rules}",
+        "main():\n  T[1], A, T[1], A <- call_m()\n",
+        "*main{2 of 4 names: 0 2 from rules}",
     ),
     (
-        b"f():\n  A = 1\nmain():\n  P, A, P <- f()\n",
-        b"f{2: 0 = 1}*main{4 of 3 names: 0 5 from 0}",
+        "f():\n  A = 1\nmain():\n  P, A, P <- f()\n",
+        "f{2: 0 = 1}*main{4 of 3 names: 0 5 from 0}",
     ),
-    (b"main():\n  A = -T[0]\n", b"*main{2: 0 = (Neg 1)}"),
-    (b"main():\n  A = not present(P)\n", b"*main{2: 0 = (Not .)}"),
+    ("main():\n  A = -T[0]\n", "*main{2: 0 = (Neg 1)}"),
+    ("main():\n  A = not present(P)\n", "*main{2: 0 = (Not .)}"),
     (
-        b"main():\n  A = P - 1.5 + T[1]\n",
-        b"*main{2: 0 = [5 Sub 1.5 Add 2]}",
+        "main():\n  A = P - 1.5 + T[1]\n",
+        "*main{2: 0 = [5 Sub 1.5 Add 2]}",
     ),
-    (b"main():\n  A = cast(Q)\n", b"*main{2: 0 = [6 Add 0]}"),
-    (b"main():\n  A = P >= R\n", b"*main{2: 0 = (Ge 5 7)}"),
+    ("main():\n  A = cast(Q)\n", "*main{2: 0 = [6 Add 0]}"),
+    ("main():\n  A = P >= R\n", "*main{2: 0 = (Ge 5 7)}"),
     (
-        b"main():\n  A = exists(taxbenefit)\n",
-        b"*main{2: 0 = one of 5 6}",
-    ),
-    (
-        b"main():\n  A = exists(avfisc = 3, 4, 1, 3)\n",
-        b"*main{2: 0 = one of 5 7}",
+        "main():\n  A = exists(taxbenefit)\n",
+        "*main{2: 0 = one of 5 6}",
     ),
     (
-        b"main():\n  A = exists(avfisc = 4)\n",
-        b"*main{2: 0 = one of}",
+        "main():\n  A = exists(avfisc = 3, 4, 1, 3)\n",
+        "*main{2: 0 = one of 5 7}",
     ),
     (
-        b"main():\n  partition with avfisc = 2:\n    A = 1\n    T[0] = A\n",
-        b"*main{2: without 6 {3: 0 = 1}{4: 1 = 0}}",
+        "main():\n  A = exists(avfisc = 4)\n",
+        "*main{2: 0 = one of}",
     ),
     (
-        b"main():\n  if P:\n    A = 1\n  else:\n    del A\n    A = 2\n",
-        b"*main{2: if 5 {3: 0 = 1} else {5: del 0}{6: 0 = 2}}",
+        "main():\n  partition with avfisc = 2:\n    A = 1\n    T[0] = A\n",
+        "*main{2: without 6 {3: 0 = 1}{4: 1 = 0}}",
     ),
     (
-        b"main():\n  if P:\n    A = 1\n",
-        b"*main{2: if 5 {3: 0 = 1} else }",
+        "main():\n  if P:\n    A = 1\n  else:\n    del A\n    A = 2\n",
+        "*main{2: if 5 {3: 0 = 1} else {5: del 0}{6: 0 = 2}}",
+    ),
+    (
+        "main():\n  if P:\n    A = 1\n",
+        "*main{2: if 5 {3: 0 = 1} else }",
     ),
 ];
 
 // Drivers over the same, and why each is refused.
-static FAULTS: [(&[u8], &[u8]); 26] = [
-    (b"", b"no main"),
-    (b"f():\n  A = 1\n", b"no main"),
-    (b"Main():\n  A = 1\n", b"no main"),
+static FAULTS: [(&str, &str); 26] = [
+    ("", "no main"),
+    ("f():\n  A = 1\n", "no main"),
+    ("Main():\n  A = 1\n", "no main"),
+    ("main():\n  A = 1\nmain():\n  A = 2\n", "line 3 twice main"),
     (
-        b"main():\n  A = 1\nmain():\n  A = 2\n",
-        b"line 3 twice main",
+        "f():\n  A = 1\n\nf():\n  A = 2\nf():\n  A = 3\n",
+        "line 4 twice f",
+    ),
+    ("call_m():\n  A = 1\n", "line 1 twice call_m"),
+    (
+        "main():\n  A = B\nf():\n  A = 1\nf():\n  A = 2\n",
+        "line 5 twice f",
+    ),
+    ("f():\n  A = B\n", "no main"),
+    ("main():\n  A = B\n", "line 2 unknown B"),
+    ("main():\n  B = C\n", "line 2 unknown B"),
+    ("main():\n  A = 1AJ\n", "line 2 unknown 1AJ"),
+    ("main():\n  A = T\n", "line 2 unknown T"),
+    ("main():\n  A = T[3]\n", "line 2 unknown T"),
+    ("main():\n  A = C[0]\n", "line 2 unknown C"),
+    ("main():\n  C[0] = 1\n", "line 2 unknown C"),
+    ("main():\n  A = f\nf():\n  A = 1\n", "line 2 unknown f"),
+    ("main():\n  A <- B()\n", "line 2 unknown B"),
+    ("main():\n  A, C <- g()\n", "line 2 target C"),
+    ("main():\n  A, B, C <- g()\n", "line 2 unknown B"),
+    ("main():\n  C = B\n", "line 2 target C"),
+    ("main():\n  del C\n", "line 2 target C"),
+    ("main():\n  C <- call_m()\n", "line 2 target C"),
+    (
+        "main():\n  if A:\n    A = 1\n  else:\n    A = D\n  C = 1\n",
+        "line 5 unknown D",
+    ),
+    ("main():\n  A <- main()\n", "ring main"),
+    (
+        "main():\n  A <- f()\nf():\n  A <- g()\ng():\n  A <- f()\n",
+        "ring f g",
     ),
     (
-        b"f():\n  A = 1\n\nf():\n  A = 2\nf():\n  A = 3\n",
-        b"line 4 twice f",
-    ),
-    (b"call_m():\n  A = 1\n", b"line 1 twice call_m"),
-    (
-        b"main():\n  A = B\nf():\n  A = 1\nf():\n  A = 2\n",
-        b"line 5 twice f",
-    ),
-    (b"f():\n  A = B\n", b"no main"),
-    (b"main():\n  A = B\n", b"line 2 unknown B"),
-    (b"main():\n  B = C\n", b"line 2 unknown B"),
-    (b"main():\n  A = 1AJ\n", b"line 2 unknown 1AJ"),
-    (b"main():\n  A = T\n", b"line 2 unknown T"),
-    (b"main():\n  A = T[3]\n", b"line 2 unknown T"),
-    (b"main():\n  A = C[0]\n", b"line 2 unknown C"),
-    (b"main():\n  C[0] = 1\n", b"line 2 unknown C"),
-    (b"main():\n  A = f\nf():\n  A = 1\n", b"line 2 unknown f"),
-    (b"main():\n  A <- B()\n", b"line 2 unknown B"),
-    (b"main():\n  A, C <- g()\n", b"line 2 target C"),
-    (b"main():\n  A, B, C <- g()\n", b"line 2 unknown B"),
-    (b"main():\n  C = B\n", b"line 2 target C"),
-    (b"main():\n  del C\n", b"line 2 target C"),
-    (b"main():\n  C <- call_m()\n", b"line 2 target C"),
-    (
-        b"main():\n  if A:\n    A = 1\n  else:\n    A = D\n  C = 1\n",
-        b"line 5 unknown D",
-    ),
-    (b"main():\n  A <- main()\n", b"ring main"),
-    (
-        b"main():\n  A <- f()\nf():\n  A <- g()\ng():\n  A <- f()\n",
-        b"ring f g",
-    ),
-    (
-        b"g():\n  A <- main()\nmain():\n  A <- h()\nh():\n  A <- g()\nk():\n  A <- k()\n",
-        b"ring g main h",
+        "g():\n  A <- main()\nmain():\n  A <- h()\nh():\n  A <- g()\nk():\n  A <- k()\n",
+        "ring g main h",
     ),
 ];
 
 // The tables, out of reach of the proofs of what goes over them.
 
-fn all_cores() -> &'static [(&'static [u8], &'static [u8])] {
+fn all_cores() -> &'static [(&'static str, &'static str)] {
     &CORES
 }
 
-fn all_faults() -> &'static [(&'static [u8], &'static [u8])] {
+fn all_faults() -> &'static [(&'static str, &'static str)] {
     &FAULTS
 }
 
@@ -214,12 +211,13 @@ fn is_shown(alloc: Global, text: &[u8], symbols: &Symbols, wanted: &[u8]) -> boo
 // Fails at the first of these texts that isn't shown so.
 fn check_all(
     alloc: Global,
-    rows: &[(&'static [u8], &'static [u8])],
+    rows: &[(&'static str, &'static str)],
     symbols: &Symbols,
 ) -> Result<(), Fail>
     requires { IsPlaced symbols.now }
 {
     for (text, wanted) in rows {
+        let (text, wanted) = (text.as_bytes(), wanted.as_bytes());
         if !is_shown(alloc, text, symbols, wanted) {
             return Err(other_at(alloc, text));
         }

@@ -10,102 +10,102 @@ use std::test::Fail;
 
 // Texts that begin with a declaration; the declaration as `add_item` shows it; the byte and the line of its first token;
 // and how many tokens it has.
-static DECLARATIONS: [(&[u8], &[u8], u32, u32, usize); 21] = [
+static DECLARATIONS: [(&str, &str, u32, u32, usize); 21] = [
     (
-        b"REV : saisie revenu classe = 0 alias 1AJ : \"s\" ;",
-        b"REV input 1AJ revenu classe=0",
+        "REV : saisie revenu classe = 0 alias 1AJ : \"s\" ;",
+        "REV input 1AJ revenu classe=0",
         0,
         1,
         12,
     ),
     (
-        b"\n REV : saisie alias 1AJ : \"s\" type REEL ; IRN",
-        b"REV input 1AJ type REEL",
+        "\n REV : saisie alias 1AJ : \"s\" type REEL ; IRN",
+        "REV input 1AJ type REEL",
         2,
         2,
         10,
     ),
-    (b"REV:saisie alias REV:\"\";", b"REV input REV", 0, 1, 8),
+    ("REV:saisie alias REV:\"\";", "REV input REV", 0, 1, 8),
     (
-        b"A : saisie b c = -1.5 restituee d = 2 e = -0 alias F : \"g\" type H ;",
-        b"A input F b restituee c=-1500000 d=2000000 e=0 type H",
+        "A : saisie b c = -1.5 restituee d = 2 e = -0 alias F : \"g\" type H ;",
+        "A input F b restituee c=-1500000 d=2000000 e=0 type H",
         0,
         1,
         23,
     ),
-    (b"IRN : calculee : \"n\" ;", b"IRN computed", 0, 1, 6),
+    ("IRN : calculee : \"n\" ;", "IRN computed", 0, 1, 6),
     (
-        b"IRN : calculee base restituee : \"n\" ;",
-        b"IRN computed base restituee",
+        "IRN : calculee base restituee : \"n\" ;",
+        "IRN computed base restituee",
         0,
         1,
         8,
     ),
     (
-        b"IRN : calculee avfisc = 1 : \"n\" type BOOLEEN ;",
-        b"IRN computed avfisc=1000000 type BOOLEEN",
+        "IRN : calculee avfisc = 1 : \"n\" type BOOLEEN ;",
+        "IRN computed avfisc=1000000 type BOOLEEN",
         0,
         1,
         11,
     ),
-    (b"T : tableau[3] calculee : \"t\" ;", b"T table 3", 0, 1, 10),
+    ("T : tableau[3] calculee : \"t\" ;", "T table 3", 0, 1, 10),
     (
-        b"T : tableau[010] calculee restituee : \"t\" ;",
-        b"T table 10 restituee",
+        "T : tableau[010] calculee restituee : \"t\" ;",
+        "T table 10 restituee",
         0,
         1,
         11,
     ),
     (
-        b"T : tableau[999999999] calculee : \"t\" ;",
-        b"T table 999999999",
+        "T : tableau[999999999] calculee : \"t\" ;",
+        "T table 999999999",
         0,
         1,
         10,
     ),
     (
-        b"SEUIL : const = 1000 ;",
-        b"SEUIL constant 1000000000",
+        "SEUIL : const = 1000 ;",
+        "SEUIL constant 1000000000",
         0,
         1,
         6,
     ),
-    (b"TX : const = -0.1 ;", b"TX constant -100000", 0, 1, 7),
-    (b"1A : const = 0 ; ; ;", b"1A constant 0", 0, 1, 6),
+    ("TX : const = -0.1 ;", "TX constant -100000", 0, 1, 7),
+    ("1A : const = 0 ; ; ;", "1A constant 0", 0, 1, 6),
     (
-        b"A20 : anomalie : \"A\" : \"20\" : \"00\" : \"revenu nul\" : \"N\" ;",
-        b"A20 anomalie <A> <20> <00> <revenu nul> <N>",
+        "A20 : anomalie : \"A\" : \"20\" : \"00\" : \"revenu nul\" : \"N\" ;",
+        "A20 anomalie <A> <20> <00> <revenu nul> <N>",
         0,
         1,
         14,
     ),
     (
-        b"E1 : discordance : \"E\" : \"1\" : \"0\" : \"negative\" ;",
-        b"E1 discordance <E> <1> <0> <negative>",
+        "E1 : discordance : \"E\" : \"1\" : \"0\" : \"negative\" ;",
+        "E1 discordance <E> <1> <0> <negative>",
         0,
         1,
         12,
     ),
     (
-        b"I : informative : \"\" : \"a:b\" : \"\n\" : \"\" : \"\" ; \"\"",
-        b"I informative <> <a:b> <\n> <> <>",
+        "I : informative : \"\" : \"a:b\" : \"\n\" : \"\" : \"\" ; \"\"",
+        "I informative <> <a:b> <\n> <> <>",
         0,
         1,
         14,
     ),
-    (b"application iliad ;", b"silent", 0, 1, 3),
-    (b"# a\n\tapplication Iliad ; b", b"silent", 5, 2, 3),
-    (b"enchaineur ench application : iliad ;", b"silent", 0, 1, 6),
+    ("application iliad ;", "silent", 0, 1, 3),
+    ("# a\n\tapplication Iliad ; ", "silent", 5, 2, 3),
+    ("enchaineur ench application : iliad ;", "silent", 0, 1, 6),
     (
-        b"enchaineur ench application : iliad , batch ;",
-        b"silent",
+        "enchaineur ench application : iliad , batch ;",
+        "silent",
         0,
         1,
         8,
     ),
     (
-        b"A : calculee : \"t\" ; B : calculee : \"t\" ;",
-        b"A computed",
+        "A : calculee : \"t\" ; B : calculee : \"t\" ;",
+        "A computed",
         0,
         1,
         6,
@@ -113,48 +113,48 @@ static DECLARATIONS: [(&[u8], &[u8], u32, u32, usize); 21] = [
 ];
 
 // Texts that begin with none.
-static NONE: [&[u8]; 41] = [
-    b"",
-    b";",
-    b"A = 1 ;",
-    b"T[1] = 1 ;",
-    b"regle 1 : application : iliad ; A = 1 ;",
-    b"verif 1 : application : iliad ; si A alors erreur E ;",
-    b"Rev : const = 1 ;",
-    b"REVi : calculee : \"s\" ;",
-    b"X : calculee : \"s\" ;",
-    b"12 : calculee : \"s\" ;",
-    b"A const = 1 ;",
-    b"A : const 1 ;",
-    b"A : const = ;",
-    b"A : const = - - 1 ;",
-    b"A : const = B ;",
-    b"A : const = 1",
-    b"A : const = 1 : \"t\" ;",
-    b"REV : saisie revenu classe = 0 : \"s\" ;",
-    b"REV : saisie alias : \"s\" ;",
-    b"REV : saisie alias 1 : \"s\" ;",
-    b"REV : saisie alias 1AJ ;",
-    b"REV : saisie alias 1AJ : s ;",
-    b"REV : saisie alias 1AJ restituee : \"s\" ;",
-    b"REV : tableau[3] saisie alias 1AJ : \"s\" ;",
-    b"IRN : calculee alias 1AJ : \"s\" ;",
-    b"IRN : calculee classe = : \"s\" ;",
-    b"IRN : calculee classe = a : \"s\" ;",
-    b"IRN : calculee 1 : \"s\" ;",
-    b"IRN : calculee : \"s\" type ;",
-    b"IRN : calculee : \"s\" type REEL",
-    b"T : tableau[1234567890] calculee : \"t\" ;",
-    b"T : tableau[3.0] calculee : \"t\" ;",
-    b"T : tableau[N] calculee : \"t\" ;",
-    b"T : tableau 3 calculee : \"t\" ;",
-    b"E : anomalie : \"A\" : \"1\" : \"0\" ;",
-    b"E : anomalie : \"A\" : \"1\" : \"0\" : \"b\" : \"N\" : \"\" ;",
-    b"E : anomalie \"A\" : \"1\" : \"0\" : \"b\" ;",
-    b"E : erreur : \"A\" : \"1\" : \"0\" : \"b\" ;",
-    b"application : iliad ;",
-    b"enchaineur ench ;",
-    b"enchaineur ench application : iliad , ;",
+static NONE: [&str; 41] = [
+    "",
+    ";",
+    "A = 1 ;",
+    "T[1] = 1 ;",
+    "regle 1 : application : iliad ; A = 1 ;",
+    "verif 1 : application : iliad ; si A alors erreur E ;",
+    "Rev : const = 1 ;",
+    "REVi : calculee : \"s\" ;",
+    "X : calculee : \"s\" ;",
+    "12 : calculee : \"s\" ;",
+    "A const = 1 ;",
+    "A : const 1 ;",
+    "A : const = ;",
+    "A : const = - - 1 ;",
+    "A : const = B ;",
+    "A : const = 1",
+    "A : const = 1 : \"t\" ;",
+    "REV : saisie revenu classe = 0 : \"s\" ;",
+    "REV : saisie alias : \"s\" ;",
+    "REV : saisie alias 1 : \"s\" ;",
+    "REV : saisie alias 1AJ ;",
+    "REV : saisie alias 1AJ : s ;",
+    "REV : saisie alias 1AJ restituee : \"s\" ;",
+    "REV : tableau[3] saisie alias 1AJ : \"s\" ;",
+    "IRN : calculee alias 1AJ : \"s\" ;",
+    "IRN : calculee classe = : \"s\" ;",
+    "IRN : calculee classe = a : \"s\" ;",
+    "IRN : calculee 1 : \"s\" ;",
+    "IRN : calculee : \"s\" type ;",
+    "IRN : calculee : \"s\" type REEL",
+    "T : tableau[1234567890] calculee : \"t\" ;",
+    "T : tableau[3.0] calculee : \"t\" ;",
+    "T : tableau[N] calculee : \"t\" ;",
+    "T : tableau 3 calculee : \"t\" ;",
+    "E : anomalie : \"A\" : \"1\" : \"0\" ;",
+    "E : anomalie : \"A\" : \"1\" : \"0\" : \"b\" : \"N\" : \"\" ;",
+    "E : anomalie \"A\" : \"1\" : \"0\" : \"b\" ;",
+    "E : erreur : \"A\" : \"1\" : \"0\" : \"b\" ;",
+    "application : iliad ;",
+    "enchaineur ench ;",
+    "enchaineur ench application : iliad , ;",
 ];
 
 // Texts and the applications at their start, with the number of their tokens.
@@ -175,11 +175,11 @@ static NO_APPLICATIONS: [&[u8]; 5] = [
 
 // The tables, out of reach of the proofs of what goes over them.
 
-fn all_declarations() -> &'static [(&'static [u8], &'static [u8], u32, u32, usize)] {
+fn all_declarations() -> &'static [(&'static str, &'static str, u32, u32, usize)] {
     &DECLARATIONS
 }
 
-fn all_without() -> &'static [&'static [u8]] {
+fn all_without() -> &'static [&'static str] {
     &NONE
 }
 
@@ -302,6 +302,7 @@ fn is_no_item(alloc: Global, tokens: &[Token]) -> bool {
 #[test]
 fn declarations(rt: HostRuntime) -> Result<(), Fail> {
     for (text, wanted, byte, line, count) in all_declarations() {
+        let (text, wanted) = (text.as_bytes(), wanted.as_bytes());
         match tokens_of(rt.alloc(), text, 7) {
             Some(tokens) if is_read(rt.alloc(), &tokens, wanted, *byte, *line, *count) => {}
             _ => return Err(other_at(rt.alloc(), text)),
@@ -313,6 +314,7 @@ fn declarations(rt: HostRuntime) -> Result<(), Fail> {
 #[test]
 fn no_declarations(rt: HostRuntime) -> Result<(), Fail> {
     for text in all_without() {
+        let text = text.as_bytes();
         match tokens_of(rt.alloc(), text, 7) {
             Some(tokens) if is_no_item(rt.alloc(), &tokens) => {}
             _ => return Err(other_at(rt.alloc(), text)),

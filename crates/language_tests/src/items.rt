@@ -9,142 +9,134 @@ use std::alloc::Global;
 use std::test::Fail;
 
 // Texts that are lists of items. Each item is shown by a line, as `add_item` says; a place as its byte and its line.
-static LISTS: [(&[u8], &[u8]); 14] = [
-    (b"", b""),
-    (b"# nothing\n", b""),
-    (b"REV : saisie alias 1AJ : \"s\" ;", b"variable REV 0:1"),
+static LISTS: [(&str, &str); 14] = [
+    ("", ""),
+    ("# nothing\n", ""),
+    ("REV : saisie alias 1AJ : \"s\" ;", "variable REV 0:1"),
     (
-        b"IRN : calculee restituee : \"n\" ;\nT : tableau[3] calculee : \"t\" ;",
-        b"variable IRN 0:1\nvariable T 33:2",
+        "IRN : calculee restituee : \"n\" ;\nT : tableau[3] calculee : \"t\" ;",
+        "variable IRN 0:1\nvariable T 33:2",
     ),
-    (b"SEUIL : const = 1000 ;", b"variable SEUIL 0:1"),
+    ("SEUIL : const = 1000 ;", "variable SEUIL 0:1"),
     (
-        b"A20 : anomalie : \"A\" : \"20\" : \"00\" : \"revenu nul\" : \"N\" ;",
-        b"error A20 0:1",
-    ),
-    (
-        b"application iliad ; enchaineur ench application : iliad , batch ;",
-        b"silent 0:1\nsilent 20:1",
+        "A20 : anomalie : \"A\" : \"20\" : \"00\" : \"revenu nul\" : \"N\" ;",
+        "error A20 0:1",
     ),
     (
-        b"regle 11 : application : iliad ; IRN = REV ;",
-        b"rule 11 0:1 iliad | IRN 33:1 = REV",
+        "application iliad ; enchaineur ench application : iliad , batch ;",
+        "silent 0:1\nsilent 20:1",
     ),
     (
-        b"regle taux Corrective 010 : application : iliad , batch ; enchaineur : ench ; a = 1 ; B = -1 ;",
-        b"rule 010 0:1 iliad batch chained | a 78:1 = 1000000 | B 86:1 = term",
+        "regle 11 : application : iliad ; IRN = REV ;",
+        "rule 11 0:1 iliad | IRN 33:1 = REV",
     ),
     (
-        b"regle 1 : application : iliad ; pour i = V,C ; j = 1 : pour un k dans (1..3) : Tik = i ; U = 2 ;",
-        b"rule 1 0:1 iliad | pour2 pour1 Tik 79:1 = i | U 89:1 = 2000000",
+        "regle taux Corrective 010 : application : iliad , batch ; enchaineur : ench ; a = 1 ; B = -1 ;",
+        "rule 010 0:1 iliad batch chained | a 78:1 = 1000000 | B 86:1 = term",
     ),
     (
-        b"regle 1 : application : iliad ; T[X] = X ; T[007] = 2 ; T = 3 ;",
-        b"rule 1 0:1 iliad | T 32:1 [X] = X | T 43:1 [7] = 2000000 | T 56:1 = 3000000",
+        "regle 1 : application : iliad ; pour i = V,C ; j = 1 : pour un k dans (1..3) : Tik = i ; U = 2 ;",
+        "rule 1 0:1 iliad | pour2 pour1 Tik 79:1 = i | U 89:1 = 2000000",
     ),
     (
-        b"verif 21 : application : iliad ; si A alors erreur A20 ;",
-        b"verif 21 0:1 iliad | A20 33:1 = A",
+        "regle 1 : application : iliad ; T[X] = X ; T[007] = 2 ; T = 3 ;",
+        "rule 1 0:1 iliad | T 32:1 [X] = X | T 43:1 [7] = 2000000 | T 56:1 = 3000000",
     ),
     (
-        b"verif stricte 0021 : application : iliad ;\nsi A alors erreur A20 ;\nsi (B) alors erreur A21 taux base ;",
-        b"verif 0021 0:1 iliad | A20 43:2 = A | A21 67:3 = B",
+        "verif 21 : application : iliad ; si A alors erreur A20 ;",
+        "verif 21 0:1 iliad | A20 33:1 = A",
     ),
     (
-        b"regle 1 : application : iliad ; A = 1 ; B : const = 2 ; verif 1 : application : iliad ; si A alors erreur E ; regle 1 : application : iliad ; C = 3 ; application x ;",
-        b"rule 1 0:1 iliad | A 32:1 = 1000000\nvariable B 40:1\nverif 1 56:1 iliad | E 88:1 = A\nrule 1 110:1 iliad | C 142:1 = 3000000\nsilent 150:1",
+        "verif stricte 0021 : application : iliad ;\nsi A alors erreur A20 ;\nsi (B) alors erreur A21 taux base ;",
+        "verif 0021 0:1 iliad | A20 43:2 = A | A21 67:3 = B",
+    ),
+    (
+        "regle 1 : application : iliad ; A = 1 ; B : const = 2 ; verif 1 : application : iliad ; si A alors erreur E ; regle 1 : application : iliad ; C = 3 ; application x ;",
+        "rule 1 0:1 iliad | A 32:1 = 1000000\nvariable B 40:1\nverif 1 56:1 iliad | E 88:1 = A\nrule 1 110:1 iliad | C 142:1 = 3000000\nsilent 150:1",
     ),
 ];
 
 // Texts with a fault, and the byte and the line of its token.
-static FAULTS: [(&[u8], u32, u32); 38] = [
-    (b"regle 11", 0, 1),
-    (b"A : calculee : \"a\" ;\nregle 11", 21, 2),
-    (b"application iliad ; 12", 20, 1),
-    (b"application iliad ;\napplication iliad", 20, 2),
-    (b"regle 1 : application : iliad ; ", 0, 1),
-    (b"regle 1 : application : iliad ; A : const = 1 ;", 0, 1),
-    (b"regle 1 : application : iliad ; A = ;", 0, 1),
-    (b"regle 1 : application : iliad ; A = 1", 0, 1),
-    (b"regle 1 : application : iliad ; A[-1] = 1 ;", 0, 1),
-    (b"regle 1 : application : iliad ; A[1.0] = 1 ;", 0, 1),
-    (b"regle 1 : application : iliad ; A = 1 alors ;", 0, 1),
+static FAULTS: [(&str, u32, u32); 38] = [
+    ("regle 11", 0, 1),
+    ("A : calculee : \"a\" ;\nregle 11", 21, 2),
+    ("application iliad ; 12", 20, 1),
+    ("application iliad ;\napplication iliad", 20, 2),
+    ("regle 1 : application : iliad ; ", 0, 1),
+    ("regle 1 : application : iliad ; A : const = 1 ;", 0, 1),
+    ("regle 1 : application : iliad ; A = ;", 0, 1),
+    ("regle 1 : application : iliad ; A = 1", 0, 1),
+    ("regle 1 : application : iliad ; A[-1] = 1 ;", 0, 1),
+    ("regle 1 : application : iliad ; A[1.0] = 1 ;", 0, 1),
+    ("regle 1 : application : iliad ; A = 1 alors ;", 0, 1),
+    ("regle 1 : application : iliad ; pour I = 1 : A = 1 ;", 0, 1),
+    ("regle 1 : application : iliad ; pour i = 1 ; A = 1 ;", 0, 1),
     (
-        b"regle 1 : application : iliad ; pour I = 1 : A = 1 ;",
+        "regle 1 : application : iliad ; enchaineur : ; A = 1 ;",
         0,
         1,
     ),
+    ("regle 1 : application : iliad ; A == 1 ; ", 0, 1),
+    ("regle 1 : application : iliad ; A = 1 ; B + 2 ;", 40, 1),
     (
-        b"regle 1 : application : iliad ; pour i = 1 ; A = 1 ;",
-        0,
-        1,
-    ),
-    (
-        b"regle 1 : application : iliad ; enchaineur : ; A = 1 ;",
-        0,
-        1,
-    ),
-    (b"regle 1 : application : iliad ; A == 1 ; ", 0, 1),
-    (b"regle 1 : application : iliad ; A = 1 ; B + 2 ;", 40, 1),
-    (
-        b"regle 1 : application : iliad ; A = 1 ;\npour i = 1 : B = (2 ;",
+        "regle 1 : application : iliad ; A = 1 ;\npour i = 1 : B = (2 ;",
         40,
         2,
     ),
-    (b"regle 1 : application : iliad ; A = 1 ; B = 2", 40, 1),
+    ("regle 1 : application : iliad ; A = 1 ; B = 2", 40, 1),
     (
-        b"regle 1 : application : iliad ; A = 1 ; si A alors erreur E ;",
+        "regle 1 : application : iliad ; A = 1 ; si A alors erreur E ;",
         40,
         1,
     ),
     (
-        b"regle 1 : application : iliad ; A = 1 ; b : const = 2 ;",
+        "regle 1 : application : iliad ; A = 1 ; b : const = 2 ;",
         40,
         1,
     ),
     (
-        b"regle 1 : application : iliad ; A = 1 ; enchaineur : e ; B = 2 ;",
+        "regle 1 : application : iliad ; A = 1 ; enchaineur : e ; B = 2 ;",
         40,
         1,
     ),
-    (b"regle : application : iliad ; A = 1 ;", 0, 1),
-    (b"regle 1.0 : application : iliad ; A = 1 ;", 0, 1),
-    (b"regle 1234567890 : application : iliad ; A = 1 ;", 0, 1),
-    (b"regle 1 : application : iliad , ; A = 1 ;", 0, 1),
-    (b"regle 1 2 : application : iliad ; A = 1 ;", 0, 1),
-    (b"A = 1 ;", 0, 1),
-    (b"si A alors erreur E ;", 0, 1),
-    (b"verif 1 : application : iliad ; ", 0, 1),
-    (b"verif 1 : application : iliad ; A = 1 ;", 0, 1),
-    (b"verif 1 : application : iliad ; si A alors erreur ;", 0, 1),
-    (b"verif 1 : application : iliad ; si A alors erreur E", 0, 1),
-    (b"verif 1 : application : iliad ; si A alors E ;", 0, 1),
+    ("regle : application : iliad ; A = 1 ;", 0, 1),
+    ("regle 1.0 : application : iliad ; A = 1 ;", 0, 1),
+    ("regle 1234567890 : application : iliad ; A = 1 ;", 0, 1),
+    ("regle 1 : application : iliad , ; A = 1 ;", 0, 1),
+    ("regle 1 2 : application : iliad ; A = 1 ;", 0, 1),
+    ("A = 1 ;", 0, 1),
+    ("si A alors erreur E ;", 0, 1),
+    ("verif 1 : application : iliad ; ", 0, 1),
+    ("verif 1 : application : iliad ; A = 1 ;", 0, 1),
+    ("verif 1 : application : iliad ; si A alors erreur ;", 0, 1),
+    ("verif 1 : application : iliad ; si A alors erreur E", 0, 1),
+    ("verif 1 : application : iliad ; si A alors E ;", 0, 1),
     (
-        b"verif 1 : application : iliad ; si A sinon erreur E ;",
+        "verif 1 : application : iliad ; si A sinon erreur E ;",
         0,
         1,
     ),
     (
-        b"verif 1 : application : iliad ; si A alors erreur E ; si B alors erreur anomalie ;",
+        "verif 1 : application : iliad ; si A alors erreur E ; si B alors erreur anomalie ;",
         54,
         1,
     ),
     (
-        b"verif 1 : application : iliad ; si A alors erreur E ; A = 1 ;",
+        "verif 1 : application : iliad ; si A alors erreur E ; A = 1 ;",
         54,
         1,
     ),
-    (b"; application iliad ;", 0, 1),
-    (b"# c\n)", 4, 2),
+    ("; application iliad ;", 0, 1),
+    ("# c\n)", 4, 2),
 ];
 
 // The tables, out of reach of the proofs of what goes over them.
 
-fn all_lists() -> &'static [(&'static [u8], &'static [u8])] {
+fn all_lists() -> &'static [(&'static str, &'static str)] {
     &LISTS
 }
 
-fn all_faults() -> &'static [(&'static [u8], u32, u32)] {
+fn all_faults() -> &'static [(&'static str, u32, u32)] {
     &FAULTS
 }
 
@@ -289,6 +281,7 @@ fn place_at(byte: u32, line: u32) -> Place {
 #[test]
 fn lists_of_items(rt: HostRuntime) -> Result<(), Fail> {
     for (text, wanted) in all_lists() {
+        let (text, wanted) = (text.as_bytes(), wanted.as_bytes());
         match tokens_of(rt.alloc(), text, 3) {
             Some(tokens) if is_list(rt.alloc(), &tokens, wanted) => {}
             _ => return Err(other_at(rt.alloc(), text)),
@@ -300,6 +293,7 @@ fn lists_of_items(rt: HostRuntime) -> Result<(), Fail> {
 #[test]
 fn first_faults(rt: HostRuntime) -> Result<(), Fail> {
     for (text, byte, line) in all_faults() {
+        let text = text.as_bytes();
         let wanted = ParseFault::Syntax(place_at(*byte, *line));
         match tokens_of(rt.alloc(), text, 3) {
             Some(tokens) if is_fault(rt.alloc(), &tokens, wanted) => {}

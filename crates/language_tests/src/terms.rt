@@ -10,92 +10,92 @@ use std::test::Fail;
 
 // Texts with the term at their start and the position after it. A term is shown as a text: a name with the byte at which it
 // stands, an operator before its arguments in round brackets, a chain in square ones, and a header in curly ones.
-static TERMS: [(&[u8], &[u8], usize); 39] = [
-    (b"1.5 ;", b"1.5", 1),
-    (b"A ;", b"A@0", 1),
-    (b"X )", b"X@0", 1),
-    (b"T[X] ]", b"T@0[X@2]", 4),
-    (b"T[A + 1] ,", b"T@0[[A@2 Add 1]]", 6),
-    (b"(A) alors", b"A@1", 3),
-    (b"si A alors 1 sinon 2 finsi sinon", b"(Choose A@3 1 2)", 7),
-    (b"si A alors 1 finsi finsi", b"(Choose A@3 1 undefined)", 5),
-    (b"present(A) ;", b"(Present A@8)", 4),
-    (b"abs(A) ;", b"(Abs A@4)", 4),
-    (b"positif(A) ;", b"(Positive A@8)", 4),
-    (b"positif_ou_nul(A) ;", b"(PositiveOrNull A@15)", 4),
-    (b"null(A) ;", b"(Null A@5)", 4),
-    (b"arr(A) ;", b"(Arr A@4)", 4),
-    (b"inf(A) ;", b"(Inf A@4)", 4),
-    (b"max(A, 1) ;", b"(Max A@4 1)", 6),
-    (b"min(1, A) ;", b"(Min 1 A@7)", 6),
-    (b"somme(i = 1..3 : Ai) ;", b"({i@6 1..3} Ai@17)", 10),
+static TERMS: [(&str, &str, usize); 39] = [
+    ("1.5 ;", "1.5", 1),
+    ("A ;", "A@0", 1),
+    ("X )", "X@0", 1),
+    ("T[X] ]", "T@0[X@2]", 4),
+    ("T[A + 1] ,", "T@0[[A@2 Add 1]]", 6),
+    ("(A) alors", "A@1", 3),
+    ("si A alors 1 sinon 2 finsi sinon", "(Choose A@3 1 2)", 7),
+    ("si A alors 1 finsi finsi", "(Choose A@3 1 undefined)", 5),
+    ("present(A) ;", "(Present A@8)", 4),
+    ("abs(A) ;", "(Abs A@4)", 4),
+    ("positif(A) ;", "(Positive A@8)", 4),
+    ("positif_ou_nul(A) ;", "(PositiveOrNull A@15)", 4),
+    ("null(A) ;", "(Null A@5)", 4),
+    ("arr(A) ;", "(Arr A@4)", 4),
+    ("inf(A) ;", "(Inf A@4)", 4),
+    ("max(A, 1) ;", "(Max A@4 1)", 6),
+    ("min(1, A) ;", "(Min 1 A@7)", 6),
+    ("somme(i = 1..3 : Ai) ;", "({i@6 1..3} Ai@17)", 10),
     (
-        b"somme(un i dans V,C et un j dans (08..10) : Aij) ;",
-        b"({i@9 V..V C..C}{j@26 08..10} Aij@44)",
+        "somme(un i dans V,C et un j dans (08..10) : Aij) ;",
+        "({i@9 V..V C..C}{j@26 08..10} Aij@44)",
         20,
     ),
-    (b"-A ;", b"(Neg A@1)", 2),
-    (b"A - B - C ;", b"[A@0 Sub B@4 Sub C@8]", 5),
-    (b"A * -2 / C ;", b"[A@0 Mul (Neg 2) Div C@9]", 6),
-    (b"A + B * C ;", b"[A@0 Add [B@4 Mul C@8]]", 5),
-    (b"(A + B) * C ;", b"[[A@1 Add B@5] Mul C@10]", 7),
-    (b"A = B ;", b"(Eq A@0 B@4)", 3),
-    (b"A != B ;", b"(Ne A@0 B@5)", 3),
-    (b"A < B ;", b"(Lt A@0 B@4)", 3),
-    (b"A <= B ;", b"(Le A@0 B@5)", 3),
-    (b"A > B ;", b"(Gt A@0 B@4)", 3),
-    (b"A >= B + 1 ;", b"(Ge A@0 [B@5 Add 1])", 5),
-    (b"A dans (1) ;", b"(A@0 in 1..1)", 5),
+    ("-A ;", "(Neg A@1)", 2),
+    ("A - B - C ;", "[A@0 Sub B@4 Sub C@8]", 5),
+    ("A * -2 / C ;", "[A@0 Mul (Neg 2) Div C@9]", 6),
+    ("A + B * C ;", "[A@0 Add [B@4 Mul C@8]]", 5),
+    ("(A + B) * C ;", "[[A@1 Add B@5] Mul C@10]", 7),
+    ("A = B ;", "(Eq A@0 B@4)", 3),
+    ("A != B ;", "(Ne A@0 B@5)", 3),
+    ("A < B ;", "(Lt A@0 B@4)", 3),
+    ("A <= B ;", "(Le A@0 B@5)", 3),
+    ("A > B ;", "(Gt A@0 B@4)", 3),
+    ("A >= B + 1 ;", "(Ge A@0 [B@5 Add 1])", 5),
+    ("A dans (1) ;", "(A@0 in 1..1)", 5),
     (
-        b"A non dans (B, -2) ;",
-        b"(A@0 out B@12..B@12 (Neg 2)..(Neg 2))",
+        "A non dans (B, -2) ;",
+        "(A@0 out B@12..B@12 (Neg 2)..(Neg 2))",
         9,
     ),
-    (b"A dans (-1..3, 3..3) ;", b"(A@0 in (Neg 1)..3 3..3)", 12),
-    (b"non A = B ;", b"(Not (Eq A@4 B@8))", 4),
-    (b"A et B et C ;", b"[A@0 And B@5 And C@10]", 5),
-    (b"A ou B et C ;", b"[A@0 Or [B@5 And C@10]]", 5),
-    (b"non A ou non B ;", b"[(Not A@4) Or (Not B@13)]", 5),
-    (b"1AJ ;", b"1AJ@0", 1),
-    (b"A;B;", b"A@0", 1),
+    ("A dans (-1..3, 3..3) ;", "(A@0 in (Neg 1)..3 3..3)", 12),
+    ("non A = B ;", "(Not (Eq A@4 B@8))", 4),
+    ("A et B et C ;", "[A@0 And B@5 And C@10]", 5),
+    ("A ou B et C ;", "[A@0 Or [B@5 And C@10]]", 5),
+    ("non A ou non B ;", "[(Not A@4) Or (Not B@13)]", 5),
+    ("1AJ ;", "1AJ@0", 1),
+    ("A;B;", "A@0", 1),
 ];
 
 // Texts at whose start no term stands.
-static NO_TERMS: [&[u8]; 21] = [
-    b"",
-    b"A",
-    b"A :",
-    b"A B ;",
-    b"A + ;",
-    b"(A ;",
-    b"T[A ;",
-    b"T[] ;",
-    b"- - A ;",
-    b"non non A ;",
-    b"A = B = C ;",
-    b"A dans () ;",
-    b"A dans (1..B) ;",
-    b"A dans (-B) ;",
-    b"A non (1) ;",
-    b"si A alors 1 ;",
-    b"si A sinon 1 finsi ;",
-    b"abs(A, B) ;",
-    b"max(A) ;",
-    b"somme(i = : A) ;",
-    b"\"A\" ;",
+static NO_TERMS: [&str; 21] = [
+    "",
+    "A",
+    "A :",
+    "A B ;",
+    "A + ;",
+    "(A ;",
+    "T[A ;",
+    "T[] ;",
+    "- - A ;",
+    "non non A ;",
+    "A = B = C ;",
+    "A dans () ;",
+    "A dans (1..B) ;",
+    "A dans (-B) ;",
+    "A non (1) ;",
+    "si A alors 1 ;",
+    "si A sinon 1 finsi ;",
+    "abs(A, B) ;",
+    "max(A) ;",
+    "somme(i = : A) ;",
+    "\"A\" ;",
 ];
 
 // Texts with the header at their start and the position after it.
-static HEADERS: [(&[u8], &[u8], usize); 5] = [
-    (b"i = V,C :", b"{i@0 V..V C..C}", 5),
-    (b"i=V..X,010;j=1..3:", b"{i@0 V..X 010..010}{j@11 1..3}", 13),
+static HEADERS: [(&str, &str, usize); 5] = [
+    ("i = V,C :", "{i@0 V..V C..C}", 5),
+    ("i=V..X,010;j=1..3:", "{i@0 V..X 010..010}{j@11 1..3}", 13),
     (
-        b"un i dans V,C et un j dans (1..3) :",
-        b"{i@3 V..V C..C}{j@20 1..3}",
+        "un i dans V,C et un j dans (1..3) :",
+        "{i@3 V..V C..C}{j@20 1..3}",
         15,
     ),
-    (b"un z dans (9) :", b"{z@3 9..9}", 6),
-    (b"a = 123456789 :", b"{a@0 123456789..123456789}", 3),
+    ("un z dans (9) :", "{z@3 9..9}", 6),
+    ("a = 123456789 :", "{a@0 123456789..123456789}", 3),
 ];
 
 // Texts at whose start no header stands.
@@ -115,15 +115,15 @@ static NO_HEADERS: [&[u8]; 11] = [
 
 // The tables, out of reach of the proofs of what goes over them.
 
-fn terms() -> &'static [(&'static [u8], &'static [u8], usize)] {
+fn terms() -> &'static [(&'static str, &'static str, usize)] {
     &TERMS
 }
 
-fn no_terms() -> &'static [&'static [u8]] {
+fn no_terms() -> &'static [&'static str] {
     &NO_TERMS
 }
 
-fn headers() -> &'static [(&'static [u8], &'static [u8], usize)] {
+fn headers() -> &'static [(&'static str, &'static str, usize)] {
     &HEADERS
 }
 
@@ -313,6 +313,7 @@ fn is_no_header(alloc: Global, tokens: &[Token]) -> bool {
 #[test]
 fn each_form_of_term(rt: HostRuntime) -> Result<(), Fail> {
     for (text, tree, end) in terms() {
+        let (text, tree) = (text.as_bytes(), tree.as_bytes());
         match tokens_of(rt.alloc(), text, 0) {
             Some(tokens) if is_term(rt.alloc(), &tokens, tree, *end) => {}
             _ => return Err(other_at(rt.alloc(), text)),
@@ -324,6 +325,7 @@ fn each_form_of_term(rt: HostRuntime) -> Result<(), Fail> {
 #[test]
 fn no_term_stands(rt: HostRuntime) -> Result<(), Fail> {
     for text in no_terms() {
+        let text = text.as_bytes();
         match tokens_of(rt.alloc(), text, 0) {
             Some(tokens) if is_no_term(rt.alloc(), &tokens) => {}
             _ => return Err(other_at(rt.alloc(), text)),
@@ -335,6 +337,7 @@ fn no_term_stands(rt: HostRuntime) -> Result<(), Fail> {
 #[test]
 fn each_form_of_header(rt: HostRuntime) -> Result<(), Fail> {
     for (text, tree, end) in headers() {
+        let (text, tree) = (text.as_bytes(), tree.as_bytes());
         match tokens_of(rt.alloc(), text, 0) {
             Some(tokens) if is_header(rt.alloc(), &tokens, tree, *end) => {}
             _ => return Err(other_at(rt.alloc(), text)),

@@ -20,108 +20,102 @@ const TABLES: &[u8] = b" T : tableau[3] calculee : \"t\" ; TA : tableau[2] calcu
 
 // Items, and what the application iliad has of them. A number is shown as `#` and its whole units, `X` that stays as `?`, an
 // operator as brackets round its operands.
-static EXPANSIONS: [(&[u8], &[u8]); 23] = [
-    (b"R = somme(i = 8..10 : i) ;", b"R = (#8,#9,#10)"),
-    (b"R = somme(i = 08..10 : Ui) ;", b"R = (U08,U09,U10)"),
-    (b"R = somme(i = 98..101 : Ui) ;", b"R = (U98,U99,U100,U101)"),
-    (b"R = somme(i = 5 : Ui) ;", b"R = U5"),
-    (b"R = somme(i = 07..07 : Ui) ;", b"R = U07"),
-    (b"R = somme(i = A..C,Z : Ui) ;", b"R = (UA,UB,UC,UZ)"),
-    (b"R = somme(i = W..Y : Ui) ;", b"R = (UW,UX,UY)"),
-    (b"R = somme(i = VV,1..2 : Ui) ;", b"R = (UVV,U1,U2)"),
+static EXPANSIONS: [(&str, &str); 23] = [
+    ("R = somme(i = 8..10 : i) ;", "R = (#8,#9,#10)"),
+    ("R = somme(i = 08..10 : Ui) ;", "R = (U08,U09,U10)"),
+    ("R = somme(i = 98..101 : Ui) ;", "R = (U98,U99,U100,U101)"),
+    ("R = somme(i = 5 : Ui) ;", "R = U5"),
+    ("R = somme(i = 07..07 : Ui) ;", "R = U07"),
+    ("R = somme(i = A..C,Z : Ui) ;", "R = (UA,UB,UC,UZ)"),
+    ("R = somme(i = W..Y : Ui) ;", "R = (UW,UX,UY)"),
+    ("R = somme(i = VV,1..2 : Ui) ;", "R = (UVV,U1,U2)"),
+    ("R = somme(i = A,B ; j = 1..2 : ij) ;", "R = (A1,A2,B1,B2)"),
     (
-        b"R = somme(i = A,B ; j = 1..2 : ij) ;",
-        b"R = (A1,A2,B1,B2)",
+        "R = somme(i = 1 ; j = Y ; k = A,B : Uijk + somme(i = 2 ; l = 3 : Tkil[i])) + Q ;",
+        "R = (((U1YA,TA23[#2]),(U1YB,TB23[#2])),Q)",
     ),
     (
-        b"R = somme(i = 1 ; j = Y ; k = A,B : Uijk + somme(i = 2 ; l = 3 : Tkil[i])) + Q ;",
-        b"R = (((U1YA,TA23[#2]),(U1YB,TB23[#2])),Q)",
+        "pour un i dans (V,C) et un j dans 1..2 : Uij = 0 ;",
+        "UV1 = #0 | UV2 = #0 | UC1 = #0 | UC2 = #0",
     ),
     (
-        b"pour un i dans (V,C) et un j dans 1..2 : Uij = 0 ;",
-        b"UV1 = #0 | UV2 = #0 | UC1 = #0 | UC2 = #0",
+        "pour i = A,B : pour j = 1,2 : Uij = 1 ;",
+        "UA1 = #1 | UA2 = #1 | UB1 = #1 | UB2 = #1",
     ),
     (
-        b"pour i = A,B : pour j = 1,2 : Uij = 1 ;",
-        b"UA1 = #1 | UA2 = #1 | UB1 = #1 | UB2 = #1",
+        "pour i = 1..2 : pour i = A,B : Ui = 1 ;",
+        "UA = #1 | UB = #1 | UA = #1 | UB = #1",
     ),
     (
-        b"pour i = 1..2 : pour i = A,B : Ui = 1 ;",
-        b"UA = #1 | UB = #1 | UA = #1 | UB = #1",
+        "pour i = 7 : pour i = A : Ui = somme(i = 1,2 : Vi) + Wi ;",
+        "UA = ((V1,V2),WA)",
     ),
     (
-        b"pour i = 7 : pour i = A : Ui = somme(i = 1,2 : Vi) + Wi ;",
-        b"UA = ((V1,V2),WA)",
+        "R = somme(i = 1,2 : Ui + somme(i = A,B : Vi) + Ui) ;",
+        "R = ((U1,(VA,VB),U1),(U2,(VA,VB),U2))",
     ),
     (
-        b"R = somme(i = 1,2 : Ui + somme(i = A,B : Vi) + Ui) ;",
-        b"R = ((U1,(VA,VB),U1),(U2,(VA,VB),U2))",
+        "pour i = 123456 : R = ii + iii ;",
+        "R = (#123456123456,123456123456123456)",
+    ),
+    ("R = somme(i = X : i) + X ;", "R = (X,?)"),
+    ("R = T[somme(i = 1,2 : i)] ;", "R = T[(#1,#2)]"),
+    (
+        "T[X] = somme(i = 1,2 : X * i) ;",
+        "T[0] = ((#0,#1),(#0,#2)) | T[1] = ((#1,#1),(#1,#2)) | T[2] = ((#2,#1),(#2,#2))",
     ),
     (
-        b"pour i = 123456 : R = ii + iii ;",
-        b"R = (#123456123456,123456123456123456)",
-    ),
-    (b"R = somme(i = X : i) + X ;", b"R = (X,?)"),
-    (b"R = T[somme(i = 1,2 : i)] ;", b"R = T[(#1,#2)]"),
-    (
-        b"T[X] = somme(i = 1,2 : X * i) ;",
-        b"T[0] = ((#0,#1),(#0,#2)) | T[1] = ((#1,#1),(#1,#2)) | T[2] = ((#2,#1),(#2,#2))",
+        "pour i = A,B : Ti[X] = X ; T[2] = X ;",
+        "TA[0] = #0 | TA[1] = #1 | TB[X] = ? | T[2] = ?",
     ),
     (
-        b"pour i = A,B : Ti[X] = X ; T[2] = X ;",
-        b"TA[0] = #0 | TA[1] = #1 | TB[X] = ? | T[2] = ?",
+        "R = 1 ; regle 2 : application : oceans ; S = Si ; regle 3 : application : iliad ; enchaineur : e ; Q = Qi ;",
+        "R = #1",
     ),
     (
-        b"R = 1 ; regle 2 : application : oceans ; S = Si ; regle 3 : application : iliad ; enchaineur : e ; Q = Qi ;",
-        b"R = #1",
+        "R = 1 ; verif 07 : application : batch , iliad ; si somme(i = 1,2 : Ui) > 3 alors erreur E ; si T[X] alors erreur F G ;",
+        "R = #1 | 07 E : ((U1,U2),#3) | 07 F : T[?]",
     ),
     (
-        b"R = 1 ; verif 07 : application : batch , iliad ; si somme(i = 1,2 : Ui) > 3 alors erreur E ; si T[X] alors erreur F G ;",
-        b"R = #1 | 07 E : ((U1,U2),#3) | 07 F : T[?]",
-    ),
-    (
-        b"R = somme(i = 1..100 ; j = 1..100 : somme(k = 1 : 1)) - somme(i = 1..100 ; j = 1..100 : 1) ; R = 1 ; verif 1 : application : x ; si i alors erreur E ;",
-        b"long",
+        "R = somme(i = 1..100 ; j = 1..100 : somme(k = 1 : 1)) - somme(i = 1..100 ; j = 1..100 : 1) ; R = 1 ; verif 1 : application : x ; si i alors erreur E ;",
+        "long",
     ),
 ];
 
 // Items with a fault, and how it is told. The first rule's formula begins at byte 32.
-static FAULTS: [(&[u8], &[u8]); 14] = [
-    (b"R = somme(i = 3..1 : 1) ;", b"bad range 42"),
-    (b"R = somme(i = 1..X : 1) ;", b"bad range 42"),
-    (b"R = somme(i = 1,AB..AC : 1) ;", b"bad range 42"),
-    (b"R = somme(j = 1 ; i = 1 ; i = 2 : 1) ;", b"bad range 50"),
+static FAULTS: [(&str, &str); 14] = [
+    ("R = somme(i = 3..1 : 1) ;", "bad range 42"),
+    ("R = somme(i = 1..X : 1) ;", "bad range 42"),
+    ("R = somme(i = 1,AB..AC : 1) ;", "bad range 42"),
+    ("R = somme(j = 1 ; i = 1 ; i = 2 : 1) ;", "bad range 50"),
     (
-        b"pour i = 2..1 : pour i = 1..10001 : R = Rj ;",
-        b"bad range 37",
+        "pour i = 2..1 : pour i = 1..10001 : R = Rj ;",
+        "bad range 37",
     ),
-    (b"R = somme(i=1..101;j=1..100: 1) ;", b"loop too large 42"),
-    (b"pour i=1..10001: R = 1 ;", b"loop too large 37"),
-    (b"R = REVi ;", b"unbound 36"),
-    (b"Ri = 1 ;", b"unbound 32"),
-    (b"R = somme(i = 1 : i) + i ;", b"unbound 55"),
-    (b"R = A[REVi] + somme(j = 3..1 : 1) ;", b"unbound 38"),
+    ("R = somme(i=1..101;j=1..100: 1) ;", "loop too large 42"),
+    ("pour i=1..10001: R = 1 ;", "loop too large 37"),
+    ("R = REVi ;", "unbound 36"),
+    ("Ri = 1 ;", "unbound 32"),
+    ("R = somme(i = 1 : i) + i ;", "unbound 55"),
+    ("R = A[REVi] + somme(j = 3..1 : 1) ;", "unbound 38"),
     (
-        b"pour i = 1 : R = somme(j = 1..2 ; k = 1..3 : i + l) ;",
-        b"unbound 81",
-    ),
-    (
-        b"R = 1 ; regle 2 : application : iliad ; pour i=1..10000: R = somme(j=1..101: 1) ;",
-        b"too many 40",
+        "pour i = 1 : R = somme(j = 1..2 ; k = 1..3 : i + l) ;",
+        "unbound 81",
     ),
     (
-        b"pour i=1..10000: pour j=1..10000: T[X] = 1 ;",
-        b"too many 0",
+        "R = 1 ; regle 2 : application : iliad ; pour i=1..10000: R = somme(j=1..101: 1) ;",
+        "too many 40",
     ),
+    ("pour i=1..10000: pour j=1..10000: T[X] = 1 ;", "too many 0"),
 ];
 
 // The tables, out of reach of the proofs of what goes over them.
 
-fn all_expansions() -> &'static [(&'static [u8], &'static [u8])] {
+fn all_expansions() -> &'static [(&'static str, &'static str)] {
     &EXPANSIONS
 }
 
-fn all_faults() -> &'static [(&'static [u8], &'static [u8])] {
+fn all_faults() -> &'static [(&'static str, &'static str)] {
     &FAULTS
 }
 
@@ -279,8 +273,9 @@ fn gives(alloc: Global, formulas: &[u8], wanted: &[u8]) -> bool {
 }
 
 // Fails at the first formulas that give something else.
-fn check_all(alloc: Global, rows: &[(&'static [u8], &'static [u8])]) -> Result<(), Fail> {
+fn check_all(alloc: Global, rows: &[(&'static str, &'static str)]) -> Result<(), Fail> {
     for (formulas, wanted) in rows {
+        let (formulas, wanted) = (formulas.as_bytes(), wanted.as_bytes());
         if !gives(alloc, formulas, wanted) {
             return Err(other_at(alloc, formulas));
         }

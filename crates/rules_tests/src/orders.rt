@@ -7,41 +7,41 @@ use std::test::Fail;
 use std::thread::Threads;
 
 // Formulas, and the positions of their definitions in the one order that they have, or the cells of the one cycle.
-static ORDERS: [(&[u8], &[u8]); 27] = [
-    (b"A = E ;", b"0"),
-    (b"A = E ; B = A ;", b"0 1"),
-    (b"B = A ; A = E ;", b"1 0"),
-    (b"B = A ; regle 2 : application : iliad ; A = E ;", b"1 0"),
-    (b"D = C ; C = B ; B = A ; A = E ;", b"3 2 1 0"),
-    (b"D = B + C ; C = B * B ; B = A ; A = E ;", b"3 2 1 0"),
-    (b"A = B ; regle 2 : application : batch ; B = A ;", b"0"),
+static ORDERS: [(&str, &str); 27] = [
+    ("A = E ;", "0"),
+    ("A = E ; B = A ;", "0 1"),
+    ("B = A ; A = E ;", "1 0"),
+    ("B = A ; regle 2 : application : iliad ; A = E ;", "1 0"),
+    ("D = C ; C = B ; B = A ; A = E ;", "3 2 1 0"),
+    ("D = B + C ; C = B * B ; B = A ; A = E ;", "3 2 1 0"),
+    ("A = B ; regle 2 : application : batch ; B = A ;", "0"),
     (
-        b"B = A ; A = E ; verif 1 : application : iliad ; si B > A alors erreur P ;",
-        b"1 0",
+        "B = A ; A = E ; verif 1 : application : iliad ; si B > A alors erreur P ;",
+        "1 0",
     ),
-    (b"A = A ;", b"cycle A"),
-    (b"A = B ; B = A ;", b"cycle A B"),
-    (b"B = A ; A = B ;", b"cycle A B"),
-    (b"D = B ; B = C ; C = D ;", b"cycle B C D"),
-    (b"D = C ; C = B ; B = D ;", b"cycle B D C"),
-    (b"A = B ; B = E + C ; C = D ; D = C ;", b"cycle C D"),
-    (b"A = E ; B = A + C ; C = A + B ;", b"cycle B C"),
-    (b"A = 0 * B ; B = A ;", b"cycle A B"),
-    (b"A = si 1 alors E sinon B finsi ; B = A ;", b"cycle A B"),
-    (b"A = T[1] ; T[0] = A ;", b"0 1"),
-    (b"A = T[3] ; T[0] = A ; T[1] = T[0] ;", b"0 1 2"),
-    (b"T[0] = A ; A = T[1] ; T[1] = E ;", b"2 1 0"),
-    (b"A = T[1] ; T[1] = A ;", b"cycle A T[1]"),
-    (b"A = T[1.9] ; T[1] = A ;", b"cycle A T[1]"),
-    (b"A = T[(2)] ; T[2] = A ;", b"cycle A T[2]"),
-    (b"A = T[E] ; T[2] = A ;", b"cycle A T[2]"),
-    (b"A = T[-1] ; T[0] = A ;", b"cycle A T[0]"),
-    (b"T[1] = T[E] ;", b"cycle T[1]"),
-    (b"A = T[A] ;", b"cycle A"),
+    ("A = A ;", "cycle A"),
+    ("A = B ; B = A ;", "cycle A B"),
+    ("B = A ; A = B ;", "cycle A B"),
+    ("D = B ; B = C ; C = D ;", "cycle B C D"),
+    ("D = C ; C = B ; B = D ;", "cycle B D C"),
+    ("A = B ; B = E + C ; C = D ; D = C ;", "cycle C D"),
+    ("A = E ; B = A + C ; C = A + B ;", "cycle B C"),
+    ("A = 0 * B ; B = A ;", "cycle A B"),
+    ("A = si 1 alors E sinon B finsi ; B = A ;", "cycle A B"),
+    ("A = T[1] ; T[0] = A ;", "0 1"),
+    ("A = T[3] ; T[0] = A ; T[1] = T[0] ;", "0 1 2"),
+    ("T[0] = A ; A = T[1] ; T[1] = E ;", "2 1 0"),
+    ("A = T[1] ; T[1] = A ;", "cycle A T[1]"),
+    ("A = T[1.9] ; T[1] = A ;", "cycle A T[1]"),
+    ("A = T[(2)] ; T[2] = A ;", "cycle A T[2]"),
+    ("A = T[E] ; T[2] = A ;", "cycle A T[2]"),
+    ("A = T[-1] ; T[0] = A ;", "cycle A T[0]"),
+    ("T[1] = T[E] ;", "cycle T[1]"),
+    ("A = T[A] ;", "cycle A"),
 ];
 
 // The table, out of reach of the proofs of what goes over it.
-fn all_orders() -> &'static [(&'static [u8], &'static [u8])] {
+fn all_orders() -> &'static [(&'static str, &'static str)] {
     &ORDERS
 }
 
@@ -75,6 +75,7 @@ fn gives<R: Threads + Sync>(rt: &R, alloc: Global, formulas: &[u8], wanted: &[u8
 #[test]
 fn definitions_are_ordered_and_cycles_shown(rt: HostRuntime) -> Result<(), Fail> {
     for (formulas, wanted) in all_orders() {
+        let (formulas, wanted) = (formulas.as_bytes(), wanted.as_bytes());
         if !gives(&rt, rt.alloc(), formulas, wanted) {
             return Err(other_at(rt.alloc(), formulas));
         }

@@ -23,179 +23,174 @@ const REV: usize = 0;
 
 const SEUIL: usize = 7;
 
-const COPIED: &[u8] = b"IRN = REV ;";
+const COPIED: &str = "IRN = REV ;";
 
-const INDEXED: &[u8] = b"IRN = T[A] ; T[X] = X + 5 ; A = REV - 1 ;";
+const INDEXED: &str = "IRN = T[A] ; T[X] = X + 5 ; A = REV - 1 ;";
 
 // The greatest amount that there is, in millionths.
 const GREATEST: i128 = 10_000_000_000_000_000_000;
 
 // Formulas, REV in millionths, a report, and what is found of it: 0 where it is sound, or else the number from 1 of the first line that
 // isn't.
-static JUDGED: [(&[u8], Option<i128>, &[u8], u32); 26] = [
+static JUDGED: [(&str, Option<i128>, &str, u32); 26] = [
     (
         COPIED,
         Some(2_500_500_000),
-        b"REV = 2500.5\nIRN = 2500.5\n",
+        "REV = 2500.5\nIRN = 2500.5\n",
         0,
     ),
     (
         COPIED,
         Some(2_500_500_000),
-        b"REV = 2500.50\nIRN = 002500.5\n.\n",
+        "REV = 2500.50\nIRN = 002500.5\n.\n",
         0,
     ),
     (
         COPIED,
         Some(2_500_500_000),
-        b"IRN = 2500.5\nREV = 2500.5\n",
+        "IRN = 2500.5\nREV = 2500.5\n",
         1,
     ),
+    (COPIED, Some(2_500_500_000), "REV = 2500.5\nIRN = 2500\n", 2),
+    (COPIED, Some(2_500_500_000), "REV = 2500\nIRN = 2500\n", 1),
+    (COPIED, Some(2_500_500_000), "IRN = 2500.5\n", 1),
     (
         COPIED,
         Some(2_500_500_000),
-        b"REV = 2500.5\nIRN = 2500\n",
-        2,
-    ),
-    (COPIED, Some(2_500_500_000), b"REV = 2500\nIRN = 2500\n", 1),
-    (COPIED, Some(2_500_500_000), b"IRN = 2500.5\n", 1),
-    (
-        COPIED,
-        Some(2_500_500_000),
-        b"REV = 2500.5\nREV = 2500.5\nIRN = 2500.5\n",
+        "REV = 2500.5\nREV = 2500.5\nIRN = 2500.5\n",
         2,
     ),
     (
         COPIED,
         Some(2_500_500_000),
-        b"REV = 2500.5\nIRN = 2500.5\nIRN = 2500.5\n",
+        "REV = 2500.5\nIRN = 2500.5\nIRN = 2500.5\n",
         3,
     ),
-    (COPIED, None, b"REV undefined\nIRN undefined\n", 0),
-    (COPIED, None, b"REV = 0\n", 1),
-    (COPIED, None, b"REV undefined\nIRN = 0\n", 2),
-    (COPIED, None, b"", 0),
-    (COPIED, None, b".", 0),
-    (COPIED, None, b"SEUIL = 1000\nA undefined\n", 0),
+    (COPIED, None, "REV undefined\nIRN undefined\n", 0),
+    (COPIED, None, "REV = 0\n", 1),
+    (COPIED, None, "REV undefined\nIRN = 0\n", 2),
+    (COPIED, None, "", 0),
+    (COPIED, None, ".", 0),
+    (COPIED, None, "SEUIL = 1000\nA undefined\n", 0),
     (
-        b"IRN = REV * REV ;",
+        "IRN = REV * REV ;",
         Some(GREATEST),
-        b"REV = 10000000000000\nIRN over",
+        "REV = 10000000000000\nIRN over",
         0,
     ),
     (
-        b"IRN = REV * REV ;",
+        "IRN = REV * REV ;",
         Some(GREATEST),
-        b"REV = 10000000000000\nIRN undefined",
+        "REV = 10000000000000\nIRN undefined",
         2,
     ),
     (
         INDEXED,
         Some(2_000_000),
-        b"REV = 2\nA = 1\nT[2] = 7\nT[0] = 5\nT[1] = 6\nIRN = 6\n",
+        "REV = 2\nA = 1\nT[2] = 7\nT[0] = 5\nT[1] = 6\nIRN = 6\n",
         0,
     ),
     (
         INDEXED,
         Some(2_000_000),
-        b"REV = 2\nA = 1\nT[0] = 5\nT[1] = 6\nIRN = 6\n",
+        "REV = 2\nA = 1\nT[0] = 5\nT[1] = 6\nIRN = 6\n",
         5,
     ),
     (
         INDEXED,
         Some(2_000_000),
-        b"REV = 2\nT[0] = 5\nT[1] = 6\nT[2] = 7\nIRN = 6\n",
+        "REV = 2\nT[0] = 5\nT[1] = 6\nT[2] = 7\nIRN = 6\n",
         5,
     ),
     (
         INDEXED,
         Some(4_000_000),
-        b"T[0] = 5\nT[1] = 6\nT[2] = 7\nREV = 4\nA = 3\nIRN undefined\n",
+        "T[0] = 5\nT[1] = 6\nT[2] = 7\nREV = 4\nA = 3\nIRN undefined\n",
         0,
     ),
     (
         INDEXED,
         Some(0),
-        b"T[0] = 5\nT[1] = 6\nT[2] = 7\nREV = 0\nA = -1\nIRN = 0\n",
+        "T[0] = 5\nT[1] = 6\nT[2] = 7\nREV = 0\nA = -1\nIRN = 0\n",
         0,
     ),
     (
-        b"IRN = T[1] ; T[X] = X + 5 ;",
+        "IRN = T[1] ; T[X] = X + 5 ;",
         None,
-        b"T[1] = 6\nIRN = 6\n",
+        "T[1] = 6\nIRN = 6\n",
         0,
     ),
-    (b"IRN = T[3] ; T[X] = X + 5 ;", None, b"IRN undefined\n", 0),
+    ("IRN = T[3] ; T[X] = X + 5 ;", None, "IRN undefined\n", 0),
     (
-        b"IRN = T[A] + T[A] ; B = T[A] ;",
+        "IRN = T[A] + T[A] ; B = T[A] ;",
         None,
-        b"A undefined\nT[2] undefined\nT[1] undefined\nT[0] undefined\nIRN undefined\nB undefined\n",
+        "A undefined\nT[2] undefined\nT[1] undefined\nT[0] undefined\nIRN undefined\nB undefined\n",
         0,
     ),
     (
-        b"IRN = si REV > 0 alors 1 sinon A finsi ;",
+        "IRN = si REV > 0 alors 1 sinon A finsi ;",
         Some(1_000_000),
-        b"REV = 1\nIRN = 1\n",
+        "REV = 1\nIRN = 1\n",
         2,
     ),
     (
-        b"IRN = si REV > 0 alors 1 sinon A finsi ;",
+        "IRN = si REV > 0 alors 1 sinon A finsi ;",
         Some(1_000_000),
-        b"REV = 1\nA undefined\nIRN = 1\n",
+        "REV = 1\nA undefined\nIRN = 1\n",
         0,
     ),
 ];
 
 // Reports whose first bad line has this number.
-static BAD: [(&[u8], u32); 20] = [
-    (b"\n", 1),
-    (b"..\n", 1),
-    (b".\nREV = 1\n", 1),
-    (b"REV = 1\n\nIRN = 1\n", 2),
-    (b"REV = 1\n.\n.\n", 2),
-    (b"REV", 1),
-    (b"REV ", 1),
-    (b"REV = ", 1),
-    (b"REV =1", 1),
-    (b"REV= 1", 1),
-    (b"REV  = 1", 1),
-    (b"REV =  1", 1),
-    (b"REV = 1 ", 1),
-    (b" REV = 1", 1),
-    (b"REV = undefined", 1),
-    (b"REV Undefined", 1),
-    (b"REV over\nREV over.\n", 2),
-    (b"T = 1", 1),
-    (b"T[1] = 6\nT[3] = 6", 2),
-    (b"REV = 10000000000000.000001", 1),
+static BAD: [(&str, u32); 20] = [
+    ("\n", 1),
+    ("..\n", 1),
+    (".\nREV = 1\n", 1),
+    ("REV = 1\n\nIRN = 1\n", 2),
+    ("REV = 1\n.\n.\n", 2),
+    ("REV", 1),
+    ("REV ", 1),
+    ("REV = ", 1),
+    ("REV =1", 1),
+    ("REV= 1", 1),
+    ("REV  = 1", 1),
+    ("REV =  1", 1),
+    ("REV = 1 ", 1),
+    (" REV = 1", 1),
+    ("REV = undefined", 1),
+    ("REV Undefined", 1),
+    ("REV over\nREV over.\n", 2),
+    ("T = 1", 1),
+    ("T[1] = 6\nT[3] = 6", 2),
+    ("REV = 10000000000000.000001", 1),
 ];
 
 // Reports, and how they are printed once they are read.
-static PRINTED: [(&[u8], &[u8]); 5] = [
-    (b"", b""),
-    (b".", b""),
-    (b"REV = 02.50", b"REV = 2.5\n"),
+static PRINTED: [(&str, &str); 5] = [
+    ("", ""),
+    (".", ""),
+    ("REV = 02.50", "REV = 2.5\n"),
     (
-        b"T[2] over\r\nT[0] undefined\r\n.\r\n",
-        b"T[2] over\nT[0] undefined\n",
+        "T[2] over\r\nT[0] undefined\r\n.\r\n",
+        "T[2] over\nT[0] undefined\n",
     ),
     (
-        b"IRN = -0\nSEUIL = -1000.0000005\nREV = -0.5\n",
-        b"IRN = 0\nSEUIL = -1000.000001\nREV = -0.5\n",
+        "IRN = -0\nSEUIL = -1000.0000005\nREV = -0.5\n",
+        "IRN = 0\nSEUIL = -1000.000001\nREV = -0.5\n",
     ),
 ];
 
 // The tables, out of reach of the proofs of what goes over them.
 
-fn all_judged() -> &'static [(&'static [u8], Option<i128>, &'static [u8], u32)] {
+fn all_judged() -> &'static [(&'static str, Option<i128>, &'static str, u32)] {
     &JUDGED
 }
 
-fn all_bad() -> &'static [(&'static [u8], u32)] {
+fn all_bad() -> &'static [(&'static str, u32)] {
     &BAD
 }
 
-fn all_printed() -> &'static [(&'static [u8], &'static [u8])] {
+fn all_printed() -> &'static [(&'static str, &'static str)] {
     &PRINTED
 }
 
@@ -273,6 +268,7 @@ fn is_judged_of<R: Threads + Sync>(
 #[test]
 fn sound_and_unsound(rt: HostRuntime) -> Result<(), Fail> {
     for (formulas, given, report, wanted) in all_judged() {
+        let (formulas, report) = (formulas.as_bytes(), report.as_bytes());
         if !is_judged_of(&rt, rt.alloc(), formulas, *given, report, *wanted) {
             return Err(other_at(rt.alloc(), report));
         }
@@ -297,6 +293,7 @@ fn all_are_bad(alloc: Global, symbols: &Symbols) -> Result<(), Fail>
     requires { IsPlaced symbols.now }
 {
     for (report, number) in all_bad() {
+        let report = report.as_bytes();
         if !is_bad(alloc, symbols, report, *number) {
             return Err(other_at(alloc, report));
         }
@@ -306,7 +303,7 @@ fn all_are_bad(alloc: Global, symbols: &Symbols) -> Result<(), Fail>
 
 #[test]
 fn bad_lines(rt: HostRuntime) -> Result<(), Fail> {
-    match base_of(&rt, rt.alloc(), COPIED) {
+    match base_of(&rt, rt.alloc(), COPIED.as_bytes()) {
         Some(made) => all_are_bad(rt.alloc(), &made.symbols),
         None => Err(refused()),
     }
@@ -339,6 +336,7 @@ fn all_are_printed(alloc: Global, symbols: &Symbols) -> Result<(), Fail>
     requires { IsPlaced symbols.now }
 {
     for (report, wanted) in all_printed() {
+        let (report, wanted) = (report.as_bytes(), wanted.as_bytes());
         if !is_printed(alloc, symbols, report, wanted) {
             return Err(other_at(alloc, report));
         }
@@ -348,7 +346,7 @@ fn all_are_printed(alloc: Global, symbols: &Symbols) -> Result<(), Fail>
 
 #[test]
 fn read_and_printed(rt: HostRuntime) -> Result<(), Fail> {
-    match base_of(&rt, rt.alloc(), COPIED) {
+    match base_of(&rt, rt.alloc(), COPIED.as_bytes()) {
         Some(made) => all_are_printed(rt.alloc(), &made.symbols),
         None => Err(refused()),
     }

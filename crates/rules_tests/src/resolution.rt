@@ -15,61 +15,61 @@ const DECLARED: &[u8] =
 
 // Formulas over A (cell 0), the table T (cells 1 to 3), the constant C of 5 (cell 4) and the input E (cell 5), and the base that
 // they come to. A number is shown as `#` and its whole units, and a table read by its first cell and its size.
-static BASES: [(&[u8], &[u8]); 8] = [
-    (b"A = C - 1 ;", b"4 is #5 | 0 = (4-#1)"),
+static BASES: [(&str, &str); 8] = [
+    ("A = C - 1 ;", "4 is #5 | 0 = (4-#1)"),
     (
-        b"T[2] = 1 ; A = T[1] + T[C] ;",
-        b"4 is #5 | 3 = #1 | 0 = (1.3[#1]+1.3[4])",
+        "T[2] = 1 ; A = T[1] + T[C] ;",
+        "4 is #5 | 3 = #1 | 0 = (1.3[#1]+1.3[4])",
     ),
-    (b"T[X] = E ;", b"4 is #5 | 1 = 5 | 2 = 5 | 3 = 5"),
-    (b"A = C dans (1) ;", b"4 is #5 | 0 = =(4,#1)"),
+    ("T[X] = E ;", "4 is #5 | 1 = 5 | 2 = 5 | 3 = 5"),
+    ("A = C dans (1) ;", "4 is #5 | 0 = =(4,#1)"),
     (
-        b"A = C dans (1, 3..5) ;",
-        b"4 is #5 | 0 = (=(4,#1)|(g(4,#3)&l(4,#5)))",
+        "A = C dans (1, 3..5) ;",
+        "4 is #5 | 0 = (=(4,#1)|(g(4,#3)&l(4,#5)))",
     ),
     (
-        b"A = C non dans (-1..-1, E) ;",
-        b"4 is #5 | 0 = !((=(4,m(#1))|=(4,5)))",
+        "A = C non dans (-1..-1, E) ;",
+        "4 is #5 | 0 = !((=(4,m(#1))|=(4,5)))",
     ),
-    (b"A = C dans (3..3.0) ;", b"4 is #5 | 0 = =(4,#3)"),
+    ("A = C dans (3..3.0) ;", "4 is #5 | 0 = =(4,#3)"),
     (
-        b"A = 1 ; verif 07 : application : iliad ; si A alors erreur ER ; si C alors erreur ES G ;",
-        b"4 is #5 | 0 = #1 | 07 ER p:q:r:s : 0 | 07 ES a:b:c d:e : 4",
+        "A = 1 ; verif 07 : application : iliad ; si A alors erreur ER ; si C alors erreur ES G ;",
+        "4 is #5 | 0 = #1 | 07 ER p:q:r:s : 0 | 07 ES a:b:c d:e : 4",
     ),
 ];
 
 // The first formula begins at byte 32. Each fault is told with its word and the byte of its place.
-static FAULTS: [(&[u8], &[u8]); 15] = [
-    (b"A = B ;", b"unknown B 36"),
-    (b"A = X ;", b"unknown X 36"),
-    (b"A = C[1] ;", b"no table C 36"),
-    (b"A = T ;", b"table T 36"),
-    (b"A = T[B] + T ;", b"unknown B 38"),
-    (b"A = C dans (1, B) ;", b"unknown B 47"),
-    (b"B = 1 ;", b"unknown B 32"),
-    (b"C = B ;", b"bad target C 32"),
-    (b"E = B ;", b"bad target E 32"),
-    (b"T[3] = B ;", b"bad target T 32"),
-    (b"A[0] = B ;", b"no table A 32"),
-    (b"T = B ;", b"table T 32"),
-    (b"T[1] = 1 ; T[1] = B ;", b"twice T[1] 43"),
+static FAULTS: [(&str, &str); 15] = [
+    ("A = B ;", "unknown B 36"),
+    ("A = X ;", "unknown X 36"),
+    ("A = C[1] ;", "no table C 36"),
+    ("A = T ;", "table T 36"),
+    ("A = T[B] + T ;", "unknown B 38"),
+    ("A = C dans (1, B) ;", "unknown B 47"),
+    ("B = 1 ;", "unknown B 32"),
+    ("C = B ;", "bad target C 32"),
+    ("E = B ;", "bad target E 32"),
+    ("T[3] = B ;", "bad target T 32"),
+    ("A[0] = B ;", "no table A 32"),
+    ("T = B ;", "table T 32"),
+    ("T[1] = 1 ; T[1] = B ;", "twice T[1] 43"),
     (
-        b"A = 1 ; verif 7 : application : iliad ; si B alors erreur Q ;",
-        b"unknown B 75",
+        "A = 1 ; verif 7 : application : iliad ; si B alors erreur Q ;",
+        "unknown B 75",
     ),
     (
-        b"A = 1 ; verif 7 : application : iliad ; si A alors erreur Q ;",
-        b"no error Q 72",
+        "A = 1 ; verif 7 : application : iliad ; si A alors erreur Q ;",
+        "no error Q 72",
     ),
 ];
 
 // The tables, out of reach of the proofs of what goes over them.
 
-fn all_bases() -> &'static [(&'static [u8], &'static [u8])] {
+fn all_bases() -> &'static [(&'static str, &'static str)] {
     &BASES
 }
 
-fn all_faults() -> &'static [(&'static [u8], &'static [u8])] {
+fn all_faults() -> &'static [(&'static str, &'static str)] {
     &FAULTS
 }
 
@@ -214,9 +214,10 @@ fn gives<R: Threads + Sync>(rt: &R, alloc: Global, formulas: &[u8], wanted: &[u8
 fn check_all<R: Threads + Sync>(
     rt: &R,
     alloc: Global,
-    rows: &[(&'static [u8], &'static [u8])],
+    rows: &[(&'static str, &'static str)],
 ) -> Result<(), Fail> {
     for (formulas, wanted) in rows {
+        let (formulas, wanted) = (formulas.as_bytes(), wanted.as_bytes());
         if !gives(rt, alloc, formulas, wanted) {
             return Err(other_at(alloc, formulas));
         }

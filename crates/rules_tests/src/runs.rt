@@ -21,78 +21,78 @@ const GIVEN: usize = 7;
 const GREATEST: i128 = 10_000_000_000_000_000_000;
 
 // Formulas, E in millionths, and the whole units of A to D with the number of the label that stops.
-static RUNS: [(&[u8], Option<i128>, &[u8]); 20] = [
-    (b"B = A - 1 ; A = E + E ;", Some(3_000_000), b"6 5 ? ?"),
-    (b"B = A - 1 ; A = E + E ;", None, b"? -1 ? ?"),
+static RUNS: [(&str, Option<i128>, &str); 20] = [
+    ("B = A - 1 ; A = E + E ;", Some(3_000_000), "6 5 ? ?"),
+    ("B = A - 1 ; A = E + E ;", None, "? -1 ? ?"),
     (
-        b"D = C * C ; C = B + A ; B = A + 1 ; A = E ;",
+        "D = C * C ; C = B + A ; B = A + 1 ; A = E ;",
         Some(2_000_000),
-        b"2 3 5 25",
+        "2 3 5 25",
     ),
-    (b"A = T[E] ; T[X] = X + 5 ;", Some(2_900_000), b"7 ? ? ?"),
-    (b"A = T[E] ; T[X] = X + 5 ;", Some(-900_000), b"5 ? ? ?"),
-    (b"A = T[E] ; T[X] = X + 5 ;", Some(-1_000_000), b"0 ? ? ?"),
-    (b"A = T[E] ; T[X] = X + 5 ;", Some(3_000_000), b"? ? ? ?"),
-    (b"A = T[E] ; T[X] = X + 5 ;", None, b"? ? ? ?"),
+    ("A = T[E] ; T[X] = X + 5 ;", Some(2_900_000), "7 ? ? ?"),
+    ("A = T[E] ; T[X] = X + 5 ;", Some(-900_000), "5 ? ? ?"),
+    ("A = T[E] ; T[X] = X + 5 ;", Some(-1_000_000), "0 ? ? ?"),
+    ("A = T[E] ; T[X] = X + 5 ;", Some(3_000_000), "? ? ? ?"),
+    ("A = T[E] ; T[X] = X + 5 ;", None, "? ? ? ?"),
     (
-        b"A = T[E * E] ; T[X] = X + 5 ;",
+        "A = T[E * E] ; T[X] = X + 5 ;",
         Some(GREATEST),
-        b"over ? ? ?",
+        "over ? ? ?",
     ),
     (
-        b"A = si E > 0 alors 1 sinon E * E finsi ;",
+        "A = si E > 0 alors 1 sinon E * E finsi ;",
         Some(GREATEST),
-        b"1 ? ? ?",
+        "1 ? ? ?",
     ),
     (
-        b"A = E ; verif 9 : application : iliad ; si A > 0 alors erreur P ; verif 1 : application : iliad ; si A > 0 alors erreur Q ;",
+        "A = E ; verif 9 : application : iliad ; si A > 0 alors erreur P ; verif 1 : application : iliad ; si A > 0 alors erreur Q ;",
         Some(1_000_000),
-        b"1 ? ? ? failed 0",
+        "1 ? ? ? failed 0",
     ),
     (
-        b"A = E ; verif 1 : application : iliad ; si B alors erreur P ; si A alors erreur Q ;",
+        "A = E ; verif 1 : application : iliad ; si B alors erreur P ; si A alors erreur Q ;",
         Some(-1_000_000),
-        b"-1 ? ? ? failed 1",
+        "-1 ? ? ? failed 1",
     ),
     (
-        b"A = E ; verif 1 : application : iliad ; si A * A > 0 alors erreur P ; si A alors erreur Q ;",
+        "A = E ; verif 1 : application : iliad ; si A * A > 0 alors erreur P ; si A alors erreur Q ;",
         Some(GREATEST),
-        b"10000000000000 ? ? ? over 0",
+        "10000000000000 ? ? ? over 0",
     ),
     (
-        b"A = E ; verif 1 : application : iliad ; si A alors erreur P ; si A * A > 0 alors erreur Q ;",
+        "A = E ; verif 1 : application : iliad ; si A alors erreur P ; si A * A > 0 alors erreur Q ;",
         Some(GREATEST),
-        b"10000000000000 ? ? ? failed 0",
+        "10000000000000 ? ? ? failed 0",
     ),
     (
-        b"A = E ; verif 1 : application : iliad ; si A alors erreur R ; si A alors erreur S ;",
+        "A = E ; verif 1 : application : iliad ; si A alors erreur R ; si A alors erreur S ;",
         Some(1_000_000),
-        b"1 ? ? ?",
+        "1 ? ? ?",
     ),
     (
-        b"A = E ; verif 1 : application : iliad ; si A alors erreur R ; si A alors erreur P ;",
+        "A = E ; verif 1 : application : iliad ; si A alors erreur R ; si A alors erreur P ;",
         Some(1_000_000),
-        b"1 ? ? ? failed 1",
+        "1 ? ? ? failed 1",
     ),
     (
-        b"A = E ; verif 1 : application : iliad ; si A * A > 0 alors erreur S ; si A alors erreur P ;",
+        "A = E ; verif 1 : application : iliad ; si A * A > 0 alors erreur S ; si A alors erreur P ;",
         Some(GREATEST),
-        b"10000000000000 ? ? ? over 0",
+        "10000000000000 ? ? ? over 0",
     ),
     (
-        b"A = E ; verif 1 : application : iliad ; si A - A alors erreur P ;",
+        "A = E ; verif 1 : application : iliad ; si A - A alors erreur P ;",
         Some(1_000_000),
-        b"1 ? ? ?",
+        "1 ? ? ?",
     ),
     (
-        b"A = E ; verif 1 : application : batch ; si A alors erreur P ;",
+        "A = E ; verif 1 : application : batch ; si A alors erreur P ;",
         Some(1_000_000),
-        b"1 ? ? ?",
+        "1 ? ? ?",
     ),
     (
-        b"A = E ; verif 1 : application : iliad ; si B > 1 alors erreur P ; regle 2 : application : iliad ; B = A + 1 ;",
+        "A = E ; verif 1 : application : iliad ; si B > 1 alors erreur P ; regle 2 : application : iliad ; B = A + 1 ;",
         Some(1_000_000),
-        b"1 2 ? ? failed 0",
+        "1 2 ? ? failed 0",
     ),
 ];
 
@@ -114,7 +114,7 @@ fn environment(alloc: Global, cells: u32, given: Option<i128>) -> Result<Vec<Val
 
 // The tables, out of reach of the proofs of what goes over them.
 
-fn all_runs() -> &'static [(&'static [u8], Option<i128>, &'static [u8])] {
+fn all_runs() -> &'static [(&'static str, Option<i128>, &'static str)] {
     &RUNS
 }
 
@@ -198,6 +198,7 @@ fn gives<R: Threads + Sync>(
 #[test]
 fn values_and_verifications(rt: HostRuntime) -> Result<(), Fail> {
     for (formulas, given, wanted) in all_runs() {
+        let (formulas, wanted) = (formulas.as_bytes(), wanted.as_bytes());
         if !gives(&rt, rt.alloc(), formulas, *given, wanted) {
             return Err(other_at(rt.alloc(), formulas));
         }

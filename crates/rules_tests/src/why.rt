@@ -18,117 +18,117 @@ use std::test::Fail;
 use std::thread::Threads;
 use why_report::{ReportLine, Reporter, print_report};
 
-const COPIED: &[u8] = b"IRN = REV ;";
+const COPIED: &str = "IRN = REV ;";
 
-const TABLE: &[u8] = b"T[X] = X + 5 ; IRN = T[A] + T[A] ; A = REV - 1 ;";
+const TABLE: &str = "T[X] = X + 5 ; IRN = T[A] + T[A] ; A = REV - 1 ;";
 
-const CHOICE: &[u8] = b"IRN = si REV > 0 alors 1 sinon A finsi ;";
+const CHOICE: &str = "IRN = si REV > 0 alors 1 sinon A finsi ;";
 
-const CHAIN: &[u8] = b"IRN = A + B ; A = B + SEUIL ; B = REV * 2 ;";
+const CHAIN: &str = "IRN = A + B ; A = B + SEUIL ; B = REV * 2 ;";
 
 // Formulas, two values of REV in millionths that are put one after the other, a cell that is asked for after each, and the lines that are
 // told.
-static TOLD: [(&[u8], Option<i128>, Option<i128>, &[u8], &[u8]); 13] = [
+static TOLD: [(&str, Option<i128>, Option<i128>, &str, &str); 13] = [
     (
         COPIED,
         Some(2_500_500_000),
         None,
-        b"IRN",
-        b"REV = 2500.5\nIRN = 2500.5\nREV undefined\nIRN undefined\n",
+        "IRN",
+        "REV = 2500.5\nIRN = 2500.5\nREV undefined\nIRN undefined\n",
     ),
     (
         COPIED,
         None,
         Some(2_500_500_000),
-        b"IRN",
-        b"REV undefined\nIRN undefined\nREV = 2500.5\nIRN = 2500.5\n",
+        "IRN",
+        "REV undefined\nIRN undefined\nREV = 2500.5\nIRN = 2500.5\n",
     ),
     (
         COPIED,
         Some(1_000_000),
         Some(2_500_000),
-        b"REV",
-        b"REV = 1\nREV = 2.5\n",
+        "REV",
+        "REV = 1\nREV = 2.5\n",
     ),
     (
         COPIED,
         None,
         Some(0),
-        b"SEUIL",
-        b"SEUIL = 1000\nSEUIL = 1000\n",
+        "SEUIL",
+        "SEUIL = 1000\nSEUIL = 1000\n",
     ),
     (
         COPIED,
         None,
         None,
-        b"T[1]",
-        b"T[1] undefined\nT[1] undefined\n",
+        "T[1]",
+        "T[1] undefined\nT[1] undefined\n",
     ),
     (
         CHAIN,
         Some(3_000_000),
         Some(4_000_000),
-        b"IRN",
-        b"REV = 3\nSEUIL = 1000\nB = 6\nA = 1006\nIRN = 1012\nREV = 4\nSEUIL = 1000\nB = 8\nA = 1008\nIRN = 1016\n",
+        "IRN",
+        "REV = 3\nSEUIL = 1000\nB = 6\nA = 1006\nIRN = 1012\nREV = 4\nSEUIL = 1000\nB = 8\nA = 1008\nIRN = 1016\n",
     ),
     (
         CHAIN,
         Some(3_000_000),
         None,
-        b"B",
-        b"REV = 3\nB = 6\nREV undefined\nB undefined\n",
+        "B",
+        "REV = 3\nB = 6\nREV undefined\nB undefined\n",
     ),
     (
-        b"IRN = T[1] ; T[X] = X + 5 ;",
+        "IRN = T[1] ; T[X] = X + 5 ;",
         None,
         None,
-        b"IRN",
-        b"T[1] = 6\nIRN = 6\nT[1] = 6\nIRN = 6\n",
+        "IRN",
+        "T[1] = 6\nIRN = 6\nT[1] = 6\nIRN = 6\n",
     ),
     (
-        b"IRN = T[3] ; T[X] = X + 5 ;",
+        "IRN = T[3] ; T[X] = X + 5 ;",
         None,
         None,
-        b"IRN",
-        b"IRN undefined\nIRN undefined\n",
+        "IRN",
+        "IRN undefined\nIRN undefined\n",
     ),
     (
         TABLE,
         Some(2_000_000),
         Some(4_000_000),
-        b"IRN",
-        b"REV = 2\nT[0] = 5\nT[1] = 6\nT[2] = 7\nA = 1\nIRN = 12\nREV = 4\nT[0] = 5\nT[1] = 6\nT[2] = 7\nA = 3\nIRN undefined\n",
+        "IRN",
+        "REV = 2\nT[0] = 5\nT[1] = 6\nT[2] = 7\nA = 1\nIRN = 12\nREV = 4\nT[0] = 5\nT[1] = 6\nT[2] = 7\nA = 3\nIRN undefined\n",
     ),
     (
         TABLE,
         Some(2_000_000),
         None,
-        b"A",
-        b"REV = 2\nA = 1\nREV undefined\nA = -1\n",
+        "A",
+        "REV = 2\nA = 1\nREV undefined\nA = -1\n",
     ),
     (
         CHOICE,
         Some(1_000_000),
         Some(0),
-        b"IRN",
-        b"REV = 1\nA undefined\nIRN = 1\nREV = 0\nA undefined\nIRN undefined\n",
+        "IRN",
+        "REV = 1\nA undefined\nIRN = 1\nREV = 0\nA undefined\nIRN undefined\n",
     ),
     (
-        b"IRN = REV * REV ;",
+        "IRN = REV * REV ;",
         Some(10_000_000_000_000_000_000),
         Some(2_000_000),
-        b"IRN",
-        b"REV = 10000000000000\nIRN over\nREV = 2\nIRN = 4\n",
+        "IRN",
+        "REV = 10000000000000\nIRN over\nREV = 2\nIRN = 4\n",
     ),
 ];
 
 // The table, out of reach of the proofs of what goes over it.
 fn all_told() -> &'static [(
-    &'static [u8],
+    &'static str,
     Option<i128>,
     Option<i128>,
-    &'static [u8],
-    &'static [u8],
+    &'static str,
+    &'static str,
 )] {
     &TOLD
 }
@@ -219,6 +219,7 @@ fn is_told<R: Threads + Sync>(
 #[test]
 fn reasons(rt: HostRuntime) -> Result<(), Fail> {
     for (formulas, first, second, name, wanted) in all_told() {
+        let (formulas, name, wanted) = (formulas.as_bytes(), name.as_bytes(), wanted.as_bytes());
         if !is_told(&rt, rt.alloc(), formulas, (*first, *second), name, wanted) {
             return Err(other_at(rt.alloc(), formulas));
         }
