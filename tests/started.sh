@@ -15,12 +15,13 @@ usage="usage: m_tax run|serve LIST DRIVER REQUESTS HOUSEHOLD, batch LIST DRIVER 
 trial="m_tax: this is a trial of the same sources, which are not proved yet; ./build proves and builds the program"
 dir=$(mktemp -d) || exit 1
 trap 'rm -rf "$dir"' EXIT
+trap 'exit 1' HUP INT TERM
 mkdir "$dir/cases"
 passed=0
 failed=0
 
 is_built() {
-    [ -x out/m_tax ] && [ -z "$(find crates.txt crates/*/src crates/*/specs crates/*/proofs -newer out/built -print | head -n 1)" ]
+    [ -x out/m_tax ] && [ -e out/built ] && [ -z "$(find crates.txt crates/*/src crates/*/specs crates/*/proofs -newer out/built -print | head -n 1)" ]
 }
 if is_built; then way=built; else way=trial; fi
 
@@ -284,6 +285,9 @@ touch -d '2000-01-01' "$dir/old/out/built"
 : >"$dir/old/crates.txt"
 "$dir/old/m_tax" run "a b" >"$dir/out" 2>"$dir/err"
 judge "$?" 6 "program: run a b" "sources that are newer" "m_tax: the sources are newer than the program; this is the program as ./build proved it last"
+rm "$dir/old/out/built"
+"$dir/old/m_tax" run "a b" >"$dir/out" 2>"$dir/err"
+judge "$?" 6 "program: run a b" "a build that was ended" "m_tax: nothing tells whether the program is of these sources, since ./build was ended; ./build goes on"
 
 echo "started: $way: $passed rows passed, $failed failed"
 [ "$failed" -eq 0 ]

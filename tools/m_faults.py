@@ -26,8 +26,8 @@ class Files:
 
     def __init__(self, application, names):
         self.application, self.found, self.files, self.lines = application, [], [], {}
-        for name in dict.fromkeys(names):
-            content = m_source.fetch(name)
+        names = list(dict.fromkeys(names))
+        for name, content in zip(names, m_source.fetch_rules(names)):
             reader, faults = m_items.read(content)
             self.files.append((name, content, reader))
             for fault in faults:

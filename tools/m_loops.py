@@ -4,6 +4,11 @@ import itertools
 MOST = 10_000
 
 
+def whole(digits):
+    """The number that digits spell. Of one with more than 18 digits that count it is the first 18, which are past every table, too."""
+    return int(digits.lstrip("0")[:18] or 0)
+
+
 def values_of(pairs):
     """The values of an index of a loop, as they are spelled."""
     found = []

@@ -7,6 +7,7 @@ import re
 import shutil
 import signal
 import subprocess
+import tempfile
 import threading
 import time
 
@@ -40,6 +41,12 @@ def file_digest(path, out=None):
             if out is not None:
                 out.write(piece)
     return made.hexdigest()
+
+
+def fault_of(text, status):
+    """What to say of a program that ended with a status that isn't 0: its line, and the status where it had printed something else, as answers."""
+    line = text[:8192].split(b"\n")[0].decode("utf-8", "surrogateescape")
+    return line if re.match("refused |unreadable |usage: ", line) else f"the program ended with status {status}"
 
 
 # ---- memory
@@ -172,9 +179,7 @@ class Source:
     @staticmethod
     def read(words):
         application, names = m_source.read_list(words[0])
-        if len(names) > 1024:
-            raise m_source.Refused(f"{words[0]}: too many files")
-        rules = [(name, m_source.fetch(name)) for name in names]
+        rules = list(zip(names, m_source.fetch_rules(names)))
         return application, rules, *(None if word == "-" else m_source.fetch(word) for word in words[1:])
 
     def put(self, name, content):
@@ -189,11 +194,31 @@ class Source:
         return re.sub(r"\brules-[0-9]{6}\.m\b", lambda match: self.original.get(match[0], match[0]), line)
 
     def batch(self, table, out):
-        """The answer of one batch, through a pipe, so that a program whose parent was killed can't go on writing."""
-        words = [self.program, "batch", *self.words, os.path.abspath(table)]
+        """The answer of one batch."""
+        return self.said(out, "batch", os.path.abspath(table))
+
+    def said(self, out, command, *more):
+        """What a command says over the source, through a pipe, so that a program whose parent was killed can't go on writing. The status comes back."""
+        words = [self.program, command, *self.words, *more]
         with CHILDREN.started(words, cwd=self.room, stdin=subprocess.DEVNULL, stdout=subprocess.PIPE) as child:
             shutil.copyfileobj(child.stdout, out, PIECE)
         out.flush()
         if digest_of_program(self.program) != self.program_digest:
             raise Failed(f"{self.program} was changed meanwhile: the same words begin with the new one")
         return child.returncode
+
+
+def two_sources(lists, drivers, requests, room):
+    """Two sources with the same requests. What both have is read once."""
+    copies = {"-": "-"}
+    for name in (*drivers, requests):
+        if name not in copies:
+            copies[name] = os.path.join(room, f"other-{len(copies)}")
+            with open(copies[name], "wb") as out:
+                out.write(m_source.fetch(name))
+    found = []
+    for list_name, driver in zip(lists, drivers):
+        found.append(Source([list_name, copies[driver], copies[requests]], tempfile.mkdtemp(dir=room)))
+    if found[0].program_digest != found[1].program_digest:
+        raise Failed("the program was changed meanwhile: begin again")
+    return found

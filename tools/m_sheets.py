@@ -11,6 +11,8 @@ from m_source import Refused
 MOST_BYTES = 1 << 29
 MOST_ROWS = 200_000
 MOST_COLUMNS = 16_384
+MOST_FIELDS = 1 << 25
+MOST_BLANKS = 1_000
 OLD = b"\xd0\xcf\x11\xe0"
 DATE_FORMATS = {*range(14, 23), *range(27, 37), *range(45, 48), *range(50, 59)}
 PERCENT_FORMATS = {9, 10}
@@ -128,14 +130,14 @@ class Xlsx(Book):
         kinds = []
         for form in (form for forms in below(tree, "cellXfs") for form in forms):
             number = told(form, "numFmtId") or "0"
-            code = re.sub(r'"[^"]*"|\\.|\[[^\]]*\]', "", codes.get(number) or "")
+            code = re.sub(r'"[^"]*"|\\.|\[[^][]*\]', "", codes.get(number) or "")
             is_date = int(number) in DATE_FORMATS or re.search("[ymdhs]", code, re.IGNORECASE) and "General" not in code
             is_percent = int(number) in PERCENT_FORMATS or "%" in code
             kinds.append("a date" if is_date else "a percentage" if is_percent else None)
         return kinds
 
     def rows(self, path):
-        tree, rows, number = self.tree(path), [], 0
+        tree, rows, number, count = self.tree(path), [], 0, 0
         if any(len(merged) for merged in below(tree, "mergeCells")):
             raise Refused("the sheet has merged cells: separate them")
         for row in (row for data in below(tree, "sheetData") for row in below(data, "row")):
@@ -144,7 +146,12 @@ class Xlsx(Book):
             for cell in below(row, "c"):
                 column = self.column(cell, len(fields))
                 fields += [""] * (column - len(fields)) + [self.field(cell, f"cell {column_name(column)}{number}")]
-            if any(fields):
+            while fields and not fields[-1]:
+                fields.pop()
+            count += len(fields)
+            if count > MOST_FIELDS:
+                raise Refused(f"row {number}: too many fields")
+            if fields:
                 rows.append((number, fields))
         return rows
 
@@ -189,7 +196,10 @@ def ods_text(element):
     for child in element:
         name = name_of(child)
         if name == "s":
-            text += " " * int(told(child, "c") or 1)
+            blanks = int(told(child, "c") or 1)
+            if blanks > MOST_BLANKS:
+                raise Refused(f"a text has {blanks} blanks")
+            text += " " * blanks
         elif name in ("tab", "line-break"):
             text += " "
         elif name not in ("annotation", "note"):
@@ -208,12 +218,13 @@ class Ods(Book):
         self.sheets = [(told(table, "name"), lambda table=table: self.rows(table)) for book in books for table in below(book, "table")]
 
     def rows(self, table):
-        rows, number = [], 1
+        rows, number, count = [], 1, 0
         for row in (row for row in table.iter() if name_of(row) == "table-row"):
             times = int(told(row, "number-rows-repeated") or 1)
             fields = self.fields(row, number)
             if fields:
-                if times + len(rows) > MOST_ROWS:
+                count += times * len(fields)
+                if times + len(rows) > MOST_ROWS or count > MOST_FIELDS:
                     raise Refused(f"row {number}: too many rows")
                 rows += [(number + k, list(fields)) for k in range(times)]
             number += times
@@ -258,5 +269,5 @@ def rows_of_sheet(content, wanted):
     kind = Xlsx if "xl/workbook.xml" in book.names else Ods
     try:
         return chosen(kind(content).sheets, wanted)
-    except (ValueError, IndexError, KeyError, TypeError) as fault:
+    except (ValueError, IndexError, KeyError, TypeError, RecursionError) as fault:
         raise Refused("the file isn't what a spreadsheet writes") from fault

@@ -17,6 +17,9 @@ GAP_OR_TOKEN = re.compile(
 
 
 FILE_BYTES = 16_777_216
+RULE_BYTES = 67_108_864
+LIST_FILES = 1024
+CELLS = 1_000_000
 TABLE_CELLS = 1024
 MARK = b"\xef\xbb\xbf"
 MASK = os.umask(0o077)  # what the user keeps from others in new files
@@ -64,14 +67,32 @@ def fetch(name, longest=FILE_BYTES):
     """The bytes of a file, which has at most so many."""
     try:
         with open(name, "rb") as file:
-            content = b""
-            while len(content) <= longest and (piece := file.read(1_048_576)):
-                content += piece
+            return taken(file, name, longest)
     except (OSError, ValueError) as fault:
         raise Refused(f"unreadable {name}") from fault
-    if len(content) > longest:
+
+
+def taken(file, name, longest=FILE_BYTES):
+    """What is left of an open file, which is at most so many bytes."""
+    pieces, size = [], 0
+    try:
+        while size <= longest and (piece := file.read(1_048_576)):
+            pieces.append(piece)
+            size += len(piece)
+    except OSError as fault:
+        raise Refused(f"unreadable {name}") from fault
+    if size > longest:
         raise Refused(f"file too long {name}")
-    return content
+    return b"".join(pieces)
+
+
+def fetch_rules(names):
+    """The bytes of rule files, one after the other. All together they have at most RULE_BYTES."""
+    left = RULE_BYTES
+    for name in names:
+        content = fetch(name, min(FILE_BYTES, left))
+        left -= len(content)
+        yield content
 
 
 def lines_of(content):
@@ -96,7 +117,10 @@ def read_list_text(name, content):
             raise Refused(f"{name} line {number}: the name isn't UTF-8") from fault
         if len(line) > 4096:
             raise Refused(f"{name} line {number}: the name has more than 4,096 bytes")
-    return application, [os.fsdecode(line) for line in lines[1:] if line]
+    names = [os.fsdecode(line) for line in lines[1:] if line]
+    if len(names) > LIST_FILES:
+        raise Refused(f"{name}: too many files")
+    return application, names
 
 
 class Lines:
@@ -125,9 +149,9 @@ class Lines:
 class RuleFile:
     """The items of one rule file."""
 
-    def __init__(self, name):
+    def __init__(self, name, content):
         self.name = name
-        self.bytes = fetch(name)
+        self.bytes = content
         self.lines = Lines(self.bytes)
         self.tokens = self.read_tokens()
         self.variables, self.rules = [], []
@@ -208,16 +232,26 @@ class RuleFile:
 
 
 class RuleBase:
-    """A list with all its rule files, whose names count from a folder. Tables may be `bounded`, as the program's are."""
+    """A list with all its rule files, whose names count from a folder. Tables and cells may be `bounded`, as the program's are."""
 
     def __init__(self, list_name, folder="", bounded=True):
         self.application, names = read_list_text(list_name, fetch(list_name).removeprefix(MARK))
-        self.files = [RuleFile(os.path.join(folder, name)) for name in names]
+        names = [os.path.join(folder, name) for name in names]
+        self.files = [RuleFile(name, content) for name, content in zip(names, fetch_rules(names))]
         self.variables = [variable for file in self.files for variable in file.variables]
         self.rules = [rule for file in self.files for rule in file.rules]
-        for variable in self.variables if bounded else ():
+        if bounded:
+            self.look_at_sizes()
+
+    def look_at_sizes(self):
+        """Refuses a table, or a number of cells, that the program refuses."""
+        cells = 0
+        for variable in self.variables:
+            cells += 1 if variable.size is None else variable.size
             if variable.size is not None and variable.size > TABLE_CELLS:
                 raise Refused(f"{variable.place}: table size")
+            if cells > CELLS:
+                raise Refused(f"{variable.place}: too many cells")
 
 
 def begin():
@@ -241,7 +275,8 @@ def stopped(number, _frame):
 
 
 def end(main):
-    """Runs the tool and ends with its status: 4 where the output was closed or is full, and 130 where it was interrupted."""
+    """Begins and runs the tool, and ends with its status: 4 where the output was closed or is full, and 130 where it was interrupted."""
+    begin()
     try:
         status = main()
         sys.stdout.flush()

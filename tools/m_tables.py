@@ -43,9 +43,10 @@ def unquoted(field):
     return match[1].replace(b'""', b'"') + field[match.end() :] if match else field
 
 
-def records(source, longest):
-    """The records of a table, each without its end and with what its first field says; blank lines are none. A record has at most so many bytes."""
-    buffer, at, count, is_first, ended = b"", 0, 0, True, False
+def records(source, longest, is_whole=True):
+    """The records of a table, each without its end and with what its first field says; blank lines are none. A record has at most so many bytes. A whole table
+    may begin with a byte order mark."""
+    buffer, at, count, is_first, ended = b"", 0, 0, is_whole, False
     while True:
         match = RECORD.match(buffer, at)
         if match:

@@ -4,7 +4,8 @@ import re
 
 import m_items
 import m_source
-from m_loops import instances, reads_of, replaced
+from m_loops import instances, reads_of, replaced, whole
+from m_places import decode
 
 
 class Written:
@@ -57,7 +58,7 @@ class Formula:
     def cells(self, word, index, letters, sizes):
         if index is None:
             return [] if word.isdigit() else [word]
-        number = self.number if index == ("X",) else whole(index, letters)
+        number = self.number if index == ("X",) else number_of(index, letters)
         return [f"{word}[{k}]" for k in (range(sizes.get(word, 0)) if number is None else [number])]
 
 
@@ -71,10 +72,10 @@ def words_in(term):
     return [term[1]] if term is not None and term[0] == "name" else []
 
 
-def whole(index, letters):
+def number_of(index, letters):
     """The number of an index that is one, cut to its whole part; None of another one."""
     text = replaced(index[1], letters) if index[0] in ("name", "number") else ""
-    return int(text.split(".")[0]) if re.fullmatch(r"[0-9]+(\.[0-9]+)?", text) else None
+    return whole(text.split(".")[0]) if re.fullmatch(r"[0-9]+(\.[0-9]+)?", text) else None
 
 
 class Rules:
@@ -82,6 +83,7 @@ class Rules:
 
     def __init__(self, list_name):
         base = m_source.RuleBase(list_name)
+        self.files = [file.name for file in base.files]
         self.variables = {variable.name: variable for variable in base.variables}
         self.sizes = {name: variable.size for name, variable in self.variables.items() if variable.size is not None}
         self.descriptions, self.formulas = {}, {}
@@ -100,7 +102,7 @@ class Rules:
         for token in file.tokens:
             name = places.get(token.byte, name)
             if token.kind == "text" and name is not None:
-                self.descriptions[name] = token.text[1:-1]
+                self.descriptions[name] = decode(token.text[1:-1].encode("latin-1"))
             if token.text == ";" and token.kind == "sign":
                 name = None
 

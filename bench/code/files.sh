@@ -7,6 +7,7 @@ here=$(cd "$(dirname "$0")" && pwd)
 root=$(cd "$here/../.." && pwd)
 work=$(mktemp -d "${TMPDIR:-/tmp}/bench_code.XXXXXX")
 trap 'rm -rf "$work"' EXIT
+trap 'exit 1' HUP INT TERM
 python3 "$here/files.py" "${1-$root/out/m_tax}" "$work"
 echo
 python3 "$here/victims.py" "$work/impots.code" "$work/impot2023.code" "$work/large_10000.code" "$work/large_100000.code"

@@ -10,6 +10,7 @@ program=$(readlink -f "${1:-$here/../../crates/m_tax/out/m_tax}")
 [ -x "$program" ] || { echo "no program at $program: call rt run in crates/m_tax" >&2; exit 1; }
 folder=$(mktemp -d)
 trap 'rm -rf "$folder"' EXIT
+trap 'exit 1' HUP INT TERM
 sizes="1000 10000 100000"
 for n in $sizes; do
     python3 "$here/generate.py" "$n" "$folder/$n"

@@ -9,6 +9,7 @@ here=$(cd "$(dirname "$0")" && pwd)
 root=$(cd "$here/../.." && pwd)
 work=$(mktemp -d "${TMPDIR:-/tmp}/bench_items.XXXXXX")
 trap 'rm -rf "$work"' EXIT
+trap 'exit 1' HUP INT TERM
 mkdir -p "$work/repository/crates"
 for crate in m_places m_fixed m_names m_text m_lexer m_ast m_terms declaration_items rule_items m_items m_symbols; do
     mkdir "$work/repository/crates/$crate"

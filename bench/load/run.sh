@@ -8,4 +8,5 @@ program=${1:-$here/../../out/m_tax}
 [ $# -gt 0 ] && shift
 room=$(mktemp -d) || exit 1
 trap 'rm -rf "$room"' EXIT
+trap 'exit 1' HUP INT TERM
 python3 "$here/measure.py" "$program" "$room" "$@"

@@ -12,6 +12,7 @@ root=$(cd "$here/../.." && pwd)
 count=${1:-100000}
 work=$(mktemp -d "${TMPDIR:-/tmp}/bench_names.XXXXXX")
 trap 'rm -rf "$work"' EXIT
+trap 'exit 1' HUP INT TERM
 rustc -O -o "$work/names" "$here/names.rs"
 "$work/names" "$count" "$work"
 

@@ -8,5 +8,6 @@ root=$(cd "$here/../.." && pwd)
 program=$(readlink -f "${1-$root/out/m_tax}")
 work=$(mktemp -d "${TMPDIR:-/tmp}/bench_python.XXXXXX")
 trap 'rm -rf "$work"' EXIT
+trap 'exit 1' HUP INT TERM
 cd "$root"
 python3 -B "$here/measure.py" "$program" "$work" ${2+"$2"}

@@ -2,6 +2,13 @@
 printf 'name,1AJ\ndupont,2500.5\n"a, ""b""",\nmartin,1\nleroy,-1\n' >t.csv
 printf 'household dupont\nnoted 7 A1 informative\nhousehold x\nIRN = 1500.5\nT[1] undefined\nhousehold a, "b"\nIRN = 0\nT[1] over\nhousehold martin\nIRN = 0\nT[1] = -0.5\nhousehold leroy\nfailed 1 E01 anomalie\nt\n' >answers
 "$ROOT/tools/cases-in" t.csv answers; echo "status $?"
+{ printf '\357\273\277'; cat t.csv; } >marked.csv
+"$ROOT/tools/cases-in" --only IRN marked.csv answers | head -n 2
+printf 'name,1AJ\nm\303\251ry,1\n\351,1\n' >labels.csv
+printf 'household m\303\251ry\nIRN = 1\nhousehold \351\nIRN = 2\n' >labels
+"$ROOT/tools/cases-in" labels.csv labels | od -An -c
+sed 's/^.*ry$/household durand/' labels >other
+"$ROOT/tools/cases-in" labels.csv other
 "$ROOT/tools/cases-in" --only 'T[1]' t.csv answers; echo "status $?"
 "$ROOT/tools/cases-in" --only X t.csv answers; echo "status $?"
 head -n 5 answers >few
@@ -41,3 +48,5 @@ P
 "$ROOT/tools/cases-in" --book b.ods --households foyers --expected attendu; echo "status $?"
 "$ROOT/tools/cases-in" --book c.ods --households foyers --expected attendu; echo "status $?"
 "$ROOT/tools/cases-in" --book b.ods --households foyers --expected autre; echo "status $?"
+"$ROOT/tools/cases-in" --book gone.ods --households foyers --expected autre; echo "status $?"
+"$ROOT/tools/cases-in" --book b.ods --households autre --expected attendu; echo "status $?"

@@ -21,12 +21,43 @@ printf 'code,amount\n1AJ,5\n1AJ,6\n' >twice.csv
 draw twice.csv
 printf 'code,"amount\n1AJ,5\n' >open.csv
 draw open.csv
+echo "-- marginal: the household's faults have its own places, those of the amounts are told by them, and of a program that is killed the status is told"
+cat >stand_in <<'END'
+#!/bin/sh
+# A household is refused where a code is 9ZZ or an amount empty; a table where it has the code 9ZZ, or the amount 10.
+if [ "$1" = run ]; then
+    awk -F, 'NR > 1 && $1 == "9ZZ" {print "refused household line " NR ": unknown code"; exit 1} NR > 1 && $2 == "" {print "refused household line " NR ": bad amount"; exit 1}' "$5"
+else
+    [ ! -e killed ] || { printf 'household r0\nIRN = 1\n'; kill -9 $$; }
+    line=$(awk -F, 'NR == 1 && /9ZZ/ {print "refused household line 1: unknown code"} $2 == 10 {print "refused household line " NR ": not of its type"}' "$5")
+    [ -z "$line" ] || { echo "$line"; exit 1; }
+    awk -F, 'NR > 1 {print "household " $1 "\nIRN = 1"}' "$5"
+fi
+END
+printf 'code,amount\n1BJ,3\n9ZZ,4\n' >fault.csv && draw fault.csv
+printf 'code,amount\n1BJ,3\n1CJ,\n' >fault.csv && draw fault.csv
+draw h.csv
+"$tools/marginal" a.list - h.csv 9ZZ 0 10 10 --of IRN --csv
+: >killed && draw h.csv
+rm killed fault.csv
+echo "-- variant: cells by their whole names, numbers of any length"
+printf 'iliad\nt.m\n' >t.list
+printf 'T : tableau[30] calculee : "" ;\nregle 1 : application : iliad ; T[2] = 5 ; T[23] = 0.%05000d1 ;\n' 0 >t.m
+for name in 'T[23' 'T[2)' 'T[2]]' T; do "$tools/variant" t.list "$name=9" other; done
+"$tools/variant" t.list 'T[23]=7' T[2]=-3 other | cut -c 1-12
+tail -n 1 other/t.m
+"$tools/variant" a.list "K=$(printf '%05000d2.%05000d' 0 0)" other2 | cut -c 1-40
+rm -r other t.list t.m
 echo "-- variant: numbers that are none of rules, folders that no list can name, a closed output"
 for value in 99999999999999999999999999999999999999999999 10000000000000.5 1e3; do "$tools/variant" a.list K=$value copy; done
 "$tools/variant" a.list K=3 "$(printf 'a\nb')"
 "$tools/variant" a.list K=3 "$(printf 'a\351')" 2>/dev/null
 echo "status $?"
 "$tools/variant" a.list K=3 copy >&-
+echo "status $?"
+"$tools/variant" >&-
+echo "status $?"
+"$tools/slips" --help >&-
 echo "status $?"
 (umask 077 && "$tools/variant" a.list K=3 'co py' && ls -ld 'co py' | cut -c 1-10 && cat 'co py/rules.list')
 echo "-- explain: carriage returns in a text, a program that is killed or isn't there"
@@ -37,6 +68,10 @@ echo "status $?"
 M_TAX=./nowhere "$tools/explain" run a b c d 2>/dev/null
 echo "status $?"
 printf 'unreadable x\r\n' | "$tools/explain" | tr '\r' '|'
+: >nothing && chmod +x nothing
+M_TAX=./nothing "$tools/explain" run a b c d 2>&1 | sed "s|$PWD|.|"
+rm nothing
+printf 'refused a.m line %05000d byte 1: syntax\nrefused list line 0\nrefused household line 0: bad row\n' 7 | "$tools/explain" --list a.list --household h.csv | cut -c 1-40
 echo "-- why: a page that can't be written leaves nothing"
 stand_in 'case $1 in run) echo "K = 2" ;; check) echo sound ;; esac'
 mkdir page folder
@@ -46,5 +81,14 @@ echo "status $?"
 ln -s h.csv link.csv
 "$tools/why" a.list h.csv K --html link.csv
 echo "status $?"
+"$tools/why" a.list h.csv K --html a.m
+echo "status $?"
+echo "-- why: a description in UTF-8, and one in Latin-1; an index of any length"
+printf 'iliad\nd.m\n' >d.list
+printf 'K : calculee : "l\303\251" ;\nT : tableau[3] calculee : "\351" ;\nregle 1 : application : iliad ;\nK = T[%05000d] ;\n' 2 >d.m
+stand_in 'case $1 in run) printf "T[2] = 5\nK = 5\n" ;; check) echo sound ;; esac'
+"$tools/why" d.list h.csv K | cut -c 1-20
+rm d.list d.m
+stand_in 'case $1 in run) echo "K = 2" ;; check) echo sound ;; esac'
 (ulimit -f 1; "$tools/why" a.list h.csv K --html page/L.html 2>&1; echo "status $?") | cat
 ls -A . page

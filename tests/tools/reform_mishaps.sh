@@ -32,6 +32,13 @@ for weight in -1 '' '\262'; do
     printf "name,1AJ,poids\n\303\251,10,$weight\n" >odd.csv
     "$reform" before.list after.list - - odd.csv --of IRN --weight poids --into other
 done
+printf 'name,1AJ,poids\na,10,%05000d\n' 7 | tr 0 9 >odd.csv
+"$reform" before.list after.list - - odd.csv --of IRN --weight poids --into other
+printf 'name,1AJ,poids\na,10,10000000000000.000001\n' >odd.csv
+"$reform" before.list after.list - - odd.csv --of IRN --weight poids --into other
+"$reform" before.list after.list - - short.csv --of IRN --by '' --into other
+"$reform" before.list after.list - - short.csv --of IRN --step '' --into other
+echo "status $?"
 printf 'name,1AJ\n"a\rb",1\n' >odd.csv
 "$reform" before.list after.list - - odd.csv --of IRN --into other
 printf 'name,"1AJ\na,1\n' >odd.csv
@@ -45,7 +52,7 @@ printf 'iliad\nopen.m\n' >open.list
 "$reform" before.list open.list - - short.csv --of IRN --into other
 echo "status $?"
 echo "-- a program that loses a line or a household, answers nothing, isn't there, or can't be started"
-for said in 'sed -i 5d "$here/answer"' 'sed -i 1,3d "$here/answer"' ': >"$here/answer"' 'kill -9 $$'; do
+for said in 'sed -i 5d "$here/answer"' 'sed -i 1,3d "$here/answer"' ': >"$here/answer"' 'kill -9 $$' 'head -n 2 "$here/answer"; kill -9 $$'; do
     echo "$said" >behind
     "$reform" before.list after.list - - short.csv --of IRN --into other
     echo "status $?"

@@ -23,3 +23,20 @@ for size in 1025 100000000000 "$(printf '%05000d' 7 | tr 0 9)"; do
     "$ROOT/tools/requests" big.list
     echo "status $?"
 done
+echo "-- what a rule base may have, and no more is listed; a pattern of many stars"
+awk 'BEGIN {for (k = 0; k < 977; k++) printf "T%03d : tableau[1024] calculee : \"\" ;\n", k}' >big.m
+"$requests" big.list
+echo "status $?"
+{ echo iliad; yes a.m | head -n 1025; } >big.list
+"$requests" big.list
+echo "status $?"
+head -c 16777216 /dev/zero | tr '\0' ' ' >blank.m
+printf 'iliad\nblank.m\nblank.m\nblank.m\nblank.m\nblank.m\n' >big.list
+"$requests" big.list
+echo "status $?"
+printf 'iliad\nbig.m\n' >big.list
+echo 'AAAAAAAAAAAAAAAAAAAAAAAAAAAAAAAAAAAA : const = 1 ;' >big.m
+"$requests" big.list '*A*A*A*A*A*A*A*A*A*A*A*B'
+echo "status $?"
+"$requests" big.list '*A*A*A*A*A*A*A*A*A*A*A'
+"$requests" big.list 'A]*' '[A]*' '!*'

@@ -63,3 +63,17 @@ umask 077
 rm -r parts
 "$scale" cut table.csv parts && "$scale" run parts a.list - -
 ls -l parts | tail -n +2 | cut -c 1-10 | sort -u
+umask 022
+echo "-- a cut that is ended removes what its sort wrote"
+mkdir temporary
+mkfifo long
+TMPDIR=$PWD/temporary "$scale" cut long labels --once &
+exec 5>long
+awk 'BEGIN {a = "a"; while (length(a) < 1000000) a = a a; print "name,1AJ"; for (k = 0; k < 60; k++) print a k ",1"}' >&5
+tries=0
+while [ -z "$(find temporary -name 'sort*' -type f)" ] && [ $tries -lt 400 ]; do sleep 0.05; tries=$((tries + 1)); done
+kill $!
+wait $!
+echo "status $?"
+exec 5>&-
+find temporary

@@ -111,6 +111,25 @@ printf 'b,2\rc,3\r' | "$scale" pipe name,1AJ a.list - - | tr '\n' ' '
 echo
 printf 'b,2\n' | "$scale" pipe --of "$("$scale" source a.list - -)" name,1AJ a.list - - | tr '\n' ' '
 printf 'b,2\n' | "$scale" pipe --of 0123 name,1AJ a.list - -
+echo "-- a label that begins as a mark does is no mark where the first line is a word"
+printf '\357\273\277b,2\n' | "$scale" pipe name,1AJ a.list - - | od -An -c
+echo "-- numbers that are spelled otherwise, a folder whose table is none"
+"$scale" one parts 1_0 a.list - - 2>/dev/null
+echo "status $?"
+"$scale" run parts a.list - - --jobs +1 2>/dev/null
+echo "status $?"
+for said in 2 "$(printf '%05000d' 2)"; do
+    mkdir none && printf '%s 2 x y y\n' "$said" >none/table
+    "$scale" list none
+    printf '2 %s x y y\n' "$said" >none/table
+    "$scale" list none | tr '\n' ' '
+    rm -r none
+done
+echo
+echo "-- a batch that is killed has no error line"
+printf '%s\n' '#!/bin/sh' 'printf "household a\nIRN = 1\n"; kill -9 $$' >odd
+chmod +x odd
+M_TAX=$PWD/odd "$scale" run parts a.list - - --jobs 1
 echo "-- refused"
 for table in 'name;1AJ\na;1\n' 'code,amount\n1AJ,1\n' '' 'name,1AJ\n' 'name,1AJ\na,1\n"b,2\nc,3\n'; do
     rm -r parts

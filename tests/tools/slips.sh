@@ -26,6 +26,17 @@ printf 'A : const = 1.5 ;\nB : const = 1.\n' >c.m
 echo "status $?"
 "$slips"
 echo "status $?"
+# Indexes that are numbers of any length, sums of any number of terms, products beyond the greatest amount; a driver through a pipe.
+printf 'iliad\nlong.m\n' >long.list
+{
+    printf 'V : saisie alias 1AJ : "" ;\nT : tableau[5] calculee : "" ;\nA : calculee restituee : "" ;\nregle 1 : application : iliad ;\nT[X] = V ;\n'
+    printf 'A = T[%05001d] + T[%05000d9]\n' 4 0
+    awk 'BEGIN {printf "+ T[1"; for (k = 1; k < 25000; k++) printf "+1"; printf "]\n+ T[9999999999999"; for (k = 1; k < 340; k++) printf "*9999999999999"; print "]\n+ T[-(2 + 1)*2] ;"}'
+} >long.m
+"$slips" long.list
+printf 'A : calculee : "" ;\nB : calculee restituee : "" ;\nregle 1 : application : iliad ; B = A ;\n' >c.m
+printf 'main():\n  A = 1\n  B <- call_m()\n' | "$slips" --driver /dev/stdin three.list
+echo "status $?"
 cd "$ROOT" || exit 1
 tools/slips examples/first/rules.list examples/loops/rules.list
 echo "status $?"

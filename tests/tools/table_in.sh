@@ -52,3 +52,8 @@ printf 'n;1AJ\nd\351\201;5\n' | "$in" - | od -An -c | tail -n 1
 echo "status $?"
 printf 'n;1AJ\nd;5\n' | "$in" - >&-
 echo "status $?"
+# Few bytes that would be many fields: a line of separators, many heads above short lines, and an input that is too long.
+awk 'BEGIN {print "n;1AJ"; printf "d;1"; for (k = 0; k < 40000; k++) printf ";"; print ""; for (k = 0; k < 20000; k++) print "e;2"}' | "$in" - | tail -n 1
+awk 'BEGIN {printf "n"; for (k = 0; k < 20000; k++) printf ";A%d", k; print ""; for (k = 0; k < 20000; k++) print "d;1"}' | "$in" -
+head -c 268435457 /dev/zero | "$in" -
+echo "status $?"

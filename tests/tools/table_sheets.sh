@@ -10,14 +10,14 @@ O = ('xmlns:office="urn:oasis:names:tc:opendocument:xmlns:office:1.0" xmlns:tabl
      'xmlns:text="urn:oasis:names:tc:opendocument:xmlns:text:1.0"')
 
 
-def xlsx(name, sheets, more=""):
+def xlsx(name, sheets, more="", form="dd/mm/yyyy"):
     with zipfile.ZipFile(name, "w") as book:
         names = "".join(f'<sheet name="S{k}" sheetId="{k}" r:id="r{k}"/>' for k in range(1, len(sheets) + 1))
         book.writestr("xl/workbook.xml", f"<workbook {X}><sheets>{names}</sheets></workbook>")
         links = "".join(f'<Relationship Id="r{k}" Type="t" Target="worksheets/s{k}.xml"/>' for k in range(1, len(sheets) + 1))
         book.writestr("xl/_rels/workbook.xml.rels", f'<Relationships xmlns="http://schemas.openxmlformats.org/package/2006/relationships">{links}</Relationships>')
         book.writestr("xl/sharedStrings.xml", f"<sst {X}><si><t>Foyer</t></si><si><r><t>1A</t></r><r><t>J</t></r></si><si><t>1BJ</t></si><si><t>Dupré; fils</t></si></sst>")
-        book.writestr("xl/styles.xml", f'<styleSheet {X}><numFmts><numFmt numFmtId="170" formatCode="dd/mm/yyyy"/></numFmts><cellXfs><xf numFmtId="0"/><xf numFmtId="170"/><xf numFmtId="9"/></cellXfs></styleSheet>')
+        book.writestr("xl/styles.xml", f'<styleSheet {X}><numFmts><numFmt numFmtId="170" formatCode="{form}"/></numFmts><cellXfs><xf numFmtId="0"/><xf numFmtId="170"/><xf numFmtId="9"/></cellXfs></styleSheet>')
         for k, rows in enumerate(sheets, 1):
             book.writestr(f"xl/worksheets/s{k}.xml", f"<worksheet {X}><sheetData>{rows}</sheetData>{more}</worksheet>")
 
@@ -49,6 +49,12 @@ ods("good.ods", [HEAD + row("<table:table-cell/>") + row(cell('Le<text:s text:c=
 ods("household.ods", [row(cell("code"), cell("montant")) + row(cell("1AJ"), number("3")) + row(cell("1BJ"), "<table:table-cell/>")])
 ods("covered.ods", [HEAD + row(cell("d"), '<table:table-cell table:number-columns-spanned="2" office:value-type="float" office:value="7"/>', "<table:covered-table-cell/>")])
 ods("date.ods", [HEAD + row(cell("d"), '<table:table-cell office:value-type="date" office:date-value="2023-01-01"><text:p>x</text:p></table:table-cell>')])
+# Few bytes that would be a great text or many fields, and what takes long to read.
+ods("blanks.ods", [HEAD + row(cell('a<text:s text:c="9999999999"/>b'), number("7"))])
+ods("deep.ods", [HEAD + row(cell("<text:span>" * 3000 + "a" + "</text:span>" * 3000), number("7"))])
+ods("many.ods", [HEAD + f'<table:table-row table:number-rows-repeated="190000">{cell("a")}<table:table-cell office:value-type="float" office:value="7" table:number-columns-repeated="16000"/></table:table-row>'])
+xlsx("wide.xlsx", [HEADS + "".join(f'<row r="{k}"><c r="A{k}"><v>1</v></c><c r="XFD{k}"><v>1</v></c></row>' for k in range(2, 2051))])
+xlsx("brackets.xlsx", [GOOD], form="[" * 200000)
 open("cut.xlsx", "wb").write(open("good.xlsx", "rb").read()[:400])
 open("old.xls", "wb").write(b"\xd0\xcf\x11\xe0\xa1\xb1\x1a\xe1" + bytes(100))
 # Damaged within: a piece that begins as no packed piece does, and one that is packed in another way.
@@ -60,7 +66,7 @@ for name, how in (("packed.ods", zipfile.ZIP_DEFLATED), ("other.ods", zipfile.ZI
     open(name, "wb").write(whole)
 END
 python3 make.py
-for name in good.xlsx two.xlsx formula.xlsx date.xlsx percent.xlsx error.xlsx truth.xlsx text.xlsx head.xlsx merged.xlsx empty.xlsx cut.xlsx old.xls good.ods household.ods covered.ods date.ods packed.ods other.ods; do
+for name in good.xlsx two.xlsx formula.xlsx date.xlsx percent.xlsx error.xlsx truth.xlsx text.xlsx head.xlsx merged.xlsx empty.xlsx cut.xlsx old.xls good.ods household.ods covered.ods date.ods packed.ods other.ods blanks.ods deep.ods many.ods wide.xlsx brackets.xlsx; do
     "$in" $name
     echo "status $?"
 done
