@@ -1,0 +1,27 @@
+"""Amounts as whole numbers of millionths."""
+import re
+
+from m_runs import Failed
+
+UNIT = 1_000_000
+MOST = 10_000_000_000_000 * UNIT
+AMOUNT = re.compile(r"(-?)([0-9]+)(?:\.([0-9]{1,6}))?")
+
+
+def amount(text):
+    """The millionths of an amount as the program prints it, or as a table has it."""
+    match = AMOUNT.fullmatch(text)
+    if match is None:
+        raise Failed(f"no amount of at most six decimals: {text}")
+    whole = match[2].lstrip("0")
+    millionths = int(whole[:15] or 0) * UNIT + int((match[3] or "").ljust(6, "0"))
+    if len(whole) > 14 or millionths > MOST:
+        raise Failed(f"an amount is at most 10000000000000 above or below 0, and not {text[:40]}")
+    return -millionths if match[1] else millionths
+
+
+def plain(value):
+    """An amount or a fraction with at most six decimals."""
+    millionths = value if isinstance(value, int) else round(value)
+    sign, size = ("-", -millionths) if millionths < 0 else ("", millionths)
+    return sign + (f"{size // UNIT}.{size % UNIT:06}".rstrip("0").rstrip("."))
