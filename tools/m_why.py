@@ -83,7 +83,7 @@ class Rules:
 
     def __init__(self, list_name):
         base = m_source.RuleBase(list_name)
-        self.files = [file.name for file in base.files]
+        self.application, self.contents = base.application, [(file.name, file.bytes) for file in base.files]
         self.variables = {variable.name: variable for variable in base.variables}
         self.sizes = {name: variable.size for name, variable in self.variables.items() if variable.size is not None}
         self.descriptions, self.formulas = {}, {}

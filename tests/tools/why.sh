@@ -56,3 +56,18 @@ print("ends at", page.depth, "deepest", page.most, "folds", page.folds, "leaves"
 P
 "$ROOT/tools/why" l.txt h.csv IRN --html gone/page.html; echo "status $?"
 ls
+# The rules are changed while the program runs: what is shown is of the rules as they were read. A fault has the file's own name.
+cat > changing <<S
+#!/bin/sh
+sed -i 's/REV - SEUIL/REV + SEUIL/' a.m
+exec "$M_TAX" "\$@"
+S
+chmod +x changing
+M_TAX=./changing "$ROOT/tools/why" l.txt h.csv IRN --depth 1; echo "status $?"
+grep -c 'REV + SEUIL' a.m
+printf 'A : calculee : "a" ;\nregle 1 : application : iliad ; A = B ;\n' > unknown.m
+printf 'iliad\nunknown.m\n' > unknown.txt
+printf 'code,amount\n' > none.csv
+"$ROOT/tools/why" unknown.txt none.csv A; echo "status $?"
+printf 'iliad\na.m\na.m\n' > twice.txt
+"$ROOT/tools/why" twice.txt h.csv IRN; echo "status $?"
