@@ -65,7 +65,8 @@ fn table(alloc: Global, rows: u32) -> Vec<u8> {
 }
 
 fn add_reply(alloc: Global, lines: &mut Vec<u8>, k: u32) {
-    if let Ok(line) = format!(in alloc; "household h{k}\nIRN = 0\n") {
+    let tax = k.saturating_sub(1000);
+    if let Ok(line) = format!(in alloc; "household h{k}\nIRN = {tax}\n") {
         add(lines, line.as_bytes());
     }
 }

@@ -1,16 +1,16 @@
 //! The top call.
-ghost use Rattle.std.specs.Prelude.{◌≡◌, ◌<◌, ◌⊎◌, ℕ, List, false};
+ghost use Rattle.std.specs.Prelude.{◌≡◌, ◌<◌, ◌⊎◌, ℕ, List, Some, false};
 ghost use Rattle.m_ports.specs.Counts.{Rose};
 ghost use Rattle.command_plans.specs.Attempts.{TakesWithin};
 ghost use Rattle.command_plans.specs.Views.{Disk, files_view, input_view, output_view};
 ghost use Rattle.command_plans.specs.declared.status.Status.{Status};
-ghost use Rattle.m_commands.specs.Command.{limit_of, reads_input, writes_early};
+ghost use Rattle.m_commands.specs.Command.{IsInReach, command_of, limit_of, reads_input, writes_early};
 ghost use Rattle.m_commands.specs.Clauses.{PrintsOutput, WritesCode, KeepsInputLimit, ReadsInOrder, WritesFront, StopsInFront, AnswersValid, IsToldUsage};
 ghost use Rattle.m_commands.specs.Output.{Output, AreOneOutput};
 ghost use Rattle.m_commands.specs.inner.Courses.{Course};
 
 use crate::answer::answer;
-use crate::command::command_of;
+use crate::command::{Command, command_of};
 use crate::gather::gather;
 use command_plans::{Status, print_fault, tell};
 use fault_lines::Fault;
@@ -32,13 +32,29 @@ fn perform<R: Threads + Sync, F: Files, S: Source, K: Sink>(
         (input_view S.left S.faults input.old) (input_view S.left S.faults input.new)
         (output_view K.written K.faults out.old) (output_view K.written K.faults out.new) result }
 {
-    let Ok(command) = command_of(alloc, words) else {
-        return Status::Memory;
-    };
-    let Some(command) = command else {
-        return print_fault(out, Fault::Usage, Status::Usage);
-    };
-    match gather(alloc, files, &command) {
+    match command_of(alloc, words) {
+        Ok(Some(command)) => act(rt, alloc, &command, files, input, out),
+        Ok(None) => print_fault(out, Fault::Usage, Status::Usage),
+        Err(_) => Status::Memory,
+    }
+}
+
+// Does a command: gathers its files, and answers them.
+fn act<R: Threads + Sync, F: Files, S: Source, K: Sink>(
+    rt: &R,
+    alloc: Global,
+    command: &Command,
+    files: &mut F,
+    input: &mut S,
+    out: &mut K,
+) -> Status
+    requires { IsInReach command.now }
+    ensures { (words : List (List ℕ)) → command_of words ≡ Some command.now
+        → Course words (files_view F.told F.attempts F.taken files.old) (files_view F.told F.attempts F.taken files.new)
+        (input_view S.left S.faults input.old) (input_view S.left S.faults input.new)
+        (output_view K.written K.faults out.old) (output_view K.written K.faults out.new) result }
+{
+    match gather(alloc, files, command) {
         Ok(work) => answer(rt, alloc, &work, input, out),
         Err(ending) => tell(out, &ending),
     }
