@@ -1,0 +1,111 @@
+#!/usr/bin/env python3
+"""Says how long the gate takes from nothing by the order in which the kit's `rt` does its work: bench/gate/simulate.py FIGURES [PROCESSORS [MEMORY [CLOCK]]]
+
+FIGURES are those that bench/gate/measure.py wrote (seconds of processors for each crate's check, tests and edits); one may change them by hand to see
+what a change would bring. PROCESSORS are 4, MEMORY is 19.5 GB (0.85 of what is free) and CLOCK 1.05 seconds by the clock for one of a processor, if they
+aren't named. As `rt ci`, it does first what has the longest chain of lines above it, then tests, and edits last; each starts once a processor is free and
+the memory that it may need (`need` of rt), and none is interrupted. Prints the minutes, those of processors that are never idle, and what ran for over
+a minute in the last third. It reads the kit's command `rt`, whose parts may have other names in another kit: then it ends with Python's error.
+"""
+import importlib.machinery
+import importlib.util
+import os
+import shutil
+import sys
+
+ROOT = os.path.dirname(os.path.dirname(os.path.dirname(os.path.abspath(__file__))))
+OVER_A_SEED = 0.7  # of the memory of a check from nothing
+
+
+def kit():
+    """The module of the kit's command `rt`."""
+    sys.dont_write_bytecode = True
+    loader = importlib.machinery.SourceFileLoader("rt", shutil.which("rt"))
+    made = importlib.util.module_from_spec(importlib.util.spec_from_loader("rt", loader))
+    sys.modules["rt"] = made
+    loader.exec_module(made)
+    return made
+
+
+def read(path):
+    with open(path, encoding="utf-8") as figures:
+        rows = [line.split() for line in figures if not line.startswith("#")]
+    return {name: tuple(map(float, seconds)) for name, *seconds in rows}
+
+
+def edits_of(folder):
+    place = os.path.join(folder, "must-fail")
+    return sum(name.endswith(".edit") for name in os.listdir(place)) if os.path.isdir(place) else 0
+
+
+def tasks_of(rt, figures):
+    """Each task: what it waits for, its lines, its memory, its seconds of a processor."""
+    tasks = {}
+    for crate in rt.crates_of(ROOT):
+        waits, lines, memory = [(it.name, "proof") for it in crate.below()], crate.count(rb"\n"), rt.need(crate)
+        check, tests, edits = figures[crate.name]
+        own, count = [(crate.name, "proof"), (crate.name, "tests")], edits_of(crate.folder)
+        tasks[own[0]] = (waits, lines, memory, check)
+        tasks[own[1]] = (waits, lines * bool(crate.has_tests()), memory, tests)
+        if count == 1:
+            tasks[crate.name, "edits", 0] = ([*waits, *own], lines, memory, edits)
+        elif count > 1:
+            seed, each = min(check, edits * 0.6), max(edits - min(check, edits * 0.6), 0) / (count + 1)
+            tasks[crate.name, "seed"] = (waits, 0, memory, seed)
+            for number in range(count):
+                tasks[crate.name, "edits", number] = ([*waits, *own, (crate.name, "seed")], lines, OVER_A_SEED * memory, each)
+            tasks[crate.name, "sound"] = ([(crate.name, "edits", number) for number in range(count)], 0, OVER_A_SEED * memory, each)
+    return tasks
+
+
+def order_of(tasks):
+    """The tasks in the order in which they are looked at."""
+    behind = {key: 0 for key in tasks}
+    for key in reversed([*tasks]):
+        behind[key] += tasks[key][1]
+        for other in tasks[key][0]:
+            behind[other] = max(behind[other], behind[key])
+    return sorted(tasks, key=lambda key: (key[1] in ("edits", "seed"), -behind[key]))
+
+
+def begun(tasks, left, done, running, processors, memory):
+    """The tasks that start now."""
+    waits_for_memory = False
+    for key in [key for key in left if all(other in done for other in tasks[key][0])]:
+        if waits_for_memory and key[1] in ("edits", "seed"):
+            return
+        if len(running) < processors and (not running or tasks[key][2] + sum(tasks[other][2] for other in running) <= memory):
+            left.remove(key)
+            yield key
+        else:
+            waits_for_memory = waits_for_memory or len(running) < processors and key[1] in ("proof", "tests")
+
+
+def simulated(tasks, processors, memory, clock):
+    """When each task began and ended."""
+    left, done, running, now, times = order_of(tasks), set(), {}, 0.0, {}
+    while left or running:
+        for key in begun(tasks, left, done, running, processors, memory):
+            running[key] = now + clock * tasks[key][3]
+            times[key] = now, running[key]
+        first = min(running, key=running.get)
+        now = running.pop(first)
+        done.add(first)
+    return times
+
+
+def main():
+    if not 2 <= len(sys.argv) <= 5:
+        sys.exit(__doc__)
+    processors, memory, clock = (float(word) for word in [*sys.argv[2:], *("4", "19.5", "1.05")[len(sys.argv) - 2:]])
+    tasks = tasks_of(kit(), read(sys.argv[1]))
+    times = simulated(tasks, processors, memory * 1e9, clock)
+    end, work = max(end for _, end in times.values()), clock * sum(task[3] for task in tasks.values())
+    print(f"{end / 60:.1f} minutes; {work / processors / 60:.1f} where no processor is ever idle")
+    for key, (begin, over) in sorted(times.items(), key=lambda item: item[1]):
+        if over - begin > 60 and over > end * 2 / 3:
+            print(f"{begin:6.0f} {over:6.0f} s  {' '.join(map(str, key))}, up to {tasks[key][2] / 1e9:.1f} GB")
+
+
+if __name__ == "__main__":
+    main()
