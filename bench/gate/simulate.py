@@ -14,7 +14,6 @@ import shutil
 import sys
 
 ROOT = os.path.dirname(os.path.dirname(os.path.dirname(os.path.abspath(__file__))))
-OVER_A_SEED = 0.7  # of the memory of a check from nothing
 
 
 def kit():
@@ -28,33 +27,36 @@ def kit():
 
 
 def read(path):
+    """The seconds of each crate, of a run that went to its end."""
     with open(path, encoding="utf-8") as figures:
-        rows = [line.split() for line in figures if not line.startswith("#")]
-    return {name: tuple(map(float, seconds)) for name, *seconds in rows}
-
-
-def edits_of(folder):
-    place = os.path.join(folder, "must-fail")
-    return sum(name.endswith(".edit") for name in os.listdir(place)) if os.path.isdir(place) else 0
+        *rows, last = figures.read().splitlines() or [""]
+    if not last.endswith(" passed, 0 failed"):
+        sys.exit(f"simulate: {path}: these are no figures of a run that passed")
+    return {name: tuple(map(float, seconds)) for name, *seconds in map(str.split, rows)}
 
 
 def tasks_of(rt, figures):
     """Each task: what it waits for, its lines, its memory, its seconds of a processor."""
     tasks = {}
-    for crate in rt.crates_of(ROOT):
+    crates = rt.crates_of(ROOT)
+    unlike = {crate.name for crate in crates if figures.get(crate.name, (0,))[0] == 0}
+    if unlike:
+        sys.exit(f"simulate: the run didn't prove these crates anew: {' '.join(sorted(unlike))}")
+    for crate in crates:
         waits, lines, memory = [(it.name, "proof") for it in crate.below()], crate.count(rb"\n"), rt.need(crate)
         check, tests, edits = figures[crate.name]
-        own, count = [(crate.name, "proof"), (crate.name, "tests")], edits_of(crate.folder)
+        own, count = [(crate.name, "proof"), (crate.name, "tests")], len(rt.edits_of(crate)[0])
         tasks[own[0]] = (waits, lines, memory, check)
         tasks[own[1]] = (waits, lines * bool(crate.has_tests()), memory, tests)
         if count == 1:
             tasks[crate.name, "edits", 0] = ([*waits, *own], lines, memory, edits)
         elif count > 1:
-            seed, each = min(check, edits * 0.6), max(edits - min(check, edits * 0.6), 0) / (count + 1)
+            seed = min(check, edits * 0.6)
+            each = (edits - seed) / (count + 1)
             tasks[crate.name, "seed"] = (waits, 0, memory, seed)
             for number in range(count):
-                tasks[crate.name, "edits", number] = ([*waits, *own, (crate.name, "seed")], lines, OVER_A_SEED * memory, each)
-            tasks[crate.name, "sound"] = ([(crate.name, "edits", number) for number in range(count)], 0, OVER_A_SEED * memory, each)
+                tasks[crate.name, "edits", number] = ([*waits, *own, (crate.name, "seed")], lines, rt.OVER * memory, each)
+            tasks[crate.name, "sound"] = ([(crate.name, "edits", number) for number in range(count)], 0, rt.OVER * memory, each)
     return tasks
 
 
