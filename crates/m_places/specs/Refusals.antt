@@ -1,8 +1,13 @@
 -- What a call that may refuse says of its answer, in one form for all crates.
-use Rattle.std.specs.Prelude.{◌≢◌, Result, MatchResult}
+use Rattle.std.specs.Prelude.{◌≡◌, ◌≢◌, Result, Ok, Err, MatchResult}
 
 -- At `Ok` the good fact of the value, and at an error other than running out of memory the bad fact of the error. `memory` is the
 -- error's own variant for lack of memory, of which nothing is said: it is free to come. So a reader of bytes has the clause
 -- `Outcome Memory result (λ value. Spells value bytes.now) (λ fault. IsFirstFault bytes.now fault)`.
 abbrev pub Outcome : {T E : Type 0} → E → Result T E → (T → Type 0) → (E → Type 0) → Type 0
 Outcome memory result good bad = MatchResult result good (λ fault. fault ≢ memory → bad fault)
+
+-- The same where one function says both: at `Ok` what is said is the value's view, and at an error that fault. So a reader of tables
+-- has the clause `Says Memory result (λ rows. rows.items) (table_of bytes.now)`.
+abbrev pub Says : {T E V : Type 0} → E → Result T E → (T → V) → Result V E → Type 0
+Says memory result view said = Outcome memory result (λ value. said ≡ Ok (view value)) (λ fault. said ≡ Err fault)
