@@ -1,5 +1,5 @@
 -- What a call that may refuse says of its answer, in one form for all crates.
-use Rattle.std.specs.Prelude.{◌≡◌, ◌≢◌, Result, Ok, Err, MatchResult}
+use Rattle.std.specs.Prelude.{◌≡◌, ◌≢◌, Option, Result, Ok, Err, Some, None, MatchResult, MatchOption}
 
 -- At `Ok` the good fact of the value, and at an error other than running out of memory the bad fact of the error. `memory` is the
 -- error's own variant for lack of memory, of which nothing is said: it is free to come. So a reader of bytes has the clause
@@ -11,3 +11,9 @@ Outcome memory result good bad = MatchResult result good (λ fault. fault ≢ me
 -- has the clause `Says Memory result (λ rows. rows.items) (table_of bytes.now)`.
 abbrev pub Says : {T E V : Type 0} → E → Result T E → (T → V) → Result V E → Type 0
 Says memory result view said = Outcome memory result (λ value. said ≡ Ok (view value)) (λ fault. said ≡ Err fault)
+
+-- What a cursor says that takes something from the front of what is left, where there is such a thing: `said` is what stands there
+-- with what is left behind it, and where nothing does, all is left as it was. So a reader of words has the clause
+-- `Takes result (λ w. w.now) (word_at self.old) self.old self.new`.
+abbrev pub Takes : {T V L : Type 0} → Option T → (T → V) → Option (V × L) → L → L → Type 0
+Takes result view said before after = MatchOption result ((after ≡ before) × (said ≡ None)) (λ value. said ≡ Some (view value, after))
