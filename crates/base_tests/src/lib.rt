@@ -11,6 +11,8 @@ mod answers;
 #[cfg(test)]
 mod buffers;
 #[cfg(test)]
+mod expectations;
+#[cfg(test)]
 mod facts;
 #[cfg(test)]
 mod faults;

@@ -1,7 +1,8 @@
 //! What the lines of a face spell.
 ghost use Rattle.std.specs.Prelude.{◌≡◌, ◌<◌, ◌∷◌, [], ◌*◌, ◌+◌, IfOk, IfSome, MatchOption, Some, None, length, drop};
 ghost use Rattle.code_file.specs.inner.Spelled.{cut};
-ghost use Rattle.code_file.specs.inner.Faces.{IsRead, IsRightInput, IsRightVerif, IsRightLabel, IsRightOutput, coded, slots_of, input_of, kind_named, hex_value, hex_byte, bytes_of, error_kind, verif_words, verif_of, label_words, label_of, output_of};
+ghost use Rattle.code_file.specs.inner.Faces.{IsRead, IsRightInput, IsRightVerif, IsRightLabel, IsRightOutput, coded, slots_of, input_of};
+ghost use Rattle.code_file.specs.inner.Faces.{kind_named, hex_value, hex_byte, bytes_of, error_kind, verif_words, verif_of, label_words, label_of, output_of};
 
 use crate::cut::cut;
 use crate::names::{are_few_digits, is_cell_name, is_free_word, is_plain_name};
@@ -128,7 +129,8 @@ fn error_kind(word: &[u8]) -> Option<ErrorKind>
 
 // The number of a verification, its error's name and kind, and the digits of its error's text.
 fn verif_words(text: &[u8]) -> Option<(&[u8], &[u8], ErrorKind, &[u8])>
-    ensures { MatchOption result (verif_words text.now ≡ None) (λ p. verif_words text.now ≡ Some (record { number = p.0.now; error = p.1.now; kind = p.2; hex = p.3.now })) }
+    ensures { MatchOption result (verif_words text.now ≡ None)
+        (λ p. verif_words text.now ≡ Some (record { number = p.0.now; error = p.1.now; kind = p.2; hex = p.3.now })) }
 {
     let (number, rest) = cut(text, b' ')?;
     let (error, rest) = cut(rest, b' ')?;

@@ -103,7 +103,8 @@ fn give_do<K: Sink>(op: Op, r: u8, a: u8, b: u8, c: u8, out: &mut K) -> Result<(
 }
 
 fn give_one<K: Sink>(op: Op, r: u8, a: u8, out: &mut K) -> Result<(), Failed>
-    ensures { Gives K.written K.faults out.old out.new result (joined (codes "do " ∷ decimal r ∷ codes " " ∷ op_word op ∷ codes " " ∷ decimal a ∷ new_line ∷ [])) }
+    ensures { Gives K.written K.faults out.old out.new result
+        (joined (codes "do " ∷ decimal r ∷ codes " " ∷ op_word op ∷ codes " " ∷ decimal a ∷ new_line ∷ [])) }
 {
     let mut first = Buffer::new();
     let mut second = Buffer::new();
@@ -114,7 +115,8 @@ fn give_one<K: Sink>(op: Op, r: u8, a: u8, out: &mut K) -> Result<(), Failed>
 }
 
 fn give_both<K: Sink>(op: Op, r: u8, a: u8, b: u8, out: &mut K) -> Result<(), Failed>
-    ensures { Gives K.written K.faults out.old out.new result (joined (codes "do " ∷ decimal r ∷ codes " " ∷ op_word op ∷ codes " " ∷ decimal a ∷ codes " " ∷ decimal b ∷ new_line ∷ [])) }
+    ensures { Gives K.written K.faults out.old out.new result
+        (joined (codes "do " ∷ decimal r ∷ codes " " ∷ op_word op ∷ codes " " ∷ decimal a ∷ codes " " ∷ decimal b ∷ new_line ∷ [])) }
 {
     let mut first = Buffer::new();
     let mut second = Buffer::new();
@@ -127,7 +129,8 @@ fn give_both<K: Sink>(op: Op, r: u8, a: u8, b: u8, out: &mut K) -> Result<(), Fa
 }
 
 fn give_all_three<K: Sink>(op: Op, r: u8, a: u8, b: u8, c: u8, out: &mut K) -> Result<(), Failed>
-    ensures { Gives K.written K.faults out.old out.new result (joined (codes "do " ∷ decimal r ∷ codes " " ∷ op_word op ∷ codes " " ∷ decimal a ∷ codes " " ∷ decimal b ∷ codes " " ∷ decimal c ∷ new_line ∷ [])) }
+    ensures { Gives K.written K.faults out.old out.new result
+        (joined (codes "do " ∷ decimal r ∷ codes " " ∷ op_word op ∷ codes " " ∷ decimal a ∷ codes " " ∷ decimal b ∷ codes " " ∷ decimal c ∷ new_line ∷ [])) }
 {
     let mut first = Buffer::new();
     let mut second = Buffer::new();

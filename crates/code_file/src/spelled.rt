@@ -3,7 +3,8 @@ ghost use Rattle.std.specs.Prelude.{◌≡◌, Some, None};
 ghost use Rattle.std.specs.Option.{option_and_then};
 ghost use Rattle.m_fixed.specs.Operators.{arity_of};
 ghost use Rattle.reg_machine.specs.declared.instr.Instr.TheVariants.{Take, Lit, Store, Load, Output};
-ghost use Rattle.code_file.specs.inner.Spelled.{cut, both, all_three, register, short, literal, operators, op_among, arguments, done_by, operation, check, plain, instr_by, instr_of};
+ghost use Rattle.code_file.specs.inner.Spelled.{cut, both, all_three, register, short, literal, operators};
+ghost use Rattle.code_file.specs.inner.Spelled.{op_among, arguments, done_by, operation, check, plain, instr_by, instr_of};
 
 use crate::cut::cut;
 use crate::numbers::{literal, register, short};

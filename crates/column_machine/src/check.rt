@@ -57,7 +57,8 @@ pub(crate) fn check_rows(
     requires wide { AreWide registers.now }
     requires width { many ≤ length stops.old.items }
     ensures room { length stops.new.items ≡ length stops.old.items }
-    ensures value { (r : ℕ) → r < many → slice_index_or stops.new.items r None ≡ kept (slice_index_or stops.old.items r None) (check_stop (at (row_of r registers.now) guard) (at (row_of r registers.now) condition) over_only label) }
+    ensures value { (r : ℕ) → r < many → slice_index_or stops.new.items r None ≡ kept (slice_index_or stops.old.items r None)
+        (check_stop (at (row_of r registers.now) guard) (at (row_of r registers.now) condition) over_only label) }
 {
     let (front, _) = stops.as_mut_slice().split_at_mut(many);
     check_front(guard, condition, over_only, label, registers, front);
@@ -75,7 +76,8 @@ fn check_front(
     requires condition { condition < length registers.now }
     requires width { length stops.old ≤ BLOCK }
     requires wide { AreWide registers.now }
-    ensures { (r : ℕ) → r < length stops.old → slice_index_or stops.new r None ≡ kept (slice_index_or stops.old r None) (check_stop (at (row_of r registers.now) guard) (at (row_of r registers.now) condition) over_only label) }
+    ensures { (r : ℕ) → r < length stops.old → slice_index_or stops.new r None ≡ kept (slice_index_or stops.old r None)
+        (check_stop (at (row_of r registers.now) guard) (at (row_of r registers.now) condition) over_only label) }
 {
     let many = stops.len();
     check_columns(
@@ -96,7 +98,8 @@ fn check_columns(
 )
     requires guard { length guard.now ≡ length stops.old }
     requires condition { length condition.now ≡ length stops.old }
-    ensures { (r : ℕ) → r < length stops.old → slice_index_or stops.new r None ≡ kept (slice_index_or stops.old r None) (check_stop (at guard.now r) (at condition.now r) over_only label) }
+    ensures { (r : ℕ) → r < length stops.old → slice_index_or stops.new r None ≡ kept (slice_index_or stops.old r None)
+        (check_stop (at guard.now r) (at condition.now r) over_only label) }
 {
     for r in 0..stops.len() {
         stops[r] = first_stop(stops[r], stop_of(guard[r], condition[r], over_only, label));

@@ -79,24 +79,30 @@ fn each_copy(column: &[Value], out: &mut [Value])
 /// An operator's values on those of three registers.
 pub(crate) fn give_result(
     op: Op,
-    a: usize,
-    b: usize,
-    c: usize,
+    of: (u8, u8, u8),
     registers: &[Vec<Value>],
     many: usize,
     scratch: &mut Vec<Value>,
 )
-    requires a { a < length registers.now }
-    requires b { b < length registers.now }
-    requires c { c < length registers.now }
+    requires a { of.0 < length registers.now }
+    requires b { of.1 < length registers.now }
+    requires c { of.2 < length registers.now }
     requires many { many ≤ BLOCK }
     requires wide { AreWide registers.now }
     requires width { many ≤ length scratch.old.items }
     ensures room { length scratch.new.items ≡ length scratch.old.items }
-    ensures value { (r : ℕ) → r < many → at scratch.new.items r ≡ op_value op (at (row_of r registers.now) a) (at (row_of r registers.now) b) (at (row_of r registers.now) c) }
+    ensures value { (r : ℕ) → r < many → at scratch.new.items r
+        ≡ op_value op (at (row_of r registers.now) of.0) (at (row_of r registers.now) of.1) (at (row_of r registers.now) of.2) }
 {
     let (out, _) = scratch.as_mut_slice().split_at_mut(many);
-    each_result(op, a, b, c, registers, out);
+    each_result(
+        op,
+        of.0 as usize,
+        of.1 as usize,
+        of.2 as usize,
+        registers,
+        out,
+    );
 }
 
 fn each_result(op: Op, a: usize, b: usize, c: usize, registers: &[Vec<Value>], out: &mut [Value])
@@ -105,7 +111,8 @@ fn each_result(op: Op, a: usize, b: usize, c: usize, registers: &[Vec<Value>], o
     requires c { c < length registers.now }
     requires many { length out.old ≤ BLOCK }
     requires wide { AreWide registers.now }
-    ensures { (r : ℕ) → r < length out.old → at out.new r ≡ op_value op (at (row_of r registers.now) a) (at (row_of r registers.now) b) (at (row_of r registers.now) c) }
+    ensures { (r : ℕ) → r < length out.old → at out.new r
+        ≡ op_value op (at (row_of r registers.now) a) (at (row_of r registers.now) b) (at (row_of r registers.now) c) }
 {
     let many = out.len();
     by_operator(

@@ -21,7 +21,8 @@ pub(crate) fn run_rows(
     rows: &[Vec<Value>],
     room: &mut Room,
 )
-    requires packed { AllByRecursion (IsPacked (length numbers.now) (length room.old.outputs.items) (length pool.now) (length room.old.slots.items)) packed.now }
+    requires packed { AllByRecursion (IsPacked (length numbers.now) (length room.old.outputs.items)
+        (length pool.now) (length room.old.slots.items)) packed.now }
     requires width { length rows.now ≤ BLOCK }
     requires room { IsRoom (length room.old.slots.items) (length room.old.outputs.items) room.old }
     ensures room { IsRoom (length room.old.slots.items) (length room.old.outputs.items) room.new }
@@ -55,9 +56,7 @@ fn step(packed: Packed, pool: &[Value], numbers: &[usize], rows: &[Vec<Value>], 
         Packed::Do(op, r, a, b, c) => {
             give_result(
                 op,
-                a as usize,
-                b as usize,
-                c as usize,
+                (a, b, c),
                 room.registers.as_slice(),
                 rows.len(),
                 &mut room.scratch,

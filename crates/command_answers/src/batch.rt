@@ -72,7 +72,8 @@ fn rows_of<R: Threads + Sync>(
     table: &[u8],
 ) -> Result<Seq<Row>, HouseholdFault>
     requires { IsRunnableCode loaded.now }
-    ensures outcome { Outcome NoMemory result (λ rows. table_of loaded.now.face.inputs table.now ≡ Ok rows) (λ fault. table_of loaded.now.face.inputs table.now ≡ Err fault) }
+    ensures outcome { Outcome NoMemory result (λ rows. table_of loaded.now.face.inputs table.now ≡ Ok rows)
+        (λ fault. table_of loaded.now.face.inputs table.now ≡ Err fault) }
     ensures inputs { IfOk result (λ rows. AllByRecursion (λ row. AreInputs (length loaded.now.face.inputs) row.household.pairs) rows) }
 {
     let codes = codes_by(alloc, loaded)?;

@@ -47,7 +47,8 @@ pub fn check_source<R: Threads + Sync, K: Sink>(
 ) -> Status
     requires limits { SourceKeepsLimits source.now }
     requires report { length report.now ≤ CODE_FILE_BYTES }
-    ensures { IsAnswered (CheckReplies source.now household.now report.now) (output_view K.written K.faults out.old) (output_view K.written K.faults out.new) result }
+    ensures { IsAnswered (CheckReplies source.now household.now report.now)
+        (output_view K.written K.faults out.old) (output_view K.written K.faults out.new) result }
 {
     match compile_base(
         rt,
@@ -90,7 +91,8 @@ fn start_cells(
     household: &[u8],
 ) -> Result<Vec<Value>, HouseholdFault>
     requires { AreDistinct (codes_of (inputs_said symbols.now)) }
-    ensures { Outcome Memory result (λ env. IsStart symbols.now household.now env.items) (λ fault. household_of (inputs_said symbols.now) household.now ≡ Err fault) }
+    ensures { Outcome Memory result (λ env. IsStart symbols.now household.now env.items)
+        (λ fault. household_of (inputs_said symbols.now) household.now ≡ Err fault) }
 {
     let said = inputs_of(alloc, symbols)?;
     let (codes, given) = read_given(alloc, said.as_slice(), symbols.inputs(), household)?;
@@ -133,7 +135,8 @@ fn answer_lines<K: Sink>(
     requires values { length env.now ≡ base.now.cells }
     requires cells { All (λ line. line.cell < base.now.cells) lines.now }
     requires few { base.now.cells ≤ CELLS }
-    ensures { IsAnswered (LinesReplies base.now (environment env.now) lines.now) (output_view K.written K.faults out.old) (output_view K.written K.faults out.new) result }
+    ensures { IsAnswered (LinesReplies base.now (environment env.now) lines.now)
+        (output_view K.written K.faults out.old) (output_view K.written K.faults out.new) result }
 {
     match first_unsound(alloc, base, env, lines) {
         Ok(found) => tell_found(found, out),

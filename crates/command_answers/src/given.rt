@@ -21,7 +21,8 @@ pub(crate) fn read_given(
 ) -> Result<(Codes, Household), HouseholdFault>
     requires distinct { AreDistinct (codes_of inputs.now) }
     requires count { count ≡ length inputs.now }
-    ensures outcome { Outcome Memory result (λ read. household_of inputs.now household.now ≡ Ok read.1.pairs) (λ fault. household_of inputs.now household.now ≡ Err fault) }
+    ensures outcome { Outcome Memory result (λ read. household_of inputs.now household.now ≡ Ok read.1.pairs)
+        (λ fault. household_of inputs.now household.now ≡ Err fault) }
     ensures codes { IfOk result (λ read. read.0 ≡ inputs.now) }
     ensures inputs { IfOk result (λ read. AreInputs (length inputs.now) read.1.pairs) }
     ensures amounts { IfOk result (λ read. AreOfTypes inputs.now read.1.pairs) }

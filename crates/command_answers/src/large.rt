@@ -103,7 +103,8 @@ pub fn answer_large<K: Sink>(alloc: Global, n: u32, loaded: &Loaded, out: &mut K
     requires runnable { IsRunnableCode loaded.now }
     requires reads { ReadsLarge n loaded.now.face }
     ensures { (scheme : Scheme) → Shows scheme loaded.now.face (machine_run loaded.now.code)
-        → IsAnswered (HouseholdReplies (large_line n) scheme (household_text n)) (output_view K.written K.faults out.old) (output_view K.written K.faults out.new) result }
+        → IsAnswered (HouseholdReplies (large_line n) scheme (household_text n))
+        (output_view K.written K.faults out.old) (output_view K.written K.faults out.new) result }
 {
     let Ok(mut held) = FixedText::new(alloc, ANSWER_ROOM) else {
         return Status::Memory;
@@ -127,7 +128,8 @@ fn print_answered<K: Sink>(
     requires reads { ReadsLarge n loaded.now.face }
     requires generated { household.now ≡ household_text n }
     ensures { (scheme : Scheme) → Shows scheme loaded.now.face (machine_run loaded.now.code)
-        → IsAnswered (HouseholdReplies (large_line n) scheme (household_text n)) (output_view K.written K.faults out.old) (output_view K.written K.faults out.new) result }
+        → IsAnswered (HouseholdReplies (large_line n) scheme (household_text n))
+        (output_view K.written K.faults out.old) (output_view K.written K.faults out.new) result }
 {
     match answer_of(alloc, loaded, household) {
         Ok(answer) => printed(

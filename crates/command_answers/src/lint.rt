@@ -72,7 +72,8 @@ fn answer_lint<K: Sink>(alloc: Global, made: &RuleBase, compiled: &Compiled, out
     requires shown { IsFaceOf compiled.now.face compiled.now.tidy }
     requires first_labels { take (length made.now.ordered.base.labels) compiled.now.face.labels ≡ map Verif made.now.ordered.base.labels }
     requires inputs { compiled.now.tidy.inputs ≡ length (inputs_from 0 made.now.symbols.variables) }
-    ensures { IsAnswered (IsLintOf made.now.symbols made.now.ordered.base compiled.now) (output_view K.written K.faults out.old) (output_view K.written K.faults out.new) result }
+    ensures { IsAnswered (IsLintOf made.now.symbols made.now.ordered.base compiled.now)
+        (output_view K.written K.faults out.old) (output_view K.written K.faults out.new) result }
 {
     match lint(
         alloc,

@@ -80,7 +80,8 @@ pub(crate) fn answer_of(
 // The household of these bytes, by its inputs.
 fn given(alloc: Global, loaded: &Loaded, household: &[u8]) -> Result<Household, HouseholdFault>
     requires { IsRunnableCode loaded.now }
-    ensures outcome { Outcome Memory result (λ given. household_of loaded.now.face.inputs household.now ≡ Ok given.pairs) (λ fault. household_of loaded.now.face.inputs household.now ≡ Err fault) }
+    ensures outcome { Outcome Memory result (λ given. household_of loaded.now.face.inputs household.now ≡ Ok given.pairs)
+        (λ fault. household_of loaded.now.face.inputs household.now ≡ Err fault) }
     ensures inputs { IfOk result (λ given. AreInputs (length loaded.now.face.inputs) given.pairs) }
 {
     let codes = codes_by(alloc, loaded)?;

@@ -124,7 +124,8 @@ fn explainer_of(
     requires placed { IsPlaced made.symbols }
     requires cells { made.ordered.base.cells ≡ length (owners_from 0 made.symbols.variables) }
     requires many { length program.face.inputs ≡ length (inputs_from 0 made.symbols.variables) }
-    ensures { Outcome Memory result (IsExplainerOf program made.symbols made.ordered household.now) (λ fault. household_of program.face.inputs household.now ≡ Err fault) }
+    ensures { Outcome Memory result (IsExplainerOf program made.symbols made.ordered household.now)
+        (λ fault. household_of program.face.inputs household.now ≡ Err fault) }
 {
     let session = session_of(alloc, program, household)?;
     let RuleBase { symbols, ordered } = made;
@@ -134,7 +135,8 @@ fn explainer_of(
 // The session of a program that begins with a household, or the household's fault.
 fn session_of(alloc: Global, program: Program, household: &[u8]) -> Result<Session, HouseholdFault>
     requires { IsRunnable program.face program.tidy }
-    ensures outcome { Outcome Memory result (λ session. IsBegun program household.now session.sitting) (λ fault. household_of program.face.inputs household.now ≡ Err fault) }
+    ensures outcome { Outcome Memory result (λ session. IsBegun program household.now session.sitting)
+        (λ fault. household_of program.face.inputs household.now ≡ Err fault) }
     ensures values { IfOk result (λ session. AreValuesOf program.face.inputs session.sitting.values) }
 {
     let count = program.tidy.flat().inputs;

@@ -18,7 +18,8 @@ pub(crate) fn serve_session<R: Replier, S: Source, K: Sink>(
     input: &mut S,
     out: &mut K,
 ) -> Status
-    ensures { Served (whole_of (R.replies replier.old)) (ended_of (R.replies replier.old)) (input_view S.left S.faults input.old) (input_view S.left S.faults input.new)
+    ensures { Served (whole_of (R.replies replier.old)) (ended_of (R.replies replier.old))
+        (input_view S.left S.faults input.old) (input_view S.left S.faults input.new)
         (output_view K.written K.faults out.old) (output_view K.written K.faults out.new) result }
 {
     serve_counted::<R, S, K, Brand>(replier, input, out, Blank::new(1))
@@ -34,7 +35,8 @@ fn serve_counted<R: Replier, S: Source, K: Sink, L: Ledger>(
     requires name { blank.name ≡ L.name }
     requires parts { blank.parts ≡ L.parts }
     requires some { 0 < L.parts }
-    ensures { Served (whole_of (R.replies replier.old)) (ended_of (R.replies replier.old)) (input_view S.left S.faults input.old) (input_view S.left S.faults input.new)
+    ensures { Served (whole_of (R.replies replier.old)) (ended_of (R.replies replier.old))
+        (input_view S.left S.faults input.old) (input_view S.left S.faults input.new)
         (output_view K.written K.faults out.old) (output_view K.written K.faults out.new) result }
 {
     let mut steps = Steps::<L>::begin(blank);

@@ -141,7 +141,8 @@ pub(crate) fn give_findings<K: Sink>(
     out: &mut K,
 ) -> Result<(), Failed>
     requires valid { IsValidBase made.now.ordered.base }
-    requires within { AreWithinCounts (length (owners_from 0 made.now.symbols.variables)) (length made.now.ordered.base.checks) (length (inputs_from 0 made.now.symbols.variables)) findings.now }
+    requires within { AreWithinCounts (length (owners_from 0 made.now.symbols.variables)) (length made.now.ordered.base.checks)
+        (length (inputs_from 0 made.now.symbols.variables)) findings.now }
     ensures { Gives K.written K.faults out.old out.new result (findings_text made.now.symbols made.now.ordered.base findings.now) }
 {
     let mut room = [0; BUFFER_ROOM];
@@ -157,7 +158,8 @@ fn buffer_findings<'a, K: Sink, O: Origin>(
     out: &'a mut K,
 ) -> Printed<'a, K>
     requires valid { IsValidBase made.now.ordered.base }
-    requires within { AreWithinCounts (length (owners_from 0 made.now.symbols.variables)) (length made.now.ordered.base.checks) (length (inputs_from 0 made.now.symbols.variables)) findings.now }
+    requires within { AreWithinCounts (length (owners_from 0 made.now.symbols.variables)) (length made.now.ordered.base.checks)
+        (length (inputs_from 0 made.now.symbols.variables)) findings.now }
     requires name { out.ghost_name ≡ O.name }
     requires start { K.written out.old ≡ O.start }
     requires some { 0 < length room.old }

@@ -1,11 +1,13 @@
 //! A place in the tokens, and the readers of single tokens. It knows nothing of trees.
 ghost use Rattle.std.specs.Prelude.{◌≡◌, ◌<◌, ◌≤◌, ◌∷◌, [], length, drop, Some, None, MatchBool, MatchOption, OnSome, IfSome, IsTrue};
+ghost use Rattle.m_places.specs.Refusals.{Takes};
 ghost use Rattle.std.specs.Bool.{OnTrue};
 ghost use Rattle.std.specs.List.{list_all};
 ghost use Rattle.m_text.specs.Bytes.{is_digit};
 ghost use Rattle.m_terms.specs.Tokens.{is_sign, is_key, kind_is_sign, kind_is_key, is_name, is_whole};
 ghost use Rattle.m_terms.specs.inner.Reading.{open_at, begins_by};
-ghost use Rattle.declaration_items.specs.Tokens.{word, placed_word, name, whole, amount, text, error_kind, key_place, word_of, name_of, whole_of, amount_of, text_of, error_kind_of};
+ghost use Rattle.declaration_items.specs.Tokens.{word, placed_word, name, whole, amount, text, error_kind};
+ghost use Rattle.declaration_items.specs.Tokens.{key_place, word_of, name_of, whole_of, amount_of, text_of, error_kind_of};
 
 use m_fixed::Amount;
 use m_lexer::{Key, Kind, Sign, Token};
@@ -90,7 +92,8 @@ impl<'a> Cursor<'a> {
 
     /// Takes this sign.
     pub fn take_sign(&mut self, sign: Sign) -> bool
-        ensures sign { MatchBool result (open_at (is_sign sign) self.old ≡ Some (tt, self.new)) ((self.new ≡ self.old) × (open_at (is_sign sign) self.old ≡ None)) }
+        ensures sign { MatchBool result (open_at (is_sign sign) self.old ≡ Some (tt, self.new))
+            ((self.new ≡ self.old) × (open_at (is_sign sign) self.old ≡ None)) }
         ensures shorter { OnTrue result (length self.new < length self.old) }
     {
         let Some((first, others)) = self.left.split_first() else {
@@ -120,7 +123,7 @@ impl<'a> Cursor<'a> {
 
     /// Takes this reserved word, and answers its place.
     pub fn take_key_place(&mut self, key: Key) -> Option<Place>
-        ensures place { MatchOption result ((self.new ≡ self.old) × (open_at (key_place key) self.old ≡ None)) (λ p. open_at (key_place key) self.old ≡ Some (p, self.new)) }
+        ensures place { Takes result (λ p. p) (open_at (key_place key) self.old) self.old self.new }
         ensures shorter { OnSome result (length self.new < length self.old) }
     {
         let (first, others) = self.left.split_first()?;
@@ -133,7 +136,7 @@ impl<'a> Cursor<'a> {
 
     /// Takes a word that isn't reserved.
     pub fn take_word(&mut self) -> Option<&'a Name>
-        ensures word { MatchOption result ((self.new ≡ self.old) × (open_at word self.old ≡ None)) (λ w. open_at word self.old ≡ Some (w.now, self.new)) }
+        ensures word { Takes result (λ w. w.now) (open_at word self.old) self.old self.new }
         ensures shorter { OnSome result (length self.new < length self.old) }
     {
         let (first, others) = self.left.split_first()?;
@@ -144,7 +147,7 @@ impl<'a> Cursor<'a> {
 
     /// Takes a word that isn't reserved, and answers it and its place.
     pub fn take_placed_word(&mut self) -> Option<(&'a Name, Place)>
-        ensures word { MatchOption result ((self.new ≡ self.old) × (open_at placed_word self.old ≡ None)) (λ w. open_at placed_word self.old ≡ Some ((w.0.now, w.1), self.new)) }
+        ensures word { Takes result (λ w. (w.0.now, w.1)) (open_at placed_word self.old) self.old self.new }
         ensures shorter { OnSome result (length self.new < length self.old) }
     {
         let (first, others) = self.left.split_first()?;
@@ -155,7 +158,7 @@ impl<'a> Cursor<'a> {
 
     /// Takes a word without a letter from a to z, and answers it and its place.
     pub fn take_name(&mut self) -> Option<(&'a Name, Place)>
-        ensures name { MatchOption result ((self.new ≡ self.old) × (open_at name self.old ≡ None)) (λ n. open_at name self.old ≡ Some ((n.0.now, n.1), self.new)) }
+        ensures name { Takes result (λ n. (n.0.now, n.1)) (open_at name self.old) self.old self.new }
         ensures shorter { OnSome result (length self.new < length self.old) }
     {
         let (first, others) = self.left.split_first()?;
@@ -167,7 +170,7 @@ impl<'a> Cursor<'a> {
     /// Takes a number of one to nine digits without a point, and answers its spelling.
     pub fn take_whole(&mut self) -> Option<&'a Name>
         ensures spelled { IfSome result (λ n. IsTrue (is_whole n.now)) }
-        ensures whole { MatchOption result ((self.new ≡ self.old) × (open_at whole self.old ≡ None)) (λ n. open_at whole self.old ≡ Some (n.now, self.new)) }
+        ensures whole { Takes result (λ n. n.now) (open_at whole self.old) self.old self.new }
         ensures shorter { OnSome result (length self.new < length self.old) }
     {
         let (first, others) = self.left.split_first()?;
@@ -178,7 +181,7 @@ impl<'a> Cursor<'a> {
 
     /// Takes a number, and answers its amount.
     pub fn take_amount(&mut self) -> Option<Amount>
-        ensures amount { MatchOption result ((self.new ≡ self.old) × (open_at amount self.old ≡ None)) (λ z. open_at amount self.old ≡ Some (z, self.new)) }
+        ensures amount { Takes result (λ z. z) (open_at amount self.old) self.old self.new }
         ensures shorter { OnSome result (length self.new < length self.old) }
     {
         let (first, others) = self.left.split_first()?;
@@ -189,7 +192,7 @@ impl<'a> Cursor<'a> {
 
     /// Takes a text, and answers what stands between its quotes.
     pub fn take_text(&mut self) -> Option<&'a Name>
-        ensures text { MatchOption result ((self.new ≡ self.old) × (open_at text self.old ≡ None)) (λ x. open_at text self.old ≡ Some (x.now, self.new)) }
+        ensures text { Takes result (λ x. x.now) (open_at text self.old) self.old self.new }
         ensures shorter { OnSome result (length self.new < length self.old) }
     {
         let (first, others) = self.left.split_first()?;
@@ -200,7 +203,7 @@ impl<'a> Cursor<'a> {
 
     /// Takes `anomalie`, `discordance` or `informative`.
     pub fn take_error_kind(&mut self) -> Option<ErrorKind>
-        ensures kind { MatchOption result ((self.new ≡ self.old) × (open_at error_kind self.old ≡ None)) (λ k. open_at error_kind self.old ≡ Some (k, self.new)) }
+        ensures kind { Takes result (λ k. k) (open_at error_kind self.old) self.old self.new }
         ensures shorter { OnSome result (length self.new < length self.old) }
     {
         let (first, others) = self.left.split_first()?;

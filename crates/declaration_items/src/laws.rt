@@ -12,7 +12,8 @@ pub fn one_declaration()
 
 /// The tokens begin with at most one list of applications that no comma follows.
 pub fn one_list_of_applications()
-    ensures { (a b : List (List ℕ)) (ts r s : List Token) → SpellsApplications a ts r → EndsApplications r → SpellsApplications b ts s → EndsApplications s → (a ≡ b) × (r ≡ s) }
+    ensures { (a b : List (List ℕ)) (ts r s : List Token) → SpellsApplications a ts r → EndsApplications r
+        → SpellsApplications b ts s → EndsApplications s → (a ≡ b) × (r ≡ s) }
 {}
 
 /// Tokens that spell a declaration begin as one does.

@@ -4,7 +4,8 @@ ghost use Rattle.m_fixed.specs.declared.operator.Op.TheVariants.{Add, Sub, Mul, 
 ghost use Rattle.m_fixed.specs.Amounts.{IsAmount, unit, most};
 ghost use Rattle.m_fixed.specs.Operators.{result_of, cut};
 ghost use Rattle.definedness.specs.Ranges.{has_zero, has_other, alone};
-ghost use Rattle.definedness.specs.Results.{truths, may_be_equal, may_differ, may_be_less, may_be_at_most, corners, quotients, cut_range, least_size, greatest_size, sizes, results_of, least_of, greatest_of};
+ghost use Rattle.definedness.specs.Results.{truths, may_be_equal, may_differ, may_be_less, may_be_at_most, corners};
+ghost use Rattle.definedness.specs.Results.{quotients, cut_range, least_size, greatest_size, sizes, results_of, least_of, greatest_of};
 ghost use Rattle.definedness.specs.inner.Limits.{limited, limited_range, signed_beyond};
 
 use crate::range::{LEAST, MOST, Range, amount, greater, has_other, has_zero, lesser};

@@ -2,7 +2,8 @@
 
 ghost use Rattle.std.specs.Prelude.{◌≡◌, ◌+◌, ◌*◌};
 ghost use Rattle.driver_core.specs.FormulaView.{formulas_of, steps_of as formula_steps_of};
-ghost use Rattle.driver_core.specs.Weights.{tree_weight, trees_weight, tree_steps_weight, read_weight, definition_weight, check_weight, base_weight, formula_weight, formulas_weight, steps_weight};
+ghost use Rattle.driver_core.specs.Weights.{tree_weight, trees_weight, tree_steps_weight, read_weight};
+ghost use Rattle.driver_core.specs.Weights.{definition_weight, check_weight, base_weight, formula_weight, formulas_weight, steps_weight};
 ghost use Rattle.std.specs.List.{sum_by};
 ghost use Rattle.micro_m.specs.Views.{trees_of, steps_of};
 ghost use Rattle.driver_weight.specs.Capped.{capped};

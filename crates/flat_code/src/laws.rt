@@ -10,7 +10,8 @@ ghost use Rattle.flat_code.specs.Passes.{Becomes};
 
 /// The value of each node is possible by its fact, for each list of values that programs are asked for.
 pub fn facts_hold()
-    ensures { (flat : Flat) (inputs : List Value) (p : ℕ) → IsFlat flat → ArePlain inputs → p < length flat.nodes → Holds (entry_at facts flat.nodes p) (value_at (node_values inputs flat.nodes) p) }
+    ensures { (flat : Flat) (inputs : List Value) (p : ℕ) → IsFlat flat → ArePlain inputs → p < length flat.nodes
+        → Holds (entry_at facts flat.nodes p) (value_at (node_values inputs flat.nodes) p) }
 {}
 
 /// Two passes, one after the other, are a pass.

@@ -1,6 +1,6 @@
 //! The rows of a table, read by several workers at once: each reads those of some cuts that stand side by side.
 ghost use Rattle.std.specs.Prelude.{◌≡◌, ◌+◌, ◌*◌, ◌<◌, ◌≤◌, [], drop, length, MatchResult, Ok, Err};
-ghost use Rattle.m_places.specs.Refusals.{Outcome};
+ghost use Rattle.m_places.specs.Refusals.{Says};
 ghost use Rattle.m_places.specs.declared.limits.TheConstants.{ROWS};
 ghost use Rattle.household.specs.InTurn.{in_turn};
 ghost use Rattle.household.specs.Household.{line_behind};
@@ -30,7 +30,7 @@ pub(crate) fn read_rows<R: Threads + Sync>(
     columns: &[u32],
     codes: &Codes,
 ) -> Result<Vec<Row>, HouseholdFault>
-    ensures { Outcome Memory result (λ rows. in_turn (table_row codes.now columns.now) [] (left_at bytes.now first) ≡ Ok rows.items) (λ fault. in_turn (table_row codes.now columns.now) [] (left_at bytes.now first) ≡ Err fault) }
+    ensures { Says Memory result (λ rows. rows.items) (in_turn (table_row codes.now columns.now) [] (left_at bytes.now first)) }
 {
     let cuts = cuts_of(alloc, bytes, first)?;
     let many = cuts_at_once(rt, cuts.len());
@@ -41,7 +41,8 @@ pub(crate) fn read_rows<R: Threads + Sync>(
         many,
         &|start: usize, cuts: &[Cut]| -> Result<Vec<Row>, HouseholdFault>
             requires { (0 < length cuts.now) × AreCutsFrom bytes.now (left_at bytes.now first) start cuts.now }
-            ensures { SaysPart codes.entry.now columns.entry.now (drop (start * BETWEEN) (left_at bytes.entry.now first)) (start * BETWEEN) (many * BETWEEN) result }
+            ensures { SaysPart codes.entry.now columns.entry.now (drop (start * BETWEEN) (left_at bytes.entry.now first))
+                (start * BETWEEN) (many * BETWEEN) result }
         {
             let _ = &first;
             read_part(alloc, bytes, cuts[0], start, many, columns, codes)
@@ -96,7 +97,8 @@ fn reader_at<'a>(alloc: Global, bytes: &'a [u8], cut: Cut) -> Records<'a>
 
 // The line of the record after so many of a part, whose first cut has this number.
 fn line_of(start: usize, rows: usize) -> Result<u32, HouseholdFault>
-    ensures { MatchResult result (λ line. (start * BETWEEN + rows < ROWS) × (line ≡ line_behind (start * BETWEEN + rows))) (λ fault. (ROWS ≤ start * BETWEEN + rows) × (fault ≡ TooManyRows)) }
+    ensures { MatchResult result (λ line. (start * BETWEEN + rows < ROWS) × (line ≡ line_behind (start * BETWEEN + rows)))
+        (λ fault. (ROWS ≤ start * BETWEEN + rows) × (fault ≡ TooManyRows)) }
 {
     if start > ROWS as usize || rows > ROWS as usize {
         return Err(HouseholdFault::TooManyRows);
@@ -109,7 +111,7 @@ fn joined(
     alloc: Global,
     parts: Vec<Result<Vec<Row>, HouseholdFault>>,
 ) -> Result<Vec<Row>, HouseholdFault>
-    ensures { Outcome Memory result (λ rows. joined parts.items ≡ Ok rows.items) (λ fault. joined parts.items ≡ Err fault) }
+    ensures { Says Memory result (λ rows. rows.items) (joined parts.items) }
 {
     let mut rows = Vec::new(alloc);
     for part in parts {

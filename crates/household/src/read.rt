@@ -1,6 +1,6 @@
 ghost use Rattle.std.specs.Prelude.{◌≡◌, ◌<◌, [], length, IfOk, Ok, Err};
 ghost use Rattle.csv.specs.Records.{fields_of};
-ghost use Rattle.m_places.specs.Refusals.{Outcome};
+ghost use Rattle.m_places.specs.Refusals.{Says};
 ghost use Rattle.household.specs.InTurn.{in_turn};
 ghost use Rattle.household.specs.Household.{AreInputs, AreOfTypes, fitting_pair, household_of, is_header, pair_of, row_of};
 ghost use Rattle.household.specs.Reader.{left_of};
@@ -28,7 +28,7 @@ pub fn read_household(
     bytes: &[u8],
     codes: &Codes,
 ) -> Result<Household, HouseholdFault>
-    ensures outcome { Outcome Memory result (λ household. household_of codes.now bytes.now ≡ Ok household.pairs) (λ fault. household_of codes.now bytes.now ≡ Err fault) }
+    ensures outcome { Says Memory result (λ household. household.pairs) (household_of codes.now bytes.now) }
     ensures inputs { IfOk result (λ household. AreInputs (length codes.now) household.pairs) }
     ensures amounts { IfOk result (λ household. AreOfTypes codes.now household.pairs) }
 {
@@ -62,7 +62,7 @@ fn read_rows(
     row: &mut ByteRecord,
     codes: &Codes,
 ) -> Result<Vec<Pair>, HouseholdFault>
-    ensures { Outcome Memory result (λ pairs. in_turn (row_of codes.now) [] (left_of records.old) ≡ Ok pairs.items) (λ fault. in_turn (row_of codes.now) [] (left_of records.old) ≡ Err fault) }
+    ensures { Says Memory result (λ pairs. pairs.items) (in_turn (row_of codes.now) [] (left_of records.old)) }
 {
     let mut marked = vec![in alloc; false; codes.len() as usize]?;
     let mut pairs = Vec::new(alloc);

@@ -1,7 +1,7 @@
 ghost use Rattle.std.specs.Prelude.{◌≡◌, ◌+◌, [], drop, length, nat_le, IfOk, Ok, Err};
 ghost use Rattle.std.specs.List.{AllByRecursion, list_all};
 ghost use Rattle.csv.specs.Records.{fields_of};
-ghost use Rattle.m_places.specs.Refusals.{Outcome};
+ghost use Rattle.m_places.specs.Refusals.{Says};
 ghost use Rattle.household.specs.InTurn.{in_turn};
 ghost use Rattle.household.specs.Household.{AreInputs, AreOfTypes};
 ghost use Rattle.m_fixed.specs.Text.{text_value, amount_read};
@@ -36,7 +36,7 @@ pub fn read_table<R: Threads + Sync>(
     bytes: &[u8],
     codes: &Codes,
 ) -> Result<Seq<Row>, HouseholdFault>
-    ensures outcome { Outcome Memory result (λ rows. table_of codes.now bytes.now ≡ Ok rows) (λ fault. table_of codes.now bytes.now ≡ Err fault) }
+    ensures outcome { Says Memory result (λ rows. rows) (table_of codes.now bytes.now) }
     ensures inputs { IfOk result (λ rows. AllByRecursion (λ row. AreInputs (length codes.now) row.household.pairs) rows) }
     ensures amounts { IfOk result (λ rows. AllByRecursion (λ row. AreOfTypes codes.now row.household.pairs) rows) }
 {
@@ -66,7 +66,7 @@ fn is_header(row: &ByteRecord) -> bool
 
 // The inputs of a table's columns, by its first record.
 fn read_columns(alloc: Global, row: &ByteRecord, codes: &Codes) -> Result<Vec<u32>, HouseholdFault>
-    ensures { Outcome Memory result (λ columns. in_turn (column_of codes.now) [] (drop 1 (fields_of row.now)) ≡ Ok columns.items) (λ fault. in_turn (column_of codes.now) [] (drop 1 (fields_of row.now)) ≡ Err fault) }
+    ensures { Says Memory result (λ columns. columns.items) (in_turn (column_of codes.now) [] (drop 1 (fields_of row.now))) }
 {
     let mut marked = vec![in alloc; false; codes.len() as usize]?;
     let mut columns = Vec::new(alloc);
@@ -90,7 +90,7 @@ pub(crate) fn read_row(
     columns: &[u32],
     codes: &Codes,
 ) -> Result<Row, HouseholdFault>
-    ensures { Outcome Memory result (λ read. labelled codes.now line columns.now (fields_of row.now) ≡ Ok read) (λ fault. labelled codes.now line columns.now (fields_of row.now) ≡ Err fault) }
+    ensures { Says Memory result (λ read. read) (labelled codes.now line columns.now (fields_of row.now)) }
 {
     let label = field_at(row, 0);
     if row.len() != columns.len() + 1 || !is_label(label) {
@@ -128,7 +128,7 @@ fn read_pairs(
     codes: &Codes,
 ) -> Result<Vec<Pair>, HouseholdFault>
     requires { length (fields_of row.now) ≡ length columns.now + 1 }
-    ensures { Outcome Memory result (λ pairs. pairs_read codes.now line columns.now (drop 1 (fields_of row.now)) ≡ Ok pairs.items) (λ fault. pairs_read codes.now line columns.now (drop 1 (fields_of row.now)) ≡ Err fault) }
+    ensures { Says Memory result (λ pairs. pairs.items) (pairs_read codes.now line columns.now (drop 1 (fields_of row.now))) }
 {
     let pairs = read_cells(alloc, row, line, columns)?;
     if !codes.all_fit(&pairs) {
@@ -145,7 +145,7 @@ fn read_cells(
     columns: &[u32],
 ) -> Result<Vec<Pair>, HouseholdFault>
     requires { length (fields_of row.now) ≡ length columns.now + 1 }
-    ensures { Outcome Memory result (λ pairs. cells_read line [] columns.now (drop 1 (fields_of row.now)) ≡ Ok pairs.items) (λ fault. cells_read line [] columns.now (drop 1 (fields_of row.now)) ≡ Err fault) }
+    ensures { Says Memory result (λ pairs. pairs.items) (cells_read line [] columns.now (drop 1 (fields_of row.now))) }
 {
     let mut pairs = Vec::with_capacity(alloc, count_filled(row))?;
     for column in 0..columns.len() {

@@ -121,7 +121,8 @@ fn kept_values(
     attribute: usize,
     values: &[Amount],
 ) -> Result<(Vec<Amount>, u64), AllocError>
-    ensures values { IfOk result (λ kept. (cell : ℕ) → times cell (joined index.now attribute kept.0.items) ≡ times cell (groups_at index.now attribute values.now)) }
+    ensures values { IfOk result (λ kept. (cell : ℕ) → times cell (joined index.now attribute kept.0.items)
+        ≡ times cell (groups_at index.now attribute values.now)) }
     ensures count { IfOk result (λ kept. kept.1 ≡ min (length (joined index.now attribute kept.0.items)) 18_446_744_073_709_551_615) }
 {
     let mut seen = BTreeSet::new(alloc);

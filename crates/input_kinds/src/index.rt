@@ -95,7 +95,8 @@ impl KindIndex {
     ) -> Result<(), AllocError>
         requires { IsNumbered self.old }
         ensures added { OnOk result ((a : List ℕ) (v : ℤ)
-            → group_in self.new a v ≡ group_in self.old a v ++ (if not (has attribute.now seen.old) && (bytes_eq a attribute.now && int_eq value v) then cell ∷ [] else [])) }
+            → group_in self.new a v ≡ group_in self.old a v ++
+            (if not (has attribute.now seen.old) && (bytes_eq a attribute.now && int_eq value v) then cell ∷ [] else [])) }
         ensures seen { OnOk result ((a : List ℕ) → has a seen.new ≡ (has a seen.old || bytes_eq a attribute.now)) }
         ensures numbered { OnOk result (IsNumbered self.new) }
     {

@@ -51,7 +51,8 @@ static LISTS: [(&str, &str); 14] = [
         "verif 0021 0:1 iliad | A20 43:2 = A | A21 67:3 = B",
     ),
     (
-        "regle 1 : application : iliad ; A = 1 ; B : const = 2 ; verif 1 : application : iliad ; si A alors erreur E ; regle 1 : application : iliad ; C = 3 ; application x ;",
+        "regle 1 : application : iliad ; A = 1 ; B : const = 2 ; verif 1 : application : iliad ; si A alors erreur E ; \
+         regle 1 : application : iliad ; C = 3 ; application x ;",
         "rule 1 0:1 iliad | A 32:1 = 1000000\nvariable B 40:1\nverif 1 56:1 iliad | E 88:1 = A\nrule 1 110:1 iliad | C 142:1 = 3000000\nsilent 150:1",
     ),
 ];

@@ -153,7 +153,8 @@ static LISTS: [(&[u8], &[(Want<'static>, u32, u32)]); 21] = [
         ],
     ),
     (
-        b"regle verif application enchaineur si alors sinon finsi erreur saisie calculee const tableau alias type pour un dans et ou non somme present positif positif_ou_nul null arr inf abs max min anomalie discordance informative X",
+        b"regle verif application enchaineur si alors sinon finsi erreur saisie calculee const tableau alias type pour un dans et ou non somme \
+          present positif positif_ou_nul null arr inf abs max min anomalie discordance informative X",
         &[
             (Want::Key(Key::Regle), 0, 1),
             (Want::Key(Key::Verif), 6, 1),

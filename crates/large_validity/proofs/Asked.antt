@@ -12,7 +12,8 @@ use Rattle.std.specs.Option.{option_and_then}
 use Rattle.m_ast.specs.Items.{variable_size}
 use Rattle.m_text.specs.Lines.{lines_of, onto_first, begins_with_feed}
 use Rattle.m_symbols.specs.Declarations.{Declared}
-use Rattle.m_requests.specs.Cells.{split_at_bracket, with_first, request_cell, named_cell, cell_by}
+use Rattle.m_text.specs.Parts.{with_first}
+use Rattle.m_requests.specs.Cells.{split_at_bracket, request_cell, named_cell, cell_by}
 use Rattle.m_requests.specs.Requests.{lines_said, few, requests_said}
 use Rattle.driver_core.specs.Weights.{definition_weight, check_weight, base_weight, weight_of}
 use Rattle.m_compile.specs.Sources.{running}

@@ -18,7 +18,8 @@ pub(crate) fn put_rows(rows: &[Row], places: &Places, block: &mut [Vec<Value>])
     requires width { AreRows (length places.now.inputs.items) block.old }
     ensures many { length block.new ≡ length block.old }
     ensures width { AreRows (length places.now.inputs.items) block.new }
-    ensures values { (r : ℕ) (d : Row) → r < length rows.now → row_inputs places.now.of.items (row_at block.new r) ≡ values_of (slice_index_or rows.now r d).household.pairs (length places.now.of.items) }
+    ensures values { (r : ℕ) (d : Row) → r < length rows.now → row_inputs places.now.of.items (row_at block.new r)
+        ≡ values_of (slice_index_or rows.now r d).household.pairs (length places.now.of.items) }
 {
     for r in 0..rows.len() {
         put_row(&rows[r], places, block[r].as_mut_slice());

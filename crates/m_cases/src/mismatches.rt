@@ -6,7 +6,8 @@ ghost use Rattle.text_pieces.specs.Giving.{Gives};
 ghost use Rattle.text_pieces.specs.Pieces.{joined, new_line};
 ghost use Rattle.observables.specs.Outputs.{names_of, notes_of};
 ghost use Rattle.m_cases.specs.Cases.{AreExpected};
-ghost use Rattle.m_cases.specs.Mismatches.{HasOutput, HasValueEach, answer_values, count_line, expected_text, got_of, is_met, is_same_value, mismatch_count, mismatch_line, mismatch_lines, named_values, one_line};
+ghost use Rattle.m_cases.specs.Mismatches.{HasOutput, HasValueEach, answer_values, count_line, expected_text, got_of, is_met};
+ghost use Rattle.m_cases.specs.Mismatches.{is_same_value, mismatch_count, mismatch_line, mismatch_lines, named_values, one_line};
 
 use crate::Expected;
 use itoa::Buffer;
@@ -17,7 +18,8 @@ use observables::{Answer, Face, FaceOutput};
 use text_pieces::give_pieces;
 
 /// Whether what is expected of the output with this number is met by an answer: a stop by each answer that stops, and a value by an
-/// answer that has it at that output. Takes no memory.
+/// answer that has it at that output. The number is that of the face's output, from 0, notes before names: what `read_cases` reads of
+/// the name at a place is of the number of notes and that place. Takes no memory.
 pub fn met(expected: &Expected, output: u32, answer: &Answer) -> bool
     requires { HasOutput output answer.now }
     ensures { result ≡ is_met expected.now (got_of (answer_values answer.now) output) }

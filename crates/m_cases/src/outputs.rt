@@ -77,7 +77,8 @@ fn put_name(
     known: &mut Names,
     places: &mut Vec<u32>,
 ) -> Result<(), AllocError>
-    ensures { OnOk result ((names : List (List ℕ)) → length names ≡ place → Finds names known.old places.old.items → Finds (names ++ name.now ∷ []) known.new places.new.items) }
+    ensures { OnOk result ((names : List (List ℕ)) → length names ≡ place → Finds names known.old places.old.items
+        → Finds (names ++ name.now ∷ []) known.new places.new.items) }
 {
     if !known.add(alloc, name)? {
         return Ok(());

@@ -4,6 +4,7 @@ pub mod Checks
 pub mod Clauses
 pub mod Codes
 pub mod Compiling
+pub mod Ends
 pub mod Executed
 pub mod Faults
 pub mod Lints

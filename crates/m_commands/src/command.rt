@@ -1,6 +1,7 @@
 //! The words of the command line.
 ghost use Rattle.std.specs.Prelude.{◌≡◌, IfOk, IfSome};
-ghost use Rattle.m_commands.specs.Command.{IsInReach, check_command, command_of, compile_command, exec_command, form_of, large_command, large_number, lint_command, of_form, source_command};
+ghost use Rattle.m_commands.specs.Command.{IsInReach, check_command, command_of, compile_command, exec_command};
+ghost use Rattle.m_commands.specs.Command.{form_of, large_command, large_number, lint_command, of_form, source_command};
 
 use m_places::limits::LARGE;
 use m_places::{Name, Word};

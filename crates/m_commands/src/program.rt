@@ -1,5 +1,6 @@
 //! The top call.
-ghost use Rattle.std.specs.Prelude.{◌≡◌, ◌<◌, ◌⊎◌, ℕ, List, Some, false};
+ghost use Rattle.std.specs.Prelude.{◌≡◌, ◌<◌, ◌⊎◌, ℕ, List, Some, false, true};
+ghost use Rattle.std.specs.Io.KnownBytes.{IsAtEnd};
 ghost use Rattle.m_ports.specs.Counts.{Rose};
 ghost use Rattle.command_plans.specs.Attempts.{TakesWithin};
 ghost use Rattle.command_plans.specs.Views.{Disk, files_view, input_view, output_view};
@@ -90,6 +91,9 @@ pub fn m_tax<R: Threads + Sync, F: Files, S: Source, K: Sink>(
         (files_view F.told F.attempts F.taken files.new) result }
     ensures input_left { reads_input words.now ≡ false → S.left input.new ≡ S.left input.old }
     ensures input_faults { reads_input words.now ≡ false → S.faults input.new ≡ S.faults input.old }
+
+    // A session that did all of its work stands at the end of the input.
+    ensures input_end { reads_input words.now ≡ true → result ≡ Status.Done → IsAtEnd (S.left input.new) }
 
     // However a session ends, it has taken no more of the input than may be taken.
     ensures input_taken { KeepsInputLimit (input_view S.left S.faults input.old) (input_view S.left S.faults input.new) result }

@@ -155,6 +155,7 @@ compiled_when source declared base asked core flat face runnable r a p code l =
       names = p.names;
       notes = p.notes;
       first_labels = p.first_labels;
+      further_labels = p.further_labels;
       printable = printable_face source.texts source.application source.requests declared base asked face r.made a.requested (distinct_codes source.texts source.application declared base r.made)
           (ap codes_of p.inputs ∙ codes_said declared) p.names p.first_labels p.further_labels;
       answers = λ inputs given. rw (sym a.runs) (p.answers inputs given);

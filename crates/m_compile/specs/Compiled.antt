@@ -1,5 +1,5 @@
 -- What a source is compiled to.
-use Rattle.std.specs.Prelude.{◌≡◌, ℕ, ◌<◌, ◌≤◌, List, Option, length, map, take, Some}
+use Rattle.std.specs.Prelude.{◌≡◌, ℕ, ◌<◌, ◌≤◌, List, Option, drop, length, map, take, Some}
 use Rattle.std.specs.List.{AllByRecursion}
 use Rattle.m_fixed.specs.declared.amount.Value.{Value}
 use Rattle.m_names.specs.Names.{AreDistinct}
@@ -19,7 +19,7 @@ use Rattle.register_alloc.specs.Allocation.{IsAllocation}
 use Rattle.driver_core.specs.declared.program.Core.{Core}
 use Rattle.driver_core.specs.Inputs.{inputs_said}
 use Rattle.m_requests.specs.Cells.{cell_name}
-use Rattle.mpp_inline.specs.Inlined.{most_nodes}
+use Rattle.mpp_inline.specs.Inlined.{IsDriverLine, most_nodes}
 use Rattle.code_file.specs.Printable.{IsPrintable}
 use Rattle.m_compile.specs.declared.compiling.Compiled.{Compiled}
 use Rattle.m_compile.specs.Sources.{IsValid}
@@ -33,8 +33,8 @@ pub record IsRunnable (face : Face) (flat : Flat) : Type 0 where
   pub nodes_fit : length flat.nodes ≤ most_nodes
 
 -- The source is valid, and it is compiled to this: for every list of values that the inputs may have, the answer of the tidy program, read
--- through its face, is the answer of the source. The face has the inputs with their types, the labels of the base's checks before all
--- others, and the names of what is asked for, each in its order, and each note is that of a check of the base. A code file can spell all
+-- through its face, is the answer of the source. The face has the inputs with their types, the labels of the base's checks and after them
+-- those of lines of the driver alone, and the names of what is asked for, each in its order, and each note is that of a check of the base. A code file can spell all
 -- words of the face. The code spells the tidy program, with a label for each of the face, in the registers and slots of its width.
 pub record IsCompiled (source : Source) (compiled : Compiled) : Type 0 where
   pub declared : Declared
@@ -49,6 +49,7 @@ pub record IsCompiled (source : Source) (compiled : Compiled) : Type 0 where
   pub names : names_of compiled.face.outputs ≡ map (cell_name declared) requests
   pub notes : AllByRecursion (λ number. number < length base.labels) (notes_of compiled.face.outputs)
   pub first_labels : take (length base.labels) compiled.face.labels ≡ map Verif base.labels
+  pub further_labels : AllByRecursion IsDriverLine (drop (length base.labels) compiled.face.labels)
   pub printable : IsPrintable compiled.face
   pub answers : (inputs : List Value) → AreValuesOf compiled.face.inputs inputs
       → told_of compiled.face.labels (notes_of compiled.face.outputs) (flat_run compiled.tidy inputs) ≡ Some (answer_to declared base written requests inputs)

@@ -182,7 +182,8 @@ fn faced(
     requires few_labels { length made.now.ordered.base.labels ≤ PARTS }
     requires known { All (λ c. c < length (owners_from 0 made.now.symbols.variables)) requests.now }
     requires few { length requests.now ≤ REQUESTS }
-    ensures { Outcome Memory result (λ given. IsProgram made.now.symbols made.now.ordered.base core.now requests.now given.0 given.1) (IsHeavy core.now made.now.ordered.base) }
+    ensures { Outcome Memory result (λ given. IsProgram made.now.symbols made.now.ordered.base core.now requests.now given.0 given.1)
+        (IsHeavy core.now made.now.ordered.base) }
 {
     let (flat, labels, notes) = inline(alloc, core, &made.ordered, &made.symbols, requests)?;
     let tidy = tidy(alloc, &flat)?;

@@ -3,7 +3,8 @@
 ghost use Rattle.std.specs.Prelude.{◌≡◌};
 ghost use Rattle.std.specs.Option.{option_map};
 ghost use Rattle.fault_lines.specs.Lines.{fault_line, place_line, name_line, driver_name_line};
-ghost use Rattle.m_compile.specs.Lines.{file_of, source_line, rule_line, lex_line, parse_line, declare_line, expand_line, resolve_line, driver_fault_line, core_line, request_fault_line};
+ghost use Rattle.m_compile.specs.Lines.{file_of, source_line, rule_line, lex_line, parse_line, declare_line};
+ghost use Rattle.m_compile.specs.Lines.{expand_line, resolve_line, driver_fault_line, core_line, request_fault_line};
 
 use crate::SourceFault;
 use fault_lines::{DriverFault as LineFault, DriverNameFault, Fault, NameFault, PlaceFault};

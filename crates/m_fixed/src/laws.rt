@@ -53,7 +53,8 @@ pub fn rounded_is_nearest()
 /// The millionths that a number's text spells are the nearest to the decimal number that its digits
 /// write.
 pub fn decimals_are_rounded()
-    ensures { (whole decimals : List ℕ) → IsNearest (pos (digits_value 10 (whole ++ decimals) * unit)) (pos (10 ^ length decimals)) (pos (millionths_of whole decimals)) }
+    ensures { (whole decimals : List ℕ) → IsNearest (pos (digits_value 10 (whole ++ decimals) * unit)) (pos (10 ^ length decimals))
+        (pos (millionths_of whole decimals)) }
 {}
 
 /// The greater and the lesser of two amounts are one of them, and bound both.

@@ -1,9 +1,11 @@
 //! Amounts read from text.
-ghost use Rattle.std.specs.Prelude.{◌≡◌, ◌≤◌, ◌<◌, ◌*◌, ◌+◌, ◌-◌, ◌^◌, slice_index_or, length, take, drop, min, IsTrue, IfOk, option_copied, Some, None, if◌then◌else◌, ◌==◌};
+ghost use Rattle.std.specs.Prelude.{◌≡◌, ◌≤◌, ◌<◌, ◌*◌, ◌+◌, ◌-◌, ◌^◌, slice_index_or, length, take};
+ghost use Rattle.std.specs.Prelude.{drop, min, IsTrue, IfOk, option_copied, Some, None, if◌then◌else◌, ◌==◌};
 ghost use Rattle.std.specs.Str.Parse.{digits_value, starts_with_minus};
 ghost use Rattle.m_fixed.specs.Amounts.{unit, most};
 ghost use Rattle.m_fixed.specs.Rounding.{nearest};
-ghost use Rattle.m_fixed.specs.Text.{text_value, without_minus, amount_read, number_value, number_read, is_digits, only_digits, before_point, behind_point, millionths_of};
+ghost use Rattle.m_fixed.specs.Text.{text_value, without_minus, amount_read, number_value, number_read};
+ghost use Rattle.m_fixed.specs.Text.{is_digits, only_digits, before_point, behind_point, millionths_of};
 
 use crate::Amount;
 use crate::amount::{MOST, UNIT};

@@ -19,10 +19,12 @@ pub fn one_fault()
 
 /// Tokens that spell items, and are nowhere too deep, have no fault.
 pub fn no_items_and_fault()
-    ensures { (is : List Item) (tokens : List Token) (fault : ParseFault) → IsShallow tokens → SpellsItems is tokens [] → fault ≢ Memory → IsParseFault tokens fault → ⊥ }
+    ensures { (is : List Item) (tokens : List Token) (fault : ParseFault) → IsShallow tokens → SpellsItems is tokens [] → fault ≢ Memory
+        → IsParseFault tokens fault → ⊥ }
 {}
 
 /// Tokens spell items and are nowhere too deep, or they have a fault.
 pub fn items_or_fault()
-    ensures { (tokens : List Token) → (IsShallow tokens × ((items : List Item) × SpellsItems items tokens [])) ⊎ ((fault : ParseFault) × (fault ≢ Memory) × IsParseFault tokens fault) }
+    ensures { (tokens : List Token) → (IsShallow tokens × ((items : List Item) × SpellsItems items tokens []))
+        ⊎ ((fault : ParseFault) × (fault ≢ Memory) × IsParseFault tokens fault) }
 {}

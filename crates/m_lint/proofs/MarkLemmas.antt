@@ -14,7 +14,8 @@ use Rattle.micro_m.specs.declared.base.Base.{Base}
 use Rattle.micro_m.specs.Bases.{IsWithin, AreWithin, StepsAreWithin, IsValidBase, terms_of}
 use Rattle.micro_m.specs.Failures.{Check}
 use Rattle.micro_m.proofs.TermLemmas.{picked-within}
-use Rattle.m_lint.specs.Readings.{is_cell, is_from, pick_reads, term_reads, arguments_read, steps_read, are_read, conditions_of, is_read}
+use Rattle.micro_m.specs.ReadTests.{is_cell, is_in_run, pick_reads, term_reads, arguments_read, steps_read}
+use Rattle.m_lint.specs.Readings.{are_read, conditions_of, is_read}
 use Rattle.m_lint.specs.inner.Marks.{raised, reach_of_picked, reach_of_pick, reach_of, reach_of_all, reach_along, reach_of_terms, covers, swept}
 
 -- ---- lengths
@@ -55,7 +56,7 @@ terms-length (t ∷ ts) reach = terms-length ts (reach_of t reach) ∙ term-leng
 
 -- ---- runs
 
-from-max : (first n m c : ℕ) → is_from first (max n m) c ≡ (is_from first n c || is_from first m c)
+from-max : (first n m c : ℕ) → is_in_run first (max n m) c ≡ (is_in_run first n c || is_in_run first m c)
 from-max first n m c = grind (arith, nat_tests)
 
 or-last : (a b c : Bool) → ((a || b) || c) ≡ ((a || c) || b)
@@ -73,22 +74,22 @@ or-assoc true b c = refl
 or-assoc false b c = refl
 
 -- a run more has its cells
-covers-raised : (first : ℕ) (reach : List ℕ) (i count c : ℕ) → i < length reach → covers first (raised reach i count) c ≡ (covers first reach c || is_from (first + i) count c)
+covers-raised : (first : ℕ) (reach : List ℕ) (i count c : ℕ) → i < length reach → covers first (raised reach i count) c ≡ (covers first reach c || is_in_run (first + i) count c)
 covers-raised first [] i count c h = absurd (omega (arith, h))
 covers-raised first (n ∷ ns) zero count c h =
     let here : first + 0 ≡ first = omega arith in
-    ap (λ b. b || covers (first + 1) ns c) (from-max first n count c) ∙ or-last (is_from first n c) (is_from first count c) (covers (first + 1) ns c)
-    ∙ ap (λ f. (is_from first n c || covers (first + 1) ns c) || is_from f count c) (sym here)
+    ap (λ b. b || covers (first + 1) ns c) (from-max first n count c) ∙ or-last (is_in_run first n c) (is_in_run first count c) (covers (first + 1) ns c)
+    ∙ ap (λ f. (is_in_run first n c || covers (first + 1) ns c) || is_in_run f count c) (sym here)
 covers-raised first (n ∷ ns) (suc i) count c h =
     let there : first + 1 + i ≡ first + suc i = omega arith in
-    ap (λ b. is_from first n c || b) (covers-raised (first + 1) ns i count c (omega (arith, h)))
-    ∙ sym (or-assoc (is_from first n c) (covers (first + 1) ns c) (is_from (first + 1 + i) count c))
-    ∙ ap (λ f. (is_from first n c || covers (first + 1) ns c) || is_from f count c) there
+    ap (λ b. is_in_run first n c || b) (covers-raised (first + 1) ns i count c (omega (arith, h)))
+    ∙ sym (or-assoc (is_in_run first n c) (covers (first + 1) ns c) (is_in_run (first + 1 + i) count c))
+    ∙ ap (λ f. (is_in_run first n c || covers (first + 1) ns c) || is_in_run f count c) there
 
-at : (reach : List ℕ) (i count c : ℕ) → i < length reach → covers 0 (raised reach i count) c ≡ (covers 0 reach c || is_from i count c)
-at reach i count c h = let same : 0 + i ≡ i = omega arith in covers-raised 0 reach i count c h ∙ ap (λ f. covers 0 reach c || is_from f count c) same
+at : (reach : List ℕ) (i count c : ℕ) → i < length reach → covers 0 (raised reach i count) c ≡ (covers 0 reach c || is_in_run i count c)
+at reach i count c h = let same : 0 + i ≡ i = omega arith in covers-raised 0 reach i count c h ∙ ap (λ f. covers 0 reach c || is_in_run f count c) same
 
-from-one : (d c : ℕ) → is_from d 1 c ≡ eqb c d
+from-one : (d c : ℕ) → is_in_run d 1 c ≡ eqb c d
 from-one d c = grind (arith, nat_tests)
 
 or-none : (b : Bool) → b ≡ (b || false)
@@ -102,18 +103,18 @@ covers-picked (Cell d) first size v reach c e h =
     at reach d 1 c (omega (arith, h, k)) ∙ ap (λ b. covers 0 reach c || b) (from-one d c)
 covers-picked (Fixed w) first size v reach c e h = or-none (covers 0 reach c)
 
-from-none : (first c : ℕ) → is_from first 0 c ≡ false
+from-none : (first c : ℕ) → is_in_run first 0 c ≡ false
 from-none first c = grind (arith, nat_tests)
 
 -- a table whose cells are there, if it has any
-covers-table : (first size : ℕ) (reach : List ℕ) (c : ℕ) → first + size ≤ length reach → covers 0 (raised reach first size) c ≡ (covers 0 reach c || is_from first size c)
+covers-table : (first size : ℕ) (reach : List ℕ) (c : ℕ) → first + size ≤ length reach → covers 0 (raised reach first size) c ≡ (covers 0 reach c || is_in_run first size c)
 covers-table first size reach c h = elim (cases_lt first (length reach)) [ inl low ↦ at reach first size c low | inr high ↦ past high ]
   where
-    past : length reach ≤ first → covers 0 (raised reach first size) c ≡ (covers 0 reach c || is_from first size c)
+    past : length reach ≤ first → covers 0 (raised reach first size) c ≡ (covers 0 reach c || is_in_run first size c)
     past high =
         let empty : size ≡ 0 = omega (arith, h, high) in
         ap (λ ns. covers 0 ns c) (set_past reach first (max (get_or reach first 0) size) high) ∙ or-none (covers 0 reach c)
-        ∙ ap (λ b. covers 0 reach c || b) (sym (ap (λ n. is_from first n c) empty ∙ from-none first c))
+        ∙ ap (λ b. covers 0 reach c || b) (sym (ap (λ n. is_in_run first n c) empty ∙ from-none first c))
 
 covers-pick : (first size : ℕ) (index : Tree) (reach : List ℕ) (c : ℕ) → first + size ≤ length reach → covers 0 (reach_of_pick first size index reach) c ≡ (covers 0 reach c || pick_reads first size index c)
 covers-pick first size (lit v) reach c h = covers-picked (picked first size v) first size v reach c refl h
@@ -179,7 +180,7 @@ from-later : (first n : ℕ) (ns : List ℕ) (c : ℕ) → c < first → covers 
 from-later first n [] c h = refl
 from-later first n (m ∷ ns) c h = ap (λ b. b || covers (first + 1) ns c) (low first m c h) ∙ from-later (first + 1) n ns c (omega (arith, h))
   where
-    low : (first m c : ℕ) → c < first → is_from first m c ≡ false
+    low : (first m c : ℕ) → c < first → is_in_run first m c ≡ false
     low first m c h = grind (arith, nat_tests)
 
 -- a cell is swept where it is before the end of earlier runs, or in a run from here on
@@ -188,16 +189,16 @@ swept-at first until [] i c h e = absurd (omega (arith, h))
 swept-at first until (n ∷ ns) zero c h e =
     let here : c ≡ first = omega (arith, e) in
     now first c until n here
-    ∙ ap (λ b. ltb c until || b) (or-none (is_from first n c) ∙ ap (λ b. is_from first n c || b) (sym (from-later (first + 1) 0 ns c (omega (arith, here)))))
+    ∙ ap (λ b. ltb c until || b) (or-none (is_in_run first n c) ∙ ap (λ b. is_in_run first n c || b) (sym (from-later (first + 1) 0 ns c (omega (arith, here)))))
   where
-    now : (first c until n : ℕ) → c ≡ first → ltb first (max until (first + n)) ≡ (ltb c until || is_from first n c)
+    now : (first c until n : ℕ) → c ≡ first → ltb first (max until (first + n)) ≡ (ltb c until || is_in_run first n c)
     now first c until n e = grind (arith, nat_tests)
 swept-at first until (n ∷ ns) (suc i) c h e =
     swept-at (first + 1) (max until (first + n)) ns i c (omega (arith, h)) (omega (arith, e))
     ∙ ap (λ b. b || covers (first + 1) ns c) (later first c until n (omega (arith, e)))
-    ∙ or-assoc (ltb c until) (is_from first n c) (covers (first + 1) ns c)
+    ∙ or-assoc (ltb c until) (is_in_run first n c) (covers (first + 1) ns c)
   where
-    later : (first c until n : ℕ) → first ≤ c → ltb c (max until (first + n)) ≡ (ltb c until || is_from first n c)
+    later : (first c until n : ℕ) → first ≤ c → ltb c (max until (first + n)) ≡ (ltb c until || is_in_run first n c)
     later first c until n h = grind (arith, nat_tests)
 
 pub swept-covers : (ns : List ℕ) (c : ℕ) → c < length ns → get_or (swept 0 0 ns) c false ≡ covers 0 ns c

@@ -1,6 +1,6 @@
 ghost use Rattle.std.specs.Prelude.{◌≡◌, ◌+◌, ◌≤◌, ◌<◌, length, IfOk, Ok, Err};
 ghost use Rattle.m_places.specs.declared.limits.TheConstants.{FILE_BYTES};
-ghost use Rattle.m_places.specs.Refusals.{Outcome};
+ghost use Rattle.m_places.specs.Refusals.{Outcome, Says};
 ghost use Rattle.m_text.specs.Lines.{lines_of};
 ghost use Rattle.m_list.specs.declared.fault.ListFault.TheVariants.{Memory, TooManyFiles};
 ghost use Rattle.m_list.specs.Files.{files_of};
@@ -19,9 +19,7 @@ use std::alloc::Global;
 /// `iliad\na.m\n` lists the application `iliad` and the file `a.m`.
 pub fn read_list(alloc: Global, bytes: &[u8]) -> Result<Listing, ListFault>
     requires { length bytes.now ≤ FILE_BYTES }
-    ensures outcome { Outcome Memory result
-        (λ listing. list_of bytes.now ≡ Ok listing)
-        (λ fault. list_of bytes.now ≡ Err fault) }
+    ensures outcome { Says Memory result (λ listing. listing) (list_of bytes.now) }
 {
     let Some((application, rest)) = first_line(bytes) else {
         return Err(ListFault::BadLine(1));

@@ -12,8 +12,8 @@ Outcome memory result good bad = MatchResult result good (λ fault. fault ≢ me
 abbrev pub Says : {T E V : Type 0} → E → Result T E → (T → V) → Result V E → Type 0
 Says memory result view said = Outcome memory result (λ value. said ≡ Ok (view value)) (λ fault. said ≡ Err fault)
 
--- What a cursor says that takes something from the front of what is left, where there is such a thing: `said` is what stands there
--- with what is left behind it, and where nothing does, all is left as it was. So a reader of words has the clause
+-- What a cursor says that takes what stands first of all that is left, where it can: `said` is that with what is left after it, and
+-- where nothing of the kind stands there, all is left as it was. So a reader of words has the clause
 -- `Takes result (λ w. w.now) (word_at self.old) self.old self.new`.
 abbrev pub Takes : {T V L : Type 0} → Option T → (T → V) → Option (V × L) → L → L → Type 0
 Takes result view said before after = MatchOption result ((after ≡ before) × (said ≡ None)) (λ value. said ≡ Some (view value, after))

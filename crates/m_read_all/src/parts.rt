@@ -1,7 +1,7 @@
 //! What the workers give, joined.
 
 ghost use Rattle.std.specs.Prelude.{◌≡◌, Ok, Err};
-ghost use Rattle.m_places.specs.Refusals.{Outcome};
+ghost use Rattle.m_places.specs.Refusals.{Says};
 ghost use Rattle.m_read_all.specs.inner.Parts.{joined};
 ghost use Rattle.m_read_all.specs.declared.fault.ReadFault.TheVariants.{Memory};
 
@@ -15,7 +15,7 @@ pub(crate) fn joined(
     alloc: Global,
     parts: Vec<Result<Vec<Seq<Item>>, ReadFault>>,
 ) -> Result<Vec<Seq<Item>>, ReadFault>
-    ensures { Outcome Memory result (λ files. joined parts.items ≡ Ok files.items) (λ fault. joined parts.items ≡ Err fault) }
+    ensures { Says Memory result (λ files. files.items) (joined parts.items) }
 {
     let mut files = Vec::new(alloc);
     for part in parts {

@@ -3,6 +3,7 @@ use Rattle.std.specs.Prelude.{ℕ, ◌+◌, ◌-◌, ◌==◌, ◌&&◌, ◌||�
 use Rattle.std.specs.Option.{option_map, option_map_or, option_and_then}
 use Rattle.std.specs.List.{flat_map, range_with_len}
 use Rattle.m_text.specs.Numbers.{whole_number}
+use Rattle.m_text.specs.Parts.{split_at}
 use Rattle.m_names.specs.Names.{has, index_of}
 use Rattle.m_ast.specs.Items.{variable_size}
 use Rattle.m_symbols.specs.declared.variable.Variable.{Variable}
@@ -35,12 +36,8 @@ abbrev pub variable_named : Declared → List ℕ → Option Variable
 variable_named declared name = option_and_then (slice_get declared.variables) (index_of name (names_of declared.variables))
 
 -- what stands before the first `[`, and what after it, if there is one
-abbrev pub with_first : ℕ → List ℕ × Option (List ℕ) → List ℕ × Option (List ℕ)
-with_first b parts = (b ∷ parts.0, parts.1)
-
 abbrev pub split_at_bracket : List ℕ → List ℕ × Option (List ℕ)
-split_at_bracket [] = ([], None)
-split_at_bracket (b ∷ bs) = if b == 91 then ([], Some bs) else with_first b (split_at_bracket bs)
+split_at_bracket text = split_at 91 text
 
 -- what stands before the `]` at the end, if that is the end
 abbrev pub before_closing : List ℕ → Option (List ℕ)

@@ -5,13 +5,14 @@ ghost use Rattle.std.specs.List.{range_with_len};
 ghost use Rattle.m_ast.specs.Items.{variable_size};
 ghost use Rattle.m_symbols.specs.Declarations.{owners_from};
 ghost use Rattle.m_requests.specs.Placed.{IsPlaced};
-ghost use Rattle.m_requests.specs.Cells.{request_cell, named_cell, split_at_bracket, cell_by, cell_within, index_said, before_closing, plain_number, may_be_plain, returned_cells, returned_by};
+ghost use Rattle.m_requests.specs.Cells.{request_cell, named_cell, cell_by, cell_within};
+ghost use Rattle.m_requests.specs.Cells.{index_said, before_closing, plain_number, may_be_plain, returned_cells, returned_by};
 
 use m_ast::Role;
 use m_names::has_name;
 use m_places::Seq;
 use m_symbols::{Symbols, Variable};
-use m_text::whole_number;
+use m_text::{first_of, whole_number};
 use std::alloc::{AllocError, Global};
 
 /// The cell that a request names, if it names one: a variable that is no table by its name, a table's cell as `T[2]`. Takes no
@@ -21,7 +22,7 @@ pub fn find_request(symbols: &Symbols, text: &[u8]) -> Option<u32>
     ensures cell { result ≡ request_cell symbols.now text.now }
     ensures known { IfSome result (λ cell. cell < length (owners_from 0 symbols.now.variables)) }
 {
-    let at = bracket_in(text);
+    let at = first_of(text, b'[');
     let number = symbols.find(&text[..at])?;
     let variable = symbols.variable(number);
     if at == text.len() {
@@ -29,19 +30,6 @@ pub fn find_request(symbols: &Symbols, text: &[u8]) -> Option<u32>
     } else {
         cell_at_index(variable, &text[at + 1..], symbols.cells())
     }
-}
-
-// Where the first `[` stands, or the end where there is none.
-fn bracket_in(text: &[u8]) -> usize
-    ensures within { result ≤ length text.now }
-    ensures none { result ≡ length text.now → split_at_bracket text.now ≡ (take result text.now, None) }
-    ensures some { result < length text.now → split_at_bracket text.now ≡ (take result text.now, Some (drop (result + 1) text.now)) }
-{
-    let mut at = 0;
-    while at < text.len() && text[at] != b'[' {
-        at += 1;
-    }
-    at
 }
 
 // The cell of a variable without an index: a table has none.

@@ -1,7 +1,7 @@
 //! Files of requests.
 
 ghost use Rattle.std.specs.Prelude.{◌≡◌, ◌<◌, ◌≤◌, All, IfOk, Ok, Err, [], length, option_map};
-ghost use Rattle.m_places.specs.Refusals.{Outcome};
+ghost use Rattle.m_places.specs.Refusals.{Outcome, Says};
 ghost use Rattle.m_places.specs.declared.limits.TheConstants.{FILE_BYTES};
 ghost use Rattle.m_text.specs.Lines.{lines_of};
 ghost use Rattle.m_symbols.specs.Declarations.{owners_from};
@@ -29,7 +29,7 @@ pub fn read_requests(
 ) -> Result<Seq<u32>, RequestFault>
     requires placed { IsPlaced symbols.now }
     requires small { FileIsWithin requests.now }
-    ensures outcome { Outcome Memory result (λ cells. requests_said requests.now symbols.now ≡ Ok cells) (λ fault. requests_said requests.now symbols.now ≡ Err fault) }
+    ensures outcome { Says Memory result (λ cells. cells) (requests_said requests.now symbols.now) }
     ensures known { IfOk result (All (λ c. c < length (owners_from 0 symbols.now.variables))) }
 {
     match requests {
@@ -42,7 +42,8 @@ pub fn read_requests(
 fn read_lines(alloc: Global, bytes: &[u8], symbols: &Symbols) -> Result<Seq<u32>, RequestFault>
     requires placed { IsPlaced symbols.now }
     requires small { length bytes.now ≤ FILE_BYTES }
-    ensures outcome { Outcome Memory result (λ cells. lines_said symbols.now 1 [] (lines_of bytes.now) ≡ Ok cells) (λ fault. lines_said symbols.now 1 [] (lines_of bytes.now) ≡ Err fault) }
+    ensures outcome { Outcome Memory result (λ cells. lines_said symbols.now 1 [] (lines_of bytes.now) ≡ Ok cells)
+        (λ fault. lines_said symbols.now 1 [] (lines_of bytes.now) ≡ Err fault) }
     ensures known { IfOk result (All (λ c. c < length (owners_from 0 symbols.now.variables))) }
 {
     let mut cells = Vec::new(alloc);

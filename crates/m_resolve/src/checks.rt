@@ -2,7 +2,7 @@
 
 ghost use Rattle.std.specs.Prelude.{◌≡◌, ◌++◌, ◌<◌, ◌≤◌, [], drop, Some, Ok, Err, IfOk, OnOk, length, map, slice_get};
 ghost use Rattle.std.specs.Option.{option_copied, option_map};
-ghost use Rattle.m_places.specs.Refusals.{Outcome};
+ghost use Rattle.m_places.specs.Refusals.{Says};
 ghost use Rattle.m_places.specs.declared.limits.TheConstants.{PARTS};
 ghost use Rattle.m_resolve.specs.Bases.{conditions_said, label_said, error_named, error_text, behind_colon, printable};
 ghost use Rattle.m_resolve.specs.inner.Words.{words_of, label_with, said_with};
@@ -39,7 +39,7 @@ pub(crate) fn checks(
     symbols: &Symbols,
 ) -> Result<Checked, ResolveFault>
     requires { length all.now ≤ PARTS }
-    ensures { Outcome Memory result (λ made. conditions_said symbols.now ([], []) all.now ≡ Ok (made.checks.items, made.labels.items)) (λ fault. conditions_said symbols.now ([], []) all.now ≡ Err fault) }
+    ensures { Says Memory result (λ made. (made.checks.items, made.labels.items)) (conditions_said symbols.now ([], []) all.now) }
 {
     let errors = errors(alloc, symbols)?;
     checks_with(alloc, all, symbols, errors.as_slice())
@@ -77,7 +77,7 @@ fn checks_with(
 ) -> Result<Checked, ResolveFault>
     requires errors { errors.now ≡ map words_of symbols.now.errors }
     requires few { length all.now ≤ PARTS }
-    ensures { Outcome Memory result (λ made. conditions_said symbols.now ([], []) all.now ≡ Ok (made.checks.items, made.labels.items)) (λ fault. conditions_said symbols.now ([], []) all.now ≡ Err fault) }
+    ensures { Says Memory result (λ made. (made.checks.items, made.labels.items)) (conditions_said symbols.now ([], []) all.now) }
 {
     let mut checks = Vec::with_capacity(alloc, all.len())?;
     let mut labels = Vec::with_capacity(alloc, all.len())?;
@@ -99,7 +99,7 @@ fn label(
     errors: &[ErrorWords],
 ) -> Result<Label, ResolveFault>
     requires { errors.now ≡ map words_of symbols.now.errors }
-    ensures { Outcome Memory result (λ label. label_said condition.now (error_named symbols.now condition.now.error) ≡ Ok label) (λ fault. label_said condition.now (error_named symbols.now condition.now.error) ≡ Err fault) }
+    ensures { Says Memory result (λ label. label) (label_said condition.now (error_named symbols.now condition.now.error)) }
 {
     let words = error_named(symbols, errors, &condition.error);
     said_with(alloc, condition, words)
@@ -111,7 +111,7 @@ fn said_with(
     condition: &Condition,
     words: Option<&ErrorWords>,
 ) -> Result<Label, ResolveFault>
-    ensures { Outcome Memory result (λ label. said_with condition.now (option_copied words.entry) ≡ Ok label) (λ fault. said_with condition.now (option_copied words.entry) ≡ Err fault) }
+    ensures { Says Memory result (λ label. label) (said_with condition.now (option_copied words.entry)) }
 {
     match words {
         None => Err(ResolveFault::UnknownError(condition.error.copy(alloc)?, condition.place)),

@@ -1,7 +1,7 @@
 //! Definitions over cells.
 
 ghost use Rattle.std.specs.Prelude.{◌≡◌, ◌<◌, ◌++◌, ◌∷◌, [], Ok, Err, not, IfOk, length, List, ℕ};
-ghost use Rattle.m_places.specs.Refusals.{Outcome};
+ghost use Rattle.m_places.specs.Refusals.{Says};
 ghost use Rattle.m_places.specs.declared.place.Place.{Place};
 ghost use Rattle.m_symbols.specs.Declarations.{owners_from};
 ghost use Rattle.micro_m.specs.Bases.{Definition as CellDefinition, is_among};
@@ -28,7 +28,7 @@ pub(crate) fn definitions(
     symbols: &Symbols,
 ) -> Result<Vec<(u32, MTerm, Place)>, ResolveFault>
     requires { IsPlaced symbols.now }
-    ensures { Outcome Memory result (λ made. definitions_said symbols.now [] all.now ≡ Ok made.items) (λ fault. definitions_said symbols.now [] all.now ≡ Err fault) }
+    ensures { Says Memory result (λ made. made.items) (definitions_said symbols.now [] all.now) }
 {
     let mut marked = vec![in alloc; false; symbols.cells() as usize]?;
     let mut made = Vec::with_capacity(alloc, all.len())?;
@@ -49,9 +49,8 @@ fn new_target(
 ) -> Result<u32, ResolveFault>
     requires placed { IsPlaced symbols.now }
     requires count { length marked.old ≡ length (owners_from 0 symbols.now.variables) }
-    ensures outcome { (earlier : List ℕ) → Marks marked.old earlier → Outcome Memory result
-        (λ cell. if_said (new_target symbols.now definition.now.place earlier) (target_said symbols.now definition.now) ≡ Ok cell)
-        (λ fault. if_said (new_target symbols.now definition.now.place earlier) (target_said symbols.now definition.now) ≡ Err fault) }
+    ensures outcome { (earlier : List ℕ) → Marks marked.old earlier → Says Memory result (λ cell. cell)
+        (if_said (new_target symbols.now definition.now.place earlier) (target_said symbols.now definition.now)) }
     ensures marks { IfOk result (λ cell. (earlier : List ℕ) → Marks marked.old earlier → Marks marked.new (earlier ++ cell ∷ [])) }
     ensures counted { length marked.new ≡ length marked.old }
 {

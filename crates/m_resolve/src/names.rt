@@ -2,7 +2,7 @@
 
 ghost use Rattle.std.specs.Prelude.{◌≡◌, Ok, Err};
 ghost use Rattle.std.specs.Option.{option_copied};
-ghost use Rattle.m_places.specs.Refusals.{Outcome};
+ghost use Rattle.m_places.specs.Refusals.{Says};
 ghost use Rattle.m_requests.specs.Cells.{variable_named};
 ghost use Rattle.m_resolve.specs.Terms.{cell_said, cell_of_variable, table_said, table_of_variable};
 ghost use Rattle.m_resolve.specs.declared.fault.ResolveFault.TheVariants.{Memory};
@@ -28,7 +28,7 @@ pub(crate) fn cell_of(
     name: &SharedName,
     place: Place,
 ) -> Result<u32, ResolveFault>
-    ensures { Outcome Memory result (λ cell. cell_said symbols.now name.now place ≡ Ok cell) (λ fault. cell_said symbols.now name.now place ≡ Err fault) }
+    ensures { Says Memory result (λ cell. cell) (cell_said symbols.now name.now place) }
 {
     let Some(variable) = variable_named(symbols, name) else {
         return Err(ResolveFault::UnknownName(Name::new(alloc, name.bytes())?, place));
@@ -51,7 +51,7 @@ pub(crate) fn table_of(
     name: &SharedName,
     place: Place,
 ) -> Result<(u32, u32), ResolveFault>
-    ensures { Outcome Memory result (λ table. table_said symbols.now name.now place ≡ Ok table) (λ fault. table_said symbols.now name.now place ≡ Err fault) }
+    ensures { Says Memory result (λ table. table) (table_said symbols.now name.now place) }
 {
     let Some(variable) = variable_named(symbols, name) else {
         return Err(ResolveFault::UnknownName(Name::new(alloc, name.bytes())?, place));

@@ -2,7 +2,7 @@
 
 ghost use Rattle.std.specs.Prelude.{◌≡◌, ◌++◌, ◌≤◌, [], Ok, Err, IfOk, OnOk, length};
 ghost use Rattle.std.specs.List.{cons_option};
-ghost use Rattle.m_places.specs.Refusals.{Outcome};
+ghost use Rattle.m_places.specs.Refusals.{Says};
 ghost use Rattle.m_places.specs.declared.limits.TheConstants.{PARTS};
 ghost use Rattle.micro_m.specs.Bases.{IsValidBase};
 ghost use Rattle.m_requests.specs.Placed.{IsPlaced};
@@ -27,7 +27,7 @@ use std::alloc::{AllocError, Global};
 pub fn resolve(alloc: Global, plain: &Plain, symbols: &Symbols) -> Result<Base, ResolveFault>
     requires placed { IsPlaced symbols.now }
     requires few { length plain.now.conditions ≤ PARTS }
-    ensures outcome { Outcome Memory result (λ base. resolved symbols.now plain.now ≡ Ok base) (λ fault. resolved symbols.now plain.now ≡ Err fault) }
+    ensures outcome { Says Memory result (λ base. base) (resolved symbols.now plain.now) }
     ensures valid { IfOk result IsValidBase }
 {
     let definitions = definitions(alloc, plain.definitions.as_slice(), symbols)?;

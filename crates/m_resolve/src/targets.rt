@@ -1,7 +1,7 @@
 //! The cells that formulas set.
 
 ghost use Rattle.std.specs.Prelude.{◌≡◌, ◌<◌, ◌≤◌, ◌+◌, ◌^◌, Ok, Err, IfOk, IfSome, length};
-ghost use Rattle.m_places.specs.Refusals.{Outcome};
+ghost use Rattle.m_places.specs.Refusals.{Outcome, Says};
 ghost use Rattle.m_ast.specs.Items.{variable_size};
 ghost use Rattle.m_symbols.specs.Declarations.{owners_from};
 ghost use Rattle.m_requests.specs.Placed.{IsPlaced};
@@ -23,7 +23,7 @@ pub(crate) fn target(
     symbols: &Symbols,
 ) -> Result<u32, ResolveFault>
     requires { IsPlaced symbols.now }
-    ensures outcome { Outcome Memory result (λ cell. target_said symbols.now definition.now ≡ Ok cell) (λ fault. target_said symbols.now definition.now ≡ Err fault) }
+    ensures outcome { Says Memory result (λ cell. cell) (target_said symbols.now definition.now) }
     ensures known { IfOk result (λ cell. cell < length (owners_from 0 symbols.now.variables)) }
 {
     let Some(variable) = variable_named(symbols, &definition.target) else {
@@ -44,9 +44,8 @@ fn target_in(
 ) -> Result<u32, ResolveFault>
     requires fits { variable.now.first_cell + variable.now.cells ≤ all }
     requires size { IfSome (variable_size variable.now.item) (λ size. variable.now.cells ≡ size) }
-    ensures { Outcome Memory result
-        (λ cell. target_in definition.now.target definition.now.place variable.now.first_cell definition.now.slot variable.now.item.role ≡ Ok cell)
-        (λ fault. target_in definition.now.target definition.now.place variable.now.first_cell definition.now.slot variable.now.item.role ≡ Err fault) }
+    ensures { Says Memory result (λ cell. cell)
+        (target_in definition.now.target definition.now.place variable.now.first_cell definition.now.slot variable.now.item.role) }
 {
     let name = &definition.target;
     let place = definition.place;
@@ -92,7 +91,7 @@ fn table_target(
     k: u32,
 ) -> Result<u32, ResolveFault>
     requires { first + size < 2 ^ 32 }
-    ensures { Outcome Memory result (λ cell. table_target name.now place first size k ≡ Ok cell) (λ fault. table_target name.now place first size k ≡ Err fault) }
+    ensures { Says Memory result (λ cell. cell) (table_target name.now place first size k) }
 {
     if k < size {
         Ok(first + k)

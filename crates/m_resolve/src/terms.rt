@@ -1,12 +1,13 @@
 //! Terms over names to terms over cells.
 
 ghost use Rattle.std.specs.Prelude.{◌≡◌, ◌∷◌, Ok, Err, [], false, IfOk};
-ghost use Rattle.m_places.specs.Refusals.{Outcome};
+ghost use Rattle.m_places.specs.Refusals.{Says};
 ghost use Rattle.micro_m.specs.Trees.{cell as cell_tree, pick, apply, chain, none, more};
 ghost use Rattle.micro_m.specs.Views.{tree_of, trees_of, steps_of};
 ghost use Rattle.m_ast.specs.View.{terms_of};
 ghost use Rattle.plain_rules.specs.View.{links_of, members_of};
-ghost use Rattle.m_resolve.specs.Terms.{cell_said, table_said, term_said, terms_said, links_said, members_said, member_said, member_by, membership, any_of, x_name, if_said};
+ghost use Rattle.m_resolve.specs.Terms.{cell_said, table_said, term_said, terms_said, links_said};
+ghost use Rattle.m_resolve.specs.Terms.{members_said, member_said, member_by, membership, any_of, x_name, if_said};
 ghost use Rattle.m_resolve.specs.declared.fault.ResolveFault.TheVariants.{Memory};
 
 use crate::ResolveFault;
@@ -28,7 +29,7 @@ pub(crate) fn term(
     term: &PTerm,
     symbols: &Symbols,
 ) -> Result<Box<MTerm>, ResolveFault>
-    ensures { Outcome Memory result (λ tree. term_said symbols.now term.now ≡ Ok tree.value) (λ fault. term_said symbols.now term.now ≡ Err fault) }
+    ensures { Says Memory result (λ tree. tree.value) (term_said symbols.now term.now) }
 {
     match &term.node {
         PNode::Lit(value) => Ok(boxed(alloc, MNode::Lit(*value))?),
@@ -55,7 +56,7 @@ fn named(
     place: Place,
     symbols: &Symbols,
 ) -> Result<Box<MTerm>, ResolveFault>
-    ensures { Outcome Memory result (λ tree. if_said (λ c. Ok (cell_tree c)) (cell_said symbols.now name.now place) ≡ Ok tree.value) (λ fault. if_said (λ c. Ok (cell_tree c)) (cell_said symbols.now name.now place) ≡ Err fault) }
+    ensures { Says Memory result (λ tree. tree.value) (if_said (λ c. Ok (cell_tree c)) (cell_said symbols.now name.now place)) }
 {
     let cell = cell_of(alloc, symbols, name, place)?;
     Ok(boxed(alloc, MNode::Cell(cell))?)
@@ -70,9 +71,8 @@ fn table_read(
     place: Place,
     symbols: &Symbols,
 ) -> Result<Box<MTerm>, ResolveFault>
-    ensures { Outcome Memory result
-        (λ tree. if_said (λ table. if_said (λ i. Ok (pick table.0 table.1 i)) (term_said symbols.now index.now)) (table_said symbols.now name.now place) ≡ Ok tree.value)
-        (λ fault. if_said (λ table. if_said (λ i. Ok (pick table.0 table.1 i)) (term_said symbols.now index.now)) (table_said symbols.now name.now place) ≡ Err fault) }
+    ensures { Says Memory result (λ tree. tree.value)
+        (if_said (λ table. if_said (λ i. Ok (pick table.0 table.1 i)) (term_said symbols.now index.now)) (table_said symbols.now name.now place)) }
 {
     let (first, size) = table_of(alloc, symbols, name, place)?;
     let index = term(alloc, index, symbols)?;
@@ -87,9 +87,7 @@ fn applied(
     arguments: &[PTerm],
     symbols: &Symbols,
 ) -> Result<Box<MTerm>, ResolveFault>
-    ensures { Outcome Memory result
-        (λ tree. if_said (λ all. Ok (apply op (trees_of all))) (terms_said symbols.now [] (terms_of arguments.now)) ≡ Ok tree.value)
-        (λ fault. if_said (λ all. Ok (apply op (trees_of all))) (terms_said symbols.now [] (terms_of arguments.now)) ≡ Err fault) }
+    ensures { Says Memory result (λ tree. tree.value) (if_said (λ all. Ok (apply op (trees_of all))) (terms_said symbols.now [] (terms_of arguments.now))) }
 {
     let arguments = terms(alloc, arguments, symbols)?;
     Ok(boxed(alloc, MNode::Apply(op, arguments))?)
@@ -98,7 +96,7 @@ fn applied(
 // Terms one after the other.
 #[cycle(term)]
 fn terms(alloc: Global, all: &[PTerm], symbols: &Symbols) -> Result<Vec<MTerm>, ResolveFault>
-    ensures { Outcome Memory result (λ trees. terms_said symbols.now [] (terms_of all.now) ≡ Ok trees.items) (λ fault. terms_said symbols.now [] (terms_of all.now) ≡ Err fault) }
+    ensures { Says Memory result (λ trees. trees.items) (terms_said symbols.now [] (terms_of all.now)) }
 {
     let mut trees = Vec::with_capacity(alloc, all.len())?;
     for one in all {
@@ -116,9 +114,8 @@ fn chained(
     links: &[PLink],
     symbols: &Symbols,
 ) -> Result<Box<MTerm>, ResolveFault>
-    ensures { Outcome Memory result
-        (λ tree. if_said (λ f. if_said (λ steps. Ok (chain f (steps_of steps))) (links_said symbols.now [] (links_of links.now))) (term_said symbols.now first.now) ≡ Ok tree.value)
-        (λ fault. if_said (λ f. if_said (λ steps. Ok (chain f (steps_of steps))) (links_said symbols.now [] (links_of links.now))) (term_said symbols.now first.now) ≡ Err fault) }
+    ensures { Says Memory result (λ tree. tree.value)
+        (if_said (λ f. if_said (λ steps. Ok (chain f (steps_of steps))) (links_said symbols.now [] (links_of links.now))) (term_said symbols.now first.now)) }
 {
     let first = term(alloc, first, symbols)?;
     let mut steps = Vec::with_capacity(alloc, links.len())?;
@@ -141,9 +138,8 @@ fn among(
     members: &[PMember],
     symbols: &Symbols,
 ) -> Result<Box<MTerm>, ResolveFault>
-    ensures { Outcome Memory result
-        (λ tree. if_said (λ t. if_said (λ all. Ok (membership negated all)) (members_said symbols.now t [] (members_of members.now))) (term_said symbols.now x.now) ≡ Ok tree.value)
-        (λ fault. if_said (λ t. if_said (λ all. Ok (membership negated all)) (members_said symbols.now t [] (members_of members.now))) (term_said symbols.now x.now) ≡ Err fault) }
+    ensures { Says Memory result (λ tree. tree.value)
+        (if_said (λ t. if_said (λ all. Ok (membership negated all)) (members_said symbols.now t [] (members_of members.now))) (term_said symbols.now x.now)) }
 {
     let Some((first, others)) = members.split_first() else {
         let _tested = term(alloc, x, symbols)?;
@@ -162,9 +158,8 @@ fn member_steps(
     others: &[PMember],
     symbols: &Symbols,
 ) -> Result<Vec<Step>, ResolveFault>
-    ensures { Outcome Memory result
-        (λ steps. if_said (λ t. members_said symbols.now t [] (members_of (first.now ∷ others.now))) (term_said symbols.now x.now) ≡ Ok steps.items)
-        (λ fault. if_said (λ t. members_said symbols.now t [] (members_of (first.now ∷ others.now))) (term_said symbols.now x.now) ≡ Err fault) }
+    ensures { Says Memory result (λ steps. steps.items)
+        (if_said (λ t. members_said symbols.now t [] (members_of (first.now ∷ others.now))) (term_said symbols.now x.now)) }
 {
     let mut steps = Vec::new(alloc);
     let earliest = member(alloc, x, first, symbols)?;
@@ -190,9 +185,7 @@ fn member(
     member: &PMember,
     symbols: &Symbols,
 ) -> Result<MTerm, ResolveFault>
-    ensures { Outcome Memory result
-        (λ tree. if_said (λ t. member_said symbols.now t member.now.low member.now.high) (term_said symbols.now x.now) ≡ Ok tree)
-        (λ fault. if_said (λ t. member_said symbols.now t member.now.low member.now.high) (term_said symbols.now x.now) ≡ Err fault) }
+    ensures { Says Memory result (λ tree. tree) (if_said (λ t. member_said symbols.now t member.now.low member.now.high) (term_said symbols.now x.now)) }
 {
     let first = term(alloc, x, symbols)?;
     let low = term(alloc, &member.low, symbols)?;

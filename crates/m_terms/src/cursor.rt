@@ -1,5 +1,6 @@
 //! A place in the tokens, and the readers of single tokens. It knows nothing of trees.
 ghost use Rattle.std.specs.Prelude.{◌≡◌, ◌<◌, ◌∷◌, [], length, Some, None, MatchBool, MatchOption, OnSome};
+ghost use Rattle.m_places.specs.Refusals.{Takes};
 ghost use Rattle.std.specs.Bool.{OnTrue};
 ghost use Rattle.m_text.specs.Bytes.{is_digit};
 ghost use Rattle.m_terms.specs.Tokens.{kind_is_sign, kind_is_key, is_name, is_whole, small_letter};
@@ -97,7 +98,7 @@ impl<'a> Cursor<'a> {
 
     /// Takes a letter from a to z, and answers it and its place.
     pub fn take_letter(&mut self) -> Option<(u8, Place)>
-        ensures letter { MatchOption result ((self.new ≡ self.old) × (open_at letter self.old ≡ None)) (λ l. open_at letter self.old ≡ Some (l, self.new)) }
+        ensures letter { Takes result (λ l. l) (open_at letter self.old) self.old self.new }
         ensures shorter { OnSome result (length self.new < length self.old) }
     {
         let (first, others) = self.left.split_first()?;
@@ -108,7 +109,7 @@ impl<'a> Cursor<'a> {
 
     /// Takes a word, and answers it and its place.
     pub fn take_word(&mut self) -> Option<(&'a Name, Place)>
-        ensures word { MatchOption result ((self.new ≡ self.old) × (open_at plain_word self.old ≡ None)) (λ w. open_at plain_word self.old ≡ Some (named w.0.now w.1, self.new)) }
+        ensures word { Takes result (λ w. named w.0.now w.1) (open_at plain_word self.old) self.old self.new }
         ensures shorter { OnSome result (length self.new < length self.old) }
     {
         let (first, others) = self.left.split_first()?;
@@ -123,7 +124,7 @@ impl<'a> Cursor<'a> {
 
     /// Takes an operator of the table.
     pub fn take_operator(&mut self, level: Level) -> Option<Op>
-        ensures op { MatchOption result ((self.new ≡ self.old) × (open_at (operator_at level) self.old ≡ None)) (λ op. open_at (operator_at level) self.old ≡ Some (op, self.new)) }
+        ensures op { Takes result (λ op. op) (open_at (operator_at level) self.old) self.old self.new }
         ensures shorter { OnSome result (length self.new < length self.old) }
     {
         let (first, others) = self.left.split_first()?;
@@ -134,7 +135,7 @@ impl<'a> Cursor<'a> {
 
     /// Takes `=`, `!=`, `<`, `<=`, `>` or `>=`.
     pub fn take_comparison(&mut self) -> Option<Op>
-        ensures op { MatchOption result ((self.new ≡ self.old) × (open_at comparison self.old ≡ None)) (λ op. open_at comparison self.old ≡ Some (op, self.new)) }
+        ensures op { Takes result (λ op. op) (open_at comparison self.old) self.old self.new }
         ensures shorter { OnSome result (length self.new < length self.old) }
     {
         let (first, others) = self.left.split_first()?;
@@ -155,7 +156,7 @@ impl<'a> Cursor<'a> {
 
     /// Takes an end of a span: a name, `X`, or a whole number as it is spelled.
     pub fn take_point(&mut self) -> Option<&'a [u8]>
-        ensures point { MatchOption result ((self.new ≡ self.old) × (open_at point self.old ≡ None)) (λ w. open_at point self.old ≡ Some (w.now, self.new)) }
+        ensures point { Takes result (λ w. w.now) (open_at point self.old) self.old self.new }
         ensures shorter { OnSome result (length self.new < length self.old) }
     {
         let (first, others) = self.left.split_first()?;

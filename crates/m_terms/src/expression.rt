@@ -2,7 +2,9 @@
 //! conditionals may be opened.
 ghost use Rattle.std.specs.Prelude.{◌≡◌, ℕ, ◌<◌, ◌≤◌, ◌++◌, [], ◌∷◌, length, OnOk};
 ghost use Rattle.m_terms.specs.Grammar.{link, function_of};
-ghost use Rattle.m_terms.specs.inner.Reading.{GivesBy, until_at, other_at, choice_at, named_at, call_at, loop_at, other_word_at, word_at, prim_at, prim_of, factor_at, operator_at, operand_at, level_at, links_at, membership_at, inside_at, relation_at, negation_at, expr_at, inner_at};
+ghost use Rattle.m_terms.specs.inner.Reading.{GivesBy, until_at, other_at, choice_at, named_at, call_at, loop_at, other_word_at, word_at, prim_at, prim_of};
+ghost use Rattle.m_terms.specs.inner.Reading.{factor_at, operator_at, operand_at, level_at, links_at};
+ghost use Rattle.m_terms.specs.inner.Reading.{membership_at, inside_at, relation_at, negation_at, expr_at, inner_at};
 
 use crate::build::{applied, applied_to_three, applied_to_two, boxed, chained, without};
 use crate::cursor::{Cursor, Level, Mark};

@@ -1,6 +1,7 @@
 //! Headers of loops.
 ghost use Rattle.std.specs.Prelude.{◌≡◌, ◌<◌, ◌≤◌, [], length, IfOk, OnOk};
-ghost use Rattle.m_terms.specs.inner.Reading.{Gives, GivesBy, span_at, values_at, places_at, assigned_at, walked_at, index_at, further_index, indexes_at, header_at};
+ghost use Rattle.m_terms.specs.inner.Reading.{Gives, GivesBy, span_at, values_at, places_at, assigned_at};
+ghost use Rattle.m_terms.specs.inner.Reading.{walked_at, index_at, further_index, indexes_at, header_at};
 
 use crate::cursor::{Cursor, Mark};
 use crate::fault::TermFault;

@@ -67,11 +67,13 @@ pub fn one_term()
 
 /// The tokens spell at most one header that ends before a `:`.
 pub fn one_header()
-    ensures { (h k : Header) (ts r s : List Token) → SpellsHeader h ts r → BeginsBy (is_sign Colon) r → SpellsHeader k ts s → BeginsBy (is_sign Colon) s → (h ≡ k) × (r ≡ s) }
+    ensures { (h k : Header) (ts r s : List Token) → SpellsHeader h ts r → BeginsBy (is_sign Colon) r
+        → SpellsHeader k ts s → BeginsBy (is_sign Colon) s → (h ≡ k) × (r ≡ s) }
 {}
 
 /// Where no token is too deep, each term that is spelled has its brackets and conditionals at most
 /// 256 deep: `read_term` leaves none out.
 pub fn shallow_terms()
-    ensures { (tokens : List Token) (from d : ℕ) (t : Syntax) (rest : List Token) → first_too_deep BRACKET_DEPTH 0 tokens ≡ None → SpellsExpr (SpellsInner d) t (drop from tokens) rest → SpellsTerm t (drop from tokens) rest }
+    ensures { (tokens : List Token) (from d : ℕ) (t : Syntax) (rest : List Token) → first_too_deep BRACKET_DEPTH 0 tokens ≡ None
+        → SpellsExpr (SpellsInner d) t (drop from tokens) rest → SpellsTerm t (drop from tokens) rest }
 {}

@@ -3,3 +3,4 @@ pub mod Fronts
 pub mod LineLemmas
 pub mod Longest
 pub mod Spelled
+pub mod PartLemmas

@@ -23,5 +23,6 @@ pub fn solution_is_one()
 
 /// More turns than there are definitions change nothing.
 pub fn further_turns_change_nothing()
-    ensures { (base : Base) (given : Environment) → HasNoCycle base → (turns c : ℕ) → length base.definitions < turns → value_in base given turns c ≡ value_of base given c }
+    ensures { (base : Base) (given : Environment) → HasNoCycle base → (turns c : ℕ) → length base.definitions < turns
+        → value_in base given turns c ≡ value_of base given c }
 {}

@@ -1,7 +1,7 @@
 //! Commands over names to commands over cells and functions.
 
 ghost use Rattle.std.specs.Prelude.{◌≡◌, ◌<◌, ◌^◌, Ok, Err, [], IfOk, length};
-ghost use Rattle.m_places.specs.Refusals.{Outcome};
+ghost use Rattle.m_places.specs.Refusals.{Says};
 ghost use Rattle.m_requests.specs.Placed.{IsPlaced};
 ghost use Rattle.mpp_parser.specs.CommandView.{block_of as acts_of};
 ghost use Rattle.driver_core.specs.Actions.{assign, clear, branch, partition};
@@ -29,7 +29,7 @@ fn command(
     scope: &Scope<'_>,
 ) -> Result<CCommand, CoreFault>
     requires { IsPlaced scope.now × (length names.now < 2 ^ 32) }
-    ensures { Outcome Memory result (λ c. act_said scope.now names.now command.now ≡ Ok c) (λ fault. act_said scope.now names.now command.now ≡ Err fault) }
+    ensures { Says Memory result (λ c. c) (act_said scope.now names.now command.now) }
 {
     match &command.node {
         CommandNode::Set(line, cell, value) => assigned(alloc, *line, cell, value, scope),
@@ -56,9 +56,8 @@ fn assigned(
     scope: &Scope<'_>,
 ) -> Result<CCommand, CoreFault>
     requires { IsPlaced scope.now }
-    ensures { Outcome Memory result
-        (λ c. if_said (λ cell. if_said (λ t. Ok (assign line cell t)) (term_said scope.now line value.now)) (target_said scope.now line cell.now) ≡ Ok c)
-        (λ fault. if_said (λ cell. if_said (λ t. Ok (assign line cell t)) (term_said scope.now line value.now)) (target_said scope.now line cell.now) ≡ Err fault) }
+    ensures { Says Memory result (λ c. c)
+        (if_said (λ cell. if_said (λ t. Ok (assign line cell t)) (term_said scope.now line value.now)) (target_said scope.now line cell.now)) }
 {
     let cell = target_of(alloc, scope.symbols(), line, cell)?;
     let value = term(alloc, value, line, scope)?;
@@ -73,9 +72,7 @@ fn cleared(
     scope: &Scope<'_>,
 ) -> Result<CCommand, CoreFault>
     requires { IsPlaced scope.now }
-    ensures { Outcome Memory result
-        (λ c. if_said (λ cell. Ok (clear line cell)) (target_said scope.now line cell.now) ≡ Ok c)
-        (λ fault. if_said (λ cell. Ok (clear line cell)) (target_said scope.now line cell.now) ≡ Err fault) }
+    ensures { Says Memory result (λ c. c) (if_said (λ cell. Ok (clear line cell)) (target_said scope.now line cell.now)) }
 {
     let cell = target_of(alloc, scope.symbols(), line, cell)?;
     Ok(CCommand::new(CCommandNode::Del(line, cell)))
@@ -93,9 +90,10 @@ fn branched(
     scope: &Scope<'_>,
 ) -> Result<CCommand, CoreFault>
     requires { IsPlaced scope.now × (length names.now < 2 ^ 32) }
-    ensures { Outcome Memory result
-        (λ c. if_said (λ t. if_said (λ a. if_said (λ b. Ok (branch line t (block_of a) (block_of b))) (acts_said scope.now names.now [] (acts_of second.now))) (acts_said scope.now names.now [] (acts_of first.now))) (term_said scope.now line condition.now) ≡ Ok c)
-        (λ fault. if_said (λ t. if_said (λ a. if_said (λ b. Ok (branch line t (block_of a) (block_of b))) (acts_said scope.now names.now [] (acts_of second.now))) (acts_said scope.now names.now [] (acts_of first.now))) (term_said scope.now line condition.now) ≡ Err fault) }
+    ensures { Says Memory result (λ c. c)
+        (if_said (λ t. if_said (λ a. if_said (λ b. Ok (branch line t (block_of a) (block_of b)))
+        (acts_said scope.now names.now [] (acts_of second.now)))
+        (acts_said scope.now names.now [] (acts_of first.now))) (term_said scope.now line condition.now)) }
 {
     let condition = term(alloc, condition, line, scope)?;
     let first = commands(alloc, first, names, scope)?;
@@ -114,9 +112,8 @@ fn partitioned(
     scope: &Scope<'_>,
 ) -> Result<CCommand, CoreFault>
     requires { IsPlaced scope.now × (length names.now < 2 ^ 32) }
-    ensures { Outcome Memory result
-        (λ c. if_said (λ a. Ok (partition line (kind_cells scope.now kind.now) (block_of a))) (acts_said scope.now names.now [] (acts_of block.now)) ≡ Ok c)
-        (λ fault. if_said (λ a. Ok (partition line (kind_cells scope.now kind.now) (block_of a))) (acts_said scope.now names.now [] (acts_of block.now)) ≡ Err fault) }
+    ensures { Says Memory result (λ c. c)
+        (if_said (λ a. Ok (partition line (kind_cells scope.now kind.now) (block_of a))) (acts_said scope.now names.now [] (acts_of block.now))) }
 {
     let cells = scope.kind_cells(alloc, kind)?;
     let block = commands(alloc, block, names, scope)?;
@@ -132,7 +129,7 @@ fn called(
     names: &Names,
 ) -> Result<CCommand, CoreFault>
     requires { length names.now < 2 ^ 32 }
-    ensures { Outcome Memory result (λ c. call_said names.now line name.now received.items ≡ Ok c) (λ fault. call_said names.now line name.now received.items ≡ Err fault) }
+    ensures { Says Memory result (λ c. c) (call_said names.now line name.now received.items) }
 {
     let count = received.len() as u64;
     let cells = each_once(received);
@@ -154,7 +151,7 @@ pub(crate) fn commands(
     scope: &Scope<'_>,
 ) -> Result<Vec<CCommand>, CoreFault>
     requires { IsPlaced scope.now × (length names.now < 2 ^ 32) }
-    ensures { Outcome Memory result (λ said. acts_said scope.now names.now [] (acts_of all.now) ≡ Ok said.items) (λ fault. acts_said scope.now names.now [] (acts_of all.now) ≡ Err fault) }
+    ensures { Says Memory result (λ said. said.items) (acts_said scope.now names.now [] (acts_of all.now)) }
 {
     let mut said = Vec::with_capacity(alloc, all.len())?;
     for one in all {

@@ -1,7 +1,7 @@
 //! The functions of a driver: their names, and their bodies.
 
 ghost use Rattle.std.specs.Prelude.{◌≡◌, ◌≢◌, ◌<◌, ◌^◌, Ok, Err, [], IfOk, length, map};
-ghost use Rattle.m_places.specs.Refusals.{Outcome};
+ghost use Rattle.m_places.specs.Refusals.{Says};
 ghost use Rattle.m_requests.specs.Placed.{IsPlaced};
 ghost use Rattle.mpp_core.specs.Names.{name_said, names_said, main_said, name_in};
 ghost use Rattle.mpp_core.specs.Bodies.{bodies_said};
@@ -18,7 +18,7 @@ use std::alloc::{AllocError, Global};
 
 /// The names of functions in order, of which none stands twice and none calls the rules.
 pub(crate) fn function_names(alloc: Global, functions: &[Function]) -> Result<Names, CoreFault>
-    ensures { Outcome Memory result (λ names. names_said [] functions.now ≡ Ok names) (λ fault. names_said [] functions.now ≡ Err fault) }
+    ensures { Says Memory result (λ names. names) (names_said [] functions.now) }
 {
     let mut names = Names::under(alloc, key_of(functions));
     for function in functions {
@@ -38,7 +38,7 @@ fn key_of(functions: &[Function]) -> Key {
 
 // Adds the name of one more function.
 fn add_name(alloc: Global, function: &Function, names: &mut Names) -> Result<(), CoreFault>
-    ensures { Outcome Memory result (λ _. name_said names.old function.now ≡ Ok names.new) (λ fault. name_said names.old function.now ≡ Err fault) }
+    ensures { Says Memory result (λ _. names.new) (name_said names.old function.now) }
 {
     if function.name.bytes() == b"call_m".as_slice() {
         return Err(twice(alloc, function));
@@ -62,7 +62,7 @@ fn twice(alloc: Global, function: &Function) -> CoreFault
 /// The number of `main` among the functions of these names.
 pub(crate) fn main_of(names: &Names) -> Result<u32, CoreFault>
     requires { length names.now < 2 ^ 32 }
-    ensures { Outcome Memory result (λ main. main_said names.now ≡ Ok main) (λ fault. main_said names.now ≡ Err fault) }
+    ensures { Says Memory result (λ main. main) (main_said names.now) }
 {
     match names.number(b"main") {
         Some(main) => Ok(main),
@@ -91,7 +91,7 @@ pub(crate) fn bodies(
 ) -> Result<Seq<Seq<CCommand>>, CoreFault>
     requires placed { IsPlaced scope.now }
     requires few { length names.now < 2 ^ 32 }
-    ensures { Outcome Memory result (λ bodies. bodies_said scope.now names.now [] functions.now ≡ Ok bodies) (λ fault. bodies_said scope.now names.now [] functions.now ≡ Err fault) }
+    ensures { Says Memory result (λ bodies. bodies) (bodies_said scope.now names.now [] functions.now) }
 {
     let mut bodies = Vec::with_capacity(alloc, functions.len())?;
     for function in functions {

@@ -2,7 +2,7 @@
 
 ghost use Rattle.std.specs.Prelude.{◌≡◌, ◌≢◌, ◌+◌, ◌≤◌, ◌<◌, Ok, Err, Some, IfSome, []};
 ghost use Rattle.std.specs.Option.{option_copied};
-ghost use Rattle.m_places.specs.Refusals.{Outcome};
+ghost use Rattle.m_places.specs.Refusals.{Says};
 ghost use Rattle.m_ast.specs.Items.{variable_size};
 ghost use Rattle.m_requests.specs.Cells.{variable_named};
 ghost use Rattle.m_requests.specs.Placed.{IsPlaced};
@@ -42,7 +42,7 @@ pub(crate) fn cell_of(
     name: &CellName,
 ) -> Result<u32, CoreFault>
     requires { IsPlaced symbols.now }
-    ensures { Outcome Memory result (λ cell. cell_said symbols.now line name.now ≡ Ok cell) (λ fault. cell_said symbols.now line name.now ≡ Err fault) }
+    ensures { Says Memory result (λ cell. cell) (cell_said symbols.now line name.now) }
 {
     let Some(variable) = variable_named(symbols, &name.name) else {
         return Err(unknown(alloc, &name.name, line));
@@ -60,9 +60,7 @@ fn cell_at(
 ) -> Result<u32, CoreFault>
     requires fits { variable.now.first_cell + variable.now.cells ≤ all }
     requires size { IfSome (variable_size variable.now.item) (λ size. variable.now.cells ≡ size) }
-    ensures { Outcome Memory result
-        (λ cell. cell_at name.now.name line variable.now.first_cell name.now.index (variable_size variable.now.item) ≡ Ok cell)
-        (λ fault. cell_at name.now.name line variable.now.first_cell name.now.index (variable_size variable.now.item) ≡ Err fault) }
+    ensures { Says Memory result (λ cell. cell) (cell_at name.now.name line variable.now.first_cell name.now.index (variable_size variable.now.item)) }
 {
     match (size_of(variable), name.index) {
         (None, None) => Ok(variable.first_cell),
@@ -89,7 +87,7 @@ pub(crate) fn target_of(
     name: &CellName,
 ) -> Result<u32, CoreFault>
     requires { IsPlaced symbols.now }
-    ensures { Outcome Memory result (λ cell. target_said symbols.now line name.now ≡ Ok cell) (λ fault. target_said symbols.now line name.now ≡ Err fault) }
+    ensures { Says Memory result (λ cell. cell) (target_said symbols.now line name.now) }
 {
     let Some(variable) = variable_named(symbols, &name.name) else {
         return Err(unknown(alloc, &name.name, line));
@@ -121,7 +119,7 @@ pub(crate) fn targets_of(
     names: &[CellName],
 ) -> Result<Vec<u32>, CoreFault>
     requires { IsPlaced symbols.now }
-    ensures { Outcome Memory result (λ cells. targets_said symbols.now line [] names.now ≡ Ok cells.items) (λ fault. targets_said symbols.now line [] names.now ≡ Err fault) }
+    ensures { Says Memory result (λ cells. cells.items) (targets_said symbols.now line [] names.now) }
 {
     let mut cells = Vec::with_capacity(alloc, names.len())?;
     for name in names {

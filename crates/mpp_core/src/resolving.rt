@@ -1,7 +1,7 @@
 //! Whole drivers.
 
 ghost use Rattle.std.specs.Prelude.{◌≡◌, ◌<◌, ◌^◌, Ok, Err, IfOk, [], length};
-ghost use Rattle.m_places.specs.Refusals.{Outcome};
+ghost use Rattle.m_places.specs.Refusals.{Outcome, Says};
 ghost use Rattle.m_symbols.specs.Declarations.{owners_from};
 ghost use Rattle.m_requests.specs.Placed.{IsPlaced};
 ghost use Rattle.driver_core.specs.Valid.{IsValidCore};
@@ -45,7 +45,7 @@ fn resolve_names(
     requires placed { IsPlaced symbols.now }
     requires names { names_said [] driver.now.functions ≡ Ok names.now }
     requires few { length names.now < 2 ^ 32 }
-    ensures outcome { Outcome Memory result (λ core. core_of driver.now symbols.now ≡ Ok core) (λ fault. core_of driver.now symbols.now ≡ Err fault) }
+    ensures outcome { Says Memory result (λ core. core) (core_of driver.now symbols.now) }
     ensures cells { IfOk result (λ core. core.cells ≡ length (owners_from 0 symbols.now.variables)) }
 {
     let functions = driver.functions.as_slice();

@@ -1,7 +1,7 @@
 //! Terms over names to terms over cells.
 
 ghost use Rattle.std.specs.Prelude.{◌≡◌, Ok, Err, [], IfOk};
-ghost use Rattle.m_places.specs.Refusals.{Outcome};
+ghost use Rattle.m_places.specs.Refusals.{Says};
 ghost use Rattle.m_requests.specs.Placed.{IsPlaced};
 ghost use Rattle.mpp_parser.specs.TermView.{terms_of, links_of};
 ghost use Rattle.driver_core.specs.Formulas.{cell as cell_formula, apply, chain};
@@ -27,7 +27,7 @@ pub(crate) fn term(
     scope: &Scope<'_>,
 ) -> Result<Box<CTerm>, CoreFault>
     requires { IsPlaced scope.now }
-    ensures { Outcome Memory result (λ t. term_said scope.now line term.now ≡ Ok t.value) (λ fault. term_said scope.now line term.now ≡ Err fault) }
+    ensures { Says Memory result (λ t. t.value) (term_said scope.now line term.now) }
 {
     match &term.node {
         DNode::Lit(value) => Ok(boxed(alloc, CNode::Lit(*value))?),
@@ -56,7 +56,7 @@ fn named(
     scope: &Scope<'_>,
 ) -> Result<Box<CTerm>, CoreFault>
     requires { IsPlaced scope.now }
-    ensures { Outcome Memory result (λ t. if_said (λ c. Ok (cell_formula c)) (cell_said scope.now line name.now) ≡ Ok t.value) (λ fault. if_said (λ c. Ok (cell_formula c)) (cell_said scope.now line name.now) ≡ Err fault) }
+    ensures { Says Memory result (λ t. t.value) (if_said (λ c. Ok (cell_formula c)) (cell_said scope.now line name.now)) }
 {
     let cell = cell_of(alloc, scope.symbols(), line, name)?;
     Ok(boxed(alloc, CNode::Cell(cell))?)
@@ -72,9 +72,7 @@ fn applied(
     scope: &Scope<'_>,
 ) -> Result<Box<CTerm>, CoreFault>
     requires { IsPlaced scope.now }
-    ensures { Outcome Memory result
-        (λ t. if_said (λ all. Ok (apply op (formulas_of all))) (terms_said scope.now line [] (terms_of arguments.now)) ≡ Ok t.value)
-        (λ fault. if_said (λ all. Ok (apply op (formulas_of all))) (terms_said scope.now line [] (terms_of arguments.now)) ≡ Err fault) }
+    ensures { Says Memory result (λ t. t.value) (if_said (λ all. Ok (apply op (formulas_of all))) (terms_said scope.now line [] (terms_of arguments.now))) }
 {
     let arguments = terms(alloc, arguments, line, scope)?;
     Ok(boxed(alloc, CNode::Apply(op, arguments))?)
@@ -89,7 +87,7 @@ fn terms(
     scope: &Scope<'_>,
 ) -> Result<Vec<CTerm>, CoreFault>
     requires { IsPlaced scope.now }
-    ensures { Outcome Memory result (λ said. terms_said scope.now line [] (terms_of all.now) ≡ Ok said.items) (λ fault. terms_said scope.now line [] (terms_of all.now) ≡ Err fault) }
+    ensures { Says Memory result (λ said. said.items) (terms_said scope.now line [] (terms_of all.now)) }
 {
     let mut said = Vec::with_capacity(alloc, all.len())?;
     for one in all {
@@ -109,9 +107,9 @@ fn chained(
     scope: &Scope<'_>,
 ) -> Result<Box<CTerm>, CoreFault>
     requires { IsPlaced scope.now }
-    ensures { Outcome Memory result
-        (λ t. if_said (λ f. if_said (λ steps. Ok (chain f (steps_of steps))) (links_said scope.now line [] (links_of links.now))) (term_said scope.now line first.now) ≡ Ok t.value)
-        (λ fault. if_said (λ f. if_said (λ steps. Ok (chain f (steps_of steps))) (links_said scope.now line [] (links_of links.now))) (term_said scope.now line first.now) ≡ Err fault) }
+    ensures { Says Memory result (λ t. t.value)
+        (if_said (λ f. if_said (λ steps. Ok (chain f (steps_of steps))) (links_said scope.now line [] (links_of links.now)))
+        (term_said scope.now line first.now)) }
 {
     let first = term(alloc, first, line, scope)?;
     let mut steps = Vec::with_capacity(alloc, links.len())?;

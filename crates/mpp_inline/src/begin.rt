@@ -7,7 +7,8 @@ ghost use Rattle.m_ast.specs.Items.{cells_in, size_in, is_input};
 ghost use Rattle.m_symbols.specs.Declarations.{owners_from, placed_from};
 ghost use Rattle.driver_core.specs.Answers.{next_input};
 ghost use Rattle.driver_core.specs.Inputs.{type_said};
-ghost use Rattle.mpp_inline.specs.inner.Growth.{Sane, Gives, Begun, HasLiterals, HasInput, InputIsThere, IsAnInput, typed_value, begun_value, begun_from, kinds_from};
+ghost use Rattle.mpp_inline.specs.inner.Growth.{Sane, Gives, Begun, HasLiterals, HasInput, InputIsThere};
+ghost use Rattle.mpp_inline.specs.inner.Growth.{IsAnInput, typed_value, begun_value, begun_from, kinds_from};
 ghost use Rattle.mpp_inline.specs.inner.Told.{nodes_of, numbers_of};
 ghost use Rattle.mpp_inline.specs.inner.Sizes.{load};
 

@@ -3,7 +3,8 @@ ghost use Rattle.std.specs.Prelude.{◌≡◌, ℕ, ◌<◌, ◌≤◌, ◌∷�
 ghost use Rattle.std.specs.Bool.{OnTrue};
 ghost use Rattle.mpp_lexer.specs.declared.piece.DriverPiece.{DriverPiece};
 ghost use Rattle.mpp_parser.specs.inner.Reading.{line_at};
-ghost use Rattle.mpp_parser.specs.inner.Blocks.{GivesOne, is_else, else_at, otherwise_at, said_at, command_at, commands_at, block_at, headed_at, function_at, functions_at};
+ghost use Rattle.mpp_parser.specs.inner.Blocks.{GivesOne, is_else, else_at, otherwise_at, said_at, command_at};
+ghost use Rattle.mpp_parser.specs.inner.Blocks.{commands_at, block_at, headed_at, function_at, functions_at};
 
 use crate::command::{Command, CommandNode, Function, command_made};
 use crate::keyword::{Keyword, keyword_of};

@@ -1,5 +1,6 @@
 //! A place in the tokens of a line, and the readers of single tokens. It knows nothing of trees.
 ghost use Rattle.std.specs.Prelude.{◌≡◌, ◌<◌, ◌∷◌, [], length, Some, None, MatchBool, MatchOption, OnSome};
+ghost use Rattle.m_places.specs.Refusals.{Takes};
 ghost use Rattle.std.specs.Bool.{OnTrue};
 ghost use Rattle.mpp_parser.specs.Grammar.{comparison, addition, multiplication, keyed};
 ghost use Rattle.mpp_parser.specs.inner.Reading.{open_at, sign_at, key_at, number_at, index_at, word_at, operator_of};
@@ -84,7 +85,7 @@ impl<'a> Cursor<'a> {
 
     /// Takes a comparison.
     pub fn take_comparison(&mut self) -> Option<Op>
-        ensures operator { MatchOption result ((self.new ≡ self.old) × (open_at comparison self.old ≡ None)) (λ o. open_at comparison self.old ≡ Some (o, self.new)) }
+        ensures operator { Takes result (λ o. o) (open_at comparison self.old) self.old self.new }
         ensures shorter { OnSome result (length self.new < length self.old) }
     {
         let (first, others) = self.left.split_first()?;
@@ -103,7 +104,7 @@ impl<'a> Cursor<'a> {
 
     /// Takes an operator of a level.
     pub fn take_operator(&mut self, level: Level) -> Option<Op>
-        ensures operator { MatchOption result ((self.new ≡ self.old) × (open_at (operator_of level) self.old ≡ None)) (λ o. open_at (operator_of level) self.old ≡ Some (o, self.new)) }
+        ensures operator { Takes result (λ o. o) (open_at (operator_of level) self.old) self.old self.new }
         ensures shorter { OnSome result (length self.new < length self.old) }
     {
         match level {
@@ -116,7 +117,7 @@ impl<'a> Cursor<'a> {
 
     // Takes the reserved word of an operator.
     fn take_key_operator(&mut self, key: Keyword, operator: Op) -> Option<Op>
-        ensures operator { MatchOption result ((self.new ≡ self.old) × (open_at (keyed key operator) self.old ≡ None)) (λ o. open_at (keyed key operator) self.old ≡ Some (o, self.new)) }
+        ensures operator { Takes result (λ o. o) (open_at (keyed key operator) self.old) self.old self.new }
         ensures shorter { OnSome result (length self.new < length self.old) }
     {
         if self.take_key(key) {
@@ -127,7 +128,7 @@ impl<'a> Cursor<'a> {
 
     // Takes a `+` or a `-`.
     fn take_addition(&mut self) -> Option<Op>
-        ensures operator { MatchOption result ((self.new ≡ self.old) × (open_at addition self.old ≡ None)) (λ o. open_at addition self.old ≡ Some (o, self.new)) }
+        ensures operator { Takes result (λ o. o) (open_at addition self.old) self.old self.new }
         ensures shorter { OnSome result (length self.new < length self.old) }
     {
         let (first, others) = self.left.split_first()?;
@@ -142,7 +143,7 @@ impl<'a> Cursor<'a> {
 
     // Takes a `*` or a `/`.
     fn take_multiplication(&mut self) -> Option<Op>
-        ensures operator { MatchOption result ((self.new ≡ self.old) × (open_at multiplication self.old ≡ None)) (λ o. open_at multiplication self.old ≡ Some (o, self.new)) }
+        ensures operator { Takes result (λ o. o) (open_at multiplication self.old) self.old self.new }
         ensures shorter { OnSome result (length self.new < length self.old) }
     {
         let (first, others) = self.left.split_first()?;

@@ -6,7 +6,8 @@ ghost use Rattle.mpp_lexer.specs.declared.piece.DriverSign.TheVariants.{ClosePar
 ghost use Rattle.mpp_parser.specs.Keywords.{keyword_of};
 ghost use Rattle.mpp_parser.specs.TermView.{term_of};
 ghost use Rattle.mpp_parser.specs.Grammar.{unary, binary, cast_of, tax_benefit};
-ghost use Rattle.mpp_parser.specs.inner.Reading.{GivesBy, until_at, enclosed_at, cell_at, cell_rest_at, kind_at, numbers_at, word_prim_at, prim_at, factor_at, sum_at, relation_at, negation_at, part_at, operator_of, links_at, gathered_at, inner_at, term_at};
+ghost use Rattle.mpp_parser.specs.inner.Reading.{GivesBy, until_at, enclosed_at, cell_at, cell_rest_at, kind_at, numbers_at, word_prim_at, prim_at};
+ghost use Rattle.mpp_parser.specs.inner.Reading.{factor_at, sum_at, relation_at, negation_at, part_at, operator_of, links_at, gathered_at, inner_at, term_at};
 
 use crate::cursor::Cursor;
 use crate::keyword::{Keyword, keyword_of};

@@ -7,7 +7,8 @@ ghost use Rattle.mpp_parser.specs.declared.sentence.Sentence.{Sentence};
 ghost use Rattle.mpp_parser.specs.Grammar.{SpellsSentence};
 ghost use Rattle.mpp_lexer.specs.declared.piece.DriverSign.TheVariants.{Colon};
 ghost use Rattle.mpp_parser.specs.Keywords.{keyword_of};
-ghost use Rattle.mpp_parser.specs.inner.Reading.{GivesBy, cells_at, called_at, command_rest_at, partition_at, named_at, worded_at, sentence_at, until_at, term_at, line_at, ReadsAll};
+ghost use Rattle.mpp_parser.specs.inner.Reading.{GivesBy, cells_at, called_at, command_rest_at, partition_at};
+ghost use Rattle.mpp_parser.specs.inner.Reading.{named_at, worded_at, sentence_at, until_at, term_at, line_at, ReadsAll};
 
 use crate::cursor::Cursor;
 use crate::expression::{read_cell, read_cell_rest, read_kind, read_term};

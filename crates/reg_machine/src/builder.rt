@@ -37,7 +37,8 @@ impl Model for CodeBuilder {
 
     ghost view = { λ b. listing_of b.inputs b.slots b.labels b.outputs b.pool.items b.used b.packed.items };
 
-    ghost invariant = { λ b. IsDraft (listing_of b.inputs b.slots b.labels b.outputs b.pool.items b.used b.packed.items) b.packed.items b.pool.items b.used b.written b.given };
+    ghost invariant = { λ b. IsDraft (listing_of b.inputs b.slots b.labels b.outputs b.pool.items b.used b.packed.items)
+        b.packed.items b.pool.items b.used b.written b.given };
 }
 
 // Whether arguments past the operator's arity are the first.

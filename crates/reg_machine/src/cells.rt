@@ -99,7 +99,8 @@ impl Cells {
         requires fresh { Mirrors used.now (fresh (length self.old.outputs.items)) self.old.registers self.old.slots.items self.old.outputs.items }
         requires packed { AllByRecursion (IsPacked (length inputs.now) (length self.old.outputs.items) (length pool.now) (length used.now)) packed.now }
         requires distinct { AreDistinct used.now }
-        ensures answer { answer_of result self.new.outputs.items ≡ answer_behind inputs.now (length self.old.outputs.items) (map (unpacked pool.now used.now) packed.now) }
+        ensures answer { answer_of result self.new.outputs.items
+            ≡ answer_behind inputs.now (length self.old.outputs.items) (map (unpacked pool.now used.now) packed.now) }
         ensures slots { length self.new.slots.items ≡ length self.old.slots.items }
         ensures outputs { length self.new.outputs.items ≡ length self.old.outputs.items }
     {

@@ -7,7 +7,8 @@ ghost use Rattle.micro_m.specs.Bases.{IsValidBase, target_at};
 ghost use Rattle.rule_order.specs.declared.fault.OrderFault.TheVariants.{Memory};
 ghost use Rattle.rule_order.specs.Orders.{IsOrder, ShowsCycle};
 ghost use Rattle.rule_order.specs.inner.Runs.{IsInRun};
-ghost use Rattle.rule_order.specs.inner.Marks.{mark_of, steps_left, IsSettled, RunIsSettled, RunsFit, HasAdvanced, KnowsSettled, StopsAt, AllPassed, IsSearch, IsFrameAt, LastReads, cells_of, Walks};
+ghost use Rattle.rule_order.specs.inner.Marks.{mark_of, steps_left, IsSettled, RunIsSettled, RunsFit, HasAdvanced};
+ghost use Rattle.rule_order.specs.inner.Marks.{KnowsSettled, StopsAt, AllPassed, IsSearch, IsFrameAt, LastReads, cells_of, Walks};
 
 use crate::OrderFault;
 use crate::cycle::shown_cycle;

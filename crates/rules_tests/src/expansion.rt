@@ -77,7 +77,8 @@ static EXPANSIONS: [(&str, &str); 23] = [
         "R = #1 | 07 E : ((U1,U2),#3) | 07 F : T[?]",
     ),
     (
-        "R = somme(i = 1..100 ; j = 1..100 : somme(k = 1 : 1)) - somme(i = 1..100 ; j = 1..100 : 1) ; R = 1 ; verif 1 : application : x ; si i alors erreur E ;",
+        "R = somme(i = 1..100 ; j = 1..100 : somme(k = 1 : 1)) - somme(i = 1..100 ; j = 1..100 : 1) ; R = 1 ; verif 1 : application : x ; \
+         si i alors erreur E ;",
         "long",
     ),
 ];

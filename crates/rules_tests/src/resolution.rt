@@ -11,7 +11,8 @@ use std::thread::Threads;
 
 // What each row declares.
 const DECLARED: &[u8] =
-    b" A : calculee : \"a\" ; T : tableau[3] calculee : \"t\" ; C : const = 5 ; E : saisie alias 1AA : \"e\" ; ER : anomalie : \"p\" : \"q\" : \"r\" : \"s\" ; ES : informative : \"a\" : \"b\" : \"c\td\" : \"e\" ;";
+    b" A : calculee : \"a\" ; T : tableau[3] calculee : \"t\" ; C : const = 5 ; E : saisie alias 1AA : \"e\" ; \
+      ER : anomalie : \"p\" : \"q\" : \"r\" : \"s\" ; ES : informative : \"a\" : \"b\" : \"c\td\" : \"e\" ;";
 
 // Formulas over A (cell 0), the table T (cells 1 to 3), the constant C of 5 (cell 4) and the input E (cell 5), and the base that
 // they come to. A number is shown as `#` and its whole units, and a table read by its first cell and its size.

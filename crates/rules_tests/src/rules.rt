@@ -14,7 +14,8 @@ use std::thread::Threads;
 /// Declarations in which REV is the cell 0, IRN is the cell 1, T is the cells 2 to 4, A and B are the cells 5 and 6, and SEUIL, which
 /// is 1000, is the cell 7.
 pub const CELLS: &[u8] =
-    b" REV : saisie alias 1AJ : \"r\" ; IRN : calculee : \"i\" ; T : tableau[3] calculee : \"t\" ; A : calculee : \"a\" ; B : calculee : \"b\" ; SEUIL : const = 1000 ;";
+    b" REV : saisie alias 1AJ : \"r\" ; IRN : calculee : \"i\" ; T : tableau[3] calculee : \"t\" ; A : calculee : \"a\" ; B : calculee : \"b\" ; \
+      SEUIL : const = 1000 ;";
 
 /// The base of a rule of iliad with these formulas, which have no fault.
 pub fn base_of<R: Threads + Sync>(rt: &R, alloc: Global, formulas: &[u8]) -> Option<RuleBase>

@@ -15,7 +15,9 @@ use std::thread::Threads;
 
 /// Declarations in which A to D are the cells 0 to 3, T is the cells 4 to 6, and E is the cell 7.
 pub const CELLS: &[u8] =
-    b" A : calculee : \"a\" ; B : calculee : \"b\" ; C : calculee : \"c\" ; D : calculee : \"d\" ; T : tableau[3] calculee : \"t\" ; E : saisie alias 1AA : \"e\" ; P : anomalie : \"p\" : \"p\" : \"p\" : \"p\" ; Q : anomalie : \"q\" : \"q\" : \"q\" : \"q\" ; R : discordance : \"r\" : \"r\" : \"r\" : \"r\" ; S : informative : \"s\" : \"s\" : \"s\" : \"s\" ;";
+    b" A : calculee : \"a\" ; B : calculee : \"b\" ; C : calculee : \"c\" ; D : calculee : \"d\" ; T : tableau[3] calculee : \"t\" ; \
+      E : saisie alias 1AA : \"e\" ; P : anomalie : \"p\" : \"p\" : \"p\" : \"p\" ; Q : anomalie : \"q\" : \"q\" : \"q\" : \"q\" ; \
+      R : discordance : \"r\" : \"r\" : \"r\" : \"r\" ; S : informative : \"s\" : \"s\" : \"s\" : \"s\" ;";
 
 /// The base of a rule of iliad with these formulas, whatever stands after them, and declarations.
 pub fn base_of<R: Threads + Sync>(

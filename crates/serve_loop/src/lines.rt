@@ -23,10 +23,12 @@ pub(crate) fn do_ended<R: Replier, K: Sink, L: Ledger>(
 ) -> Result<usize, Failed>
     requires within { held ≤ length bytes.now }
     requires unended { IsUnended (take held bytes.now) }
-    ensures goes { IfOk result (λ from. Goes K.written K.faults out.old out.new (R.replies replier.old) (R.replies replier.new) bytes.now (drop from bytes.now)) }
+    ensures goes { IfOk result (λ from. Goes K.written K.faults out.old out.new
+        (R.replies replier.old) (R.replies replier.new) bytes.now (drop from bytes.now)) }
     ensures place { IfOk result (λ from. (from ≤ length bytes.now) × IsUnended (drop from bytes.now)) }
     ensures failed { OnErr result (Rose (K.faults out.old) (K.faults out.new)) }
-    ensures prefix { OnErr result ((rest : List ℕ) → AppendsPrefix (K.written out.old) (K.written out.new) (whole_of (R.replies replier.old) (bytes.now ++ rest))) }
+    ensures prefix { OnErr result ((rest : List ℕ) → AppendsPrefix (K.written out.old) (K.written out.new)
+        (whole_of (R.replies replier.old) (bytes.now ++ rest))) }
 {
     let mut from = 0;
     let mut end = line_end(bytes, held);

@@ -1,5 +1,4 @@
 pub mod PrintLemmas
-pub mod Spaces
 pub mod ListLemmas
 pub mod MeaningLemmas
 pub mod StandingLemmas

@@ -9,9 +9,10 @@ use Rattle.m_fixed.specs.declared.amount.Value.{Value}
 use Rattle.micro_m.specs.Values.{picked}
 use Rattle.micro_m.proofs.NumberLemmas.{same, itself, or-true}
 use Rattle.micro_m.proofs.TermLemmas.{picked-within}
-use Rattle.why_report.specs.Reasons.{is_in_run}
+use Rattle.micro_m.specs.ReadTests.{is_in_run}
 use Rattle.why_report.specs.inner.Plans.{is_marked, AllMarked, AreSpots, IsMarking, Marks, PickedIsWithin}
-use Rattle.why_report.proofs.ReadLemmas.{or-left, or-either, or-none, or-last, or-assoc, truth-same, run-has, has-run}
+use Rattle.why_report.proofs.ReadLemmas.{or-left, or-either, or-none, or-last, or-assoc, truth-same}
+use Rattle.micro_m.proofs.ReadTestLemmas.{run-has, has-run}
 use Rattle.why_report.proofs.DownLemmas.{not-true}
 
 -- ---- marks

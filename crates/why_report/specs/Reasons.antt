@@ -1,14 +1,12 @@
 -- The reason of a cell's value: the cells that it needs, and the derivation over them.
-use Rattle.std.specs.Prelude.{◌≡◌, ℕ, zero, suc, ◌+◌, ◌==◌, ◌&&◌, ◌||◌, nat_le, nat_lt, Bool, true, false, List, [], ◌∷◌, ◌++◌, is_some, if◌then◌else◌}
+use Rattle.std.specs.Prelude.{◌≡◌, ℕ, zero, suc, ◌==◌, ◌||◌, Bool, true, false, List, [], ◌∷◌, ◌++◌, is_some, if◌then◌else◌}
 use Rattle.std.specs.List.{list_any}
 use Rattle.std.specs.Option.{option_map_or}
-use Rattle.micro_m.specs.Trees.{Tree, lit, cell, pick, apply, chain, Trees, none, more, Steps, end, step}
-use Rattle.micro_m.specs.declared.table.Picked.{Picked}
-use Rattle.micro_m.specs.declared.table.Picked.TheVariants.{Cell, Fixed}
 use Rattle.micro_m.specs.declared.base.Base.{Base}
 use Rattle.micro_m.specs.Bases.{is_among, target_at, definition_of}
 use Rattle.micro_m.specs.Reads.{Reads}
-use Rattle.micro_m.specs.Values.{Environment, picked, term_value}
+use Rattle.micro_m.specs.ReadTests.{term_reads}
+use Rattle.micro_m.specs.Values.{Environment, term_value}
 use Rattle.rule_order.specs.declared.ordered.Ordered.{Ordered}
 use Rattle.why_report.specs.declared.line.ReportLine.{ReportLine}
 use Rattle.why_report.specs.Derivations.{cells_told, values_told, IsSound}
@@ -32,36 +30,6 @@ pub record IsReasonOf (base : Base) (given : Environment) (c : ℕ) (lines : Lis
   pub needed : AreNeededBy base c (cells_told lines)
 
 -- ---- what is read
-
-abbrev pub picked_reads : Picked → ℕ → Bool
-picked_reads (Cell d) c = c == d
-picked_reads (Fixed value) c = false
-
--- whether a cell is one of so many from a first one on
-abbrev pub is_in_run : ℕ → ℕ → ℕ → Bool
-is_in_run first size c = nat_le first c && nat_lt c (first + size)
-
--- whether a table read reads a cell of its table
-abbrev pub table_reads : ℕ → ℕ → Tree → ℕ → Bool
-table_reads first size (lit index) c = picked_reads (picked first size index) c
-table_reads first size _ c = is_in_run first size c
-
-abbrev mutual
-  -- whether a term reads a cell
-  pub term_reads : Tree → ℕ → Bool
-  term_reads (lit value) c = false
-  term_reads (cell d) c = c == d
-  term_reads (pick first size index) c = term_reads index c || table_reads first size index c
-  term_reads (apply op arguments) c = arguments_read arguments c
-  term_reads (chain first steps) c = term_reads first c || steps_read steps c
-
-  pub arguments_read : Trees → ℕ → Bool
-  arguments_read none c = false
-  arguments_read (more argument rest) c = term_reads argument c || arguments_read rest c
-
-  pub steps_read : Steps → ℕ → Bool
-  steps_read end c = false
-  steps_read (step op operand rest) c = term_reads operand c || steps_read rest c
 
 -- whether the definition of a cell, if it has one, reads another
 abbrev pub cell_reads : Base → ℕ → ℕ → Bool

@@ -7,8 +7,9 @@ use Rattle.m_fixed.specs.declared.amount.Value.TheVariants.{Undef, Num, Over}
 use Rattle.m_fixed.specs.declared.read.AmountFault.{AmountFault}
 use Rattle.m_fixed.specs.Text.{text_value, amount_read}
 use Rattle.m_text.specs.Lines.{lines_of}
+use Rattle.m_text.specs.Parts.{split_at}
 use Rattle.m_symbols.specs.Declarations.{Declared}
-use Rattle.m_requests.specs.Cells.{with_first, request_cell, cell_name}
+use Rattle.m_requests.specs.Cells.{request_cell, cell_name}
 use Rattle.tax_print.specs.Lines.{value_line}
 use Rattle.why_report.specs.declared.fault.ReportFault.{ReportFault}
 use Rattle.why_report.specs.declared.fault.ReportFault.TheVariants.{BadLine}
@@ -25,8 +26,7 @@ report_text declared (line ∷ lines) = value_line (cell_name declared line.cell
 
 -- what stands before the first space, and what after it, if there is one
 abbrev pub split_at_space : List ℕ → List ℕ × Option (List ℕ)
-split_at_space [] = ([], None)
-split_at_space (b ∷ bs) = if b == 32 then ([], Some bs) else with_first b (split_at_space bs)
+split_at_space text = split_at 32 text
 
 -- what stands after `= ` at the start of a text
 abbrev pub behind_equals : List ℕ → Option (List ℕ)

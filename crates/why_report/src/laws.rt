@@ -12,7 +12,8 @@ ghost use Rattle.why_report.specs.Reasons.{IsReasonOf, why_lines};
 
 /// Each value of a sound derivation is its cell's value by the base's meaning, also where other cells of the base are on a cycle.
 pub fn sound_lines_tell_values()
-    ensures { (base : Base) (given : Environment) (lines : List ReportLine) → IsSound base given lines → All (λ line. line.value ≡ value_of base given line.cell) lines }
+    ensures { (base : Base) (given : Environment) (lines : List ReportLine) → IsSound base given lines
+        → All (λ line. line.value ≡ value_of base given line.cell) lines }
 {}
 
 /// The lines that say why a cell has its value are its reason over any environment, where the base is ordered: they are sound, the last

@@ -3,7 +3,8 @@
 ghost use Rattle.std.specs.Prelude.{◌≡◌, ◌+◌, ◌<◌, ◌≤◌, ◌==◌, length};
 ghost use Rattle.micro_m.specs.Views.{trees_of, steps_of};
 ghost use Rattle.micro_m.specs.Bases.{IsValidBase, IsWithin, AreWithin, StepsAreWithin};
-ghost use Rattle.why_report.specs.Reasons.{cell_reads, term_reads, arguments_read, steps_read, table_reads, picked_reads, is_in_run};
+ghost use Rattle.micro_m.specs.ReadTests.{is_cell, is_in_run, pick_reads, term_reads, arguments_read, steps_read};
+ghost use Rattle.why_report.specs.Reasons.{cell_reads};
 ghost use Rattle.why_report.specs.inner.Checked.{ArePlaces};
 ghost use Rattle.why_report.specs.inner.Plans.{AllMarked, AreSpots, IsMarking, Marks, PickedIsWithin};
 
@@ -92,7 +93,7 @@ fn mark_table(
 )
     requires within { first + size ≤ length spots.now }
     requires marking { IsMarking spots.now marked.old known.old }
-    ensures marks { Marks spots.now marked.old marked.new (table_reads first size index.now) }
+    ensures marks { Marks spots.now marked.old marked.new (pick_reads first size index.now) }
     ensures marking { IsMarking spots.now marked.new known.new }
 {
     match &index.node {
@@ -108,7 +109,7 @@ fn mark_table(
 fn mark_picked(picked: Picked, spots: &[u32], marked: &mut Bits, known: &mut [usize])
     requires within { PickedIsWithin (length spots.now) picked }
     requires marking { IsMarking spots.now marked.old known.old }
-    ensures marks { Marks spots.now marked.old marked.new (picked_reads picked) }
+    ensures marks { Marks spots.now marked.old marked.new (is_cell picked) }
     ensures marking { IsMarking spots.now marked.new known.new }
 {
     match picked {

@@ -1,6 +1,7 @@
 //! Reports read from text.
 
-ghost use Rattle.std.specs.Prelude.{◌≡◌, ◌+◌, ◌<◌, ◌≤◌, ◌++◌, ◌∷◌, [], All, IfOk, IfSome, OnOk, Ok, Err, Some, None, length, take, drop, option_copied, option_to_list, is_some};
+ghost use Rattle.std.specs.Prelude.{◌≡◌, ◌+◌, ◌<◌, ◌≤◌, ◌++◌, ◌∷◌, [], All, IfOk, IfSome, OnOk, Ok, Err};
+ghost use Rattle.std.specs.Prelude.{Some, None, length, take, drop, option_copied, option_to_list, is_some};
 ghost use Rattle.m_places.specs.Refusals.{Outcome};
 ghost use Rattle.m_places.specs.declared.limits.TheConstants.{CODE_FILE_BYTES};
 ghost use Rattle.m_fixed.specs.Text.{text_value, amount_read};
@@ -8,14 +9,14 @@ ghost use Rattle.m_text.specs.Lines.{lines_of};
 ghost use Rattle.m_symbols.specs.Declarations.{owners_from};
 ghost use Rattle.m_requests.specs.Placed.{IsPlaced};
 ghost use Rattle.why_report.specs.declared.fault.ReportFault.TheVariants.{Memory};
-ghost use Rattle.why_report.specs.Reports.{split_at_space, behind_equals, amount_value, value_said, line_said, ends_report, report_said};
+ghost use Rattle.why_report.specs.Reports.{behind_equals, amount_value, value_said, line_said, ends_report, report_said};
 
 use crate::{ReportFault, ReportLine};
 use m_fixed::{Value, read_amount};
 use m_places::Seq;
 use m_requests::find_request;
 use m_symbols::Symbols;
-use m_text::first_line;
+use m_text::{first_line, first_of};
 use std::alloc::{AllocError, Global};
 
 /// The derivation that a report says. Each line is the printed name of a cell, one space, and `= ` and an amount, `undefined` or
@@ -29,7 +30,8 @@ pub fn read_report(
 ) -> Result<Seq<ReportLine>, ReportFault>
     requires placed { IsPlaced symbols.now }
     requires small { length bytes.now ≤ CODE_FILE_BYTES }
-    ensures outcome { Outcome Memory result (λ lines. report_said symbols.now bytes.now ≡ Ok lines) (λ fault. report_said symbols.now bytes.now ≡ Err fault) }
+    ensures outcome { Outcome Memory result (λ lines. report_said symbols.now bytes.now ≡ Ok lines)
+        (λ fault. report_said symbols.now bytes.now ≡ Err fault) }
     ensures known { IfOk result (All (λ line. line.cell < length (owners_from 0 symbols.now.variables))) }
 {
     let mut lines = Vec::new(alloc);
@@ -46,7 +48,8 @@ fn add_lines(
     requires placed { IsPlaced symbols.now }
     requires small { length bytes.now ≤ CODE_FILE_BYTES }
     requires none { lines.old.items ≡ [] }
-    ensures outcome { Outcome Memory result (λ _. report_said symbols.now bytes.now ≡ Ok lines.new.items) (λ fault. report_said symbols.now bytes.now ≡ Err fault) }
+    ensures outcome { Outcome Memory result (λ _. report_said symbols.now bytes.now ≡ Ok lines.new.items)
+        (λ fault. report_said symbols.now bytes.now ≡ Err fault) }
     ensures known { OnOk result (All (λ line. line.cell < length (owners_from 0 symbols.now.variables)) lines.new.items) }
 {
     let mut number = 1u32;
@@ -105,26 +108,13 @@ fn read_line(line: &[u8], symbols: &Symbols) -> Option<ReportLine>
     ensures said { result ≡ line_said symbols.now line.now }
     ensures known { IfSome result (λ said. said.cell < length (owners_from 0 symbols.now.variables)) }
 {
-    let at = space_in(line);
+    let at = first_of(line, b' ');
     if at == line.len() {
         return None;
     }
     let value = read_value(&line[at + 1..])?;
     let cell = find_request(symbols, &line[..at])?;
     Some(ReportLine { cell, value })
-}
-
-// Where the first space stands, or the end where there is none.
-fn space_in(text: &[u8]) -> usize
-    ensures within { result ≤ length text.now }
-    ensures none { result ≡ length text.now → split_at_space text.now ≡ (take result text.now, None) }
-    ensures some { result < length text.now → split_at_space text.now ≡ (take result text.now, Some (drop (result + 1) text.now)) }
-{
-    let mut at = 0;
-    while at < text.len() && text[at] != b' ' {
-        at += 1;
-    }
-    at
 }
 
 // The value that is said after a cell's name and a space.

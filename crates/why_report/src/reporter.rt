@@ -54,7 +54,8 @@ impl Model for Reporter {
       lines = take r.found r.room.lines.items;
     } };
 
-    ghost invariant = { λ r. IsReady r.ordered r.plan r.room r.input_cells.items (length r.inputs.items) (length r.env.items) × (r.found ≤ r.ordered.base.cells) };
+    ghost invariant = { λ r. IsReady r.ordered r.plan r.room r.input_cells.items (length r.inputs.items) (length r.env.items)
+        × (r.found ≤ r.ordered.base.cells) };
 }
 
 impl Reporter {

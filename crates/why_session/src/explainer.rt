@@ -99,7 +99,8 @@ impl Explainer {
     ) -> Result<(), Failed>
         requires { name_asked line.now ≡ None }
         ensures gives { Gives K.written K.faults out.old out.new result (reply_of self.old.seated.sitting line.now) }
-        ensures goes_on { (lines : List (List ℕ)) → joined_replies self.old (line.now ∷ lines) ≡ reply_of self.old.seated.sitting line.now ++ joined_replies self.new lines }
+        ensures goes_on { (lines : List (List ℕ)) → joined_replies self.old (line.now ∷ lines)
+            ≡ reply_of self.old.seated.sitting line.now ++ joined_replies self.new lines }
     {
         let named = self.session.input_named(line);
         let replied = self.session.command(line, out, steps);

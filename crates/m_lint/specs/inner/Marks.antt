@@ -7,7 +7,7 @@ use Rattle.micro_m.specs.Values.{picked}
 use Rattle.micro_m.specs.Bases.{Definition}
 use Rattle.flat_code.specs.declared.program.Node.{Node}
 use Rattle.flat_code.specs.declared.program.Node.TheVariants.{Input, Lit, Do}
-use Rattle.m_lint.specs.Readings.{is_from}
+use Rattle.micro_m.specs.ReadTests.{is_in_run}
 
 -- a run of so many cells from a first one on is read: the longest run from there is at least so long
 abbrev pub raised : List ℕ → ℕ → ℕ → List ℕ
@@ -47,7 +47,7 @@ reach_of_terms (term ∷ terms) reach = reach_of_terms terms (reach_of term reac
 -- whether a run has the cell, where the first of these begins at the cell with this number
 abbrev pub covers : ℕ → List ℕ → ℕ → Bool
 covers first [] c = false
-covers first (n ∷ ns) c = is_from first n c || covers (first + 1) ns c
+covers first (n ∷ ns) c = is_in_run first n c || covers (first + 1) ns c
 
 -- For each cell whether a run has it, where the first of these is the cell with this number, and all cells below `until` are in runs
 -- that begin before it.

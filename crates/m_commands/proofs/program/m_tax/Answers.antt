@@ -3,6 +3,7 @@ use Rattle.command_plans.specs.Views.{InputView}
 use Rattle.m_commands.proofs.Bounds.{bounded_of}
 use Rattle.m_commands.proofs.Clauses.{text_of, writing_of, stopping_of}
 use Rattle.m_commands.proofs.Compiling.{writes_of}
+use Rattle.m_commands.proofs.Ends.{ends_of}
 use Rattle.m_commands.proofs.Faults.{counted_of, memory_of, quiet_of, left_of, told_of, usage_of}
 use Rattle.m_commands.proofs.Reading.{reading_of}
 use Rattle.m_commands.proofs.Taken.{taken_of}
@@ -26,6 +27,9 @@ returns-clause-input_left g c = λ unread. ap (λ (v : InputView). v.left) (left
 
 pub returns-clause-input_faults : goal.returns-clause-input_faults
 returns-clause-input_faults g c = λ unread. ap (λ (v : InputView). v.faults) (left_of _ _ _ _ _ _ _ _ c.perform.ensures unread)
+
+pub returns-clause-input_end : goal.returns-clause-input_end
+returns-clause-input_end g c = ends_of _ _ _ _ _ _ _ _ c.perform.ensures
 
 pub returns-clause-input_taken : goal.returns-clause-input_taken
 returns-clause-input_taken g c = bounded_of _ _ _ _ _ _ _ _ c.perform.ensures

@@ -1,7 +1,7 @@
 use Rattle.std.proofs.Common.{length, drop}
 use Rattle.micro_m.specs.Views.{trees_of, steps_of}
 use Rattle.micro_m.specs.Bases.{AreWithin, StepsAreWithin}
-use Rattle.why_report.specs.Reasons.{arguments_read, steps_read}
+use Rattle.micro_m.specs.ReadTests.{arguments_read, steps_read}
 use Rattle.why_report.specs.inner.Plans.{IsMarking}
 use Rattle.why_report.proofs.MarkLemmas.{MarksOn}
 use Rattle.why_report.proofs.marks.+marks.Given as goal

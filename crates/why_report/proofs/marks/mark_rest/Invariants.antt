@@ -1,4 +1,4 @@
-use Rattle.why_report.specs.Reasons.{is_in_run}
+use Rattle.micro_m.specs.ReadTests.{is_in_run}
 use Rattle.why_report.specs.inner.Plans.{Marks}
 use Rattle.why_report.proofs.marks.mark_rest.Given as goal
 

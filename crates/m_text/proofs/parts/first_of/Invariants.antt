@@ -1,11 +1,11 @@
 use Rattle.std.proofs.Common.{length, ◌≤◌, ◌-◌}
-use Rattle.m_requests.proofs.Splitting.{Splits}
-use Rattle.m_requests.proofs.cells.bracket_in.Given as goal
+use Rattle.m_text.proofs.PartLemmas.{Splits}
+use Rattle.m_text.proofs.parts.first_of.Given as goal
 
 abbrev pub invariant-loop-at : goal.invariant-loop-at
 invariant-loop-at l = record {
   within : l.at ≤ length l.text;
-  splits : Splits l.text l.at;
+  splits : Splits l.byte l.text l.at;
 }
 
 abbrev pub decreases-loop-at : goal.decreases-loop-at

@@ -1,0 +1,66 @@
+-- The clause on where a session that did all of its work stands in its input.
+use Rattle.std.proofs.Common.{◌≡◌, true, false, ℕ, List, Option, Some, None, refl, sym, ap, ◌∙◌, inl, inr}
+use Rattle.std.specs.Option.{option_map_or}
+use Rattle.std.specs.Io.KnownBytes.{IsAtEnd}
+use Rattle.fault_lines.specs.Lines.{unreadable_line, usage_line}
+use Rattle.command_plans.specs.Printing.{Prints}
+use Rattle.command_plans.specs.Refusals.{refusal_line}
+use Rattle.command_plans.specs.Views.{FilesView, InputView, OutputView}
+use Rattle.command_plans.specs.declared.ending.Ending.TheVariants as ending
+use Rattle.command_plans.specs.declared.status.Status.{Status}
+use Rattle.command_plans.specs.declared.status.Status.TheVariants.{Done, ReadFault, Refused, Usage}
+use Rattle.command_answers.specs.Serves as serve
+use Rattle.command_answers.specs.Serving.{Served, to_its_end, unread, too_long, unwritten}
+use Rattle.m_commands.specs.Command.{reads_input, takes_input}
+use Rattle.m_commands.specs.declared.command.Command.{Command}
+use Rattle.m_commands.specs.declared.command.Command.TheVariants as command
+use Rattle.m_commands.specs.declared.command.Form.TheVariants as form
+use Rattle.m_commands.specs.declared.work.Work.{Work}
+use Rattle.m_commands.specs.declared.work.Work.TheVariants.{Run, Serve, Batch, Large, Compile, Exec, Check, Lint, Cases}
+use Rattle.m_commands.specs.inner.Courses.{Course, WorkIsAnswered, command_form, work_form, is_no_command, has_no_memory, ended, answered}
+
+-- a text that was printed doesn't end so
+not_done : (text : List ℕ) (own : Status) (old new : OutputView) (status : Status) → Prints text own old new status → (own ≡ Done → ⊥) → status ≡ Done → ⊥
+not_done text own old new status (inl p) unlike e = unlike (sym p.1 ∙ e)
+not_done text own old new status (inr p) unlike e = cc (p.1, e)
+
+session_ends : (whole each : List ℕ → List ℕ) (heard told : InputView) (old new : OutputView) (status : Status) → Served whole each heard told old new status → status ≡ Done → IsAtEnd told.left
+session_ends whole each heard told old new status (to_its_end taken moved few none calm appends is) e = none
+session_ends whole each heard told old new status (unread taken moved few rose p) e = absurd (not_done _ ReadFault old new status p (λ x. cc) e)
+session_ends whole each heard told old new status (too_long taken moved full calm p) e = absurd (not_done _ Refused old new status p (λ x. cc) e)
+session_ends whole each heard told old new status (unwritten taken rest moved within left calm breaks is) e = absurd (cc (is, e))
+
+work_ends : (work : Work) (heard told : InputView) (old new : OutputView) (status : Status) → WorkIsAnswered work heard told old new status → work_form work ≡ Some form.Serve → status ≡ Done → IsAtEnd told.left
+work_ends (Run source rows) heard told old new status a k e = absurd (cc k)
+work_ends (Serve source rows) heard told old new status (serve.refused line r same p) k e = absurd (not_done line Refused old new status p (λ x. cc) e)
+work_ends (Serve source rows) heard told old new status (serve.no_memory same n m) k e = absurd (cc (m, e))
+work_ends (Serve source rows) heard told old new status (serve.served scheme explains pairs s done) k e = session_ends _ _ heard told old new status done e
+work_ends (Batch source table) heard told old new status a k e = absurd (cc k)
+work_ends (Large n) heard told old new status a k e = absurd (cc k)
+work_ends (Compile source) heard told old new status a k e = absurd (cc k)
+work_ends (Exec code rows) heard told old new status a k e = absurd (cc k)
+work_ends (Check source rows report) heard told old new status a k e = absurd (cc k)
+work_ends (Lint source) heard told old new status a k e = absurd (cc k)
+work_ends (Cases source table) heard told old new status a k e = absurd (cc k)
+
+-- the command that takes from the input is a session
+session_asked : (asked : Command) → takes_input asked ≡ true → command_form asked ≡ Some form.Serve
+session_asked (command.Run names household) e = absurd (cc e)
+session_asked (command.Serve names household) e = refl
+session_asked (command.Batch names table) e = absurd (cc e)
+session_asked (command.Large n) e = absurd (cc e)
+session_asked (command.Compile names) e = absurd (cc e)
+session_asked (command.Exec code household) e = absurd (cc e)
+session_asked (command.Check list household report) e = absurd (cc e)
+session_asked (command.Lint names) e = absurd (cc e)
+session_asked (command.Cases names table) e = absurd (cc e)
+
+pub ends_of : (words : List (List ℕ)) (before after : FilesView) (heard told : InputView) (old new : OutputView) (status : Status)
+    → Course words before after heard told old new status → reads_input words ≡ true → status ≡ Done → IsAtEnd told.left
+ends_of words before after heard told old new status (is_no_command n s h p) r e = absurd (not_done usage_line Usage old new status p (λ x. cc) e)
+ends_of words before after heard told old new status (has_no_memory s h o m) r e = absurd (cc (m, e))
+ends_of words before after heard told old new status (ended asked (ending.Refused refusal) c g h p) r e = absurd (not_done (refusal_line refusal) Refused old new status p (λ x. cc) e)
+ends_of words before after heard told old new status (ended asked (ending.Unreadable name) c g h p) r e = absurd (not_done (unreadable_line name) ReadFault old new status p (λ x. cc) e)
+ends_of words before after heard told old new status (ended asked ending.Memory c g h p) r e = absurd (cc (p.1, e))
+ends_of words before after heard told old new status (answered asked work c g k a) r e =
+    work_ends work heard told old new status a (k ∙ session_asked asked (sym (ap (λ o. option_map_or takes_input o false) c) ∙ r)) e
