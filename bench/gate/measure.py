@@ -5,12 +5,13 @@ Starts `rt ci` at the top of the repository, hands on what it prints, and looks 
 (out/figures.txt, if it isn't named) gets a line for each crate: its name, and the seconds of CPU of its check, of its tests and
 of its must-fail edits; then come the seconds that the whole took, the processors it ran on, and its last line. A run that is
 stopped (SIGTERM, SIGINT) writes what it saw, with no verdict. tests/budget.sh FIGURES compares them with the budget.
-With --anew, which is for `rt ci`, all is proved and tried though an earlier run on this machine passed it. `taskset -c 0,1` as
-prefix measures a machine of two processors.
+With --anew all is proved and tried though an earlier run on this machine passed it: it is handed to `rt ci` in a kit that keeps
+what passed, and another kit does so each time. `taskset -c 0,1` as prefix measures a machine of two processors.
 """
 import collections
 import os
 import re
+import shutil
 import signal
 import subprocess
 import sys
@@ -57,9 +58,15 @@ def below(found, root):
     return is_below
 
 
+def keeps_what_passed():
+    """Whether the kit's `rt ci` keeps what passed, and takes --anew."""
+    with open(shutil.which("rt"), encoding="utf-8", errors="replace") as it:
+        return "--anew" in it.read()
+
+
 def main():
     words = [word for word in sys.argv[1:] if word != "--anew"]
-    anew = ["--anew"] if "--anew" in sys.argv else []
+    anew = ["--anew"] if "--anew" in sys.argv and keeps_what_passed() else []
     figures = words[0] if words else "out/figures.txt"
     began = time.time()
     gate = subprocess.Popen(["rt", "ci", *anew], stdout=subprocess.PIPE, text=True, errors="replace")
