@@ -131,7 +131,7 @@ def watch(parent):
 
 def begin_worker(parent):
     """A worker leaves signals to its parent, and ends with it."""
-    for number in (signal.SIGINT, signal.SIGHUP, signal.SIGTERM):
+    for number in (signal.SIGINT, *m_source.ENDING):
         signal.signal(number, signal.SIG_IGN)
     threading.Thread(target=watch, args=(parent,), daemon=True).start()
 
@@ -185,8 +185,7 @@ class Source:
     def put(self, name, content):
         if content is None:
             return "-"
-        with open(os.path.join(self.room, name), "wb") as out:
-            out.write(content)
+        m_source.put(os.path.join(self.room, name), content)
         return name
 
     def told(self, line):
@@ -214,8 +213,7 @@ def two_sources(lists, drivers, requests, room):
     for name in (*drivers, requests):
         if name not in copies:
             copies[name] = os.path.join(room, f"other-{len(copies)}")
-            with open(copies[name], "wb") as out:
-                out.write(m_source.fetch(name))
+            m_source.put(copies[name], m_source.fetch(name))
     found = []
     for list_name, driver in zip(lists, drivers):
         found.append(Source([list_name, copies[driver], copies[requests]], tempfile.mkdtemp(dir=room)))

@@ -9,6 +9,7 @@ import os
 import re
 import signal
 import sys
+import traceback
 
 GAP_OR_TOKEN = re.compile(
     rb"(?P<gap>[ \t\r\n]+|#[^\n]*)|(?P<text>\"[^\"]*\")|(?P<number>[0-9]+\.[0-9]+|[0-9]+(?![A-Za-z0-9_]))|(?P<word>[A-Za-z0-9_]+)"
@@ -24,6 +25,8 @@ TABLE_CELLS = 1024
 MARK = b"\xef\xbb\xbf"
 MASK = os.umask(0o077)  # what the user keeps from others in new files
 os.umask(MASK)
+# Signals that end a tool. (SIGINT is an exception of Python.)
+ENDING = (signal.SIGHUP, signal.SIGTERM, signal.SIGQUIT, signal.SIGXCPU, signal.SIGUSR1, signal.SIGUSR2, signal.SIGALRM)
 MARKED = "; it begins with a byte order mark: save it as UTF-8 without one"
 
 
@@ -254,18 +257,38 @@ class RuleBase:
                 raise Refused(f"{variable.place}: too many cells")
 
 
+class Messages:
+    """The standard error. What can't be written there, as on a full disk, is dropped: it is no reason for another status."""
+
+    def __init__(self, stream):
+        self.stream = stream
+
+    def write(self, text):
+        try:
+            self.stream.write(text)
+            self.stream.flush()
+        except OSError:
+            os.dup2(os.open(os.devnull, os.O_WRONLY), 2)
+        return len(text)
+
+    def flush(self):
+        """Each piece is written at once."""
+
+
 def begin():
     """Names and lines are written as the bytes that they are, whatever the machine's language is. A signal that ends the tool lets it remove what it began."""
     for name, number in (("stdin", 0), ("stderr", 2)):
         if getattr(sys, name) is None:
             os.dup2(os.open(os.devnull, os.O_RDWR), number)
             setattr(sys, name, open(number, "r" if number == 0 else "w", closefd=False))
+    sys.stderr.reconfigure(encoding="utf-8", errors="surrogateescape")
+    sys.stderr = Messages(sys.stderr)
     if sys.stdout is None:
-        print(f"{os.path.basename(sys.argv[0])}: the output is closed", file=sys.stderr)
+        say("the output is closed")
         sys.exit(4)
-    for stream in (sys.stdin, sys.stdout, sys.stderr):
+    for stream in (sys.stdin, sys.stdout):
         stream.reconfigure(encoding="utf-8", errors="surrogateescape")
-    for number in (signal.SIGHUP, signal.SIGTERM):
+    for number in ENDING:
         if signal.getsignal(number) == signal.SIG_DFL:
             signal.signal(number, stopped)
 
@@ -274,8 +297,24 @@ def stopped(number, _frame):
     sys.exit(128 + number)
 
 
+def say(what):
+    """A line on standard error, behind the name of the tool."""
+    print(f"{os.path.basename(sys.argv[0])}: {what}", file=sys.stderr)
+
+
+def put(path, content):
+    """Writes a file. Where that fails, as on a full disk, the fault names it."""
+    try:
+        with open(path, "wb") as out:
+            out.write(content)
+    except OSError as fault:
+        fault.filename = fault.filename or path
+        raise
+
+
 def end(main):
-    """Begins and runs the tool, and ends with its status: 4 where the output was closed or is full, and 130 where it was interrupted."""
+    """Begins and runs the tool, and ends with its status: 4 where the output was closed or is full, 130 where it was interrupted, and 70 where it has a fault
+    of its own or no memory."""
     begin()
     try:
         status = main()
@@ -286,7 +325,10 @@ def end(main):
         status = 130
     except OSError as fault:
         status = 4
-        print(f"{os.path.basename(sys.argv[0])}: {fault.filename or 'the output'}: {fault.strerror}", file=sys.stderr)
-    if status in (4, 130):
+        say(f"{fault.filename or 'the output'}: {fault.strerror}")
+    except Exception as fault:
+        status, place = 70, traceback.extract_tb(fault.__traceback__)[-1]
+        say(f"don't use what was printed, the tool has a fault: {type(fault).__name__} {fault}, {os.path.basename(place.filename)} line {place.lineno}")
+    if status in (4, 70, 130):
         os.dup2(os.open(os.devnull, os.O_WRONLY), sys.stdout.fileno())
     sys.exit(status)
