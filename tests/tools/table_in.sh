@@ -14,6 +14,11 @@ printf 'sep=;\r\nn;1AJ\r\nd;2\r\n' | "$in" -
 printf '\357\273\277Code;Montant\r\n1AJ;1 000,5\r\n1BJ;\r\n\r\n1CJ;-3\r\n' | "$in" -
 printf 'Code;1AJ\r\n75;3\r\n' | "$in" --table -
 printf 'case;montant;\r\n1AJ;3;\r\n' | "$in" --household -
+printf '1AJ;5\n1BJ;6\n' | "$in" --household -
+echo "status $?"
+printf 'REV;5\n1BJ;6\n' | "$in" --household -
+printf 'CODE;2023\n1AJ;5\n' | "$in" -
+printf 'case;2023\n1AJ;5\n' | "$in" --household -
 # Only the codes of a list.
 printf 'Foyer;1AJ;Commune\r\nd;5;Lyon\r\n' >more.csv
 (cd "$ROOT" && tools/table-in --list examples/first/rules.list --leave Commune "$OLDPWD/more.csv")
