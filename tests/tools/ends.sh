@@ -83,6 +83,18 @@ ln -s h.csv link.csv
 echo "status $?"
 "$tools/why" a.list h.csv K --html a.m
 echo "status $?"
+mkfifo page/fifo
+"$tools/why" a.list h.csv K --html page/fifo
+echo "status $?"
+ls -l page/fifo | cut -c 1
+rm page/fifo
+echo "-- why: of a program that is killed the status is told, and not what it printed"
+stand_in 'echo "K = 2"; kill -9 $$'
+"$tools/why" a.list h.csv K
+echo "status $?"
+stand_in 'case $1 in run) echo "K = 2" ;; check) echo sound; kill -9 $$ ;; esac'
+"$tools/why" a.list h.csv K
+echo "status $?"
 echo "-- why: a description in UTF-8, and one in Latin-1; an index of any length"
 printf 'iliad\nd.m\n' >d.list
 printf 'K : calculee : "l\303\251" ;\nT : tableau[3] calculee : "\351" ;\nregle 1 : application : iliad ;\nK = T[%05000d] ;\n' 2 >d.m
