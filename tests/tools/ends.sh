@@ -38,6 +38,9 @@ printf 'code,amount\n1BJ,3\n9ZZ,4\n' >fault.csv && draw fault.csv
 printf 'code,amount\n1BJ,3\n1CJ,\n' >fault.csv && draw fault.csv
 draw h.csv
 "$tools/marginal" a.list - h.csv 9ZZ 0 10 10 --of IRN --csv
+"$tools/marginal" a.list - h.csv 1€é 0 10 10 --of IRN --csv
+for range in '0 0.5 0.1' '0 30000 500' '-2.5 0 0.5'; do "$tools/marginal" a.list - h.csv 1AJ $range --of IRN | sed -n 's/.*middle">\(.*\)<.text>/\1/p' | tr '\n' ' '; done
+echo
 : >killed && draw h.csv
 rm killed fault.csv
 echo "-- variant: cells by their whole names, numbers of any length"
