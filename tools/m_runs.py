@@ -2,6 +2,7 @@
 import concurrent.futures
 import contextlib
 import hashlib
+import multiprocessing
 import os
 import re
 import shutil
@@ -59,8 +60,8 @@ def free_memory():
         free = [int(next(line for line in lines if line.startswith("MemAvailable:")).split()[1]) << 10]
     for most, used in (("memory.max", "memory.current"), ("memory/memory.limit_in_bytes", "memory/memory.usage_in_bytes")):
         with contextlib.suppress(OSError, ValueError):
-            limit, taken = (int(open(f"/sys/fs/cgroup/{name}", encoding="ascii").read()) for name in (most, used))
-            free.append(max(limit - taken, 0))
+            with open(f"/sys/fs/cgroup/{most}", encoding="ascii") as limit, open(f"/sys/fs/cgroup/{used}", encoding="ascii") as taken:
+                free.append(max(int(limit.read()) - int(taken.read()), 0))
     return min(free)
 
 
@@ -138,8 +139,10 @@ def begin_worker(parent):
 
 @contextlib.contextmanager
 def workers():
-    """Processes for pieces of work, as many as there are processors. They are started here, before any thread."""
-    with concurrent.futures.ProcessPoolExecutor(os.cpu_count(), initializer=begin_worker, initargs=(os.getpid(),)) as pool:
+    """Processes for pieces of work, as many as there are processors. They are forked here, before any thread, so that this process is their parent in every
+    version of Python."""
+    forked = multiprocessing.get_context("fork")
+    with concurrent.futures.ProcessPoolExecutor(os.cpu_count(), forked, begin_worker, (os.getpid(),)) as pool:
         pool.submit(os.getpid).result()
         try:
             yield pool
