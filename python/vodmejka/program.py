@@ -8,7 +8,7 @@ import os
 import shutil
 import subprocess
 from decimal import Decimal
-from typing import Mapping, Union
+from typing import Iterable, Mapping, Union
 
 from .errors import Broken, Interrupted, NotFound, Refused
 
@@ -79,8 +79,16 @@ def spelled(code: str, amount: Amount) -> str:
 
 def household_bytes(household: Mapping[str, Amount]) -> bytes:
     """A household as a file; a code whose amount is None is left out."""
-    out = io.StringIO(newline="")
-    writer = csv.writer(out, lineterminator="\n")
-    writer.writerow(["code", "amount"])
-    writer.writerows([code, spelled(code, amount)] for code, amount in household.items() if amount is not None)
-    return out.getvalue().encode(ENCODING)
+    rows = [[code, spelled(code, amount)] for code, amount in household.items() if amount is not None]
+    return csv_text([["code", "amount"], *rows]).encode(ENCODING)
+
+
+def csv_text(rows: Iterable[Iterable[object]]) -> str:
+    """Rows as csv. A carriage return in a field is quoted by every version of Python where lines end with one too."""
+    rows = list(rows)
+    for end in ("\n", "\r\n"):
+        out = io.StringIO(newline="")
+        csv.writer(out, lineterminator=end).writerows(rows)
+        if "\r" not in out.getvalue():
+            break
+    return out.getvalue()
