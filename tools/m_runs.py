@@ -1,4 +1,5 @@
-"""Batches that `scale` starts: the source, which is read once and copied, the program, and the children and workers, which end with their parent."""
+"""Batches that `scale` starts: the source, which is read once and copied, the program, the sorting of labels, and the children and workers, which end with
+their parent."""
 import concurrent.futures
 import contextlib
 import hashlib
@@ -94,21 +95,24 @@ class Children:
 
     @contextlib.contextmanager
     def started(self, words, **options):
-        with self.lock:
-            if self.is_over:
-                raise Failed("stopped")
-            child = subprocess.Popen(words, **options)
-            self.running.add(child)
+        child = None
         try:
-            with child:
-                try:
-                    yield child
-                except BaseException:
-                    child.kill()
-                    raise
+            with self.lock, m_source.unbroken():
+                if self.is_over:
+                    raise Failed("stopped")
+                child = subprocess.Popen(words, **options)
+                self.running.add(child)
+            yield child
+        except BaseException:
+            if child is not None:
+                child.kill()
+            raise
         finally:
-            with self.lock:
-                self.running.discard(child)
+            if child is not None:
+                with child:  # (its pipes are closed, and its end is awaited)
+                    pass
+                with self.lock:
+                    self.running.discard(child)
 
     def end(self):
         with self.lock:
@@ -118,6 +122,46 @@ class Children:
 
 
 CHILDREN = Children()
+
+
+def printed(*words):
+    """What the program prints to these words, and its status."""
+    with CHILDREN.started([program_path(), *words], stdin=subprocess.DEVNULL, stdout=subprocess.PIPE) as child:
+        return child.stdout.read(), child.wait()
+
+
+# ---- labels that stand twice
+
+
+class Sorter:
+    """Looks for labels that stand twice, by `sort`, which also sorts what the memory has no room for."""
+
+    def __init__(self, stack):
+        # (in a folder of its own, since a sort that is ended leaves what it wrote)
+        room = stack.enter_context(tempfile.TemporaryDirectory(prefix="scale-"))
+        start = lambda *words, **options: stack.enter_context(
+            CHILDREN.started(words, stdout=subprocess.PIPE, env={**os.environ, "LC_ALL": "C"}, **options)
+        )
+        self.sort = start("sort", "-T", room, stdin=subprocess.PIPE)
+        self.twice = start("uniq", "-d", stdin=self.sort.stdout)
+        self.sort.stdout.close()
+
+    def add(self, labels):
+        # (a sort that has ended tells its status at the end)
+        with contextlib.suppress(BrokenPipeError):
+            self.sort.stdin.write(labels)
+            self.sort.stdin.flush()
+
+    def first(self):
+        """The first label that stands twice, or nothing. Without a whole answer of both programs there is none to give."""
+        with contextlib.suppress(BrokenPipeError):
+            self.sort.stdin.close()
+        told = self.twice.stdout.readline()
+        self.twice.stdout.close()
+        statuses = self.sort.wait(), self.twice.wait()
+        if not told and statuses != (0, 0):
+            raise Failed(f"sort and uniq ended with the statuses {statuses[0]} and {statuses[1]}, so nothing tells whether a label stands twice", False)
+        return told.decode("utf-8", "replace").strip("\n")
 
 
 # ---- workers

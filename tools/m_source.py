@@ -4,11 +4,14 @@ These tools read files that the program accepts, and look at the heads of items 
 too; `slips` and `explain` tell it. m_grammar.py reads formulas.
 """
 import bisect
+import contextlib
 import dataclasses
 import os
 import re
 import signal
+import stat
 import sys
+import threading
 import traceback
 
 GAP_OR_TOKEN = re.compile(
@@ -23,9 +26,11 @@ LIST_FILES = 1024
 CELLS = 1_000_000
 TABLE_CELLS = 1024
 MARK = b"\xef\xbb\xbf"
+PIPED = {}
+WAITING = []
 MASK = os.umask(0o077)  # what the user keeps from others in new files
 os.umask(MASK)
-# Signals that end a tool. (SIGINT is an exception of Python.)
+# Signals that end a tool, beside SIGINT.
 ENDING = (signal.SIGHUP, signal.SIGTERM, signal.SIGQUIT, signal.SIGXCPU, signal.SIGUSR1, signal.SIGUSR2, signal.SIGALRM)
 MARKED = "; it begins with a byte order mark: save it as UTF-8 without one"
 
@@ -67,10 +72,15 @@ class Rule:
 
 
 def fetch(name, longest=FILE_BYTES):
-    """The bytes of a file, which has at most so many."""
+    """The bytes of a file, which has at most so many. Those of a pipe, which can be read but once, are kept for the next time."""
+    if name in PIPED:
+        return PIPED[name]
     try:
         with open(name, "rb") as file:
-            return taken(file, name, longest)
+            content = taken(file, name, longest)
+            if not stat.S_ISREG(os.fstat(file.fileno()).st_mode):
+                PIPED[name] = content
+            return content
     except (OSError, ValueError) as fault:
         raise Refused(f"unreadable {name}") from fault
 
@@ -288,13 +298,34 @@ def begin():
         sys.exit(4)
     for stream in (sys.stdin, sys.stdout):
         stream.reconfigure(encoding="utf-8", errors="surrogateescape")
-    for number in ENDING:
-        if signal.getsignal(number) == signal.SIG_DFL:
+    for number in (signal.SIGINT, *ENDING):
+        if signal.getsignal(number) in (signal.SIG_DFL, signal.default_int_handler):
             signal.signal(number, stopped)
 
 
-def stopped(number, _frame):
-    sys.exit(128 + number)
+def stopped(number, _frame=None):
+    """Ends the tool, or notes the signal where it has to wait."""
+    if WAITING:
+        WAITING.append(number)
+    elif number == signal.SIGINT:
+        raise KeyboardInterrupt
+    else:
+        sys.exit(128 + number)
+
+
+@contextlib.contextmanager
+def unbroken():
+    """What a signal doesn't break off: it ends the tool behind it. (Signals are the main thread's.)"""
+    is_main = threading.current_thread() is threading.main_thread()
+    if is_main:
+        WAITING.append(None)
+    try:
+        yield
+    finally:
+        if is_main:
+            came, WAITING[:] = WAITING[1:], []
+            if came:
+                stopped(came[0])
 
 
 def say(what):
