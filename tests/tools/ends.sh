@@ -39,6 +39,7 @@ printf 'code,amount\n1BJ,3\n1CJ,\n' >fault.csv && draw fault.csv
 draw h.csv
 "$tools/marginal" a.list - h.csv 9ZZ 0 10 10 --of IRN --csv
 "$tools/marginal" a.list - h.csv 1€é 0 10 10 --of IRN --csv
+"$tools/marginal" a.list - h.csv 1AJ -2000000 2000000 4000000 --of IRN --csv
 for range in '0 0.5 0.1' '0 30000 500' '-2.5 0 0.5'; do "$tools/marginal" a.list - h.csv 1AJ $range --of IRN | sed -n 's/.*middle">\(.*\)<.text>/\1/p' | tr '\n' ' '; done
 echo
 : >killed && draw h.csv

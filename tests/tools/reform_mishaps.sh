@@ -34,6 +34,8 @@ echo 'cp "$5" "$here/seen"' >behind
 "$reform" before.list after.list - - return.csv --of IRN --into return >/dev/null
 rm behind
 od -An -c seen
+printf 'name,1AJ,poids\na,0.00125,0.0002\nb,-0.00125,0.0002\n' >halves.csv
+"$reform" before.list after.list - - halves.csv --of IRN --weight poids --by IRN --into halves >/dev/null && grep 'tenth [16]' halves/summary.csv
 echo "-- refused: a name that no column and no request has; weights that are none; a head that isn't closed"
 "$reform" before.list after.list - - short.csv --of IRN --by 0RD --into other
 echo "status $?"
