@@ -4,7 +4,7 @@ import unittest
 
 from room import Room
 from test_vodmejka import RULES
-from vodmejka import NotFound, Refused, Rules
+from vodmejka import Broken, Interrupted, NotFound, Refused, Rules
 from vodmejka.program import program_path
 
 FILE_BYTES, RULE_BYTES, LIST_FILES = 16_777_216, 67_108_864, 1_024
@@ -71,6 +71,19 @@ class Cache(Room):
         os.remove(f"{self.room.name}/kept/{name}")
         os.mkdir(f"{self.room.name}/kept/{name}")
         self.assertEqual(self.kept(None), 1)
+
+    def test_a_trial_of_the_sources(self):
+        """It replies when its input has ended, and takes no file that is only open here: both are told."""
+        script = self.put_program("repo/m_tax", '[ "$1" != batch ] || exit 70')
+        self.put("repo/crates.txt", "")
+        rules = Rules(self.list, cache=self.room.name + "/kept", program=script)
+        with self.assertRaisesRegex(Broken, "no sessions: ./build"):
+            rules.session()
+        with self.assertRaisesRegex(Interrupted, "./build makes the program"):
+            list(rules.batch([{}]))
+        self.put_program("repo/out/m_tax")
+        with rules.session() as session:
+            self.assertEqual(session.show()["IRN"], 0)
 
     def test_rules_that_change(self):
         self.assertEqual(self.kept(None), 1)

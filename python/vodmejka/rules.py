@@ -12,7 +12,7 @@ from typing import Any, Iterable, Iterator
 from .answers import Answer, Form, answer_of
 from .batches import Batch
 from .errors import Broken, NotFound, Refused
-from .program import ENCODING, Amount, digest_of, household_bytes, program_digest, program_path, run, spelled
+from .program import ENCODING, Amount, digest_of, household_bytes, is_trial, program_digest, program_path, run, spelled
 from .session import Session
 from .tables import Household
 
@@ -105,6 +105,8 @@ class Rules:
         """A session that begins with a household; it is ended by `close`, or at the end of a `with`."""
         if not self._words:
             raise Broken("a session needs rules: a code file has no sources")
+        if is_trial(self.program):
+            raise Broken("a trial of the sources has no sessions: ./build makes the program, which has")
         return Session([self.program, "serve", *self._words, self._put_household(household or {})], self._room)
 
     def inputs(self) -> dict[str, str]:
