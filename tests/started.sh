@@ -289,6 +289,13 @@ rm "$dir/old/out/built"
 "$dir/old/m_tax" run "a b" >"$dir/out" 2>"$dir/err"
 judge "$?" 6 "program: run a b" "a build that was ended" "m_tax: nothing tells whether the program is of these sources, since ./build was ended; ./build goes on"
 
+# ./build through a symbolic link finds no crates beside the link, and makes nothing there.
+mkdir "$dir/links"
+ln -s "$root/build" "$dir/links/build"
+"$dir/links/build" >"$dir/out" 2>"$dir/err"
+judge "$?" 1 "" "build through a link" "build: there are no crates in $dir/links: start it by its own name in the repository"
+[ "$(ls "$dir/links")" = build ] || { failed=$((failed + 1)); echo "started: build through a link left something"; }
+
 # What a trial can't take ends before anything is compiled: a list through a pipe, whose rule files nobody could hand in, and a file that this shell opened.
 mkdir -p "$dir/bare/crates/m_tax"
 cp m_tax "$dir/bare/m_tax"

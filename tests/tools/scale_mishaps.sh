@@ -64,6 +64,9 @@ sleep 1.3
 "$scale" join parts | tr '\n' ' '
 echo
 ls wrote 2>/dev/null
+ls parts | grep -c 'new$'
+"$scale" drop parts
+ls parts | grep -c 'new$'
 rm before
 echo "-- ended by a signal: the batch ends with it"
 "$scale" drop parts >/dev/null

@@ -50,6 +50,8 @@ printf 'name,1AJ\nd,45.000\n' | "$in" -
 printf 'Foyer;1AJ\rd, e, f;5\rg;6\r' | "$in" -
 "$in" --leave 2>/dev/null
 echo "status $?"
+"$in" --table --household more.csv 2>/dev/null
+echo "status $?"
 awk 'BEGIN {print "n;1AJ"; for (k = 0; k < 9999; k++) print "d;1"}' | "$in" - | head -n 1
 # A label with a byte that Windows' Latin-1 has not, which stays; closed inputs and outputs.
 printf 'n;1AJ\nd\351\201;5\n' | "$in" - | od -An -c | tail -n 1
