@@ -6,6 +6,7 @@ too; `slips` and `explain` tell it. m_grammar.py reads formulas.
 import bisect
 import contextlib
 import dataclasses
+import io
 import os
 import re
 import signal
@@ -74,7 +75,7 @@ class Rule:
 def fetch(name, longest=FILE_BYTES):
     """The bytes of a file, which has at most so many. Those of a pipe, which can be read but once, are kept for the next time."""
     if name in PIPED:
-        return PIPED[name]
+        return taken(io.BytesIO(PIPED[name]), name, longest)
     try:
         with open(name, "rb") as file:
             content = taken(file, name, longest)
@@ -283,6 +284,9 @@ class Messages:
 
     def flush(self):
         """Each piece is written at once."""
+
+    def __getattr__(self, name):
+        return getattr(self.stream, name)
 
 
 def begin():
