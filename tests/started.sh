@@ -289,5 +289,23 @@ rm "$dir/old/out/built"
 "$dir/old/m_tax" run "a b" >"$dir/out" 2>"$dir/err"
 judge "$?" 6 "program: run a b" "a build that was ended" "m_tax: nothing tells whether the program is of these sources, since ./build was ended; ./build goes on"
 
+# ./build through a symbolic link finds no crates beside the link, and makes nothing there.
+mkdir "$dir/links"
+ln -s "$root/build" "$dir/links/build"
+"$dir/links/build" >"$dir/out" 2>"$dir/err"
+judge "$?" 1 "" "build through a link" "build: there are no crates in $dir/links: start it by its own name in the repository"
+[ "$(ls "$dir/links")" = build ] || { failed=$((failed + 1)); echo "started: build through a link left something"; }
+
+# What a trial can't take ends before anything is compiled: a list through a pipe, whose rule files nobody could hand in, and a file that this shell opened.
+mkdir -p "$dir/bare/crates/m_tax"
+cp m_tax "$dir/bare/m_tax"
+mkfifo "$dir/pipe"
+"$dir/bare/m_tax" run "$dir/pipe" - - $household >"$dir/out" 2>"$dir/err"
+judge "$?" 70 "" "a list through a pipe, in a trial" "$trial
+m_tax: the trial can't take the list $dir/pipe, which is no plain file; ./build proves and builds the program, which can"
+"$dir/bare/m_tax" run $list - - /dev/fd/9 9<$household >"$dir/out" 2>"$dir/err"
+judge "$?" 70 "" "a file that the shell opened, in a trial" "$trial
+m_tax: the trial can't take the file /dev/fd/9; ./build proves and builds the program, which can"
+
 echo "started: $way: $passed rows passed, $failed failed"
 [ "$failed" -eq 0 ]

@@ -2,6 +2,7 @@
 # Runs the tests of tools/: each tests/tools/NAME.sh, in an empty folder of its own with ROOT for the repository, prints what NAME.out
 # has. Those with a line "# needs the program" are left out where ./build has not built it and M_TAX doesn't name it. Prints
 # the differences of each test that fails, or takes over 15 minutes, and a count. The status is 0 where none fails.
+here=$PWD
 cd "$(dirname "$0")/.." || exit 1
 if ! command -v python3 >/dev/null 2>&1; then
     echo "tools: not run: there is no python3"
@@ -9,6 +10,10 @@ if ! command -v python3 >/dev/null 2>&1; then
 fi
 ROOT=$PWD
 if [ -z "${M_TAX-}" ] && [ -x out/m_tax ]; then M_TAX=$ROOT/out/m_tax; fi
+case ${M_TAX-} in
+    "" | /*) ;;
+    */*) M_TAX=$here/$M_TAX ;;
+esac
 export ROOT
 [ -z "${M_TAX-}" ] || export M_TAX
 PYTHONDONTWRITEBYTECODE=1

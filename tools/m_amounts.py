@@ -1,9 +1,12 @@
 """Amounts as whole numbers of millionths."""
+import math
 import re
+from fractions import Fraction
 
 from m_runs import Failed
 
 UNIT = 1_000_000
+HALF = Fraction(1, 2)
 MOST = 10_000_000_000_000 * UNIT
 AMOUNT = re.compile(r"(-?)([0-9]+)(?:\.([0-9]{1,6}))?")
 
@@ -21,7 +24,7 @@ def amount(text):
 
 
 def plain(value):
-    """An amount or a fraction with at most six decimals."""
-    millionths = value if isinstance(value, int) else round(value)
-    sign, size = ("-", -millionths) if millionths < 0 else ("", millionths)
+    """An amount or a fraction of millionths in whole ones, halves away from zero."""
+    size = abs(value) if isinstance(value, int) else math.floor(abs(value) + HALF)
+    sign = "-" if value < 0 and size else ""
     return sign + (f"{size // UNIT}.{size % UNIT:06}".rstrip("0").rstrip("."))

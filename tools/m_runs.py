@@ -1,7 +1,9 @@
-"""Batches that `scale` starts: the source, which is read once and copied, the program, and the children and workers, which end with their parent."""
+"""Batches that `scale` starts: the source, which is read once and copied, the program, the sorting of labels, and the children and workers, which end with
+their parent."""
 import concurrent.futures
 import contextlib
 import hashlib
+import multiprocessing
 import os
 import re
 import shutil
@@ -59,8 +61,8 @@ def free_memory():
         free = [int(next(line for line in lines if line.startswith("MemAvailable:")).split()[1]) << 10]
     for most, used in (("memory.max", "memory.current"), ("memory/memory.limit_in_bytes", "memory/memory.usage_in_bytes")):
         with contextlib.suppress(OSError, ValueError):
-            limit, taken = (int(open(f"/sys/fs/cgroup/{name}", encoding="ascii").read()) for name in (most, used))
-            free.append(max(limit - taken, 0))
+            with open(f"/sys/fs/cgroup/{most}", encoding="ascii") as limit, open(f"/sys/fs/cgroup/{used}", encoding="ascii") as taken:
+                free.append(max(int(limit.read()) - int(taken.read()), 0))
     return min(free)
 
 
@@ -93,21 +95,24 @@ class Children:
 
     @contextlib.contextmanager
     def started(self, words, **options):
-        with self.lock:
-            if self.is_over:
-                raise Failed("stopped")
-            child = subprocess.Popen(words, **options)
-            self.running.add(child)
+        child = None
         try:
-            with child:
-                try:
-                    yield child
-                except BaseException:
-                    child.kill()
-                    raise
+            with self.lock, m_source.unbroken():
+                if self.is_over:
+                    raise Failed("stopped")
+                child = subprocess.Popen(words, **options)
+                self.running.add(child)
+            yield child
+        except BaseException:
+            if child is not None:
+                child.kill()
+            raise
         finally:
-            with self.lock:
-                self.running.discard(child)
+            if child is not None:
+                with child:  # (its pipes are closed, and its end is awaited)
+                    pass
+                with self.lock:
+                    self.running.discard(child)
 
     def end(self):
         with self.lock:
@@ -117,6 +122,46 @@ class Children:
 
 
 CHILDREN = Children()
+
+
+def printed(*words):
+    """What the program prints to these words, and its status."""
+    with CHILDREN.started([program_path(), *words], stdin=subprocess.DEVNULL, stdout=subprocess.PIPE) as child:
+        return child.stdout.read(), child.wait()
+
+
+# ---- labels that stand twice
+
+
+class Sorter:
+    """Looks for labels that stand twice, by `sort`, which also sorts what the memory has no room for."""
+
+    def __init__(self, stack):
+        # (in a folder of its own, since a sort that is ended leaves what it wrote)
+        room = stack.enter_context(tempfile.TemporaryDirectory(prefix="scale-"))
+        start = lambda *words, **options: stack.enter_context(
+            CHILDREN.started(words, stdout=subprocess.PIPE, env={**os.environ, "LC_ALL": "C"}, **options)
+        )
+        self.sort = start("sort", "-T", room, stdin=subprocess.PIPE)
+        self.twice = start("uniq", "-d", stdin=self.sort.stdout)
+        self.sort.stdout.close()
+
+    def add(self, labels):
+        # (a sort that has ended tells its status at the end)
+        with contextlib.suppress(BrokenPipeError):
+            self.sort.stdin.write(labels)
+            self.sort.stdin.flush()
+
+    def first(self):
+        """The first label that stands twice, or nothing. Without a whole answer of both programs there is none to give."""
+        with contextlib.suppress(BrokenPipeError):
+            self.sort.stdin.close()
+        told = self.twice.stdout.readline()
+        self.twice.stdout.close()
+        statuses = self.sort.wait(), self.twice.wait()
+        if not told and statuses != (0, 0):
+            raise Failed(f"sort and uniq ended with the statuses {statuses[0]} and {statuses[1]}, so nothing tells whether a label stands twice", False)
+        return told.decode("utf-8", "replace").strip("\n")
 
 
 # ---- workers
@@ -131,15 +176,17 @@ def watch(parent):
 
 def begin_worker(parent):
     """A worker leaves signals to its parent, and ends with it."""
-    for number in (signal.SIGINT, signal.SIGHUP, signal.SIGTERM):
+    for number in (signal.SIGINT, *m_source.ENDING):
         signal.signal(number, signal.SIG_IGN)
     threading.Thread(target=watch, args=(parent,), daemon=True).start()
 
 
 @contextlib.contextmanager
 def workers():
-    """Processes for pieces of work, as many as there are processors. They are started here, before any thread."""
-    with concurrent.futures.ProcessPoolExecutor(os.cpu_count(), initializer=begin_worker, initargs=(os.getpid(),)) as pool:
+    """Processes for pieces of work, as many as there are processors. They are forked here, before any thread, so that this process is their parent in every
+    version of Python."""
+    forked = multiprocessing.get_context("fork")
+    with concurrent.futures.ProcessPoolExecutor(os.cpu_count(), forked, begin_worker, (os.getpid(),)) as pool:
         pool.submit(os.getpid).result()
         try:
             yield pool
@@ -185,8 +232,7 @@ class Source:
     def put(self, name, content):
         if content is None:
             return "-"
-        with open(os.path.join(self.room, name), "wb") as out:
-            out.write(content)
+        m_source.put(os.path.join(self.room, name), content)
         return name
 
     def told(self, line):
@@ -214,8 +260,7 @@ def two_sources(lists, drivers, requests, room):
     for name in (*drivers, requests):
         if name not in copies:
             copies[name] = os.path.join(room, f"other-{len(copies)}")
-            with open(copies[name], "wb") as out:
-                out.write(m_source.fetch(name))
+            m_source.put(copies[name], m_source.fetch(name))
     found = []
     for list_name, driver in zip(lists, drivers):
         found.append(Source([list_name, copies[driver], copies[requests]], tempfile.mkdtemp(dir=room)))

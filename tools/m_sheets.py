@@ -1,7 +1,9 @@
 """Reads the sheet of a spreadsheet's file, .xlsx or .ods, as rows of texts. What may mean two things is refused with its place."""
 import decimal
 import io
+import math
 import re
+import struct
 import xml.etree.ElementTree as xml
 import zipfile
 import zlib
@@ -13,6 +15,7 @@ MOST_ROWS = 200_000
 MOST_COLUMNS = 16_384
 MOST_FIELDS = 1 << 25
 MOST_BLANKS = 1_000
+NUMBER = re.compile(r"[-+]?(?:[0-9]+\.?[0-9]*|\.[0-9]+)(?:[eE][-+]?[0-9]+)?")
 OLD = b"\xd0\xcf\x11\xe0"
 DATE_FORMATS = {*range(14, 23), *range(27, 37), *range(45, 48), *range(50, 59)}
 PERCENT_FORMATS = {9, 10}
@@ -24,14 +27,19 @@ class Plain(str):
 
 def plain(text, place):
     """A number of a file, which has at most 15 digits that count."""
-    try:
-        number = decimal.Decimal(f"{float(text):.15g}")
-    except ValueError:
-        raise Refused(f"{place}: {text} is no number") from None
-    if not number.is_finite():
-        raise Refused(f"{place}: {text} is no number")
-    spelled = f"{number:f}"
+    number = float(text) if NUMBER.fullmatch(text) else math.inf
+    if math.isinf(number):
+        raise Refused(f"{place}: {text[:40]} is no number")
+    spelled = f"{decimal.Decimal(f'{number:.15g}'):f}"
     return Plain(spelled.rstrip("0").rstrip(".") if "." in spelled else spelled)
+
+
+def whole(text, least=0):
+    """A whole number of a file: where something stands, or how many times."""
+    number = int(text) if re.fullmatch("[0-9]{1,9}", text) else -1
+    if number < least:
+        raise ValueError(text)
+    return number
 
 
 def name_of(element):
@@ -63,7 +71,7 @@ class Book:
     def __init__(self, content):
         try:
             self.zip = zipfile.ZipFile(io.BytesIO(content))
-        except (zipfile.BadZipFile, NotImplementedError) as fault:
+        except (zipfile.BadZipFile, NotImplementedError, ValueError, struct.error) as fault:
             raise Refused("the file is cut off or damaged") from fault
         self.names = set(self.zip.namelist())
 
@@ -130,7 +138,8 @@ class Xlsx(Book):
         kinds = []
         for form in (form for forms in below(tree, "cellXfs") for form in forms):
             number = told(form, "numFmtId") or "0"
-            code = re.sub(r'"[^"]*"|\\.|\[[^][]*\]', "", codes.get(number) or "")
+            # (what stands in brackets is a colour or a condition, or hours, minutes or seconds of a time that passed)
+            code = re.sub(r'"[^"]*"|\\.|\[(?![hms]+\])[^][]*\]', "", codes.get(number) or "", flags=re.IGNORECASE)
             is_date = int(number) in DATE_FORMATS or re.search("[ymdhs]", code, re.IGNORECASE) and "General" not in code
             is_percent = int(number) in PERCENT_FORMATS or "%" in code
             kinds.append("a date" if is_date else "a percentage" if is_percent else None)
@@ -141,7 +150,7 @@ class Xlsx(Book):
         if any(len(merged) for merged in below(tree, "mergeCells")):
             raise Refused("the sheet has merged cells: separate them")
         for row in (row for data in below(tree, "sheetData") for row in below(data, "row")):
-            number = int(told(row, "r") or number + 1)
+            number = whole(told(row, "r") or str(number + 1), number + 1)
             fields = []
             for cell in below(row, "c"):
                 column = self.column(cell, len(fields))
@@ -157,11 +166,10 @@ class Xlsx(Book):
 
     @staticmethod
     def column(cell, next_one):
-        letters = re.match("[A-Z]{1,3}", told(cell, "r") or "")
-        if letters is None:
+        if not told(cell, "r"):
             return next_one
         column = 0
-        for letter in letters[0]:
+        for letter in re.fullmatch("([A-Z]{1,3})[0-9]+", told(cell, "r"))[1]:
             column = column * 26 + ord(letter) - 64
         if not next_one < column <= MOST_COLUMNS:
             raise Refused("the cells of a row aren't in order")
@@ -176,11 +184,11 @@ class Xlsx(Book):
                 raise Refused(f"{place}: a formula without its value: open the file and save it")
             return ""
         if kind == "s":
-            return self.shared[int(value)]
+            return self.shared[whole(value)]
         if kind == "b":
             raise Refused(f"{place}: a truth value")
         if kind == "n":
-            style = int(told(cell, "s") or 0)
+            style = whole(told(cell, "s") or "0")
             if style < len(self.formats) and self.formats[style]:
                 raise Refused(f"{place}: {self.formats[style]}")
             return plain(value, place)
@@ -196,10 +204,10 @@ def ods_text(element):
     for child in element:
         name = name_of(child)
         if name == "s":
-            blanks = int(told(child, "c") or 1)
-            if blanks > MOST_BLANKS:
-                raise Refused(f"a text has {blanks} blanks")
-            text += " " * blanks
+            blanks = told(child, "c") or "1"
+            if len(blanks) > 9 or int(blanks) > MOST_BLANKS:
+                raise Refused(f"a text has {blanks[:40]} blanks")
+            text += " " * whole(blanks)
         elif name in ("tab", "line-break"):
             text += " "
         elif name not in ("annotation", "note"):
@@ -220,7 +228,7 @@ class Ods(Book):
     def rows(self, table):
         rows, number, count = [], 1, 0
         for row in (row for row in table.iter() if name_of(row) == "table-row"):
-            times = int(told(row, "number-rows-repeated") or 1)
+            times = whole(told(row, "number-rows-repeated") or "1", 1)
             fields = self.fields(row, number)
             if fields:
                 count += times * len(fields)
@@ -234,7 +242,7 @@ class Ods(Book):
         """The fields of a row without the empty ones at its end."""
         fields, column = [], 0
         for cell in row:
-            name, times = name_of(cell), int(told(cell, "number-columns-repeated") or 1)
+            name, times = name_of(cell), whole(told(cell, "number-columns-repeated") or "1", 1)
             place = f"cell {column_name(column)}{number}"
             spans = (told(cell, "number-columns-spanned") or "1", told(cell, "number-rows-spanned") or "1")
             if name == "covered-table-cell" or spans != ("1", "1"):

@@ -4,11 +4,16 @@ These tools read files that the program accepts, and look at the heads of items 
 too; `slips` and `explain` tell it. m_grammar.py reads formulas.
 """
 import bisect
+import contextlib
 import dataclasses
+import io
 import os
 import re
 import signal
+import stat
 import sys
+import threading
+import traceback
 
 GAP_OR_TOKEN = re.compile(
     rb"(?P<gap>[ \t\r\n]+|#[^\n]*)|(?P<text>\"[^\"]*\")|(?P<number>[0-9]+\.[0-9]+|[0-9]+(?![A-Za-z0-9_]))|(?P<word>[A-Za-z0-9_]+)"
@@ -22,8 +27,12 @@ LIST_FILES = 1024
 CELLS = 1_000_000
 TABLE_CELLS = 1024
 MARK = b"\xef\xbb\xbf"
+PIPED = {}
+WAITING = []
 MASK = os.umask(0o077)  # what the user keeps from others in new files
 os.umask(MASK)
+# Signals that end a tool, beside SIGINT.
+ENDING = (signal.SIGHUP, signal.SIGTERM, signal.SIGQUIT, signal.SIGXCPU, signal.SIGUSR1, signal.SIGUSR2, signal.SIGALRM)
 MARKED = "; it begins with a byte order mark: save it as UTF-8 without one"
 
 
@@ -64,10 +73,15 @@ class Rule:
 
 
 def fetch(name, longest=FILE_BYTES):
-    """The bytes of a file, which has at most so many."""
+    """The bytes of a file, which has at most so many. Those of a pipe, which can be read but once, are kept for the next time."""
+    if name in PIPED:
+        return taken(io.BytesIO(PIPED[name]), name, longest)
     try:
         with open(name, "rb") as file:
-            return taken(file, name, longest)
+            content = taken(file, name, longest)
+            if not stat.S_ISREG(os.fstat(file.fileno()).st_mode):
+                PIPED[name] = content
+            return content
     except (OSError, ValueError) as fault:
         raise Refused(f"unreadable {name}") from fault
 
@@ -254,28 +268,88 @@ class RuleBase:
                 raise Refused(f"{variable.place}: too many cells")
 
 
+class Messages:
+    """The standard error. What can't be written there, as on a full disk, is dropped: it is no reason for another status."""
+
+    def __init__(self, stream):
+        self.stream = stream
+
+    def write(self, text):
+        try:
+            self.stream.write(text)
+            self.stream.flush()
+        except OSError:
+            os.dup2(os.open(os.devnull, os.O_WRONLY), 2)
+        return len(text)
+
+    def flush(self):
+        """Each piece is written at once."""
+
+    def __getattr__(self, name):
+        return getattr(self.stream, name)
+
+
 def begin():
     """Names and lines are written as the bytes that they are, whatever the machine's language is. A signal that ends the tool lets it remove what it began."""
     for name, number in (("stdin", 0), ("stderr", 2)):
         if getattr(sys, name) is None:
             os.dup2(os.open(os.devnull, os.O_RDWR), number)
             setattr(sys, name, open(number, "r" if number == 0 else "w", closefd=False))
+    sys.stderr.reconfigure(encoding="utf-8", errors="surrogateescape")
+    sys.stderr = Messages(sys.stderr)
     if sys.stdout is None:
-        print(f"{os.path.basename(sys.argv[0])}: the output is closed", file=sys.stderr)
+        say("the output is closed")
         sys.exit(4)
-    for stream in (sys.stdin, sys.stdout, sys.stderr):
+    for stream in (sys.stdin, sys.stdout):
         stream.reconfigure(encoding="utf-8", errors="surrogateescape")
-    for number in (signal.SIGHUP, signal.SIGTERM):
-        if signal.getsignal(number) == signal.SIG_DFL:
+    for number in (signal.SIGINT, *ENDING):
+        if signal.getsignal(number) in (signal.SIG_DFL, signal.default_int_handler):
             signal.signal(number, stopped)
 
 
-def stopped(number, _frame):
-    sys.exit(128 + number)
+def stopped(number, _frame=None):
+    """Ends the tool, or notes the signal where it has to wait."""
+    if WAITING:
+        WAITING.append(number)
+    elif number == signal.SIGINT:
+        raise KeyboardInterrupt
+    else:
+        sys.exit(128 + number)
+
+
+@contextlib.contextmanager
+def unbroken():
+    """What a signal doesn't break off: it ends the tool behind it. (Signals are the main thread's.)"""
+    is_main = threading.current_thread() is threading.main_thread()
+    if is_main:
+        WAITING.append(None)
+    try:
+        yield
+    finally:
+        if is_main:
+            came, WAITING[:] = WAITING[1:], []
+            if came:
+                stopped(came[0])
+
+
+def say(what):
+    """A line on standard error, behind the name of the tool."""
+    print(f"{os.path.basename(sys.argv[0])}: {what}", file=sys.stderr)
+
+
+def put(path, content):
+    """Writes a file. Where that fails, as on a full disk, the fault names it."""
+    try:
+        with open(path, "wb") as out:
+            out.write(content)
+    except OSError as fault:
+        fault.filename = fault.filename or path
+        raise
 
 
 def end(main):
-    """Begins and runs the tool, and ends with its status: 4 where the output was closed or is full, and 130 where it was interrupted."""
+    """Begins and runs the tool, and ends with its status: 4 where the output was closed or is full, 130 where it was interrupted, and 70 where it has a fault
+    of its own or no memory."""
     begin()
     try:
         status = main()
@@ -286,7 +360,10 @@ def end(main):
         status = 130
     except OSError as fault:
         status = 4
-        print(f"{os.path.basename(sys.argv[0])}: {fault.filename or 'the output'}: {fault.strerror}", file=sys.stderr)
-    if status in (4, 130):
+        say(f"{fault.filename or 'the output'}: {fault.strerror}")
+    except Exception as fault:
+        status, place = 70, traceback.extract_tb(fault.__traceback__)[-1]
+        say(f"don't use what was printed, the tool has a fault: {type(fault).__name__} {fault}, {os.path.basename(place.filename)} line {place.lineno}")
+    if status in (4, 70, 130):
         os.dup2(os.open(os.devnull, os.O_WRONLY), sys.stdout.fileno())
     sys.exit(status)

@@ -4,6 +4,7 @@
 # At the top of the repository, with the program that ./build makes or the one that M_TAX names. FOLDER (out/reform2023), which must not be there, gets the
 # rules after the reform (rules), the made-up households (table.csv, 100,000 or the first COUNT of them), and what tools/reform writes (report).
 set -eu
+[ -x tools/variant ] || { echo "make: this runs at the top of the repository" >&2; exit 1; }
 folder=${1-out/reform2023}
 [ ! -e "$folder" ] || { echo "make: $folder is there already" >&2; exit 1; }
 mkdir -p "$folder"

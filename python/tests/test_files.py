@@ -4,7 +4,7 @@ import unittest
 
 from room import Room
 from test_vodmejka import RULES
-from vodmejka import Refused, Rules
+from vodmejka import Broken, Interrupted, NotFound, Refused, Rules
 from vodmejka.program import program_path
 
 FILE_BYTES, RULE_BYTES, LIST_FILES = 16_777_216, 67_108_864, 1_024
@@ -33,6 +33,10 @@ class Files(Room):
         more = self.blank("more.m", 1)
         self.assertEqual(self.told([name] * (RULE_BYTES // FILE_BYTES) + [more, "/dev/zero"]), f"refused file too long {more}")
 
+    def test_a_name_that_none_can_have(self):
+        with self.assertRaisesRegex(NotFound, "unreadable a"):
+            Rules(self.put("l.txt", "iliad\na\0b\n"), cache=self.room.name + "/cache")
+
     def test_too_many_files(self):
         self.assertEqual(self.told(["/dev/zero"] * (LIST_FILES + 1)), "refused too many files")
 
@@ -59,6 +63,27 @@ class Cache(Room):
                 self.assertEqual([self.kept(script), self.kept(script)], [2 + 2 * k + j] * 2)
         self.put_program("repo/m_tax", "# another one")
         self.assertEqual(self.kept(script), 6)
+
+    def test_a_code_file_that_cannot_be_read(self):
+        """As one that another user keeps: it is compiled anew."""
+        self.assertEqual(self.kept(None), 1)
+        (name,) = os.listdir(self.room.name + "/kept")
+        os.remove(f"{self.room.name}/kept/{name}")
+        os.mkdir(f"{self.room.name}/kept/{name}")
+        self.assertEqual(self.kept(None), 1)
+
+    def test_a_trial_of_the_sources(self):
+        """It replies when its input has ended, and takes no file that is only open here: both are told."""
+        script = self.put_program("repo/m_tax", '[ "$1" != batch ] || exit 70')
+        self.put("repo/crates.txt", "")
+        rules = Rules(self.list, cache=self.room.name + "/kept", program=script)
+        with self.assertRaisesRegex(Broken, "no sessions: ./build"):
+            rules.session()
+        with self.assertRaisesRegex(Interrupted, "./build makes the program"):
+            list(rules.batch([{}]))
+        self.put_program("repo/out/m_tax")
+        with rules.session() as session:
+            self.assertEqual(session.show()["IRN"], 0)
 
     def test_rules_that_change(self):
         self.assertEqual(self.kept(None), 1)

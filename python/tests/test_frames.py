@@ -1,8 +1,32 @@
-"""Tests with pandas, where it is there."""
+"""Tests with pandas, where it is there, and of what is done with its floats."""
+import struct
+import types
 import unittest
 
 from room import Room
 from vodmejka import Refused
+from vodmejka.rules import exact, narrow
+
+
+class Short(float):
+    """A float of 32 bits, which shows as few digits as tell it from others."""
+
+    def __str__(self):
+        return next(text for text in (f"{self:.{k}g}" for k in range(1, 18)) if struct.pack("f", float(text)) == struct.pack("f", self))
+
+
+class Floats(unittest.TestCase):
+    def test_short_floats_are_taken_as_they_are_shown(self):
+        """Pandas hands out 16777.1 of a column of 32 bits as the long float that it is."""
+        handed = struct.unpack("f", struct.pack("f", 16777.1))[0]
+        dtype = types.SimpleNamespace(kind="f", itemsize=4, type=Short)
+        for column in (dtype, types.SimpleNamespace(kind="f", itemsize=4, type=float, numpy_dtype=dtype)):
+            self.assertEqual(exact("1AJ", handed, narrow(column)), "16777.1")
+        self.assertEqual(exact("1AJ", handed), "16777.099609375")
+        self.assertEqual((exact("1AJ", 0.1), exact("1AJ", 3.0, Short)), ("0.1", 3))
+        for kind, size in (("f", 8), ("i", 4), ("O", 8), ("b", 1)):
+            self.assertIsNone(narrow(types.SimpleNamespace(kind=kind, itemsize=size, type=Short)))
+        self.assertIsNone(narrow(object()))
 
 
 class Frames(Room):
@@ -20,6 +44,8 @@ class Frames(Room):
         self.assertEqual(list(found.index), ["a", "b", "c"])
         self.assertEqual(list(found["IRN"]), [1501, 0, None])
         self.assertEqual(list(found["stop"]), [None, None, "failed 20 A20 anomalie"])
+        short = self.frame({"1AJ": [16777.1, 1000.3]}, dtype="float32")
+        self.assertEqual([str(value) for value in self.rules.batch(short)["IRN"]], ["15777.1", "0.3"])
 
     def test_frames_without_values(self):
         """The columns are those of what is asked for, whatever the households are told."""

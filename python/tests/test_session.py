@@ -20,6 +20,14 @@ class Sessions(Room):
                         session._child.wait()
                     session.set("1AJ", 5)
 
+    def test_letters_that_have_no_byte(self):
+        """They are the caller's fault, and the session goes on."""
+        with self.rules.session({"1AJ": 2500}) as session:
+            for words in (("1AJ", "5\u20ac"), ("1\u20acJ", 5)):
+                with self.assertRaises(ValueError):
+                    session.set(*words)
+            self.assertEqual(session.show()["IRN"], 1500)
+
     def test_sessions_side_by_side(self):
         """Each begins with its own household, also where the next one begins before the program has read it."""
         sessions = [self.rules.session({"1AJ": 1000 + k}) for k in range(20)]

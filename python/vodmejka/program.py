@@ -8,7 +8,7 @@ import os
 import shutil
 import subprocess
 from decimal import Decimal
-from typing import Mapping, Union
+from typing import Iterable, Mapping, Union
 
 from .errors import Broken, Interrupted, NotFound, Refused
 
@@ -39,6 +39,12 @@ def program_digest(program: str) -> str:
     return digest_of(*pieces)
 
 
+def is_trial(program: str) -> bool:
+    """Whether this is the script of a repository in which ./build has made no program: it runs a trial of the sources, which doesn't reply line by line."""
+    folder = os.path.dirname(os.path.realpath(program))
+    return os.path.exists(os.path.join(folder, "crates.txt")) and not os.access(os.path.join(folder, "out", "m_tax"), os.X_OK)
+
+
 def digest_of(*pieces: bytes) -> str:
     """A digest of pieces, each with its length."""
     made = hashlib.sha256()
@@ -63,7 +69,8 @@ def raise_for(text: bytes, status: int) -> None:
         raise Refused(line)
     if status == 3:
         raise NotFound(line)
-    raise Interrupted({4: "the output could not be written", 5: "out of memory"}.get(status, f"the program ended with status {status}"))
+    known = {4: "the output could not be written", 5: "out of memory", 70: "a trial of the sources can't do this: ./build makes the program, which can"}
+    raise Interrupted(known.get(status, f"the program ended with status {status}"))
 
 
 def spelled(code: str, amount: Amount) -> str:
@@ -79,8 +86,16 @@ def spelled(code: str, amount: Amount) -> str:
 
 def household_bytes(household: Mapping[str, Amount]) -> bytes:
     """A household as a file; a code whose amount is None is left out."""
-    out = io.StringIO(newline="")
-    writer = csv.writer(out, lineterminator="\n")
-    writer.writerow(["code", "amount"])
-    writer.writerows([code, spelled(code, amount)] for code, amount in household.items() if amount is not None)
-    return out.getvalue().encode(ENCODING)
+    rows = [[code, spelled(code, amount)] for code, amount in household.items() if amount is not None]
+    return csv_text([["code", "amount"], *rows]).encode(ENCODING)
+
+
+def csv_text(rows: Iterable[Iterable[object]]) -> str:
+    """Rows as csv. A carriage return in a field is quoted by every version of Python where lines end with one too."""
+    rows = list(rows)
+    for end in ("\n", "\r\n"):
+        out = io.StringIO(newline="")
+        csv.writer(out, lineterminator=end).writerows(rows)
+        if "\r" not in out.getvalue():
+            break
+    return out.getvalue()

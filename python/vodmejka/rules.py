@@ -1,6 +1,7 @@
 """A rule base that is ready to compute."""
 from __future__ import annotations
 
+import contextlib
 import itertools
 import os
 import re
@@ -11,7 +12,7 @@ from typing import Any, Iterable, Iterator
 from .answers import Answer, Form, answer_of
 from .batches import Batch
 from .errors import Broken, NotFound, Refused
-from .program import ENCODING, Amount, digest_of, household_bytes, program_digest, program_path, run, spelled
+from .program import ENCODING, Amount, digest_of, household_bytes, is_trial, program_digest, program_path, run, spelled
 from .session import Session
 from .tables import Household
 
@@ -25,7 +26,7 @@ def fetched(name: str, longest: int = FILE_BYTES) -> bytes:
     try:
         with open(name, "rb") as file:
             return file.read(longest + 1)
-    except OSError as fault:
+    except (OSError, ValueError) as fault:  # (a name with a zero byte is none)
         raise NotFound(f"unreadable {name}") from fault
 
 
@@ -104,6 +105,8 @@ class Rules:
         """A session that begins with a household; it is ended by `close`, or at the end of a `with`."""
         if not self._words:
             raise Broken("a session needs rules: a code file has no sources")
+        if is_trial(self.program):
+            raise Broken("a trial of the sources has no sessions: ./build makes the program, which has")
         return Session([self.program, "serve", *self._words, self._put_household(household or {})], self._room)
 
     def inputs(self) -> dict[str, str]:
@@ -159,14 +162,14 @@ class Rules:
         """The code file of the source, from the cache where it is there."""
         folder = cache or os.path.join(os.environ.get("XDG_CACHE_HOME") or os.path.expanduser("~/.cache"), "vodmejka")
         kept = os.path.join(folder, digest + ".code")
-        if not os.path.exists(kept):
+        try:
+            shutil.copyfile(kept, self._path("code"))
+        except OSError:  # it isn't there, or is another user's
             text, _ = self._run("compile", *self._words)
-            try:
+            self._put("code", text)
+            with contextlib.suppress(OSError):
                 os.makedirs(folder, exist_ok=True)
                 put_whole(kept, text)
-            except OSError:
-                return self._path(self._put("code", text))
-        shutil.copyfile(kept, self._path("code"))
         return self._path("code")
 
     def _answers(self, rows: Iterable[Household], at_once: int) -> Iterator[Answer]:
@@ -184,7 +187,11 @@ class Rules:
         codes = [str(column) for column in frame.columns]
         if len(set(codes)) < len(codes):
             raise Refused("refused household line 1: code twice")
-        households = ({code: None if pandas.isna(value) else exact(code, value) for code, value in zip(codes, row)} for row in frame.itertuples(index=False, name=None))
+        columns = list(zip(codes, map(narrow, frame.dtypes)))
+        households = (
+            {code: None if pandas.isna(value) else exact(code, value, shown) for (code, shown), value in zip(columns, row)}
+            for row in frame.itertuples(index=False, name=None)
+        )
         answers = list(self._answers(households, at_once))
         names = list(dict.fromkeys(self._outputs()))
         made = {name: [answer.values.get(name) for answer in answers] for name in names}
@@ -213,13 +220,20 @@ def lines_of(output: bytes) -> str:
     return output.decode(ENCODING)
 
 
-def exact(code: str, value: Any) -> Amount:
-    """A value of a frame as an amount: whole numbers of any kind, decimals and texts. A float is taken where it is whole, and else as it is shown."""
+def narrow(dtype: Any) -> Any:
+    """The type of the values of a column of short floats, which pandas hands out as long ones that show other digits; None of another column."""
+    dtype = getattr(dtype, "numpy_dtype", dtype)
+    return dtype.type if getattr(dtype, "kind", "") == "f" and dtype.itemsize < 8 else None
+
+
+def exact(code: str, value: Any, shown: Any = None) -> Amount:
+    """A value of a frame as an amount: whole numbers of any kind, decimals and texts. A float is taken where it is whole, and else as it is shown, as of the
+    type that is given."""
     if hasattr(value, "item"):
         value = value.item()
     if isinstance(value, bool):
         return int(value)
     if isinstance(value, float):
-        return int(value) if value.is_integer() else repr(value)
+        return int(value) if value.is_integer() else repr(value) if shown is None else str(shown(value))
     spelled(code, value)
     return value

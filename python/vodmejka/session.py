@@ -67,9 +67,10 @@ class Session:
         line = " ".join(words)
         if line.split() != list(words):
             raise ValueError(f"a code, a name and an amount are one word each: {line!r}")
+        raw = line.encode(ENCODING) + b"\n"  # (a letter without a byte is the caller's fault, and not the end of the session)
         assert self._child.stdin is not None
         try:
-            self._child.stdin.write(line.encode(ENCODING) + b"\n")
+            self._child.stdin.write(raw)
             self._child.stdin.flush()
         except (BrokenPipeError, ValueError) as fault:
             self._ended(b"", fault)

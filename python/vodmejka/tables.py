@@ -1,16 +1,14 @@
 """Tables of households, as the program reads them."""
 from __future__ import annotations
 
-import csv
 import graphlib
-import io
 import itertools
 import re
 from decimal import Decimal
 from typing import BinaryIO, Iterable, Mapping, Sequence
 
 from .answers import AMOUNTS, LABEL
-from .program import ENCODING, Amount, spelled
+from .program import ENCODING, Amount, csv_text, spelled
 
 Household = Mapping[str, Amount]
 MOST_FORMS = 1_000
@@ -125,16 +123,9 @@ def by_columns(households: Sequence[Household]) -> str:
     codes = list(dict.fromkeys(itertools.chain.from_iterable(households)))
     columns = [[household.get(code) for household in households] for code in codes]
     types = set(itertools.chain.from_iterable(map(set, (map(type, column) for column in columns))))
-    text = csv_text(["name", *codes], zip(itertools.repeat(LABEL, len(households)), *columns)) if types <= PLAIN else None
+    labels = [LABEL] * len(households)
+    text = csv_text([["name", *codes], *zip(labels, *columns)]) if types <= PLAIN else None
     if text is None or Decimal in types and WORDS.search(text, text.index("\n")):
         exact = [[None if amount is None else spelled(code, amount) for amount in column] for code, column in zip(codes, columns)]
-        text = csv_text(["name", *codes], zip(itertools.repeat(LABEL, len(households)), *exact))
+        text = csv_text([["name", *codes], *zip(labels, *exact)])
     return text
-
-
-def csv_text(head: list[str], rows: Iterable[Iterable[object]]) -> str:
-    out = io.StringIO(newline="")
-    writer = csv.writer(out, lineterminator="\n")
-    writer.writerow(head)
-    writer.writerows(rows)
-    return out.getvalue()

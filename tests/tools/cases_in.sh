@@ -9,6 +9,9 @@ printf 'household m\303\251ry\nIRN = 1\nhousehold \351\nIRN = 2\n' >labels
 "$ROOT/tools/cases-in" labels.csv labels | od -An -c
 sed 's/^.*ry$/household durand/' labels >other
 "$ROOT/tools/cases-in" labels.csv other
+printf 'name,1AJ\na,"1\r"\n' >return.csv
+printf 'household a\nIRN = 1\n' >return
+"$ROOT/tools/cases-in" return.csv return | od -An -c
 "$ROOT/tools/cases-in" --only 'T[1]' t.csv answers; echo "status $?"
 "$ROOT/tools/cases-in" --only X t.csv answers; echo "status $?"
 head -n 5 answers >few

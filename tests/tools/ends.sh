@@ -38,6 +38,10 @@ printf 'code,amount\n1BJ,3\n9ZZ,4\n' >fault.csv && draw fault.csv
 printf 'code,amount\n1BJ,3\n1CJ,\n' >fault.csv && draw fault.csv
 draw h.csv
 "$tools/marginal" a.list - h.csv 9ZZ 0 10 10 --of IRN --csv
+"$tools/marginal" a.list - h.csv 1€é 0 10 10 --of IRN --csv
+"$tools/marginal" a.list - h.csv 1AJ -2000000 2000000 4000000 --of IRN --csv
+for range in '0 0.5 0.1' '0 30000 500' '-2.5 0 0.5'; do "$tools/marginal" a.list - h.csv 1AJ $range --of IRN | sed -n 's/.*middle">\(.*\)<.text>/\1/p' | tr '\n' ' '; done
+echo
 : >killed && draw h.csv
 rm killed fault.csv
 echo "-- variant: cells by their whole names, numbers of any length"
@@ -83,6 +87,18 @@ ln -s h.csv link.csv
 echo "status $?"
 "$tools/why" a.list h.csv K --html a.m
 echo "status $?"
+mkfifo page/fifo
+"$tools/why" a.list h.csv K --html page/fifo
+echo "status $?"
+ls -l page/fifo | cut -c 1
+rm page/fifo
+echo "-- why: of a program that is killed the status is told, and not what it printed"
+stand_in 'echo "K = 2"; kill -9 $$'
+"$tools/why" a.list h.csv K
+echo "status $?"
+stand_in 'case $1 in run) echo "K = 2" ;; check) echo sound; kill -9 $$ ;; esac'
+"$tools/why" a.list h.csv K
+echo "status $?"
 echo "-- why: a description in UTF-8, and one in Latin-1; an index of any length"
 printf 'iliad\nd.m\n' >d.list
 printf 'K : calculee : "l\303\251" ;\nT : tableau[3] calculee : "\351" ;\nregle 1 : application : iliad ;\nK = T[%05000d] ;\n' 2 >d.m
@@ -92,3 +108,31 @@ rm d.list d.m
 stand_in 'case $1 in run) echo "K = 2" ;; check) echo sound ;; esac'
 (ulimit -f 1; "$tools/why" a.list h.csv K --html page/L.html 2>&1; echo "status $?") | cat
 ls -A . page
+echo "-- messages that can't be written leave the status as it is; a fault of a tool is no answer"
+stand_in 'echo "refused a.m line 1 byte 0: syntax"; exit 1'
+"$tools/same" a.list - a.list - - 2>/dev/full
+echo "status $?"
+"$tools/slips" nowhere.list 2>/dev/full
+echo "status $?"
+python3 -B -c "import sys; sys.argv, sys.path[0] = ['tool'], '$tools'; import m_source; m_source.end(lambda: 1 // 0)"
+echo "status $?"
+echo "-- a folder for temporary files without room is named"
+{ cat a.m; head -c 4000 /dev/zero | tr '\0' '#'; } >long.m
+printf 'iliad\nlong.m\n' >long.list
+mkdir temporary
+(ulimit -f 2; TMPDIR=$PWD/temporary "$tools/scale" source long.list - -; echo "status $?") 2>&1 | sed 's|: /.*/|: ../|'
+(ulimit -f 2; TMPDIR=$PWD/temporary "$tools/why" long.list h.csv K; echo "status $?") 2>&1 | sed 's|: /.*/|: ../|'
+ls temporary
+rm long.m long.list
+echo "-- signals of all kinds: what runs ends, and no temporary files stay"
+stand_in 'echo $$ >"$(dirname "$0")/child"; exec sleep 20'
+for signal in QUIT USR1 XCPU; do
+    TMPDIR=$PWD/temporary env --default-signal=QUIT "$tools/marginal" a.list - h.csv 1AJ 0 10 10 --of IRN &
+    while [ ! -s child ]; do sleep 0.05; done
+    kill -s $signal $!
+    wait $!
+    echo "status $?"
+    ! kill -0 "$(cat child)" 2>/dev/null || echo "still there"
+    rm child
+done
+ls temporary

@@ -5,7 +5,7 @@ printf '#!/bin/sh\necho "no form"\n' >"$wrong"
 chmod +x wrong
 fuzz() { "$ROOT/tests/fuzz" "$@" 2>&1; }
 kept() { ls -d "$ROOT"/out/fuzz/999_* 2>/dev/null | sed 's,.*/,,' | sort -t_ -k2n | tr '\n' ' '; echo "kept"; }
-for words in "" "x" "1 x" "1 2 3 4" "1 --from" "1 --from -1" "--from 1" "1 --from 1 --from 1"; do
+for words in "" "x" "0" "1 x" "1 2 3 4" "1 --from" "1 --from -1" "--from 1" "1 --from 1 --from 1"; do
     fuzz $words >said; echo "$words: status $?: $(cat said)"
 done
 fuzz 1 1 no/program >said; echo "status $?: $(sed "s,$PWD/,," said)"

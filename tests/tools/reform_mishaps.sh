@@ -25,6 +25,17 @@ printf 'name,1AJ,poids,\303\242ge\n"a ""x"",\303\251",10,1,40\nb,20,1,30\nc,30,2
 "$reform" before.list after.list - - t.csv --of IRN --weight poids --by âge --into one && cat one/households.csv && cut -d, -f1-4 one/summary.csv
 printf 'name,1AJ\na,10\nb,20\n' >short.csv
 "$reform" before.list after.list - - short.csv --of IRN --by ORD --into two && cut -d, -f1-4 two/summary.csv | grep -v ',0,0,0'
+printf '\357\273\277"name","1AJ"\r\n"a",10\r\n' >marked.csv
+"$reform" before.list after.list - - marked.csv --of IRN --into marked && cat marked/households.csv
+"$reform" before.list after.list - - marked.csv --of IRN --into full >/dev/full
+echo "status $?"
+printf 'name,1AJ\na,"10\r"\n' >return.csv
+echo 'cp "$5" "$here/seen"' >behind
+"$reform" before.list after.list - - return.csv --of IRN --into return >/dev/null
+rm behind
+od -An -c seen
+printf 'name,1AJ,poids\na,0.00125,0.0002\nb,-0.00125,0.0002\n' >halves.csv
+"$reform" before.list after.list - - halves.csv --of IRN --weight poids --by IRN --into halves >/dev/null && grep 'tenth [16]' halves/summary.csv
 echo "-- refused: a name that no column and no request has; weights that are none; a head that isn't closed"
 "$reform" before.list after.list - - short.csv --of IRN --by 0RD --into other
 echo "status $?"

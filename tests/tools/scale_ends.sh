@@ -58,6 +58,20 @@ wait $!
 echo "status $?"
 rm slow
 "$scale" one parts 1 a.list - -
+echo "-- Python that starts processes otherwise, as from 3.14 on"
+cat >otherwise.py <<'END2'
+import multiprocessing
+import os
+import runpy
+import sys
+
+multiprocessing.set_start_method("forkserver")
+sys.argv, sys.path[0] = sys.argv[1:], os.path.dirname(sys.argv[1])
+runpy.run_path(sys.argv[0], run_name="__main__")
+END2
+"$scale" drop parts
+python3 -B otherwise.py "$scale" run parts a.list - - && python3 -B otherwise.py "$scale" join parts | tr '\n' ' '
+echo
 echo "-- what the user keeps from others stays so"
 umask 077
 rm -r parts

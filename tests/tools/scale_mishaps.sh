@@ -64,6 +64,9 @@ sleep 1.3
 "$scale" join parts | tr '\n' ' '
 echo
 ls wrote 2>/dev/null
+ls parts | grep -c 'new$'
+"$scale" drop parts
+ls parts | grep -c 'new$'
 rm before
 echo "-- ended by a signal: the batch ends with it"
 "$scale" drop parts >/dev/null
@@ -100,6 +103,17 @@ printf 'household %s\n' "$label"
 printf 'I%s = 1\n' "$label" | tr a-c A-C
 END
 rm -r parts && "$scale" cut table.csv parts --rows 1 && M_TAX=$PWD/odd "$scale" run parts a.list - - && "$scale" join parts
+echo "-- a part that is lost"
+rm -r parts && "$scale" cut table.csv parts --rows 1 && rm parts/part-000002.csv && "$scale" run parts a.list - -
+echo "-- a list, a driver and requests through pipes, which can be read but once"
+mkfifo pipe
+printf 'IRN\n' >asked
+for words in 'pipe - -:a.list' 'a.list pipe -:a.m' 'a.list - pipe:asked'; do
+    cat "${words#*:}" >pipe &
+    "$scale" source ${words%:*} >by_pipe
+    "$scale" source $(echo "${words%:*}" | sed "s/pipe/${words#*:}/") | cmp - by_pipe && echo "the same"
+done
+rm pipe by_pipe asked
 echo "-- a part that was changed"
 rm -r parts && "$scale" cut table.csv parts --rows 1 && printf 'name,1AJ\na,9\n' >parts/part-000001.csv && "$scale" run parts a.list - -
 echo "-- carriage returns, quotes over lines, a mark, blank lines"
@@ -111,6 +125,12 @@ printf 'b,2\rc,3\r' | "$scale" pipe name,1AJ a.list - - | tr '\n' ' '
 echo
 printf 'b,2\n' | "$scale" pipe --of "$("$scale" source a.list - -)" name,1AJ a.list - - | tr '\n' ' '
 printf 'b,2\n' | "$scale" pipe --of 0123 name,1AJ a.list - -
+echo "-- rows of a pipe that are refused are told by their numbers there"
+printf '%s\n' '#!/bin/sh' 'echo "refused household line 3: bad amount"; exit 1' >odd
+chmod +x odd
+printf 'b,2\nc,x\n' | M_TAX=$PWD/odd "$scale" pipe name,1AJ a.list - -
+printf '%s\n' '#!/bin/sh' 'echo "household b"; echo "IRN = 1"' >odd
+printf 'b,2\nc,3\n' | M_TAX=$PWD/odd "$scale" pipe name,1AJ a.list - -
 echo "-- a label that begins as a mark does is no mark where the first line is a word"
 printf '\357\273\277b,2\n' | "$scale" pipe name,1AJ a.list - - | od -An -c
 echo "-- numbers that are spelled otherwise, a folder whose table is none"

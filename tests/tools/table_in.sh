@@ -14,6 +14,11 @@ printf 'sep=;\r\nn;1AJ\r\nd;2\r\n' | "$in" -
 printf '\357\273\277Code;Montant\r\n1AJ;1 000,5\r\n1BJ;\r\n\r\n1CJ;-3\r\n' | "$in" -
 printf 'Code;1AJ\r\n75;3\r\n' | "$in" --table -
 printf 'case;montant;\r\n1AJ;3;\r\n' | "$in" --household -
+printf '1AJ;5\n1BJ;6\n' | "$in" --household -
+echo "status $?"
+printf 'REV;5\n1BJ;6\n' | "$in" --household -
+printf 'CODE;2023\n1AJ;5\n' | "$in" -
+printf 'case;2023\n1AJ;5\n' | "$in" --household -
 # Only the codes of a list.
 printf 'Foyer;1AJ;Commune\r\nd;5;Lyon\r\n' >more.csv
 (cd "$ROOT" && tools/table-in --list examples/first/rules.list --leave Commune "$OLDPWD/more.csv")
@@ -44,6 +49,8 @@ done
 printf 'name,1AJ\nd,45.000\n' | "$in" -
 printf 'Foyer;1AJ\rd, e, f;5\rg;6\r' | "$in" -
 "$in" --leave 2>/dev/null
+echo "status $?"
+"$in" --table --household more.csv 2>/dev/null
 echo "status $?"
 awk 'BEGIN {print "n;1AJ"; for (k = 0; k < 9999; k++) print "d;1"}' | "$in" - | head -n 1
 # A label with a byte that Windows' Latin-1 has not, which stays; closed inputs and outputs.

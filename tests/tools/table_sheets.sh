@@ -57,6 +57,18 @@ xlsx("wide.xlsx", [HEADS + "".join(f'<row r="{k}"><c r="A{k}"><v>1</v></c><c r="
 xlsx("brackets.xlsx", [GOOD], form="[" * 200000)
 open("cut.xlsx", "wb").write(open("good.xlsx", "rb").read()[:400])
 open("old.xls", "wb").write(b"\xd0\xcf\x11\xe0\xa1\xb1\x1a\xe1" + bytes(100))
+xlsx("hours.xlsx", [HEADS + "<row r='2'><c r='A2'><v>1</v></c><c r='B2' s='1'><v>1.5</v></c></row>"], form="[hh]")
+xlsx("colour.xlsx", [HEADS + "<row r='2'><c r='A2'><v>1</v></c><c r='B2' s='1'><v>1.5</v></c></row>"], form="[Red]0.00")
+# Numbers that no spreadsheet writes: of a text, of a column, of a format, of a value, of rows and cells.
+odd = {"shared": "<c r='A2' t='s'><v>-1</v></c>", "column": "<c r='a2'><v>1</v></c>", "style": "<c r='A2' s='-1'><v>1</v></c>", "digits": "<c r='A2'><v>1</v></c><c r='B2'><v>1_0</v></c>"}
+for name, cells in odd.items():
+    xlsx(f"{name}.xlsx", [HEADS + f'<row r="2">{cells}</row>'])
+xlsx("row_twice.xlsx", [HEADS + "<row r='2'><c r='A2'><v>1</v></c><c r='B2'><v>2</v></c></row>" * 2])
+ods("repeated.ods", [HEAD + row(cell("d"), '<table:table-cell office:value-type="float" office:value="7" table:number-columns-repeated="-1"/>', number("8"))])
+with zipfile.ZipFile("name.ods", "w") as out:
+    out.writestr("content\u00e9.xml", "<a/>")
+whole = open("name.ods", "rb").read().replace("\u00e9".encode(), b"\xe9\xe9")
+open("name.ods", "wb").write(whole)
 # Damaged within: a piece that begins as no packed piece does, and one that is packed in another way.
 for name, how in (("packed.ods", zipfile.ZIP_DEFLATED), ("other.ods", zipfile.ZIP_BZIP2)):
     with zipfile.ZipFile(name, "w", how) as out:
@@ -66,7 +78,8 @@ for name, how in (("packed.ods", zipfile.ZIP_DEFLATED), ("other.ods", zipfile.ZI
     open(name, "wb").write(whole)
 END
 python3 make.py
-for name in good.xlsx two.xlsx formula.xlsx date.xlsx percent.xlsx error.xlsx truth.xlsx text.xlsx head.xlsx merged.xlsx empty.xlsx cut.xlsx old.xls good.ods household.ods covered.ods date.ods packed.ods other.ods blanks.ods deep.ods many.ods wide.xlsx brackets.xlsx; do
+for name in good.xlsx two.xlsx formula.xlsx date.xlsx percent.xlsx error.xlsx truth.xlsx text.xlsx head.xlsx merged.xlsx empty.xlsx cut.xlsx old.xls good.ods household.ods covered.ods date.ods packed.ods other.ods blanks.ods deep.ods many.ods wide.xlsx brackets.xlsx hours.xlsx colour.xlsx \
+    shared.xlsx column.xlsx style.xlsx digits.xlsx row_twice.xlsx repeated.ods name.ods; do
     "$in" $name
     echo "status $?"
 done
