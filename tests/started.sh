@@ -104,8 +104,16 @@ row 0 "household dupont
 IRN = 1500.5
 household martin
 IRN = -1000" batch $list - - examples/first/table.csv
+printf 'name,A01,A02,B01,7UD,0NB\nmartin,30000,1500.5,20000,500,2\n' >"$dir/impots.csv"
+row 0 "household martin
+IRNET = 2135
+MARG = 0.1
+AVANT = 2635
+GAIN = 500" batch $impots/rules.list $impots/driver.mpp - "$dir/impots.csv"
 row 0 "large 3
 T2 = 994" large 3
+row 0 "large 100000
+T99999 = 159960000" large 100000
 
 # A table of cases that is computed in two windows, the first of 8,192 rows: an expectation in the first row of the second one isn't met.
 awk 'BEGIN { print "name,1AJ,=IRN"; for (k = 0; k < 8194; k++) print "h" k "," k "," (k == 8192 ? 0 : k - 1000) }' >"$dir/cases.csv"
@@ -189,6 +197,12 @@ row 1 "refused file too long /dev/zero" run $list - - /dev/zero
 
 # A session replies to a line before it takes the next: each reply is read here before another line is typed.
 if [ $way = built ]; then
+    printf 'show\n' | "$program" serve $impots/rules.list $impots/driver.mpp - $impots/household.csv >"$dir/out" 2>"$dir/err"
+    judge "$?" 0 "IRNET = 2135
+MARG = 0.1
+AVANT = 2635
+GAIN = 500
+." "serve, the rules with a driver"
     mkfifo "$dir/typed" "$dir/replied"
     "$program" serve $list - - $household <"$dir/typed" >"$dir/replied" 2>"$dir/err" &
     exec 3>"$dir/typed" 4<"$dir/replied"
