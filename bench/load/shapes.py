@@ -372,6 +372,13 @@ def _(n):
     return case([ONE, RULE, "A = ", *many(f"somme({header}: ", n), "1", ")" * n, " ;"], "A = 1\n")
 
 
+@shape("250 sums of one instance in one another, in each instance of a formula", 10_000)
+def _(n):
+    front = f"pour i=1..{n}: "
+    place = len(ONE) + len(RULE) + len(front)
+    return case([ONE, RULE, front, "Bi = ", "somme(k=1;l=1: " * 250, "1", ")" * 250, " ;"], refused("unknown name B1", line=3, byte=place), 1)
+
+
 @shape("pour headers of one letter", 200_000, stacks=DEEP)
 def _(n):
     return case(['A1 : calculee restituee : "" ;\n', RULE, *many("pour i=1:", n), "Ai = 1 ;"], "A1 = 1\n")
