@@ -4,9 +4,9 @@
 FIGURES are those that bench/gate/measure.py wrote (seconds of processors for each crate's check, tests and edits); one may change them by hand to see
 what a change would bring. PROCESSORS are 4, MEMORY is 19.5 GB (0.85 of what is free) and CLOCK 1.05 seconds by the clock for one of a processor, if they
 aren't named. As `rt ci`, it does first what has the longest chain of lines above it, then tests, and edits last; each starts once a processor is free and
-the memory that it may need (`need` of rt), and none is interrupted. Prints the minutes, those of processors that are never idle, those
-that processors were idle for want of memory, and what ran for over a minute in the last third. It reads the kit's command `rt`, of which it knows two forms: one tries the
-edits of a crate side by side, and the other in turn. In a kit of another form it ends with Python's error.
+the memory that it may need (`need` of rt), and none is interrupted. Prints the minutes, those of processors that are never idle, those that processors
+were idle for want of memory, and what ran for over a minute in the last third. It reads the kit's command `rt`, of which it knows two forms: one tries
+the edits of a crate side by side, and the other in turn. In a kit of another form it ends with Python's error.
 """
 import importlib.machinery
 import importlib.util
