@@ -70,7 +70,7 @@ pub(crate) fn other_at(alloc: Global, row: &str) -> Fail {
 /// The base and the formula of its rule.
 pub(crate) fn whole_rules(alloc: Global) -> Vec<u8> {
     let mut rules = copied(alloc, base());
-    let _formula = rules.extend_from_slice(b"IRN = REV - SEUIL ;\n");
+    let _formula = rules.extend_from_slice(b"IRN = max(0, REV - SEUIL) ;\n");
     rules
 }
 

@@ -14,8 +14,8 @@ static FRONTS: [(usize, &str); 13] = [
     (72, ""),
     (104, "IRN undefined\n"),
     (105, "IRN undefined\n"),
-    (157, "IRN = -1000\n"),
-    (158, "IRN = -1000\n"),
+    (165, "IRN = 0\n"),
+    (166, "IRN = 0\n"),
     // within a text
     (44, "refused a.m line 1 byte 43: open string\n"),
     (45, "refused a.m line 1 byte 43: open string\n"),
@@ -29,7 +29,7 @@ static ITEMS: [(usize, &str); 4] = [
     (48, "refused a.m line 1 byte 0: syntax\n"),
     (71, "refused a.m line 2 byte 49: syntax\n"),
     (104, "refused a.m line 3 byte 72: syntax\n"),
-    (157, "refused a.m line 4 byte 105: syntax\n"),
+    (165, "refused a.m line 4 byte 105: syntax\n"),
 ];
 
 /// What the first so many bytes of the rules of `prefixes` print without rows.
@@ -71,7 +71,7 @@ fn is_prefix<R: Threads + Sync>(rt: &R, alloc: Global, whole: &[u8], bytes: usiz
 
 /// The first number of bytes of the rules that prints anything else.
 fn first_other<R: Threads + Sync>(rt: &R, alloc: Global, whole: &[u8]) -> Option<usize> {
-    for bytes in 0..159 {
+    for bytes in 0..167 {
         if !is_prefix(rt, alloc, whole, bytes) {
             return Some(bytes);
         }
@@ -82,6 +82,6 @@ fn first_other<R: Threads + Sync>(rt: &R, alloc: Global, whole: &[u8]) -> Option
 #[test]
 fn prefixes(rt: HostRuntime) {
     let whole = whole_rules(rt.alloc());
-    assert!(rt; whole.len() == 158);
+    assert!(rt; whole.len() == 166);
     assert!(rt; first_other(&rt, rt.alloc(), &whole).is_none());
 }
