@@ -198,10 +198,12 @@ is-form bytes rest behind slots loaded code is k r all right text e none =
     let instrs : code.instrs ≡ loaded.code.instrs = sym (ap (λ l. l.instrs) is) in
     record {
       printable = printable-face slots loaded.face r;
-      slots = subst IsShort counts r.slots_fit;
-      labels = (printable-labels loaded.face.labels r.right_labels).1;
-      outputs = (printable-outputs loaded.face.outputs r.right_outputs).1;
-      instrs = subst (AllByRecursion IsInstr) instrs all;
+      fits = record {
+        slots = subst IsShort counts r.slots_fit;
+        labels = (printable-labels loaded.face.labels r.right_labels).1;
+        outputs = (printable-outputs loaded.face.outputs r.right_outputs).1;
+        instrs = subst (AllByRecursion IsInstr) instrs all;
+      };
       right = ap code_fault is ∙ right;
       text = text ∙ ap (text_so_far slots loaded.face code.instrs) (e ∙ ap (λ l. codes "end\n" ++ l) none) ∙ (λ j. text_so_far (counts j) loaded.face (instrs j) (codes "end\n"));
     }

@@ -203,14 +203,14 @@ form-due bytes loaded form =
       tt,
       refl,
       (
-        form.slots,
+        form.fits.slots,
         refl,
         due-inputs slots [] face.inputs _ form.printable.inputs (apart-distinct (codes_of face.inputs) form.printable.apart)
-            (due-labels slots face.inputs [] face.labels _ form.printable.labels form.labels
-            (due-outputs slots face.inputs face.labels [] face.outputs _ form.printable.outputs form.outputs face.notes (
+            (due-labels slots face.inputs [] face.labels _ form.printable.labels form.fits.labels
+            (due-outputs slots face.inputs face.labels [] face.outputs _ form.printable.outputs form.fits.outputs face.notes (
               tt,
               refl,
-              due-instrs slots face.inputs face.labels face.outputs [] loaded.code.instrs (code_end ∷ []) form.instrs
+              due-instrs slots face.inputs face.labels face.outputs [] loaded.code.instrs (code_end ∷ []) form.fits.instrs
                   (read-from counts (start (length face.outputs)) 0 loaded.code.instrs right)
                   (tt, ap is_none right, tt),
             ))),

@@ -3,6 +3,7 @@ pub mod CutLemmas
 pub mod EndLemmas
 pub mod EntryLaws
 pub mod FaceLemmas
+pub mod FitLemmas
 pub mod FormLaws
 pub mod FrontLemmas
 pub mod InstrCompletes

@@ -170,12 +170,17 @@ IsCodeFault bytes Memory = Unit {0}
 
 -- ---- the form
 
--- A text is the form of code with a face: the face is printable, nothing is wrong with the code, numbers fit, and it is their text.
-pub record IsFormOf (bytes : List ℕ) (loaded : Loaded) : Type 0 where
-  pub printable : IsPrintable loaded.face
+-- The numbers of code and its face fit a code file: those of slots, driver lines, labels and instructions 32 bits, registers 16, and texts consist of
+-- bytes. Each loaded code has it, since the types of the program keep that.
+pub record Fits (loaded : Loaded) : Type 0 where
   pub slots : IsShort loaded.code.counts.slots
   pub labels : AllByRecursion IsFittingLabel loaded.face.labels
   pub outputs : AllByRecursion IsFittingOutput loaded.face.outputs
   pub instrs : AllByRecursion IsInstr loaded.code.instrs
+
+-- A text is the form of code with a face: the face is printable, numbers fit, nothing is wrong with the code, and it is their text.
+pub record IsFormOf (bytes : List ℕ) (loaded : Loaded) : Type 0 where
+  pub printable : IsPrintable loaded.face
+  pub fits : Fits loaded
   pub right : code_fault loaded.code ≡ None
   pub text : bytes ≡ text_with loaded.code loaded.face

@@ -7,6 +7,7 @@ mod cut;
 mod face_lines;
 mod face_words;
 mod fault;
+mod fits;
 mod instr_lines;
 mod laws;
 mod loaded;

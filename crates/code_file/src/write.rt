@@ -2,9 +2,12 @@
 ghost use Rattle.std.specs.Prelude.{◌++◌, codes};
 ghost use Rattle.text_pieces.specs.Giving.{Gives};
 ghost use Rattle.code_file.specs.Loading.{text_with};
+ghost use Rattle.code_file.specs.Printable.{IsPrintable};
+ghost use Rattle.code_file.specs.Reading.{IsFormOf};
 ghost use Rattle.code_file.specs.Text.{lines, slots_line, input_line, label_line, output_line, instr_line};
 
 use crate::face_lines::{give_inputs, give_labels, give_outputs, give_slots};
+use crate::fits::fits;
 use crate::instr_lines::give_instrs;
 use crate::loaded::Loaded;
 use m_ports::{Failed, Sink};
@@ -12,7 +15,18 @@ use reg_machine::Code;
 use text_pieces::give_pieces;
 
 /// Writes the text of code with its face. On a failure a prefix of the text was appended. It takes no memory.
+///
+/// Where the face is printable the text is the form of the code, so `read_code` gives this code with this face of it. Whether the
+/// write failed or not, this is so of the whole text.
 pub fn write_code<K: Sink>(loaded: &Loaded, out: &mut K) -> Result<(), Failed>
+    ensures text { Gives K.written K.faults out.old out.new result (text_with loaded.now.code loaded.now.face) }
+    ensures form { IsPrintable loaded.now.face → IsFormOf (text_with loaded.now.code loaded.now.face) loaded.now }
+{
+    fits(loaded);
+    write_text(loaded, out)
+}
+
+fn write_text<K: Sink>(loaded: &Loaded, out: &mut K) -> Result<(), Failed>
     ensures { Gives K.written K.faults out.old out.new result (text_with loaded.now.code loaded.now.face) }
 {
     give_pieces(out, &[b"mcode 1\n"])?;
