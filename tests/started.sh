@@ -321,5 +321,32 @@ m_tax: the trial can't take the list $dir/pipe, which is no plain file; ./build 
 judge "$?" 70 "" "a file that the shell opened, in a trial" "$trial
 m_tax: the trial can't take the file /dev/fd/9; ./build proves and builds the program, which can"
 
+# A trial whose script is ended, however that is done, ends what it started, and leaves nothing.
+mkdir "$dir/bin" "$dir/tmp"
+cat >"$dir/bin/rt" <<END
+#!/bin/sh
+trap 'kill "\$!"; : >"$dir/ended"; exit 143' TERM
+sleep 60 &
+: >"$dir/begun"
+wait
+END
+chmod +x "$dir/bin/rt"
+for signal in TERM KILL; do
+    rm -f "$dir/begun" "$dir/ended"
+    PATH=$dir/bin:$PATH TMPDIR=$dir/tmp "$dir/bare/m_tax" run $list - - $household >"$dir/out" 2>/dev/null &
+    tries=0
+    until [ -e "$dir/begun" ] || [ $tries -eq 100 ]; do sleep 0.1 && tries=$((tries + 1)); done
+    kill -$signal $! && wait $! 2>/dev/null
+    until [ -e "$dir/ended" ] && [ -z "$(ls -A "$dir/tmp")" ] || [ $tries -eq 200 ]; do sleep 0.1 && tries=$((tries + 1)); done
+    if [ -e "$dir/ended" ]; then ls -A "$dir/tmp"; else echo "rt goes on"; fi >"$dir/err"
+    : >"$dir/out"
+    judge 0 0 "" "a trial that SIG$signal ends"
+done
+
+# Where the input of a session is closed, a trial doesn't take it for an empty one.
+"$dir/bare/m_tax" serve $list - - $household >"$dir/out" 2>"$dir/err" <&-
+judge "$?" 70 "" "a closed input, in a trial" "$trial
+m_tax: the input is closed; ./build proves and builds the program, which can"
+
 echo "started: $way: $passed rows passed, $failed failed"
 [ "$failed" -eq 0 ]

@@ -1,6 +1,7 @@
 """Tests of the files that rules are made of, and of the code files that are kept."""
 import os
 import unittest
+import unittest.mock
 
 from room import Room
 from test_vodmejka import RULES
@@ -84,6 +85,26 @@ class Cache(Room):
         self.put_program("repo/out/m_tax")
         with rules.session() as session:
             self.assertEqual(session.show()["IRN"], 0)
+
+    def test_a_program_that_is_named_and_is_not_there(self):
+        """Another one would compute something else."""
+        with self.assertRaisesRegex(Broken, "no program .*/gone"):
+            self.kept(self.room.name + "/gone")
+        before = os.environ.get("M_TAX")
+        os.environ["M_TAX"] = self.room.name
+        self.addCleanup(lambda: os.environ.pop("M_TAX") if before is None else os.environ.update(M_TAX=before))
+        with self.assertRaisesRegex(Broken, f"no program {self.room.name}"):
+            self.kept(None)
+
+    def test_a_user_without_a_home(self):
+        """There is no folder that is named ~ then."""
+        here = os.getcwd()
+        os.chdir(self.room.name)
+        self.addCleanup(os.chdir, here)
+        with unittest.mock.patch.dict(os.environ, {"XDG_CACHE_HOME": ""}), unittest.mock.patch("os.path.expanduser", lambda path: path):
+            before = os.listdir()
+            self.assertEqual(Rules(self.list, program=os.path.join(here, program_path())).run({"1AJ": 2500})["IRN"], 1500)
+            self.assertEqual(os.listdir(), before)
 
     def test_rules_that_change(self):
         self.assertEqual(self.kept(None), 1)

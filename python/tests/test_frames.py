@@ -24,6 +24,7 @@ class Floats(unittest.TestCase):
             self.assertEqual(exact("1AJ", handed, narrow(column)), "16777.1")
         self.assertEqual(exact("1AJ", handed), "16777.099609375")
         self.assertEqual((exact("1AJ", 0.1), exact("1AJ", 3.0, Short)), ("0.1", 3))
+        self.assertEqual((exact("1AJ", 0.00001), exact("1AJ", -2.5e-05, Short)), ("0.00001", "-0.000025"))
         for kind, size in (("f", 8), ("i", 4), ("O", 8), ("b", 1)):
             self.assertIsNone(narrow(types.SimpleNamespace(kind=kind, itemsize=size, type=Short)))
         self.assertIsNone(narrow(object()))

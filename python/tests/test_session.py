@@ -2,12 +2,43 @@
 import concurrent.futures
 import gc
 import os
+import signal
+import subprocess
+import sys
 import threading
 import unittest
 
+import vodmejka
 from room import Room
-from vodmejka import Interrupted, Refused
+from vodmejka import Broken, Interrupted, Refused
 from vodmejka.session import Session
+
+# Rules in a process that forks: each child computes its own household, one ends as a script does, and the sessions that stood before end when they are closed.
+FORKS = """
+import os, sys
+from vodmejka import Rules
+rules = Rules(sys.argv[1], cache=sys.argv[1] + ".cache")
+session = rules.session({"1AJ": 2500})
+session.show()
+children = []
+for k in range(1, 7):
+    child = os.fork()
+    if child == 0:
+        wrong = [n for n in range(10) if rules.run({"1AJ": 1000 * k + n})["IRN"] != 1000 * (k - 1) + n]
+        if k == 6:
+            sys.exit(len(wrong))
+        if k == 5:
+            session.close()
+        os._exit(len(wrong))
+    children.append(child)
+print([os.waitstatus_to_exitcode(os.waitpid(child, 0)[1]) for child in children], rules.run({"1AJ": 1007})["IRN"], session.show()["IRN"])
+child = os.fork()
+if child == 0:
+    sys.stdin.read()
+    os._exit(0)
+session.close()
+print("closed")
+"""
 
 
 class Sessions(Room):
@@ -34,6 +65,42 @@ class Sessions(Room):
         for k, session in enumerate(sessions):
             self.assertEqual(session.show()["IRN"], k)
             session.close()
+
+    def test_processes_that_are_forked(self):
+        """No two of them share a household's file, none takes the folder of the others with it, and none keeps a session from being closed."""
+        words = [sys.executable, "-c", FORKS, self.list]
+        env = {**os.environ, "PYTHONPATH": os.path.dirname(os.path.dirname(vodmejka.__file__))}
+        with subprocess.Popen(words, env=env, stdin=subprocess.PIPE, stdout=subprocess.PIPE, text=True) as child:
+            told = [child.stdout.readline(), child.stdout.readline()]
+            child.stdin.close()
+        self.assertEqual(told, ["[0, 0, 0, 0, 0, 0] 7 1500\n", "closed\n"])
+
+    def test_a_reply_that_is_broken_off(self):
+        """As by an alarm: what is left of it is no reply to the next line, and the session has ended."""
+        def late(_number, _frame):
+            raise TimeoutError
+
+        before = signal.signal(signal.SIGALRM, late)
+        self.addCleanup(signal.signal, signal.SIGALRM, before)
+        words = "while read line; do echo 'IRN = 1'; sleep 0.5; echo .; done"
+        session = Session(["/bin/sh", "-c", words, "household.csv"], self.room)
+        signal.setitimer(signal.ITIMER_REAL, 0.2)
+        with self.assertRaises(TimeoutError):
+            session.show()
+        for words in ((session.show,), (session.set, "1AJ", 5)):
+            with self.assertRaises(Interrupted):
+                words[0](*words[1:])
+        session.close()
+
+    def test_a_program_that_is_gone(self):
+        """It is told as that, and the household is dropped."""
+        rules = self.rules_by("false;")
+        before = os.listdir(rules._room.name)
+        os.remove(rules.program)
+        for work in (lambda: rules.run({}), rules.session, lambda: list(rules.batch([{}]))):
+            with self.assertRaisesRegex(Broken, "can't be started: .*No such file"):
+                work()
+        self.assertEqual(os.listdir(rules._room.name), before)
 
     def test_rules_that_nobody_holds(self):
         with self.rules_by().session({"1AJ": 2500}) as session:
@@ -76,7 +143,7 @@ class Sessions(Room):
 
     def test_a_reply_of_which_nobody_reads_the_rest(self):
         session = Session(["/bin/sh", "-c", "read line; yes 'IRN = 1' | head -n 1000000", "household.csv"], self.room)
-        session._say("show")
+        session._say(b"show\n")
         self.assertEqual(session._line(), "IRN = 1")
         closing = threading.Thread(target=session.close, daemon=True)
         closing.start()

@@ -45,6 +45,7 @@ class Package(unittest.TestCase):
         self.assertEqual(self.rules.run({}).values, {"IRN": Decimal(0), "C": None})
         self.assertIs(self.rules.run({"1AJ": "10000000"})["C"], OVER)
         self.assertEqual(self.rules.run({"1AJ": None}), self.rules.run({}))
+        self.assertEqual([answer.values for answer in self.rules.batch([{"1AJ": ""}, {}])], [self.rules.run({"1AJ": ""}).values] * 2)
 
     def test_stops_and_notes(self):
         stop = self.rules.run({"1AJ": -1}).stop

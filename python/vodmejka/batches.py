@@ -16,7 +16,7 @@ from typing import BinaryIO, Callable, Generator, Iterable, Iterator
 from .answers import LABEL_LINE, NEXT_LABEL, Answer, Form, Printed
 from .blocks import Hands, Piece, Told
 from .errors import Broken, NotFound, Refused
-from .program import ENCODING, raise_for
+from .program import ENCODING, raise_for, started
 from .tables import Household, Tables, by_columns
 
 AHEAD = 1_000
@@ -67,7 +67,7 @@ class Batch:
         """The program on a table, which prints to a file; it is asked for what these requests name, or for all. All are files in memory."""
         given = [table] if requests is None else [table, requests]
         words = [*self.words[:-1], self.words[-1] if requests is None else f"/proc/self/fd/{requests}", f"/proc/self/fd/{table}"]
-        return subprocess.Popen(words, cwd=self.folder, pass_fds=given, stdin=subprocess.DEVNULL, stdout=printed, stderr=subprocess.DEVNULL)
+        return started(words, cwd=self.folder, pass_fds=given, stdin=subprocess.DEVNULL, stdout=printed, stderr=subprocess.DEVNULL)
 
     def _handed(self, rows: Iterable[Household]) -> Generator[list[Told], None, None]:
         """The same, some hundred at a time."""

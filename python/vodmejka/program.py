@@ -7,8 +7,10 @@ import io
 import os
 import shutil
 import subprocess
+import tempfile
+import weakref
 from decimal import Decimal
-from typing import Iterable, Mapping, Union
+from typing import Any, Iterable, Mapping, Union
 
 from .errors import Broken, Interrupted, NotFound, Refused
 
@@ -18,11 +20,14 @@ TOP = os.path.dirname(os.path.dirname(os.path.dirname(os.path.realpath(__file__)
 
 
 def program_path(program: str | None = None) -> str:
-    """The program: the one that is named, the one of the variable M_TAX, `m_tax` of the path, or that of a repository round this package."""
-    for candidate in (program, os.environ.get("M_TAX"), shutil.which("m_tax"), os.path.join(TOP, "out", "m_tax"), os.path.join(TOP, "m_tax")):
+    """The program: the one that is named, or the one of the variable M_TAX, which must be there then; else `m_tax` of the path, or that of a repository round
+    this package."""
+    named = program or os.environ.get("M_TAX")
+    others = (shutil.which("m_tax"), os.path.join(TOP, "out", "m_tax"), os.path.join(TOP, "m_tax"))
+    for candidate in others if not named else (shutil.which(named) or named,):
         if candidate and os.access(candidate, os.X_OK) and os.path.isfile(candidate):
             return os.path.abspath(candidate)
-    raise Broken("there is no program m_tax: name it by M_TAX, or run ./build in the repository")
+    raise Broken(f"there is no program {named}" if named else "there is no program m_tax: name it by M_TAX, or run ./build in the repository")
 
 
 def program_digest(program: str) -> str:
@@ -53,11 +58,45 @@ def digest_of(*pieces: bytes) -> str:
     return made.hexdigest()
 
 
+class Folder:
+    """A folder for files, which goes with this object, or with the process that made it: one that was forked since has no part in that."""
+
+    def __init__(self) -> None:
+        self.name = tempfile.mkdtemp(prefix="vodmejka-")
+        weakref.finalize(self, remove, self.name, os.getpid())
+
+    def put(self, content: bytes) -> str:
+        """The name of a new file with this content, which no other call has, be it of another thread or of a forked process."""
+        number, path = tempfile.mkstemp(prefix="household-", suffix=".csv", dir=self.name)
+        with open(number, "wb") as out:
+            out.write(content)
+        return os.path.basename(path)
+
+
+def remove(folder: str, owner: int) -> None:
+    """Removes a folder of a process, where this is that one."""
+    if os.getpid() == owner:
+        shutil.rmtree(folder, ignore_errors=True)
+
+
+def started(words: list[str], **options: Any) -> subprocess.Popen[bytes]:
+    """The program with these words."""
+    try:
+        return subprocess.Popen(words, **options)
+    except OSError as fault:
+        raise Broken(f"the program can't be started: {fault.filename or words[0]}: {fault.strerror}") from fault
+
+
 def run(program: str, *words: str, folder: str | None = None) -> tuple[bytes, int]:
     """What the program prints, and its status: 0 or 6. What else it says is an error."""
-    done = subprocess.run([program, *words], stdin=subprocess.DEVNULL, stdout=subprocess.PIPE, stderr=subprocess.DEVNULL, cwd=folder, check=False)
-    raise_for(done.stdout, done.returncode)
-    return done.stdout, done.returncode
+    with started([program, *words], stdin=subprocess.DEVNULL, stdout=subprocess.PIPE, stderr=subprocess.DEVNULL, cwd=folder) as child:
+        try:
+            text, _ = child.communicate()
+        except BaseException:
+            child.kill()
+            raise
+    raise_for(text, child.returncode)
+    return text, child.returncode
 
 
 def raise_for(text: bytes, status: int) -> None:
@@ -85,8 +124,8 @@ def spelled(code: str, amount: Amount) -> str:
 
 
 def household_bytes(household: Mapping[str, Amount]) -> bytes:
-    """A household as a file; a code whose amount is None is left out."""
-    rows = [[code, spelled(code, amount)] for code, amount in household.items() if amount is not None]
+    """A household as a file; a code whose amount is None, or an empty text as in a table, is left out."""
+    rows = [[code, spelled(code, amount)] for code, amount in household.items() if amount not in (None, "")]
     return csv_text([["code", "amount"], *rows]).encode(ENCODING)
 
 

@@ -2,7 +2,7 @@
 from __future__ import annotations
 
 import contextlib
-import itertools
+import decimal
 import os
 import re
 import shutil
@@ -12,7 +12,7 @@ from typing import Any, Iterable, Iterator
 from .answers import Answer, Form, answer_of
 from .batches import Batch
 from .errors import Broken, NotFound, Refused
-from .program import ENCODING, Amount, digest_of, household_bytes, is_trial, program_digest, program_path, run, spelled
+from .program import ENCODING, Amount, Folder, digest_of, household_bytes, is_trial, program_digest, program_path, run, spelled
 from .session import Session
 from .tables import Household
 
@@ -56,7 +56,7 @@ class Rules:
 
     def __init__(self, list: str, driver: str | None = None, requests: str | None = None, *, program: str | None = None, cache: str | None = None):
         self.program = program_path(program)
-        self._room, self._numbers = tempfile.TemporaryDirectory(prefix="vodmejka-"), itertools.count()
+        self._room = Folder()
         content = fetched(list)
         rules = fetched_rules(named(content))
         given = [None if name is None else fetched(name) for name in (driver, requests)]
@@ -74,7 +74,7 @@ class Rules:
         """Rules by a code file, without their sources: they run households, and have no sessions."""
         made = cls.__new__(cls)
         made.program = program_path(program)
-        made._room, made._numbers = tempfile.TemporaryDirectory(prefix="vodmejka-"), itertools.count()
+        made._room = Folder()
         made._names, made._words = {}, []
         made._code = made._path(made._put("code", fetched(file, CODE_FILE_BYTES)))
         made._lines = made._interface()
@@ -84,7 +84,7 @@ class Rules:
 
     def run(self, household: Household) -> Answer:
         """What the household is told. `household` has amounts by codes: Decimal, int or text, and None for nothing."""
-        name = self._put_household(household)
+        name = self._room.put(household_bytes(household))
         try:
             text, _ = self._run("exec", self._code, name)
         finally:
@@ -107,7 +107,7 @@ class Rules:
             raise Broken("a session needs rules: a code file has no sources")
         if is_trial(self.program):
             raise Broken("a trial of the sources has no sessions: ./build makes the program, which has")
-        return Session([self.program, "serve", *self._words, self._put_household(household or {})], self._room)
+        return Session([self.program, "serve", *self._words, self._room.put(household_bytes(household or {}))], self._room)
 
     def inputs(self) -> dict[str, str]:
         """The codes of the inputs in order, each with its type: `truth`, `whole`, or nothing."""
@@ -141,10 +141,6 @@ class Rules:
             out.write(content)
         return name
 
-    def _put_household(self, household: Household) -> str:
-        """The name of a file that no other call has."""
-        return self._put(f"household-{next(self._numbers)}.csv", household_bytes(household))
-
     def _run(self, *words: str) -> tuple[bytes, int]:
         try:
             return run(self.program, *words, folder=self._room.name)
@@ -155,19 +151,21 @@ class Rules:
 
     def _told(self, line: str) -> str:
         """A line of the program, with the names of the files as they are."""
-        line = re.sub(r"\bhousehold-[0-9]+\.csv\b", "household.csv", line)
+        line = re.sub(r"\bhousehold-[a-z0-9_]+\.csv\b", "household.csv", line)
         return re.sub(r"\br[0-9]+\.m\b", lambda match: self._names.get(match[0], match[0]), line)
 
     def _compiled(self, digest: str, cache: str | None) -> str:
-        """The code file of the source, from the cache where it is there."""
+        """The code file of the source, from the cache where it is there. A user without a home has no cache but the one that is named."""
         folder = cache or os.path.join(os.environ.get("XDG_CACHE_HOME") or os.path.expanduser("~/.cache"), "vodmejka")
-        kept = os.path.join(folder, digest + ".code")
-        try:
-            shutil.copyfile(kept, self._path("code"))
-        except OSError:  # it isn't there, or is another user's
-            text, _ = self._run("compile", *self._words)
-            self._put("code", text)
-            with contextlib.suppress(OSError):
+        kept = os.path.join(folder, digest + ".code") if cache or os.path.isabs(folder) else None
+        with contextlib.suppress(OSError):  # it isn't there, or is another user's
+            if kept is not None:
+                shutil.copyfile(kept, self._path("code"))
+                return self._path("code")
+        text, _ = self._run("compile", *self._words)
+        self._put("code", text)
+        with contextlib.suppress(OSError):
+            if kept is not None:
                 os.makedirs(folder, exist_ok=True)
                 put_whole(kept, text)
         return self._path("code")
@@ -234,6 +232,6 @@ def exact(code: str, value: Any, shown: Any = None) -> Amount:
     if isinstance(value, bool):
         return int(value)
     if isinstance(value, float):
-        return int(value) if value.is_integer() else repr(value) if shown is None else str(shown(value))
+        return int(value) if value.is_integer() else f"{decimal.Decimal(repr(value) if shown is None else str(shown(value))):f}"
     spelled(code, value)
     return value

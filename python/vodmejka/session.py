@@ -4,12 +4,20 @@ from __future__ import annotations
 import contextlib
 import os
 import subprocess
-import tempfile
 from types import TracebackType
+from typing import Iterator, Protocol
 
 from .answers import Answer, answer_of
 from .errors import Interrupted, Refused
-from .program import ENCODING, Amount, raise_for, spelled
+from .program import ENCODING, Amount, raise_for, spelled, started
+
+CLOSING = 2.0  # seconds
+
+
+class Room(Protocol):
+    """A folder, which is there as long as somebody holds this."""
+
+    name: str
 
 
 class Session:
@@ -18,9 +26,13 @@ class Session:
     The words of the program end with the name of the household's file, which goes with the session. All files stand in a folder of the rules.
     """
 
-    def __init__(self, words: list[str], room: tempfile.TemporaryDirectory[str]):
+    def __init__(self, words: list[str], room: Room):
         self._room, self._given = room, os.path.join(room.name, words[-1])
-        self._child = subprocess.Popen(words, cwd=room.name, stdin=subprocess.PIPE, stdout=subprocess.PIPE, stderr=subprocess.DEVNULL)
+        try:
+            self._child = started(words, cwd=room.name, stdin=subprocess.PIPE, stdout=subprocess.PIPE, stderr=subprocess.DEVNULL)
+        except BaseException:
+            self._drop()
+            raise
 
     def __enter__(self) -> Session:
         return self
@@ -41,33 +53,60 @@ class Session:
 
     def show(self) -> Answer:
         """What the household is told as it is now."""
-        self._say("show")
-        return answer_of(iter(self._lines()))
+        with self._whole():
+            self._say(b"show\n")
+            lines = self._lines()
+        if lines and lines[0].startswith("refused "):
+            raise Refused(lines[0])
+        return answer_of(iter(lines))
 
     def close(self) -> None:
         """Ends the session. A session that is closed, or whose program has ended, can be closed again."""
-        child = self._child
-        assert child.stdin is not None and child.stdout is not None
+        self._shut()  # before it is waited for: a reply of which nobody reads the rest ends the program
+        try:
+            self._child.wait(CLOSING)
+        except subprocess.TimeoutExpired:  # a process that was forked meanwhile holds the program's input open
+            self._child.kill()
+            self._child.wait()
+        self._drop()
+
+    def _shut(self) -> None:
+        """Closes the program's input and output."""
+        assert self._child.stdin is not None and self._child.stdout is not None
         with contextlib.suppress(BrokenPipeError):  # a line that the program didn't take: it has ended
-            child.stdin.close()
-        child.stdout.close()  # before it is waited for: a reply of which nobody reads the rest ends the program
-        child.wait()
+            self._child.stdin.close()
+        self._child.stdout.close()
+
+    def _drop(self) -> None:
+        """Drops the household's file."""
         with contextlib.suppress(FileNotFoundError):
             os.unlink(self._given)
 
     # ---- lines
 
-    def _edit(self, *words: str) -> None:
-        self._say(*words)
-        reply = self._line()
-        if reply != "ok":
-            raise Refused(reply)
+    @contextlib.contextmanager
+    def _whole(self) -> Iterator[None]:
+        """A line and its reply. What breaks in, as an exception of a signal, ends the session, since the rest of the reply would be taken for the next one."""
+        try:
+            yield
+        except BaseException:
+            self._child.kill()
+            self._shut()
+            raise
 
-    def _say(self, *words: str) -> None:
+    def _edit(self, *words: str) -> None:
         line = " ".join(words)
         if line.split() != list(words):
             raise ValueError(f"a code, a name and an amount are one word each: {line!r}")
         raw = line.encode(ENCODING) + b"\n"  # (a letter without a byte is the caller's fault, and not the end of the session)
+        with self._whole():
+            self._say(raw)
+            reply = self._line()
+        if reply != "ok":
+            raise Refused(reply)
+
+    def _say(self, raw: bytes) -> None:
+        """Hands a line to the program."""
         assert self._child.stdin is not None
         try:
             self._child.stdin.write(raw)
@@ -84,16 +123,17 @@ class Session:
         return raw.decode(ENCODING)[:-1]
 
     def _lines(self) -> list[str]:
-        """The lines up to one with a point. The text of a verification that failed or is noted may be a point; it stands right behind its line."""
+        """The lines up to one with a point, or the line of what is refused. The text of a verification that failed or is noted may be a point; it stands right
+        behind its line."""
         lines: list[str] = []
         in_text = False
         while True:
             line = self._line()
             if not in_text and line == ".":
                 return lines
-            if not lines and line.startswith("refused "):
-                raise Refused(line)
             lines.append(line)
+            if lines[0].startswith("refused "):
+                return lines
             in_text = not in_text and line.startswith(("failed ", "noted "))
             if self._child.poll() not in (None, 0):
                 self._ended("\n".join(lines).encode(ENCODING), None)
