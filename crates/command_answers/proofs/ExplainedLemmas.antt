@@ -22,7 +22,7 @@ use Rattle.m_compile.proofs.Distinct.{many_inputs}
 use Rattle.m_compile.proofs.OneLaws.{one_rules}
 use Rattle.command_answers.specs.Explained.{IsExplained}
 use Rattle.command_answers.specs.Prepared.{IsPrepared}
-use Rattle.command_answers.specs.Schemes.{Scheme}
+use Rattle.code_answers.specs.Schemes.{Scheme}
 use Rattle.command_answers.specs.declared.program.Program.{Program}
 
 -- what cells begin with by a reporter and by a driver

@@ -1,8 +1,6 @@
 -- `large N`: the generated source and household have no fault, so that nothing is refused.
 use Rattle.std.proofs.Common.{◌≡◌, ◌≢◌, ℕ, ℤ, ◌≤◌, List, Ok, None, refl, sym, ◌∙◌, ap, subst}
 use Rattle.household.specs.Household.{household_of}
-use Rattle.household.specs.declared.fault.HouseholdFault.{HouseholdFault}
-use Rattle.household.specs.declared.fault.HouseholdFault.TheVariants as household
 use Rattle.code_file.specs.declared.loaded.Loaded.{Loaded}
 use Rattle.driver_core.specs.Inputs.{inputs_said}
 use Rattle.m_large.specs.Large.{household_text}
@@ -15,13 +13,15 @@ use Rattle.large_validity.proofs.Valid.{is_valid}
 use Rattle.command_plans.specs.Printing.{IsAnswered}
 use Rattle.command_plans.specs.Views.{OutputView}
 use Rattle.command_plans.specs.declared.status.Status.{Status}
-use Rattle.command_answers.specs.LargeAnswers.{LargeReplies, ReadsLarge, is_told}
-use Rattle.command_answers.specs.Larges.{large_line}
-use Rattle.command_answers.specs.Prepared.{HouseholdReplies, IsPreparedCode}
-use Rattle.command_answers.specs.Prepared as prepared
-use Rattle.command_answers.specs.Schemes.{Scheme}
+use Rattle.command_answers.specs.LargeAnswers.{LargeReplies, is_told}
+use Rattle.code_answers.specs.Larges.{ReadsLarge}
+use Rattle.code_answers.specs.Larges.{large_line}
+use Rattle.code_answers.specs.Shown.{HouseholdReplies}
+use Rattle.command_answers.specs.Prepared.{IsPreparedCode}
+use Rattle.code_answers.specs.Shown as households
+use Rattle.code_answers.specs.Schemes.{Scheme}
 use Rattle.command_answers.specs.Sources.{IsScheme}
-use Rattle.command_answers.proofs.Ways.{answered_as}
+use Rattle.code_answers.proofs.Ways.{answered_as}
 
 -- ---- why there is no code, or no answer
 
@@ -39,16 +39,6 @@ only_memory source.Memory h = refl
 pub without_code_only : (n : ℕ) → 1 ≤ n → n ≤ 100000 → (fault : SourceFault) → (fault ≢ source.Memory → IsSourceFault (large_source n) fault) → fault ≡ source.Memory
 without_code_only n some few fault h = only_memory fault (λ other. no_fault n some few fault (h other))
 
-pub without_answer_only : (fault : HouseholdFault) → (fault ≢ household.Memory → ⊥) → fault ≡ household.Memory
-without_answer_only household.BadHeader h = absurd (h (λ e. cc))
-without_answer_only household.TooManyRows h = absurd (h (λ e. cc))
-without_answer_only (household.BadRow line) h = absurd (h (λ e. cc))
-without_answer_only (household.UnknownCode line) h = absurd (h (λ e. cc))
-without_answer_only (household.BadAmount line) h = absurd (h (λ e. cc))
-without_answer_only (household.NotOfType line) h = absurd (h (λ e. cc))
-without_answer_only (household.CodeTwice line) h = absurd (h (λ e. cc))
-without_answer_only household.Memory h = refl
-
 -- ---- what the household gives
 
 given : (n : ℕ) → 1 ≤ n → n ≤ 100000 → (scheme : Scheme) → IsScheme (large_source n) scheme → (pairs : List (ℕ × ℤ)) × (household_of scheme.inputs (household_text n) ≡ Ok pairs)
@@ -65,8 +55,8 @@ reads_large n some few loaded is =
 
 large_as : (n : ℕ) → 1 ≤ n → n ≤ 100000 → (scheme : Scheme) → IsScheme (large_source n) scheme → (text : List ℕ) (own : Status)
     → HouseholdReplies (large_line n) scheme (household_text n) text own → LargeReplies n text own
-large_as n some few scheme valid text own (prepared.is_refused fault faulty line) = let g = (given n some few scheme valid).1 in cc
-large_as n some few scheme valid text own (prepared.is_told pairs said) = is_told scheme pairs valid said
+large_as n some few scheme valid text own (households.is_refused fault faulty line) = let g = (given n some few scheme valid).1 in cc
+large_as n some few scheme valid text own (households.is_told pairs said) = is_told scheme pairs valid said
 
 pub large_answered : (n : ℕ) → 1 ≤ n → n ≤ 100000 → (loaded : Loaded) (old new : OutputView) (status : Status) → (is : IsPreparedCode (large_source n) loaded)
     → IsAnswered (HouseholdReplies (large_line n) is.scheme (household_text n)) old new status → IsAnswered (LargeReplies n) old new status

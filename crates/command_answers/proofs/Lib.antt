@@ -1,16 +1,6 @@
-pub mod HeldLemmas
-pub mod CodeLemmas
-pub mod Shown
 pub mod SessionLemmas
-pub mod GroupLemmas
-pub mod Printings
 pub mod LargeLemmas
 pub mod LargeLimits
 pub mod Refusals
 pub mod Ways
-pub mod ExecLemmas
-pub mod CheckLemmas
-pub mod StartLemmas
-pub mod LintLemmas
 pub mod ExplainedLemmas
-pub mod CaseLemmas

@@ -1,11 +1,11 @@
 -- From what was told and written to how a command ended.
-use Rattle.std.proofs.Common.{◌≡◌, ℕ, length, List, [], ◌∷◌, ◌++◌, Result, Ok, Err, refl, sym, ◌∙◌, ap, subst, inl, inr}
-use Rattle.std.specs.Prelude.{Option, Some, map}
+use Rattle.std.proofs.Common.{◌≡◌, ℕ, length, List, [], ◌++◌, Ok, Err, refl, sym, ◌∙◌, ap, subst, inl, inr}
+use Rattle.std.specs.Prelude.{Some}
 use Rattle.m_fixed.specs.declared.amount.Value.{Value}
 use Rattle.m_names.specs.Names.{AreDistinct}
 use Rattle.rule_text.specs.declared.Source.{Source}
 use Rattle.fault_lines.specs.Lines.{input_too_long_line, unreadable_input_line}
-use Rattle.observables.specs.Answers.{Told, values, stopped, told_of}
+use Rattle.observables.specs.Answers.{told_of}
 use Rattle.observables.specs.Inputs.{AreValuesOf, codes_of}
 use Rattle.observables.specs.Outputs.{notes_of}
 use Rattle.observables.specs.declared.answer.Answer.{Answer}
@@ -14,9 +14,6 @@ use Rattle.flat_code.specs.Runs.{flat_run}
 use Rattle.reg_machine.specs.Flow.{code_fault}
 use Rattle.reg_machine.specs.Machine.{machine_run}
 use Rattle.reg_machine.proofs.LawLemmas.{run-is-flat_run}
-use Rattle.code_file.specs.Loading.{text_with}
-use Rattle.code_file.specs.Reading.{IsCodeFault, IsFormOf}
-use Rattle.code_file.specs.declared.fault.CodeFault.{CodeFault}
 use Rattle.code_file.specs.declared.loaded.Loaded.{Loaded}
 use Rattle.household.specs.Household.{household_of, values_of}
 use Rattle.household.specs.Table.{table_of}
@@ -29,80 +26,45 @@ use Rattle.rule_order.specs.declared.ordered.Ordered.{Ordered}
 use Rattle.serve_loop.specs.Repliers.{ended_of, whole_of}
 use Rattle.why_session.specs.Explains.{Explaining, explained_replies}
 use Rattle.why_session.specs.Joined.{Joined, explains_by, joined_replies}
-use Rattle.tax_print.specs.Lines.{answer_lines, told_lines}
 use Rattle.m_compile.specs.Compiled.{IsCompiled, IsRunnable}
 use Rattle.m_compile.specs.Faults.{IsSourceFault}
 use Rattle.m_compile.specs.Lines.{source_line}
 use Rattle.m_compile.specs.declared.compiling.Compiled.{Compiled}
 use Rattle.m_compile.specs.declared.fault.SourceFault.{SourceFault}
 use Rattle.command_plans.specs.Printing.{Appends, Breaks, IsAnswered, Prints, printed, no_memory}
-use Rattle.command_plans.specs.Status.{IsOfEnd}
-use Rattle.command_plans.specs.Views.{InputView, OutputView, output_view}
+use Rattle.command_plans.specs.Views.{InputView, OutputView}
 use Rattle.command_plans.specs.declared.status.Status.{Status}
-use Rattle.command_plans.specs.declared.status.Status.TheVariants.{Done, ReadFault, Refused}
-use Rattle.command_answers.specs.Batches.{BatchReplies, IsWrittenInParts, broke_off}
+use Rattle.command_plans.specs.declared.status.Status.TheVariants.{ReadFault, Refused}
+use Rattle.command_answers.specs.Batches.{BatchReplies}
+use Rattle.code_answers.specs.Parts.{IsWrittenInParts}
 use Rattle.command_answers.specs.Batches as batch
 use Rattle.command_answers.specs.Compiles.{CompileReplies}
 use Rattle.command_answers.specs.Compiles as compile
-use Rattle.command_answers.specs.Execs.{ExecReplies, code_fault_line}
-use Rattle.command_answers.specs.Execs as exec
-use Rattle.command_answers.specs.Households.{answer_status, household_fault_line, told_status}
-use Rattle.command_answers.specs.Prepared.{HouseholdReplies, IsPrepared, IsPreparedCode, IsRunnableCode, IsServedBy, Shows, TableReplies}
+use Rattle.code_answers.specs.Households.{household_fault_line}
+use Rattle.code_answers.specs.Shown.{HouseholdReplies, IsRunnableCode, Shows, TableReplies}
+use Rattle.command_answers.specs.Prepared.{IsPrepared, IsPreparedCode, IsServedBy}
 use Rattle.command_answers.specs.Prepared as prepared
 use Rattle.command_answers.specs.Runs.{RunReplies}
 use Rattle.command_answers.specs.Runs as run
 use Rattle.command_answers.specs.Explained.{IsExplained}
-use Rattle.command_answers.specs.Schemes.{Scheme, told_to}
+use Rattle.code_answers.specs.Schemes.{Scheme}
 use Rattle.command_answers.specs.Serves.{IsServed}
 use Rattle.command_answers.specs.Serves as serve
 use Rattle.command_answers.specs.Serving.{Served, to_its_end, unread, too_long, unwritten}
 use Rattle.command_answers.specs.Sessions.{ended_replies, replies_by, scheme_showing, session_replies}
 use Rattle.command_answers.specs.Sources.{IsScheme, Refuses, households_are_refused, scheme_said}
-use Rattle.command_answers.specs.declared.groups.GroupFault.{GroupFault}
-use Rattle.command_answers.specs.declared.groups.GroupFault.TheVariants as group
 use Rattle.command_answers.specs.declared.program.Program.{Program}
-use Rattle.command_answers.specs.inner.Answers.{IsAnswerOf, IsBegun, IsExplainerOf, IsFileOf, is_file}
-use Rattle.command_answers.specs.inner.Groups.{WritesGroups, group_status}
-use Rattle.command_answers.proofs.CodeLemmas.{spells_whole}
-use Rattle.command_answers.proofs.Refusals.{TellsRefusal}
+use Rattle.command_answers.specs.inner.Answers.{IsBegun, IsExplainerOf, IsFileOf, is_file}
+use Rattle.code_answers.proofs.CodeLemmas.{spells_whole}
+use Rattle.code_answers.proofs.Refusals.{TellsRefusal}
 use Rattle.command_answers.proofs.SessionLemmas.{replies_are}
-use Rattle.command_answers.proofs.Shown.{as_many, given_by, household_told, lines_told, status_told, told_answer}
-
-of_end : (told : Told) → IsOfEnd (told_status told)
-of_end (values notes vs) = tt
-of_end (stopped cause) = tt
-
--- an answer by one way to reply is an answer by another that replies the same
-pub answered_as : (One Other : List ℕ → Status → Type 0) (old new : OutputView) (status : Status) → ((text : List ℕ) (own : Status) → One text own → Other text own)
-    → IsAnswered One old new status → IsAnswered Other old new status
-answered_as One Other old new status turn (printed text own replied end shown) = printed text own (turn text own replied) end shown
-answered_as One Other old new status turn (no_memory same memory) = no_memory same memory
-
-pub parts_as : (One Other : List ℕ → Status → Type 0) (old new : OutputView) (status : Status) → ((text : List ℕ) (own : Status) → One text own → Other text own)
-    → IsWrittenInParts One old new status → IsWrittenInParts Other old new status
-parts_as One Other old new status turn (batch.printed text own replied end shown) = batch.printed text own (turn text own replied) end shown
-parts_as One Other old new status turn (batch.no_memory same memory) = batch.no_memory same memory
-parts_as One Other old new status turn (broke_off text own replied prefix none memory) = broke_off text own (turn text own replied) prefix none memory
-
--- ---- households
-
--- the household of these bytes was refused, by a program's codes
-pub rows_refused : (front : List ℕ) (scheme : Scheme) (face : Face) (runs : List Value → Answer) (rows : List ℕ) (fault : HouseholdFault) (old new : OutputView) (status : Status) → Shows scheme face runs
-    → TellsRefusal (λ line. (household_of face.inputs rows ≡ Err fault) × (household_fault_line fault ≡ Some line)) old new status
-    → IsAnswered (HouseholdReplies front scheme rows) old new status
-rows_refused front scheme face runs rows fault old new status shown (inl (line, refused, p)) =
-    printed line Refused (prepared.is_refused fault (subst (λ inputs. household_of inputs rows ≡ Err fault) shown.inputs refused.0) refused.1) tt p
-rows_refused front scheme face runs rows fault old new status shown (inr (same, memory)) = no_memory same memory
-
-pub rows_printed : (front : List ℕ) (scheme : Scheme) (loaded : Loaded) (rows : List ℕ) (answer : Answer) (old new : OutputView) (status : Status)
-    → Shows scheme loaded.face (machine_run loaded.code) → (of : IsAnswerOf loaded rows answer)
-    → Prints (front ++ answer_lines loaded.face answer) (answer_status answer) old new status → IsAnswered (HouseholdReplies front scheme rows) old new status
-rows_printed front scheme loaded rows answer old new status shown of p =
-    let told = told_to scheme of.pairs in
-    let is = household_told scheme loaded rows answer shown of in
-    printed (front ++ told_lines scheme.names told) (told_status told) (prepared.is_told of.pairs (given_by scheme loaded rows answer shown of)) (of_end told)
-    (subst (λ own. Prints (front ++ told_lines scheme.names told) own old new status) (status_told loaded.face.labels (notes_of loaded.face.outputs) answer told is)
-    (subst (λ text. Prints (front ++ text) (answer_status answer) old new status) (told_answer scheme loaded.face (machine_run loaded.code) answer told shown is) p))
+use Rattle.code_answers.proofs.Shown.{as_many, lines_told}
+use Rattle.command_answers.specs.Cases.{CasesReplies}
+use Rattle.command_answers.specs.Cases as cases
+use Rattle.code_answers.specs.Cases.{ComparedReplies}
+use Rattle.code_answers.specs.Parts as parts
+use Rattle.code_answers.specs.Shown as households
+use Rattle.code_answers.proofs.Ways.{answered_as, parts_as}
 
 -- ---- runs
 
@@ -112,8 +74,8 @@ run_refused source rows old new status (inl (line, refused, shown)) = printed li
 run_refused source rows old new status (inr (same, memory)) = no_memory same memory
 
 run_as : (source : Source) (scheme : Scheme) (rows : List ℕ) → IsScheme source scheme → (text : List ℕ) (own : Status) → HouseholdReplies [] scheme rows text own → RunReplies source rows text own
-run_as source scheme rows valid text own (prepared.is_refused fault faulty line) = run.is_refused (households_are_refused scheme fault valid faulty line)
-run_as source scheme rows valid text own (prepared.is_told pairs given) = run.is_told scheme pairs valid given
+run_as source scheme rows valid text own (households.is_refused fault faulty line) = run.is_refused (households_are_refused scheme fault valid faulty line)
+run_as source scheme rows valid text own (households.is_told pairs given) = run.is_told scheme pairs valid given
 
 pub run_answered : (source : Source) (loaded : Loaded) (rows : List ℕ) (old new : OutputView) (status : Status) → (is : IsPreparedCode source loaded)
     → IsAnswered (HouseholdReplies [] is.scheme rows) old new status → IsAnswered (RunReplies source rows) old new status
@@ -123,30 +85,28 @@ run_answered source loaded rows old new status is a = answered_as (HouseholdRepl
 
 pub batch_refused : (source : Source) (table : List ℕ) (old new : OutputView) (status : Status) → TellsRefusal (Refuses source (λ inputs. table_of inputs table)) old new status
     → IsWrittenInParts (BatchReplies source table) old new status
-batch_refused source table old new status (inl (line, refused, shown)) = batch.printed line Refused (batch.is_refused refused) tt shown
-batch_refused source table old new status (inr (same, memory)) = batch.no_memory same memory
-
-pub table_refused : (scheme : Scheme) (face : Face) (runs : List Value → Answer) (table : List ℕ) (fault : HouseholdFault) (old new : OutputView) (status : Status) → Shows scheme face runs
-    → TellsRefusal (λ line. (table_of face.inputs table ≡ Err fault) × (household_fault_line fault ≡ Some line)) old new status
-    → IsWrittenInParts (TableReplies scheme table) old new status
-table_refused scheme face runs table fault old new status shown (inl (line, refused, p)) =
-    batch.printed line Refused (prepared.table_is_refused fault (subst (λ inputs. table_of inputs table ≡ Err fault) shown.inputs refused.0) refused.1) tt p
-table_refused scheme face runs table fault old new status shown (inr (same, memory)) = batch.no_memory same memory
+batch_refused source table old new status (inl (line, refused, shown)) = parts.printed line Refused (batch.is_refused refused) tt shown
+batch_refused source table old new status (inr (same, memory)) = parts.no_memory same memory
 
 table_as : (source : Source) (scheme : Scheme) (table : List ℕ) → IsScheme source scheme → (text : List ℕ) (own : Status) → TableReplies scheme table text own → BatchReplies source table text own
-table_as source scheme table valid text own (prepared.table_is_refused fault faulty line) = batch.is_refused (households_are_refused scheme fault valid faulty line)
-table_as source scheme table valid text own (prepared.rows_are_told rows given) = batch.is_told scheme rows valid given
+table_as source scheme table valid text own (households.table_is_refused fault faulty line) = batch.is_refused (households_are_refused scheme fault valid faulty line)
+table_as source scheme table valid text own (households.rows_are_told rows given) = batch.is_told scheme rows valid given
 
 pub batch_answered : (source : Source) (loaded : Loaded) (table : List ℕ) (old new : OutputView) (status : Status) → (is : IsPreparedCode source loaded)
     → IsWrittenInParts (TableReplies is.scheme table) old new status → IsWrittenInParts (BatchReplies source table) old new status
 batch_answered source loaded table old new status is a = parts_as (TableReplies is.scheme table) (BatchReplies source table) old new status (table_as source is.scheme table is.valid) a
 
-pub batch_written : {S T : Type 0} (written : S → Option (List ℕ)) (faults : S → ℕ) (old new : S) (result : Result T GroupFault) (text : List ℕ) (Replies : List ℕ → Status → Type 0) (status : Status)
-    → Replies text Done → status ≡ group_status result → WritesGroups written faults old new result text
-    → IsWrittenInParts Replies (output_view written faults old) (output_view written faults new) status
-batch_written written faults old new (Ok value) text Replies status replied is wrote = batch.printed text Done replied tt (inl ((wrote.all, wrote.counted), is))
-batch_written written faults old new (Err group.Memory) text Replies status replied is wrote = broke_off text Done replied wrote.prefix wrote.counted is
-batch_written written faults old new (Err group.Failed) text Replies status replied is wrote = batch.printed text Done replied tt (inr ((wrote.prefix, wrote.counted), is))
+-- ---- cases
+
+pub cases_refused : (source : Source) (table : List ℕ) (fault : SourceFault) (old new : OutputView) (status : Status)
+    → TellsRefusal (λ line. IsSourceFault source fault × (source_line source.texts fault ≡ Some line)) old new status → IsWrittenInParts (CasesReplies source table) old new status
+cases_refused source table fault old new status (inl (line, is, shown)) = parts.printed line Refused (cases.source_is_refused fault is.0 is.1) tt shown
+cases_refused source table fault old new status (inr (same, memory)) = parts.no_memory same memory
+
+pub cases_answered : (source : Source) (loaded : Loaded) (table : List ℕ) (old new : OutputView) (status : Status) → (is : IsPreparedCode source loaded)
+    → IsWrittenInParts (ComparedReplies is.scheme table) old new status → IsWrittenInParts (CasesReplies source table) old new status
+cases_answered source loaded table old new status is a =
+    parts_as (ComparedReplies is.scheme table) (CasesReplies source table) old new status (λ text own replied. cases.is_answered is.scheme is.valid replied) a
 
 -- ---- sessions
 
@@ -267,15 +227,3 @@ compile_as source loaded is text own is_file = compile.is_compiled loaded is
 pub compile_answered : (source : Source) (loaded : Loaded) (old new : OutputView) (status : Status) → IsPreparedCode source loaded
     → IsAnswered (IsFileOf loaded) old new status → IsAnswered (CompileReplies source) old new status
 compile_answered source loaded old new status is a = answered_as (IsFileOf loaded) (CompileReplies source) old new status (compile_as source loaded is) a
-
--- ---- code files that are read
-
-pub exec_refused : (code rows : List ℕ) (fault : CodeFault) (old new : OutputView) (status : Status) → TellsRefusal (λ line. IsCodeFault code fault × (code_fault_line fault ≡ Some line)) old new status
-    → IsAnswered (ExecReplies code rows) old new status
-exec_refused code rows fault old new status (inl (line, refused, shown)) = printed line Refused (exec.code_is_refused fault refused.0 refused.1) tt shown
-exec_refused code rows fault old new status (inr (same, memory)) = no_memory same memory
-
-pub exec_answered : (code rows : List ℕ) (loaded : Loaded) (scheme : Scheme) (old new : OutputView) (status : Status) → IsFormOf code loaded → Shows scheme loaded.face (machine_run loaded.code)
-    → IsAnswered (HouseholdReplies [] scheme rows) old new status → IsAnswered (ExecReplies code rows) old new status
-exec_answered code rows loaded scheme old new status form shown a =
-    answered_as (HouseholdReplies [] scheme rows) (ExecReplies code rows) old new status (λ text own replied. exec.is_answered loaded scheme form shown replied) a

@@ -1,17 +1,13 @@
--- What a batch answers, and what it has written.
+-- What a batch answers.
 use Rattle.std.specs.Prelude.{◌≡◌, ℕ, List, Ok}
 use Rattle.rule_text.specs.declared.Source.{Source}
 use Rattle.household.specs.Table.{table_of}
 use Rattle.household.specs.declared.table.Row.{Row}
-use Rattle.m_ports.specs.Sink.{AppendsPrefix}
-use Rattle.command_plans.specs.Printing.{Prints}
-use Rattle.command_plans.specs.Status.{IsOfEnd}
-use Rattle.command_plans.specs.Views.{OutputView}
 use Rattle.command_plans.specs.declared.status.Status.{Status}
-use Rattle.command_plans.specs.declared.status.Status.TheVariants.{Done, Memory, Refused}
-use Rattle.command_answers.specs.Schemes.{Scheme}
+use Rattle.command_plans.specs.declared.status.Status.TheVariants.{Done, Refused}
+use Rattle.code_answers.specs.Schemes.{Scheme}
 use Rattle.command_answers.specs.Sources.{IsScheme, Refuses}
-use Rattle.command_answers.specs.Tables.{rows_lines}
+use Rattle.code_answers.specs.Tables.{rows_lines}
 
 -- The answer of a batch of a source over the table of these bytes: an error, or the lines of all its rows. A row that stops is one like the others.
 pub data BatchReplies (source : Source) (table : List ℕ) : List ℕ → Status → Type 0 where
@@ -24,10 +20,3 @@ pub record BatchHasAnswer (source : Source) (table : List ℕ) : Type 0 where
   pub rows : List Row
   pub valid : IsScheme source scheme
   pub given : table_of scheme.inputs table ≡ Ok rows
-
--- An answer was printed in parts. Where memory ended it on the way, a prefix of the answer was written.
-pub data IsWrittenInParts (Replies : List ℕ → Status → Type 0) (old new : OutputView) (status : Status) : Type 0 where
-  printed : (text : List ℕ) (own : Status) → Replies text own → IsOfEnd own → Prints text own old new status → IsWrittenInParts Replies old new status
-  no_memory : new ≡ old → status ≡ Memory → IsWrittenInParts Replies old new status
-  broke_off : (text : List ℕ) (own : Status) → Replies text own → AppendsPrefix old.written new.written text → new.faults ≡ old.faults → status ≡ Memory
-      → IsWrittenInParts Replies old new status

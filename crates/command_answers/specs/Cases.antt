@@ -1,61 +1,16 @@
--- What `cases` answers.
-use Rattle.std.specs.Prelude.{◌≡◌, ℕ, zero, suc, ◌+◌, List, [], ◌∷◌, ◌++◌, length, Option, Some, None, Ok, Err}
+-- What `cases` answers of a source.
+use Rattle.std.specs.Prelude.{◌≡◌, ℕ, List, Some, Ok}
 use Rattle.rule_text.specs.declared.Source.{Source}
-use Rattle.fault_lines.specs.Lines.{household_header_line, household_line, too_many_rows_line}
-use Rattle.fault_lines.specs.declared.fault.RowFault.TheVariants as row
-use Rattle.household.specs.declared.table.Row.{Row}
 use Rattle.m_cases.specs.Cases.{cases_of}
-use Rattle.m_cases.specs.Mismatches.{count_line, mismatch_count, mismatch_lines, told_values}
 use Rattle.m_cases.specs.declared.cases.Cases.{Cases}
-use Rattle.m_cases.specs.declared.expected.Expected.{Expected}
-use Rattle.m_cases.specs.declared.fault.CasesFault.{CasesFault}
-use Rattle.m_cases.specs.declared.fault.CasesFault.TheVariants.{BadHeader, TooManyRows, BadRow, UnknownCode, UnknownOutput, CodeTwice, BadAmount, NotOfType, BadExpected, Memory}
 use Rattle.m_compile.specs.Faults.{IsSourceFault}
 use Rattle.m_compile.specs.Lines.{source_line}
 use Rattle.m_compile.specs.declared.fault.SourceFault.{SourceFault}
 use Rattle.command_plans.specs.declared.status.Status.{Status}
-use Rattle.command_plans.specs.declared.status.Status.TheVariants.{Done, Refused, Stopped}
-use Rattle.command_answers.specs.Schemes.{Scheme, told_to}
+use Rattle.command_plans.specs.declared.status.Status.TheVariants.{Refused}
+use Rattle.code_answers.specs.Schemes.{Scheme}
 use Rattle.command_answers.specs.Sources.{IsScheme}
-
--- The line of a fault of a table of cases; running out of memory has none. A field `=IR` in the first record, where `IR` isn't asked for, has
--- `refused household line 1: unknown output`.
-abbrev pub cases_fault_line : CasesFault → Option (List ℕ)
-cases_fault_line BadHeader = Some household_header_line
-cases_fault_line TooManyRows = Some too_many_rows_line
-cases_fault_line (BadRow line) = Some (household_line line row.BadRow)
-cases_fault_line (UnknownCode line) = Some (household_line line row.UnknownCode)
-cases_fault_line (UnknownOutput line) = Some (household_line line row.UnknownOutput)
-cases_fault_line (CodeTwice line) = Some (household_line line row.CodeTwice)
-cases_fault_line (BadAmount line) = Some (household_line line row.BadAmount)
-cases_fault_line (NotOfType line) = Some (household_line line row.NotOfType)
-cases_fault_line (BadExpected line) = Some (household_line line row.BadExpected)
-cases_fault_line Memory = None
-
--- the lines of cases, in their order: of each those of what it expects and isn't told
-abbrev pub cases_lines : Scheme → List Row → List (List (ℕ × Expected)) → List ℕ
-cases_lines scheme (row ∷ rows) (es ∷ expected) = mismatch_lines scheme.names row.label (told_values (told_to scheme row.household.pairs)) es ++ cases_lines scheme rows expected
-cases_lines scheme _ _ = []
-
--- how much isn't told that cases expect
-abbrev pub cases_count : Scheme → List Row → List (List (ℕ × Expected)) → ℕ
-cases_count scheme (row ∷ rows) (es ∷ expected) = mismatch_count (told_values (told_to scheme row.household.pairs)) es + cases_count scheme rows expected
-cases_count scheme _ _ = 0
-
--- The text of a table of cases: their lines, and then how many cases and how many mismatches there are.
-abbrev pub cases_text : Scheme → Cases → List ℕ
-cases_text scheme cases = cases_lines scheme cases.rows cases.expected ++ count_line (length cases.rows) (cases_count scheme cases.rows cases.expected)
-
--- the status of so many mismatches
-abbrev pub count_status : ℕ → Status
-count_status zero = Done
-count_status (suc count) = Stopped
-
--- What is answered to the table of these bytes by a scheme: the line by which it is refused, or the text of its cases.
-pub data ComparedReplies (scheme : Scheme) (table : List ℕ) : List ℕ → Status → Type 0 where
-  table_is_refused : {line : List ℕ} (fault : CasesFault) → cases_of scheme.inputs scheme.names table ≡ Err fault → cases_fault_line fault ≡ Some line → ComparedReplies scheme table line Refused
-  is_compared : (cases : Cases) → cases_of scheme.inputs scheme.names table ≡ Ok cases
-      → ComparedReplies scheme table (cases_text scheme cases) (count_status (cases_count scheme cases.rows cases.expected))
+use Rattle.code_answers.specs.Cases.{ComparedReplies}
 
 -- The answer of the cases of a source over the table of these bytes: the line of the source's fault, or what is answered by the source's scheme.
 pub data CasesReplies (source : Source) (table : List ℕ) : List ℕ → Status → Type 0 where

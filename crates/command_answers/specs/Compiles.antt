@@ -9,7 +9,7 @@ use Rattle.m_compile.specs.declared.fault.SourceFault.{SourceFault}
 use Rattle.command_plans.specs.declared.status.Status.{Status}
 use Rattle.command_plans.specs.declared.status.Status.TheVariants.{Done, Refused}
 use Rattle.command_answers.specs.Prepared.{IsPreparedCode}
-use Rattle.command_answers.specs.Schemes.{Scheme}
+use Rattle.code_answers.specs.Schemes.{Scheme}
 use Rattle.command_answers.specs.Sources.{IsScheme}
 
 -- The answer of a compilation of a source: the line of its fault, or the code file of what it is compiled to.

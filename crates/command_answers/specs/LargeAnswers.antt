@@ -3,12 +3,11 @@ use Rattle.std.specs.Prelude.{◌≡◌, ℕ, ℤ, List, ◌++◌, Ok}
 use Rattle.household.specs.Household.{household_of}
 use Rattle.m_large.specs.Large.{household_text}
 use Rattle.large_validity.specs.Sources.{large_source}
-use Rattle.observables.specs.declared.face.Face.{Face}
 use Rattle.tax_print.specs.Lines.{told_lines}
 use Rattle.command_plans.specs.declared.status.Status.{Status}
-use Rattle.command_answers.specs.Households.{told_status}
-use Rattle.command_answers.specs.Larges.{large_line}
-use Rattle.command_answers.specs.Schemes.{Scheme, told_to}
+use Rattle.code_answers.specs.Households.{told_status}
+use Rattle.code_answers.specs.Larges.{large_line}
+use Rattle.code_answers.specs.Schemes.{Scheme, told_to}
 use Rattle.command_answers.specs.Sources.{IsScheme}
 
 -- The answer of `large N`: its line, and then what the generated source tells to the generated household. Neither has a fault (`large_is_valid` of
@@ -16,8 +15,3 @@ use Rattle.command_answers.specs.Sources.{IsScheme}
 pub data LargeReplies (n : ℕ) : List ℕ → Status → Type 0 where
   is_told : (scheme : Scheme) (pairs : List (ℕ × ℤ)) → IsScheme (large_source n) scheme → household_of scheme.inputs (household_text n) ≡ Ok pairs
       → LargeReplies n (large_line n ++ told_lines scheme.names (told_to scheme pairs)) (told_status (told_to scheme pairs))
-
--- by the inputs of a face the generated household reads to these pairs
-pub record ReadsLarge (n : ℕ) (face : Face) : Type 0 where
-  pub pairs : List (ℕ × ℤ)
-  pub given : household_of face.inputs (household_text n) ≡ Ok pairs

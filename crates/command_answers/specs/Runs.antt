@@ -5,8 +5,8 @@ use Rattle.household.specs.Household.{household_of}
 use Rattle.tax_print.specs.Lines.{told_lines}
 use Rattle.command_plans.specs.declared.status.Status.{Status}
 use Rattle.command_plans.specs.declared.status.Status.TheVariants.{Refused}
-use Rattle.command_answers.specs.Households.{told_status}
-use Rattle.command_answers.specs.Schemes.{Scheme, told_to}
+use Rattle.code_answers.specs.Households.{told_status}
+use Rattle.code_answers.specs.Schemes.{Scheme, told_to}
 use Rattle.command_answers.specs.Sources.{IsScheme, Refuses}
 
 -- The answer of a run of a source on the household of these bytes: an error, or the lines of what is told to the household.

@@ -5,7 +5,7 @@ use Rattle.household_session.specs.Replies.{ended_lines, input_lines}
 use Rattle.household_session.specs.Sessions.{Showing}
 use Rattle.tax_print.specs.Lines.{told_lines}
 use Rattle.why_session.specs.Explains.{Explaining, explained_replies}
-use Rattle.command_answers.specs.Schemes.{Scheme}
+use Rattle.code_answers.specs.Schemes.{Scheme}
 
 -- what a session shows: the inputs, and the lines of what is told to values
 abbrev pub scheme_showing : Scheme → Showing

@@ -13,8 +13,8 @@ use Rattle.m_compile.specs.Lines.{source_line}
 use Rattle.m_compile.specs.Answers.{answer_to}
 use Rattle.driver_core.specs.Inputs.{inputs_said}
 use Rattle.m_compile.specs.declared.fault.SourceFault.{SourceFault}
-use Rattle.command_answers.specs.Households.{household_fault_line}
-use Rattle.command_answers.specs.Schemes.{Scheme}
+use Rattle.code_answers.specs.Households.{household_fault_line}
+use Rattle.code_answers.specs.Schemes.{Scheme}
 
 -- what is said by declarations, a base, the driver that was written, and what is asked for: the inputs, the names of the cells that are
 -- asked for, and what the driver over the rules answers

@@ -1,7 +1,2 @@
 -- What inner functions' contracts speak of. No reader of the public contract needs it.
 pub mod Answers
-pub mod Checking
-pub mod Groups
-pub mod CaseGroups
-pub mod Linting
-pub mod Refusals

@@ -1,27 +1,14 @@
-//! A batch: the answers of code to the rows of a table are printed, in groups.
-ghost use Rattle.std.specs.Prelude.{◌≡◌, IfOk, Ok, Err, length};
-ghost use Rattle.std.specs.List.{AllByRecursion};
-ghost use Rattle.m_places.specs.Refusals.{Outcome};
+//! A batch: the answers of a source's code to the rows of a table are printed, in groups.
+ghost use Rattle.std.specs.Prelude.{Ok, Err};
 ghost use Rattle.rule_text.specs.Limits.{SourceKeepsLimits};
-ghost use Rattle.household.specs.Household.{AreInputs};
-ghost use Rattle.household.specs.Table.{table_of};
-ghost use Rattle.household.specs.declared.fault.HouseholdFault.TheVariants.{Memory as NoMemory};
-ghost use Rattle.reg_machine.specs.Machine.{machine_run};
 ghost use Rattle.command_plans.specs.Views.{output_view};
-ghost use Rattle.command_answers.specs.Batches.{BatchReplies, IsWrittenInParts};
-ghost use Rattle.command_answers.specs.Prepared.{IsRunnableCode, Shows, TableReplies};
-ghost use Rattle.command_answers.specs.Schemes.{Scheme};
-ghost use Rattle.command_answers.specs.inner.Groups.{group_status};
+ghost use Rattle.command_answers.specs.Batches.{BatchReplies};
+ghost use Rattle.code_answers.specs.Parts.{IsWrittenInParts};
 
-use crate::given::codes_by;
-use crate::groups::{GroupFault, print_rows};
 use crate::program::prepare_code;
-use crate::told::{tell_refusal, told_household};
-use code_file::Loaded;
+use code_answers::{answer_batch, tell_refusal};
 use command_plans::Status;
-use household::{HouseholdFault, Row, read_table};
 use m_compile::told_fault;
-use m_places::Seq;
 use m_ports::Sink;
 use rule_text::Source;
 use std::alloc::Global;
@@ -43,50 +30,5 @@ pub fn batch_source<R: Threads + Sync, K: Sink>(
     match prepare_code(rt, alloc, source) {
         Ok(loaded) => answer_batch(rt, alloc, &loaded, table, out),
         Err(fault) => tell_refusal(out, told_fault(source.texts.as_slice(), &fault)),
-    }
-}
-
-/// Prints what code answers to the rows of the table of these bytes, or the line by which that is refused.
-pub fn answer_batch<R: Threads + Sync, K: Sink>(
-    rt: &R,
-    alloc: Global,
-    loaded: &Loaded,
-    table: &[u8],
-    out: &mut K,
-) -> Status
-    requires { IsRunnableCode loaded.now }
-    ensures { (scheme : Scheme) → Shows scheme loaded.now.face (machine_run loaded.now.code)
-        → IsWrittenInParts (TableReplies scheme table.now) (output_view K.written K.faults out.old) (output_view K.written K.faults out.new) result }
-{
-    match rows_of(rt, alloc, loaded, table) {
-        Ok(rows) => status_of_rows(print_rows(rt, alloc, loaded, rows.as_slice(), out)),
-        Err(fault) => tell_refusal(out, told_household(fault)),
-    }
-}
-
-// The rows of the table of these bytes, by its inputs.
-fn rows_of<R: Threads + Sync>(
-    rt: &R,
-    alloc: Global,
-    loaded: &Loaded,
-    table: &[u8],
-) -> Result<Seq<Row>, HouseholdFault>
-    requires { IsRunnableCode loaded.now }
-    ensures outcome { Outcome NoMemory result (λ rows. table_of loaded.now.face.inputs table.now ≡ Ok rows)
-        (λ fault. table_of loaded.now.face.inputs table.now ≡ Err fault) }
-    ensures inputs { IfOk result (λ rows. AllByRecursion (λ row. AreInputs (length loaded.now.face.inputs) row.household.pairs) rows) }
-{
-    let codes = codes_by(alloc, loaded)?;
-    read_table(rt, alloc, table, &codes)
-}
-
-// The status after rows that were written or not.
-fn status_of_rows(written: Result<(), GroupFault>) -> Status
-    ensures { result ≡ group_status written }
-{
-    match written {
-        Ok(()) => Status::Done,
-        Err(GroupFault::Memory) => Status::Memory,
-        Err(GroupFault::Failed) => Status::WriteFault,
     }
 }

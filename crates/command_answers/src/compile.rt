@@ -1,5 +1,4 @@
 //! A compilation: the code file of a source is written.
-ghost use Rattle.std.specs.Prelude.{◌≡◌};
 ghost use Rattle.rule_text.specs.Limits.{SourceKeepsLimits};
 ghost use Rattle.command_plans.specs.Printing.{IsAnswered};
 ghost use Rattle.command_plans.specs.Views.{output_view};
@@ -7,8 +6,7 @@ ghost use Rattle.command_answers.specs.Compiles.{CompileReplies};
 ghost use Rattle.command_answers.specs.inner.Answers.{IsFileOf};
 
 use crate::program::prepare_code;
-use crate::texts::give_code;
-use crate::told::tell_refusal;
+use code_answers::{give_code, tell_refusal};
 use code_file::Loaded;
 use command_plans::{Status, printed};
 use m_compile::told_fault;

@@ -6,7 +6,8 @@ ghost use Rattle.code_file.specs.Loading.{counts_agree};
 ghost use Rattle.m_compile.specs.Compiled.{IsRunnable};
 ghost use Rattle.m_compile.specs.Faults.{IsSourceFault};
 ghost use Rattle.m_compile.specs.declared.fault.SourceFault.TheVariants.{Memory};
-ghost use Rattle.command_answers.specs.Prepared.{IsPrepared, IsPreparedCode, IsRunnableCode};
+ghost use Rattle.command_answers.specs.Prepared.{IsPrepared, IsPreparedCode};
+ghost use Rattle.code_answers.specs.Shown.{IsRunnableCode};
 
 use code_file::Loaded;
 use flat_code::Tidy;

@@ -9,8 +9,9 @@ use Rattle.m_compile.specs.declared.fault.SourceFault.{SourceFault}
 use Rattle.m_compile.proofs.OneLaws.{no_valid_and_fault, one_fault}
 use Rattle.command_plans.specs.Status.{IsComplete}
 use Rattle.command_plans.specs.declared.status.Status.{Status}
-use Rattle.command_answers.specs.Cases.{CasesHasAnswer, CasesReplies, ComparedReplies, cases_count, cases_fault_line, cases_text, count_status, source_is_refused, is_answered, table_is_refused, is_compared}
-use Rattle.command_answers.specs.Schemes.{Scheme}
+use Rattle.command_answers.specs.Cases.{CasesHasAnswer, CasesReplies, source_is_refused, is_answered}
+use Rattle.code_answers.specs.Cases.{ComparedReplies, cases_count, cases_fault_line, cases_text, count_status, table_is_refused, is_compared}
+use Rattle.code_answers.specs.Schemes.{Scheme}
 use Rattle.command_answers.specs.Sources.{IsScheme}
 use Rattle.m_commands.specs.Output.{AreOneOutput, the_same}
 use Rattle.m_commands.proofs.Schemes.{one_line, one_scheme}

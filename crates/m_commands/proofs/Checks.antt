@@ -15,8 +15,8 @@ use Rattle.driver_core.specs.Inputs.{inputs_said}
 use Rattle.m_compile.proofs.OneLaws.{no_base_and_base_fault, one_base_fault, one_rules}
 use Rattle.command_plans.specs.Status.{IsComplete}
 use Rattle.command_plans.specs.declared.status.Status.{Status}
-use Rattle.command_answers.specs.Checks.{CheckHasAnswer, CheckReplies, ReportReplies, given_by, report_fault_line}
-use Rattle.command_answers.specs.Checks as check
+use Rattle.rule_answers.specs.Checks.{CheckHasAnswer, CheckReplies, ReportReplies, given_by, report_fault_line}
+use Rattle.rule_answers.specs.Checks as check
 use Rattle.m_commands.specs.Output.{AreOneOutput, the_same}
 use Rattle.m_commands.proofs.Schemes.{one_line, same_line}
 

@@ -23,12 +23,12 @@ use Rattle.command_plans.specs.declared.status.Status.{Status}
 use Rattle.tax_print.specs.Lines.{told_lines}
 use Rattle.command_answers.specs.Compiles.{CompileReplies, CompileHasAnswer}
 use Rattle.command_answers.specs.Compiles as compiles
-use Rattle.command_answers.specs.Execs.{ExecReplies, ExecHasAnswer, code_fault_line}
-use Rattle.command_answers.specs.Execs as exec
-use Rattle.command_answers.specs.Households.{told_status}
-use Rattle.command_answers.specs.Prepared.{HouseholdReplies, Shows}
-use Rattle.command_answers.specs.Prepared as prepared
-use Rattle.command_answers.specs.Schemes.{Scheme, told_to}
+use Rattle.code_answers.specs.Execs.{ExecReplies, ExecHasAnswer, code_fault_line}
+use Rattle.code_answers.specs.Execs as exec
+use Rattle.code_answers.specs.Households.{told_status}
+use Rattle.code_answers.specs.Shown.{HouseholdReplies, Shows}
+use Rattle.code_answers.specs.Shown as prepared
+use Rattle.code_answers.specs.Schemes.{Scheme, told_to}
 use Rattle.command_answers.specs.Sources.{IsScheme}
 use Rattle.m_commands.specs.Output.{AreOneOutput, the_same, both_compiled}
 use Rattle.m_commands.proofs.Schemes.{one_line, same_line}

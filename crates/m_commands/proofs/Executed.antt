@@ -10,14 +10,15 @@ use Rattle.reg_machine.specs.Machine.{machine_run}
 use Rattle.command_plans.specs.declared.status.Status.{Status}
 use Rattle.tax_print.specs.Lines.{told_lines}
 use Rattle.code_file.specs.Reading.{IsFormOf}
-use Rattle.command_answers.specs.Execs.{ExecReplies}
-use Rattle.command_answers.specs.Execs as exec
-use Rattle.command_answers.specs.Households.{told_status}
-use Rattle.command_answers.specs.Prepared.{HouseholdReplies, IsPreparedCode, Shows}
-use Rattle.command_answers.specs.Prepared as prepared
+use Rattle.code_answers.specs.Execs.{ExecReplies}
+use Rattle.code_answers.specs.Execs as exec
+use Rattle.code_answers.specs.Households.{told_status}
+use Rattle.code_answers.specs.Shown.{HouseholdReplies, Shows}
+use Rattle.command_answers.specs.Prepared.{IsPreparedCode}
+use Rattle.code_answers.specs.Shown as prepared
 use Rattle.command_answers.specs.Runs.{RunReplies}
 use Rattle.command_answers.specs.Runs as run
-use Rattle.command_answers.specs.Schemes.{Scheme, told_to}
+use Rattle.code_answers.specs.Schemes.{Scheme, told_to}
 use Rattle.command_answers.specs.Sources.{IsScheme, households_are_refused}
 use Rattle.m_commands.proofs.Codes.{no_form_and_fault, one_inputs, one_loaded, one_told, shown_other}
 

@@ -22,7 +22,7 @@ use Rattle.command_plans.specs.Status.{IsComplete}
 use Rattle.command_plans.specs.declared.status.Status.{Status}
 use Rattle.command_plans.specs.declared.status.Status.TheVariants.{Done}
 use Rattle.command_answers.specs.Compiles.{CompileHasAnswer}
-use Rattle.command_answers.specs.Lints.{LintReplies, is_linted, is_refused, lint_text}
+use Rattle.rule_answers.specs.Lints.{LintReplies, is_linted, is_refused, lint_text}
 use Rattle.m_commands.specs.Output.{AreOneOutput, both_linted}
 use Rattle.m_commands.proofs.Codes.{compiled_not_refused}
 use Rattle.m_commands.proofs.Schemes.{one_line}

@@ -17,16 +17,16 @@ use Rattle.command_plans.specs.declared.status.Status.TheVariants.{Done, Refused
 use Rattle.why_session.specs.Explains.{Explaining}
 use Rattle.tax_print.specs.Lines.{told_lines}
 use Rattle.command_answers.specs.Batches as batch
-use Rattle.command_answers.specs.Households.{told_status}
+use Rattle.code_answers.specs.Households.{told_status}
 use Rattle.command_answers.specs.LargeAnswers as large
-use Rattle.command_answers.specs.Larges.{large_line}
+use Rattle.code_answers.specs.Larges.{large_line}
 use Rattle.command_answers.specs.Runs as run
-use Rattle.command_answers.specs.Schemes.{Scheme, told_to}
+use Rattle.code_answers.specs.Schemes.{Scheme, told_to}
 use Rattle.command_answers.specs.Serves.{IsSession}
 use Rattle.command_answers.specs.Serves as serve
 use Rattle.command_answers.specs.Sessions.{ended_replies, session_replies}
 use Rattle.command_answers.specs.Sources.{IsScheme}
-use Rattle.command_answers.specs.Tables.{rows_lines}
+use Rattle.code_answers.specs.Tables.{rows_lines}
 use Rattle.m_commands.specs.Answer.{Replies}
 use Rattle.m_commands.specs.Command.{plan_of}
 use Rattle.m_commands.specs.Output.{Output, usage, refuses, answers, AreOneOutput, both_served, both_too_long, the_same}

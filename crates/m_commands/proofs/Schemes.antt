@@ -8,8 +8,8 @@ use Rattle.observables.specs.declared.inputs.Coded.{Coded}
 use Rattle.m_compile.specs.Lines.{source_line}
 use Rattle.m_compile.specs.declared.fault.SourceFault.{SourceFault}
 use Rattle.command_plans.specs.declared.status.Status.TheVariants.{Refused}
-use Rattle.command_answers.specs.Households.{household_fault_line}
-use Rattle.command_answers.specs.Schemes.{Scheme}
+use Rattle.code_answers.specs.Households.{household_fault_line}
+use Rattle.code_answers.specs.Schemes.{Scheme}
 use Rattle.command_answers.specs.Sources.{IsScheme, Refuses, scheme_said, source_is_refused, households_are_refused}
 use Rattle.m_commands.specs.Output.{AreOneOutput, the_same, both_cycles, both_recursions}
 use Rattle.m_compile.specs.Faults.{AreOneSourceFault}

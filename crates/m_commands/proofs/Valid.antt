@@ -19,12 +19,12 @@ use Rattle.command_plans.specs.declared.status.Status.{Status}
 use Rattle.command_plans.proofs.Walks.{walks_to_end, walks_fit}
 use Rattle.command_answers.specs.Batches as batch
 use Rattle.command_answers.specs.Compiles as compiles
-use Rattle.command_answers.specs.Execs as exec
-use Rattle.command_answers.specs.Households.{told_status}
+use Rattle.code_answers.specs.Execs as exec
+use Rattle.code_answers.specs.Households.{told_status}
 use Rattle.command_answers.specs.LargeAnswers as large
-use Rattle.command_answers.specs.Prepared as prepared
+use Rattle.code_answers.specs.Shown as prepared
 use Rattle.command_answers.specs.Runs as run
-use Rattle.command_answers.specs.Schemes.{told_to}
+use Rattle.code_answers.specs.Schemes.{told_to}
 use Rattle.command_answers.specs.Serves as serve
 use Rattle.m_commands.specs.Answer.{Replies, HasAnswer}
 use Rattle.m_commands.specs.Command.{command_of, plan_of}

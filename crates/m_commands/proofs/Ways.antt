@@ -13,7 +13,7 @@ use Rattle.command_plans.specs.Status.{IsOfEnd}
 use Rattle.command_plans.specs.Views.{InputView, OutputView}
 use Rattle.command_plans.specs.declared.status.Status.{Status}
 use Rattle.command_plans.specs.declared.status.Status.TheVariants.{Done, Memory, ReadFault, Refused, WriteFault}
-use Rattle.command_answers.specs.Batches as batch
+use Rattle.code_answers.specs.Parts as parts
 use Rattle.command_answers.specs.Serves as serve
 use Rattle.command_answers.specs.Serving.{to_its_end, unread, too_long, unwritten}
 use Rattle.command_answers.specs.Sessions.{ended_replies, session_replies}
@@ -64,9 +64,9 @@ way_of (Serve source rows) heard told old new status (serve.served scheme explai
     serves_most taken (ended_replies scheme explains pairs taken ++ input_too_long_line) refl moved full calm (λ rest. serve.is_too_long scheme explains pairs taken rest s refl full) p
 way_of (Serve source rows) heard told old new status (serve.served scheme explains pairs s (unwritten taken rest moved within left calm breaks is)) =
     serves_front taken rest (session_replies scheme explains pairs (taken ++ rest)) refl moved left calm (serve.is_in_full scheme explains pairs s) breaks is
-way_of (Batch source table) heard told old new status (same, batch.printed text own r o p) = tells text own (λ typed. r) o same p
-way_of (Batch source table) heard told old new status (same, batch.no_memory n m) = lacks_memory same n m
-way_of (Batch source table) heard told old new status (same, batch.broke_off text own r a f m) = breaks_off text own (λ typed. r) refl same a f m
+way_of (Batch source table) heard told old new status (same, parts.printed text own r o p) = tells text own (λ typed. r) o same p
+way_of (Batch source table) heard told old new status (same, parts.no_memory n m) = lacks_memory same n m
+way_of (Batch source table) heard told old new status (same, parts.broke_off text own r a f m) = breaks_off text own (λ typed. r) refl same a f m
 way_of (Large n) heard told old new status (same, printed text own r o p) = tells text own (λ typed. r) o same p
 way_of (Large n) heard told old new status (same, no_memory e m) = lacks_memory same e m
 way_of (Compile source) heard told old new status (same, printed text own r o p) = tells text own (λ typed. r) o same p
@@ -77,9 +77,9 @@ way_of (Check source rows report) heard told old new status (same, printed text 
 way_of (Check source rows report) heard told old new status (same, no_memory e m) = lacks_memory same e m
 way_of (Lint source) heard told old new status (same, printed text own r o p) = tells text own (λ typed. r) o same p
 way_of (Lint source) heard told old new status (same, no_memory e m) = lacks_memory same e m
-way_of (Cases source table) heard told old new status (same, batch.printed text own r o p) = tells text own (λ typed. r) o same p
-way_of (Cases source table) heard told old new status (same, batch.no_memory n m) = lacks_memory same n m
-way_of (Cases source table) heard told old new status (same, batch.broke_off text own r a f m) = breaks_off text own (λ typed. r) refl same a f m
+way_of (Cases source table) heard told old new status (same, parts.printed text own r o p) = tells text own (λ typed. r) o same p
+way_of (Cases source table) heard told old new status (same, parts.no_memory n m) = lacks_memory same n m
+way_of (Cases source table) heard told old new status (same, parts.broke_off text own r a f m) = breaks_off text own (λ typed. r) refl same a f m
 
 -- ---- the command of a work
 

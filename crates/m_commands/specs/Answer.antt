@@ -5,11 +5,11 @@ use Rattle.rule_text.specs.Limits.{SourceKeepsLimits}
 use Rattle.command_plans.specs.declared.status.Status.{Status}
 use Rattle.command_answers.specs.Batches.{BatchReplies, BatchHasAnswer}
 use Rattle.command_answers.specs.Cases.{CasesReplies, CasesHasAnswer}
-use Rattle.command_answers.specs.Checks.{CheckReplies, CheckHasAnswer}
+use Rattle.rule_answers.specs.Checks.{CheckReplies, CheckHasAnswer}
 use Rattle.command_answers.specs.Compiles.{CompileReplies, CompileHasAnswer}
-use Rattle.command_answers.specs.Execs.{ExecReplies, ExecHasAnswer}
+use Rattle.code_answers.specs.Execs.{ExecReplies, ExecHasAnswer}
 use Rattle.command_answers.specs.LargeAnswers.{LargeReplies}
-use Rattle.command_answers.specs.Lints.{LintReplies}
+use Rattle.rule_answers.specs.Lints.{LintReplies}
 use Rattle.command_answers.specs.Runs.{RunReplies, RunHasAnswer}
 use Rattle.command_answers.specs.Serves.{ServeReplies, ServeCutOff, ServeInFull}
 use Rattle.m_commands.specs.declared.work.Work.{Work}

@@ -12,9 +12,9 @@ use Rattle.m_compile.specs.Sources.{HasRules}
 use Rattle.m_compile.specs.declared.compiling.Compiled.{Compiled}
 use Rattle.why_session.specs.Explains.{Explaining}
 use Rattle.command_answers.specs.Explained.{IsExplained}
-use Rattle.command_answers.specs.Lints.{lint_text}
+use Rattle.rule_answers.specs.Lints.{lint_text}
 use Rattle.command_answers.specs.Prepared.{IsPreparedCode}
-use Rattle.command_answers.specs.Schemes.{Scheme}
+use Rattle.code_answers.specs.Schemes.{Scheme}
 use Rattle.command_answers.specs.Sessions.{ended_replies, session_replies}
 use Rattle.command_answers.specs.Sources.{IsScheme}
 use Rattle.command_plans.specs.Plan.{end_of, gathered, refused, names_fetched}

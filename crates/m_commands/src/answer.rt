@@ -4,12 +4,13 @@ ghost use Rattle.m_commands.specs.Answer.{WorkKeepsLimits};
 ghost use Rattle.m_commands.specs.inner.Courses.{WorkIsAnswered};
 
 use crate::work::Work;
+use code_answers::exec_code;
 use command_answers::{
-    batch_source, cases_source, check_source, compile_source, exec_code, lint_source, run_large,
-    run_source, serve_source,
+    batch_source, cases_source, compile_source, run_large, run_source, serve_source,
 };
 use command_plans::Status;
 use m_ports::{Sink, Source};
+use rule_answers::{check_source, lint_source};
 use std::alloc::Global;
 use std::thread::Threads;
 

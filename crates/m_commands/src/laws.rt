@@ -3,7 +3,7 @@ ghost use Rattle.std.specs.Prelude.{◌≡◌, ℕ, List, Option};
 ghost use Rattle.code_file.specs.Reading.{IsFormOf};
 ghost use Rattle.code_file.specs.declared.loaded.Loaded.{Loaded};
 ghost use Rattle.command_plans.specs.declared.status.Status.{Status};
-ghost use Rattle.command_answers.specs.Execs.{ExecReplies};
+ghost use Rattle.code_answers.specs.Execs.{ExecReplies};
 ghost use Rattle.command_answers.specs.Prepared.{IsPreparedCode};
 ghost use Rattle.command_answers.specs.Runs.{RunReplies};
 ghost use Rattle.rule_text.specs.declared.Source.{Source};
@@ -17,7 +17,7 @@ ghost use Rattle.m_lint.specs.declared.finding.Finding.{Finding};
 ghost use Rattle.m_compile.specs.Answers.{answer_to};
 ghost use Rattle.driver_core.specs.Inputs.{inputs_said};
 ghost use Rattle.m_compile.specs.Sources.{IsValid};
-ghost use Rattle.command_answers.specs.Lints.{LintReplies};
+ghost use Rattle.rule_answers.specs.Lints.{LintReplies};
 
 /// Where a code file is the form of what a source is compiled to, `exec` answers each household by it as `run` does by the source:
 /// with the same text and the same status.

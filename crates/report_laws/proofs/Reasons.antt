@@ -24,7 +24,7 @@ use Rattle.why_session.specs.Explains.{Explaining, told_lines_of}
 use Rattle.m_compile.specs.Sources.{HasRules}
 use Rattle.m_compile.proofs.OneLaws.{one_rules}
 use Rattle.command_plans.specs.declared.status.Status.TheVariants.{Done}
-use Rattle.command_answers.specs.Checks.{CheckReplies, is_checked, is_sound, sound_line}
+use Rattle.rule_answers.specs.Checks.{CheckReplies, is_checked, is_sound, sound_line}
 use Rattle.command_answers.specs.Explained.{IsExplained}
 use Rattle.report_laws.specs.Readable.{CanBeRead}
 use Rattle.report_laws.proofs.Operators.{cell_value}

@@ -18,7 +18,7 @@ ghost use Rattle.why_report.specs.Reports.{report_said, report_text};
 ghost use Rattle.why_session.specs.Explains.{Explaining, told_lines_of};
 ghost use Rattle.m_compile.specs.Sources.{HasRules};
 ghost use Rattle.command_plans.specs.declared.status.Status.{Status};
-ghost use Rattle.command_answers.specs.Checks.{CheckReplies, sound_line};
+ghost use Rattle.rule_answers.specs.Checks.{CheckReplies, sound_line};
 ghost use Rattle.command_answers.specs.Explained.{IsExplained};
 ghost use Rattle.report_laws.specs.Readable.{CanBeRead};
 

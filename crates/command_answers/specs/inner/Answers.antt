@@ -1,10 +1,8 @@
--- What code answers to a household, and the session that a tidy program begins.
+-- The code file of code, and the session that a tidy program begins.
 use Rattle.std.specs.Prelude.{◌≡◌, ℕ, ℤ, List, Ok}
-use Rattle.observables.specs.declared.answer.Answer.{Answer}
-use Rattle.reg_machine.specs.Machine.{machine_run}
 use Rattle.code_file.specs.Loading.{text_with}
 use Rattle.code_file.specs.declared.loaded.Loaded.{Loaded}
-use Rattle.household.specs.Household.{household_of, values_of}
+use Rattle.household.specs.Household.{household_of}
 use Rattle.household_session.specs.Sessions.{Sitting, begun}
 use Rattle.command_plans.specs.declared.status.Status.{Status}
 use Rattle.command_plans.specs.declared.status.Status.TheVariants.{Done}
@@ -12,12 +10,6 @@ use Rattle.m_symbols.specs.Declarations.{Declared}
 use Rattle.rule_order.specs.declared.ordered.Ordered.{Ordered}
 use Rattle.why_session.specs.Joined.{Joined}
 use Rattle.command_answers.specs.declared.program.Program.{Program}
-
--- the household of these bytes has no fault, and the code answers this to it
-pub record IsAnswerOf (loaded : Loaded) (rows : List ℕ) (answer : Answer) : Type 0 where
-  pub pairs : List (ℕ × ℤ)
-  pub given : household_of loaded.face.inputs rows ≡ Ok pairs
-  pub ran : answer ≡ machine_run loaded.code (values_of pairs loaded.code.counts.inputs)
 
 -- the text is the code file of the code, and the command has done its work
 pub data IsFileOf (loaded : Loaded) : List ℕ → Status → Type 0 where

@@ -7,13 +7,14 @@ use Rattle.command_plans.specs.Views.{FilesView, InputView, OutputView}
 use Rattle.command_plans.specs.declared.ending.Ending.{Ending}
 use Rattle.command_plans.specs.declared.status.Status.{Status}
 use Rattle.command_plans.specs.declared.status.Status.TheVariants.{Usage, Memory}
-use Rattle.command_answers.specs.Batches.{BatchReplies, IsWrittenInParts}
+use Rattle.command_answers.specs.Batches.{BatchReplies}
+use Rattle.code_answers.specs.Parts.{IsWrittenInParts}
 use Rattle.command_answers.specs.Cases.{CasesReplies}
-use Rattle.command_answers.specs.Checks.{CheckReplies}
+use Rattle.rule_answers.specs.Checks.{CheckReplies}
 use Rattle.command_answers.specs.Compiles.{CompileReplies}
-use Rattle.command_answers.specs.Execs.{ExecReplies}
+use Rattle.code_answers.specs.Execs.{ExecReplies}
 use Rattle.command_answers.specs.LargeAnswers.{LargeReplies}
-use Rattle.command_answers.specs.Lints.{LintReplies}
+use Rattle.rule_answers.specs.Lints.{LintReplies}
 use Rattle.command_answers.specs.Runs.{RunReplies}
 use Rattle.command_answers.specs.Serves.{IsServed}
 use Rattle.m_commands.specs.Command.{command_of, plan_of}

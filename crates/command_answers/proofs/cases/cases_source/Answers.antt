@@ -1,4 +1,4 @@
-use Rattle.command_answers.proofs.CaseLemmas.{cases_answered, cases_refused}
+use Rattle.command_answers.proofs.Ways.{cases_answered, cases_refused}
 use Rattle.command_answers.proofs.Refusals.{fault_told}
 use Rattle.command_answers.proofs.cases.cases_source.Goals as goal
 

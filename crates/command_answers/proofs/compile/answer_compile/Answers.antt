@@ -1,6 +1,6 @@
 use Rattle.command_plans.specs.Printing.{printed}
 use Rattle.command_answers.specs.inner.Answers.{is_file}
-use Rattle.command_answers.proofs.Printings.{prints_given}
+use Rattle.code_answers.proofs.Printings.{prints_given}
 use Rattle.command_answers.proofs.compile.answer_compile.Goals as goal
 
 pub returns : goal.returns

@@ -2,7 +2,7 @@ use Rattle.std.proofs.Common.{◌≡◌, Err}
 use Rattle.flat_code.specs.Runs.{flat_run}
 use Rattle.household.specs.Household.{household_of}
 use Rattle.why_session.specs.Joined.{explains_by}
-use Rattle.command_answers.proofs.Refusals.{household_refused}
+use Rattle.code_answers.proofs.Refusals.{household_refused}
 use Rattle.command_answers.proofs.Ways.{session_refused, session_served}
 use Rattle.command_answers.proofs.serving.answer_serve.Goals as goal
 

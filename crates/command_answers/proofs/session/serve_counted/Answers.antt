@@ -4,7 +4,7 @@ use Rattle.serve_loop.specs.Repliers.{ended_of}
 use Rattle.command_plans.specs.Views.{output_view}
 use Rattle.command_plans.specs.declared.status.Status.TheVariants.{ReadFault, Refused}
 use Rattle.command_answers.specs.Serving.{to_its_end, unread, too_long, unwritten}
-use Rattle.command_answers.proofs.Printings.{prints_behind}
+use Rattle.code_answers.proofs.Printings.{prints_behind}
 use Rattle.command_answers.proofs.session.serve_counted.Goals as goal
 
 pub returns-in-Done : goal.returns-in-Done

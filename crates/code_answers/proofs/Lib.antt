@@ -1,0 +1,10 @@
+pub mod HeldLemmas
+pub mod CodeLemmas
+pub mod Shown
+pub mod GroupLemmas
+pub mod Printings
+pub mod LargeLemmas
+pub mod Refusals
+pub mod Ways
+pub mod ExecLemmas
+pub mod CaseLemmas

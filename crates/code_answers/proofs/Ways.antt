@@ -1,0 +1,99 @@
+-- From what was told and written to how a call ended.
+use Rattle.std.proofs.Common.{◌≡◌, ℕ, List, [], ◌++◌, Result, Ok, Err, subst, inl, inr}
+use Rattle.std.specs.Prelude.{Option, Some}
+use Rattle.m_fixed.specs.declared.amount.Value.{Value}
+use Rattle.observables.specs.Answers.{Told, values, stopped}
+use Rattle.observables.specs.Outputs.{notes_of}
+use Rattle.observables.specs.declared.answer.Answer.{Answer}
+use Rattle.observables.specs.declared.face.Face.{Face}
+use Rattle.reg_machine.specs.Machine.{machine_run}
+use Rattle.code_file.specs.Reading.{IsCodeFault, IsFormOf}
+use Rattle.code_file.specs.declared.fault.CodeFault.{CodeFault}
+use Rattle.code_file.specs.declared.loaded.Loaded.{Loaded}
+use Rattle.household.specs.Household.{household_of}
+use Rattle.household.specs.Table.{table_of}
+use Rattle.household.specs.declared.fault.HouseholdFault.{HouseholdFault}
+use Rattle.tax_print.specs.Lines.{answer_lines, told_lines}
+use Rattle.command_plans.specs.Printing.{IsAnswered, Prints, printed, no_memory}
+use Rattle.command_plans.specs.Status.{IsOfEnd}
+use Rattle.command_plans.specs.Views.{OutputView, output_view}
+use Rattle.command_plans.specs.declared.status.Status.{Status}
+use Rattle.command_plans.specs.declared.status.Status.TheVariants.{Done, Refused}
+use Rattle.code_answers.specs.Parts.{IsWrittenInParts, broke_off}
+use Rattle.code_answers.specs.Execs.{ExecReplies, code_fault_line}
+use Rattle.code_answers.specs.Execs as exec
+use Rattle.code_answers.specs.Households.{answer_status, household_fault_line, told_status}
+use Rattle.code_answers.specs.Shown.{HouseholdReplies, Shows, TableReplies}
+use Rattle.code_answers.specs.Shown as households
+use Rattle.code_answers.specs.Schemes.{Scheme, told_to}
+use Rattle.code_answers.specs.declared.groups.GroupFault.{GroupFault}
+use Rattle.code_answers.specs.declared.groups.GroupFault.TheVariants as group
+use Rattle.code_answers.specs.inner.Answers.{IsAnswerOf}
+use Rattle.code_answers.specs.inner.Groups.{WritesGroups, group_status}
+use Rattle.code_answers.proofs.Refusals.{TellsRefusal}
+use Rattle.code_answers.proofs.Shown.{given_by, household_told, status_told, told_answer}
+use Rattle.code_answers.specs.Parts as parts
+
+of_end : (told : Told) → IsOfEnd (told_status told)
+of_end (values notes vs) = tt
+of_end (stopped cause) = tt
+
+-- an answer by one way to reply is an answer by another that replies the same
+pub answered_as : (One Other : List ℕ → Status → Type 0) (old new : OutputView) (status : Status) → ((text : List ℕ) (own : Status) → One text own → Other text own)
+    → IsAnswered One old new status → IsAnswered Other old new status
+answered_as One Other old new status turn (printed text own replied end shown) = printed text own (turn text own replied) end shown
+answered_as One Other old new status turn (no_memory same memory) = no_memory same memory
+
+pub parts_as : (One Other : List ℕ → Status → Type 0) (old new : OutputView) (status : Status) → ((text : List ℕ) (own : Status) → One text own → Other text own)
+    → IsWrittenInParts One old new status → IsWrittenInParts Other old new status
+parts_as One Other old new status turn (parts.printed text own replied end shown) = parts.printed text own (turn text own replied) end shown
+parts_as One Other old new status turn (parts.no_memory same memory) = parts.no_memory same memory
+parts_as One Other old new status turn (broke_off text own replied prefix none memory) = broke_off text own (turn text own replied) prefix none memory
+
+-- ---- households
+
+-- the household of these bytes was refused, by a program's codes
+pub rows_refused : (front : List ℕ) (scheme : Scheme) (face : Face) (runs : List Value → Answer) (rows : List ℕ) (fault : HouseholdFault) (old new : OutputView) (status : Status) → Shows scheme face runs
+    → TellsRefusal (λ line. (household_of face.inputs rows ≡ Err fault) × (household_fault_line fault ≡ Some line)) old new status
+    → IsAnswered (HouseholdReplies front scheme rows) old new status
+rows_refused front scheme face runs rows fault old new status shown (inl (line, refused, p)) =
+    printed line Refused (households.is_refused fault (subst (λ inputs. household_of inputs rows ≡ Err fault) shown.inputs refused.0) refused.1) tt p
+rows_refused front scheme face runs rows fault old new status shown (inr (same, memory)) = no_memory same memory
+
+pub rows_printed : (front : List ℕ) (scheme : Scheme) (loaded : Loaded) (rows : List ℕ) (answer : Answer) (old new : OutputView) (status : Status)
+    → Shows scheme loaded.face (machine_run loaded.code) → (of : IsAnswerOf loaded rows answer)
+    → Prints (front ++ answer_lines loaded.face answer) (answer_status answer) old new status → IsAnswered (HouseholdReplies front scheme rows) old new status
+rows_printed front scheme loaded rows answer old new status shown of p =
+    let told = told_to scheme of.pairs in
+    let is = household_told scheme loaded rows answer shown of in
+    printed (front ++ told_lines scheme.names told) (told_status told) (households.is_told of.pairs (given_by scheme loaded rows answer shown of)) (of_end told)
+    (subst (λ own. Prints (front ++ told_lines scheme.names told) own old new status) (status_told loaded.face.labels (notes_of loaded.face.outputs) answer told is)
+    (subst (λ text. Prints (front ++ text) (answer_status answer) old new status) (told_answer scheme loaded.face (machine_run loaded.code) answer told shown is) p))
+
+-- ---- tables
+
+pub table_refused : (scheme : Scheme) (face : Face) (runs : List Value → Answer) (table : List ℕ) (fault : HouseholdFault) (old new : OutputView) (status : Status) → Shows scheme face runs
+    → TellsRefusal (λ line. (table_of face.inputs table ≡ Err fault) × (household_fault_line fault ≡ Some line)) old new status
+    → IsWrittenInParts (TableReplies scheme table) old new status
+table_refused scheme face runs table fault old new status shown (inl (line, refused, p)) =
+    parts.printed line Refused (households.table_is_refused fault (subst (λ inputs. table_of inputs table ≡ Err fault) shown.inputs refused.0) refused.1) tt p
+table_refused scheme face runs table fault old new status shown (inr (same, memory)) = parts.no_memory same memory
+
+pub batch_written : {S T : Type 0} (written : S → Option (List ℕ)) (faults : S → ℕ) (old new : S) (result : Result T GroupFault) (text : List ℕ) (Replies : List ℕ → Status → Type 0) (status : Status)
+    → Replies text Done → status ≡ group_status result → WritesGroups written faults old new result text
+    → IsWrittenInParts Replies (output_view written faults old) (output_view written faults new) status
+batch_written written faults old new (Ok value) text Replies status replied is wrote = parts.printed text Done replied tt (inl ((wrote.all, wrote.counted), is))
+batch_written written faults old new (Err group.Memory) text Replies status replied is wrote = broke_off text Done replied wrote.prefix wrote.counted is
+batch_written written faults old new (Err group.Failed) text Replies status replied is wrote = parts.printed text Done replied tt (inr ((wrote.prefix, wrote.counted), is))
+
+-- ---- code files that are read
+
+pub exec_refused : (code rows : List ℕ) (fault : CodeFault) (old new : OutputView) (status : Status) → TellsRefusal (λ line. IsCodeFault code fault × (code_fault_line fault ≡ Some line)) old new status
+    → IsAnswered (ExecReplies code rows) old new status
+exec_refused code rows fault old new status (inl (line, refused, shown)) = printed line Refused (exec.code_is_refused fault refused.0 refused.1) tt shown
+exec_refused code rows fault old new status (inr (same, memory)) = no_memory same memory
+
+pub exec_answered : (code rows : List ℕ) (loaded : Loaded) (scheme : Scheme) (old new : OutputView) (status : Status) → IsFormOf code loaded → Shows scheme loaded.face (machine_run loaded.code)
+    → IsAnswered (HouseholdReplies [] scheme rows) old new status → IsAnswered (ExecReplies code rows) old new status
+exec_answered code rows loaded scheme old new status form shown a =
+    answered_as (HouseholdReplies [] scheme rows) (ExecReplies code rows) old new status (λ text own replied. exec.is_answered loaded scheme form shown replied) a

@@ -1,0 +1,36 @@
+-- What `exec` answers.
+use Rattle.std.specs.Prelude.{◌≡◌, ℕ, ℤ, List, [], Option, Some, None, Ok}
+use Rattle.fault_lines.specs.Lines.{code_header_line, code_line}
+use Rattle.fault_lines.specs.declared.fault.CodeFault.TheVariants as word
+use Rattle.reg_machine.specs.Machine.{machine_run}
+use Rattle.household.specs.Household.{household_of}
+use Rattle.code_file.specs.Reading.{IsFormOf, IsCodeFault}
+use Rattle.code_file.specs.declared.fault.CodeFault.{CodeFault}
+use Rattle.code_file.specs.declared.fault.CodeFault.TheVariants.{BadHeader, BadLine, BadOrder, Memory}
+use Rattle.code_file.specs.declared.loaded.Loaded.{Loaded}
+use Rattle.command_plans.specs.declared.status.Status.{Status}
+use Rattle.command_plans.specs.declared.status.Status.TheVariants.{Refused}
+use Rattle.code_answers.specs.Shown.{HouseholdReplies, Shows}
+use Rattle.code_answers.specs.Schemes.{Scheme}
+
+-- The line of a fault of a code file; running out of memory has none. A register that is read in line 7 before anything is written
+-- to it has `refused code line 7: read before write`.
+abbrev pub code_fault_line : CodeFault → Option (List ℕ)
+code_fault_line BadHeader = Some code_header_line
+code_fault_line (BadLine line) = Some (code_line line word.BadLine)
+code_fault_line (BadOrder line) = Some (code_line line word.ReadBeforeWrite)
+code_fault_line Memory = None
+
+-- The answer of a code file to the household of these bytes: the line of the file's first fault; or the file is the form of some code with its face, a scheme
+-- is what that is to households, and this is the scheme's answer.
+pub data ExecReplies (code rows : List ℕ) : List ℕ → Status → Type 0 where
+  code_is_refused : {line : List ℕ} (fault : CodeFault) → IsCodeFault code fault → code_fault_line fault ≡ Some line → ExecReplies code rows line Refused
+  is_answered : {text : List ℕ} {status : Status} (loaded : Loaded) (scheme : Scheme) → IsFormOf code loaded → Shows scheme loaded.face (machine_run loaded.code)
+      → HouseholdReplies [] scheme rows text status → ExecReplies code rows text status
+
+-- a code file without a fault, and a household without a fault by its inputs
+pub record ExecHasAnswer (code rows : List ℕ) : Type 0 where
+  pub loaded : Loaded
+  pub pairs : List (ℕ × ℤ)
+  pub form : IsFormOf code loaded
+  pub given : household_of loaded.face.inputs rows ≡ Ok pairs

@@ -1,0 +1,9 @@
+pub mod Schemes
+pub mod Households
+pub mod Tables
+pub mod Larges
+pub mod Shown
+pub mod Parts
+pub mod Execs
+pub mod Cases
+pub mod inner

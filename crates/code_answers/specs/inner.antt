@@ -1,0 +1,5 @@
+-- What inner functions' contracts speak of. No reader of the public contract needs it.
+pub mod Answers
+pub mod Groups
+pub mod CaseGroups
+pub mod Refusals

@@ -1,0 +1,81 @@
+//! Cases: the answers of code to the rows of a table are compared with what is expected of them, in groups.
+ghost use Rattle.std.specs.Prelude.{◌≡◌, ◌<◌, ◌≤◌, ◌^◌, IfOk, Ok, Err, length};
+ghost use Rattle.std.specs.List.{AllByRecursion};
+ghost use Rattle.m_places.specs.Refusals.{Outcome};
+ghost use Rattle.m_places.specs.declared.limits.TheConstants.{ROWS};
+ghost use Rattle.household.specs.Household.{AreInputs, AreOfTypes};
+ghost use Rattle.observables.specs.Outputs.{names_of};
+ghost use Rattle.reg_machine.specs.Machine.{machine_run};
+ghost use Rattle.m_cases.specs.Cases.{AreExpected, cases_of};
+ghost use Rattle.m_cases.specs.declared.fault.CasesFault.TheVariants.{Memory as NoMemory};
+ghost use Rattle.command_plans.specs.Views.{output_view};
+ghost use Rattle.code_answers.specs.Parts.{IsWrittenInParts};
+ghost use Rattle.code_answers.specs.Cases.{ComparedReplies};
+ghost use Rattle.code_answers.specs.Shown.{IsRunnableCode, Shows};
+ghost use Rattle.code_answers.specs.Schemes.{Scheme};
+ghost use Rattle.code_answers.specs.inner.CaseGroups.{compared_status};
+
+use crate::case_groups::print_cases;
+use crate::given::codes_by;
+use crate::groups::GroupFault;
+use crate::told::{tell_refusal, told_cases};
+use code_file::Loaded;
+use command_plans::Status;
+use m_cases::{Cases, CasesFault, read_cases};
+use m_ports::Sink;
+use std::alloc::Global;
+use std::thread::Threads;
+
+/// Prints what the rows of the table of these bytes expect and code doesn't answer, or the line by which the table is refused.
+pub fn answer_cases<R: Threads + Sync, K: Sink>(
+    rt: &R,
+    alloc: Global,
+    loaded: &Loaded,
+    table: &[u8],
+    out: &mut K,
+) -> Status
+    requires runnable { IsRunnableCode loaded.now }
+    requires few { length loaded.now.face.outputs < 2 ^ 32 }
+    ensures { (scheme : Scheme) → Shows scheme loaded.now.face (machine_run loaded.now.code)
+        → IsWrittenInParts (ComparedReplies scheme table.now) (output_view K.written K.faults out.old) (output_view K.written K.faults out.new) result }
+{
+    match cases_in(alloc, loaded, table) {
+        Ok(cases) => status_of_cases(print_cases(
+            rt,
+            alloc,
+            loaded,
+            cases.rows.as_slice(),
+            cases.expected.as_slice(),
+            out,
+        )),
+        Err(fault) => tell_refusal(out, told_cases(fault)),
+    }
+}
+
+// The cases of the table of these bytes, by the codes of the inputs and the names of the outputs.
+fn cases_in(alloc: Global, loaded: &Loaded, table: &[u8]) -> Result<Cases, CasesFault>
+    requires runnable { IsRunnableCode loaded.now }
+    requires few { length loaded.now.face.outputs < 2 ^ 32 }
+    ensures outcome { Outcome NoMemory result (λ cases. cases_of loaded.now.face.inputs (names_of loaded.now.face.outputs) table.now ≡ Ok cases)
+        (λ fault. cases_of loaded.now.face.inputs (names_of loaded.now.face.outputs) table.now ≡ Err fault) }
+    ensures inputs { IfOk result (λ cases. AllByRecursion (λ row. AreInputs (length loaded.now.face.inputs) row.household.pairs) cases.rows) }
+    ensures amounts { IfOk result (λ cases. AllByRecursion (λ row. AreOfTypes loaded.now.face.inputs row.household.pairs) cases.rows) }
+    ensures many { IfOk result (λ cases. length cases.expected ≡ length cases.rows) }
+    ensures few { IfOk result (λ cases. length cases.rows ≤ ROWS) }
+    ensures expected { IfOk result (λ cases. AllByRecursion (AreExpected (length (names_of loaded.now.face.outputs))) cases.expected) }
+{
+    let codes = codes_by(alloc, loaded)?;
+    read_cases(alloc, table, &codes, &loaded.face)
+}
+
+// The status after cases that were written or not.
+fn status_of_cases(written: Result<u64, GroupFault>) -> Status
+    ensures { result ≡ compared_status written }
+{
+    match written {
+        Ok(0) => Status::Done,
+        Ok(_) => Status::Stopped,
+        Err(GroupFault::Memory) => Status::Memory,
+        Err(GroupFault::Failed) => Status::WriteFault,
+    }
+}

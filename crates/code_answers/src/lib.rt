@@ -1,0 +1,27 @@
+//! What code answers, printed as it is made: to a household, to the rows of a table, to cases, and to the household of `large N`. A code
+//! file is run here, and a household or a code file is refused.
+//!
+//! Each call takes loaded code, whatever it was made of, and says what a scheme tells that the code shows.
+//! This crate knows nothing of sources and rules, nor of the words of the command line, and fetches no file.
+#![tactic(auto)]
+
+mod batch;
+mod case_groups;
+mod cases;
+mod exec;
+mod given;
+mod groups;
+mod large;
+mod parts;
+mod run;
+mod texts;
+mod told;
+
+pub use batch::answer_batch;
+pub use cases::answer_cases;
+pub use exec::exec_code;
+pub use given::read_given;
+pub use large::answer_large;
+pub use run::answer_run;
+pub use texts::give_code;
+pub use told::{tell_refusal, told_household};

@@ -1,0 +1,4 @@
+pub mod Refusals
+pub mod CheckLemmas
+pub mod StartLemmas
+pub mod LintLemmas

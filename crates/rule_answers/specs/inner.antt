@@ -1,0 +1,3 @@
+-- What inner functions' contracts speak of. No reader of the public contract needs it.
+pub mod Checking
+pub mod Linting

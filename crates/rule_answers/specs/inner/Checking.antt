@@ -1,0 +1,44 @@
+-- What is answered to a report over what the cells begin with.
+use Rattle.std.specs.Prelude.{◌≡◌, ℕ, ◌+◌, ℤ, List, length, Option, None, Some, Ok, Err}
+use Rattle.m_fixed.specs.declared.amount.Value.{Value}
+use Rattle.fault_lines.specs.Lines.{report_line}
+use Rattle.fault_lines.specs.declared.fault.ReportFault.TheVariants as words
+use Rattle.household.specs.Household.{household_of, values_of}
+use Rattle.m_symbols.specs.Declarations.{Declared}
+use Rattle.micro_m.specs.declared.base.Base.{Base}
+use Rattle.micro_m.specs.Values.{Environment}
+use Rattle.driver_core.specs.Answers.{start_of}
+use Rattle.why_report.specs.Derivations.{IsFirstUnsound, IsSound}
+use Rattle.why_report.specs.Reports.{report_said}
+use Rattle.why_report.specs.declared.fault.ReportFault.{ReportFault}
+use Rattle.why_report.specs.declared.line.ReportLine.{ReportLine}
+use Rattle.driver_core.specs.Inputs.{inputs_said}
+use Rattle.command_plans.specs.declared.status.Status.{Status}
+use Rattle.command_plans.specs.declared.status.Status.TheVariants.{Done, Refused}
+use Rattle.rule_answers.specs.Checks.{report_fault_line, sound_line}
+
+-- the household of these bytes has no fault, and the cells begin with these values for it
+pub record IsStart (declared : Declared) (rows : List ℕ) (env : List Value) : Type 0 where
+  pub pairs : List (ℕ × ℤ)
+  pub given : household_of (inputs_said declared) rows ≡ Ok pairs
+  pub begins : env ≡ start_of declared (values_of pairs (length (inputs_said declared)))
+
+-- what is told of what is found of lines: the number of the first that isn't sound, or that they are sound
+abbrev pub found_text : Option ℕ → List ℕ
+found_text None = sound_line
+found_text (Some position) = report_line (position + 1) words.NotSound
+
+abbrev pub found_status : Option ℕ → Status
+found_status None = Done
+found_status (Some position) = Refused
+
+-- what is answered to a report's lines
+pub data LinesReplies (base : Base) (given : Environment) (lines : List ReportLine) : List ℕ → Status → Type 0 where
+  unsound : (position : ℕ) → IsFirstUnsound base given lines position → LinesReplies base given lines (report_line (position + 1) words.NotSound) Refused
+  sound : IsSound base given lines → LinesReplies base given lines sound_line Done
+
+-- what is answered to a report
+pub data SaidReplies (declared : Declared) (base : Base) (given : Environment) (report : List ℕ) : List ℕ → Status → Type 0 where
+  refused : {line : List ℕ} (fault : ReportFault) → report_said declared report ≡ Err fault → report_fault_line fault ≡ Some line → SaidReplies declared base given report line Refused
+  told : {text : List ℕ} {status : Status} (lines : List ReportLine) → report_said declared report ≡ Ok lines → LinesReplies base given lines text status
+      → SaidReplies declared base given report text status

@@ -1,0 +1,12 @@
+-- What is answered over a base and what its source is compiled to.
+use Rattle.std.specs.Prelude.{ℕ, List}
+use Rattle.m_symbols.specs.Declarations.{Declared}
+use Rattle.micro_m.specs.declared.base.Base.{Base}
+use Rattle.m_compile.specs.declared.compiling.Compiled.{Compiled}
+use Rattle.command_plans.specs.declared.status.Status.{Status}
+use Rattle.command_plans.specs.declared.status.Status.TheVariants.{Done}
+use Rattle.rule_answers.specs.Lints.{lint_text}
+
+-- the text is that of what is found, and the command has done its work
+pub data IsLintOf (declared : Declared) (base : Base) (compiled : Compiled) : List ℕ → Status → Type 0 where
+  is_lint : IsLintOf declared base compiled (lint_text declared base compiled) Done

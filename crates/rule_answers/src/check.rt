@@ -1,0 +1,160 @@
+//! A check: whether a report is a sound derivation over the rules of a source and a household.
+ghost use Rattle.std.specs.Prelude.{◌≡◌, ◌<◌, ◌≤◌, All, Err, IfSome, length};
+ghost use Rattle.m_names.specs.Names.{AreDistinct};
+ghost use Rattle.m_places.specs.Refusals.{Outcome};
+ghost use Rattle.m_places.specs.declared.limits.TheConstants.{CELLS, CODE_FILE_BYTES};
+ghost use Rattle.rule_text.specs.Limits.{SourceKeepsLimits};
+ghost use Rattle.household.specs.Household.{household_of};
+ghost use Rattle.household.specs.declared.fault.HouseholdFault.TheVariants.{Memory};
+ghost use Rattle.observables.specs.Inputs.{codes_of};
+ghost use Rattle.m_symbols.specs.Declarations.{owners_from};
+ghost use Rattle.m_requests.specs.Placed.{IsPlaced};
+ghost use Rattle.micro_m.specs.Bases.{IsValidBase};
+ghost use Rattle.micro_m.specs.Values.{environment};
+ghost use Rattle.driver_core.specs.Inputs.{inputs_said};
+ghost use Rattle.command_plans.specs.Printing.{IsAnswered, Prints};
+ghost use Rattle.command_plans.specs.Views.{output_view};
+ghost use Rattle.rule_answers.specs.Checks.{CheckReplies, ReportReplies};
+ghost use Rattle.rule_answers.specs.inner.Checking.{IsStart, LinesReplies, SaidReplies, found_status, found_text};
+
+use crate::start::first_cells;
+use crate::told::told_report;
+use code_answers::{read_given, tell_refusal, told_household};
+use command_plans::{Status, print_fault, printed};
+use fault_lines::{Fault, ReportFault};
+use household::{HouseholdFault, values};
+use m_compile::{compile_base, inputs_of, told_fault};
+use m_fixed::Value;
+use m_ports::Sink;
+use m_symbols::Symbols;
+use micro_m::Base;
+use rule_base::RuleBase;
+use rule_text::Source;
+use std::alloc::{AllocError, Global};
+use std::thread::Threads;
+use text_pieces::give_pieces;
+use why_report::{ReportLine, first_unsound, read_report};
+
+/// Makes the base of the rules of a source, and prints whether the report of these bytes is a sound derivation over the household
+/// of these bytes, or the line by which one of the three is refused. The source's driver and requests play no part.
+pub fn check_source<R: Threads + Sync, K: Sink>(
+    rt: &R,
+    alloc: Global,
+    source: &Source,
+    household: &[u8],
+    report: &[u8],
+    out: &mut K,
+) -> Status
+    requires limits { SourceKeepsLimits source.now }
+    requires report { length report.now ≤ CODE_FILE_BYTES }
+    ensures { IsAnswered (CheckReplies source.now household.now report.now)
+        (output_view K.written K.faults out.old) (output_view K.written K.faults out.new) result }
+{
+    match compile_base(
+        rt,
+        alloc,
+        source.texts.as_slice(),
+        source.application.bytes(),
+    ) {
+        Ok(made) => answer_check(alloc, &made, household, report, out),
+        Err(fault) => tell_refusal(out, told_fault(source.texts.as_slice(), &fault)),
+    }
+}
+
+// The same over the base.
+fn answer_check<K: Sink>(
+    alloc: Global,
+    made: &RuleBase,
+    household: &[u8],
+    report: &[u8],
+    out: &mut K,
+) -> Status
+    requires report { length report.now ≤ CODE_FILE_BYTES }
+    requires valid { IsValidBase made.now.ordered.base }
+    requires placed { IsPlaced made.now.symbols }
+    requires cells { made.now.ordered.base.cells ≡ length (owners_from 0 made.now.symbols.variables) }
+    requires few { made.now.ordered.base.cells ≤ CELLS }
+    requires distinct { AreDistinct (codes_of (inputs_said made.now.symbols)) }
+    ensures { IsAnswered (ReportReplies made.now.symbols made.now.ordered.base household.now report.now)
+        (output_view K.written K.faults out.old) (output_view K.written K.faults out.new) result }
+{
+    match start_cells(alloc, &made.symbols, household) {
+        Ok(env) => answer_report(alloc, made, env.as_slice(), report, out),
+        Err(fault) => tell_refusal(out, told_household(fault)),
+    }
+}
+
+// What the cells begin with for the household of these bytes, or its fault.
+fn start_cells(
+    alloc: Global,
+    symbols: &Symbols,
+    household: &[u8],
+) -> Result<Vec<Value>, HouseholdFault>
+    requires { AreDistinct (codes_of (inputs_said symbols.now)) }
+    ensures { Outcome Memory result (λ env. IsStart symbols.now household.now env.items)
+        (λ fault. household_of (inputs_said symbols.now) household.now ≡ Err fault) }
+{
+    let said = inputs_of(alloc, symbols)?;
+    let (codes, given) = read_given(alloc, said.as_slice(), symbols.inputs(), household)?;
+    let amounts = values(alloc, &given, codes.len())?;
+    Ok(first_cells(alloc, symbols, &amounts)?)
+}
+
+// The same over what the cells begin with.
+fn answer_report<K: Sink>(
+    alloc: Global,
+    made: &RuleBase,
+    env: &[Value],
+    report: &[u8],
+    out: &mut K,
+) -> Status
+    requires report { length report.now ≤ CODE_FILE_BYTES }
+    requires valid { IsValidBase made.now.ordered.base }
+    requires placed { IsPlaced made.now.symbols }
+    requires cells { made.now.ordered.base.cells ≡ length (owners_from 0 made.now.symbols.variables) }
+    requires few { made.now.ordered.base.cells ≤ CELLS }
+    requires values { length env.now ≡ made.now.ordered.base.cells }
+    ensures { IsAnswered (SaidReplies made.now.symbols made.now.ordered.base (environment env.now) report.now)
+        (output_view K.written K.faults out.old) (output_view K.written K.faults out.new) result }
+{
+    match read_report(alloc, report, &made.symbols) {
+        Ok(lines) => answer_lines(alloc, &made.ordered.base, env, lines.as_slice(), out),
+        Err(fault) => tell_refusal(out, told_report(fault)),
+    }
+}
+
+// The same over the report's lines.
+fn answer_lines<K: Sink>(
+    alloc: Global,
+    base: &Base,
+    env: &[Value],
+    lines: &[ReportLine],
+    out: &mut K,
+) -> Status
+    requires valid { IsValidBase base.now }
+    requires values { length env.now ≡ base.now.cells }
+    requires cells { All (λ line. line.cell < base.now.cells) lines.now }
+    requires few { base.now.cells ≤ CELLS }
+    ensures { IsAnswered (LinesReplies base.now (environment env.now) lines.now)
+        (output_view K.written K.faults out.old) (output_view K.written K.faults out.new) result }
+{
+    match first_unsound(alloc, base, env, lines) {
+        Ok(found) => tell_found(found, out),
+        Err(AllocError) => Status::Memory,
+    }
+}
+
+// Tells which line, by its position, is the first that isn't sound, or that there is none. It takes no memory.
+fn tell_found<K: Sink>(found: Option<u32>, out: &mut K) -> Status
+    requires { IfSome found (λ position. position ≤ CELLS) }
+    ensures { Prints (found_text found) (found_status found) (output_view K.written K.faults out.old) (output_view K.written K.faults out.new) result }
+{
+    match found {
+        None => printed(give_pieces(out, &[b"sound\n"]), Status::Done),
+        Some(position) => print_fault(
+            out,
+            Fault::ReportLine(position + 1, ReportFault::NotSound),
+            Status::Refused,
+        ),
+    }
+}

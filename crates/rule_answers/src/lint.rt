@@ -1,0 +1,88 @@
+//! A lint: what is found of the rules of a source and of what it is compiled to.
+ghost use Rattle.std.specs.Prelude.{◌≡◌, ◌<◌, ◌^◌, length, map, take};
+ghost use Rattle.rule_text.specs.Limits.{SourceKeepsLimits};
+ghost use Rattle.m_symbols.specs.Declarations.{inputs_from, owners_from};
+ghost use Rattle.micro_m.specs.Bases.{IsValidBase};
+ghost use Rattle.flat_code.specs.Faces.{IsFaceOf};
+ghost use Rattle.observables.specs.declared.face.FaceLabel.TheVariants.{Verif};
+ghost use Rattle.m_compile.specs.Sources.{HasRules};
+ghost use Rattle.command_plans.specs.Printing.{IsAnswered};
+ghost use Rattle.command_plans.specs.Views.{output_view};
+ghost use Rattle.rule_answers.specs.Lints.{LintReplies};
+ghost use Rattle.rule_answers.specs.inner.Linting.{IsLintOf};
+
+use crate::findings::give_findings;
+use code_answers::tell_refusal;
+use command_plans::{Status, printed};
+use m_compile::{Compiled, compile_base, compile_with, told_fault};
+use m_lint::lint;
+use m_ports::Sink;
+use rule_base::RuleBase;
+use rule_text::Source;
+use std::alloc::{AllocError, Global};
+use std::thread::Threads;
+
+/// Makes the base of the rules of a source, compiles the source, and prints what is found of the two, or the line by which the source is
+/// refused.
+pub fn lint_source<R: Threads + Sync, K: Sink>(
+    rt: &R,
+    alloc: Global,
+    source: &Source,
+    out: &mut K,
+) -> Status
+    requires { SourceKeepsLimits source.now }
+    ensures { IsAnswered (LintReplies source.now) (output_view K.written K.faults out.old) (output_view K.written K.faults out.new) result }
+{
+    match compile_base(
+        rt,
+        alloc,
+        source.texts.as_slice(),
+        source.application.bytes(),
+    ) {
+        Ok(made) => lint_over(rt, alloc, source, &made, out),
+        Err(fault) => tell_refusal(out, told_fault(source.texts.as_slice(), &fault)),
+    }
+}
+
+// The same over the base.
+fn lint_over<R: Threads + Sync, K: Sink>(
+    rt: &R,
+    alloc: Global,
+    source: &Source,
+    made: &RuleBase,
+    out: &mut K,
+) -> Status
+    requires limits { SourceKeepsLimits source.now }
+    requires rules { HasRules source.now made.now.symbols made.now.ordered.base }
+    requires valid { IsValidBase made.now.ordered.base }
+    requires cells { made.now.ordered.base.cells ≡ length (owners_from 0 made.now.symbols.variables) }
+    ensures { IsAnswered (LintReplies source.now) (output_view K.written K.faults out.old) (output_view K.written K.faults out.new) result }
+{
+    match compile_with(rt, alloc, source) {
+        Ok(compiled) => answer_lint(alloc, made, &compiled, out),
+        Err(fault) => tell_refusal(out, told_fault(source.texts.as_slice(), &fault)),
+    }
+}
+
+// Prints what is found of a base and what its source is compiled to.
+fn answer_lint<K: Sink>(alloc: Global, made: &RuleBase, compiled: &Compiled, out: &mut K) -> Status
+    requires valid { IsValidBase made.now.ordered.base }
+    requires cells { made.now.ordered.base.cells ≡ length (owners_from 0 made.now.symbols.variables) }
+    requires few { length made.now.ordered.base.checks < 2 ^ 32 }
+    requires shown { IsFaceOf compiled.now.face compiled.now.tidy }
+    requires first_labels { take (length made.now.ordered.base.labels) compiled.now.face.labels ≡ map Verif made.now.ordered.base.labels }
+    requires inputs { compiled.now.tidy.inputs ≡ length (inputs_from 0 made.now.symbols.variables) }
+    ensures { IsAnswered (IsLintOf made.now.symbols made.now.ordered.base compiled.now)
+        (output_view K.written K.faults out.old) (output_view K.written K.faults out.new) result }
+{
+    match lint(
+        alloc,
+        &made.ordered.base,
+        &made.symbols,
+        &compiled.tidy,
+        &compiled.face,
+    ) {
+        Ok(findings) => printed(give_findings(made, findings.as_slice(), out), Status::Done),
+        Err(AllocError) => Status::Memory,
+    }
+}
