@@ -45,4 +45,3 @@ pub data TableReplies (scheme : Scheme) (table : List ℕ) : List ℕ → Status
   table_is_refused : {line : List ℕ} (fault : HouseholdFault) → table_of scheme.inputs table ≡ Err fault → household_fault_line fault ≡ Some line
       → TableReplies scheme table line Refused
   rows_are_told : (rows : List Row) → table_of scheme.inputs table ≡ Ok rows → TableReplies scheme table (rows_lines scheme rows) Done
-

@@ -54,13 +54,8 @@ fn step(packed: Packed, pool: &[Value], numbers: &[usize], rows: &[Vec<Value>], 
             place(room.registers.as_mut_slice(), r as usize, &mut room.scratch);
         }
         Packed::Do(op, r, a, b, c) => {
-            give_result(
-                op,
-                (a, b, c),
-                room.registers.as_slice(),
-                rows.len(),
-                &mut room.scratch,
-            );
+            let registers = room.registers.as_slice();
+            give_result(op, (a, b, c), registers, rows.len(), &mut room.scratch);
             place(room.registers.as_mut_slice(), r as usize, &mut room.scratch);
         }
         Packed::Store(k, r) => {

@@ -1,15 +1,19 @@
 -- A session of a program replies as its scheme says.
-use Rattle.std.proofs.Common.{◌≡◌, ℕ, List, [], ◌∷◌, ◌++◌, Option, Some, None, refl, ◌∙◌, ap}
+use Rattle.std.proofs.Common.{◌≡◌, ℕ, ℤ, length, List, [], ◌∷◌, ◌++◌, Option, Some, None, refl, ◌∙◌, ap}
 use Rattle.std.specs.Prelude.{codes}
 use Rattle.m_fixed.specs.declared.amount.Value.{Value}
 use Rattle.observables.specs.declared.inputs.Coded.{Coded}
 use Rattle.observables.specs.Inputs.{AreValuesOf}
 use Rattle.household_session.specs.Commands.{SessionCommand, no_words, sets, clears, shows, too_long, bad, session_command}
-use Rattle.household_session.specs.Replies.{command_reply, command_values}
+use Rattle.household.specs.Household.{values_of}
+use Rattle.household_session.specs.Replies.{command_reply, command_values, ended_lines}
 use Rattle.household_session.specs.Sessions.{Showing, line}
+use Rattle.household_session.proofs.ReplyLemmas.{ended_lines-begin, input_lines-begin}
 use Rattle.household_session.proofs.TypeLemmas.{command_keeps}
 use Rattle.why_session.specs.Explains.{Explaining, explained_replies, name_asked}
-use Rattle.why_session.proofs.LineLemmas.{asked_replies}
+use Rattle.why_session.proofs.LineLemmas.{asked_replies, replies-begin}
+use Rattle.code_answers.specs.Schemes.{Scheme}
+use Rattle.command_answers.specs.Sessions.{ended_replies, replies_by, scheme_showing, session_replies}
 
 -- ---- two sessions with the same inputs, whose texts are the same for such values
 
@@ -59,3 +63,21 @@ pub replies_are : (one other : Showing) (explains : Explaining) → one.inputs �
     → (lines : List (List ℕ)) (values : List Value) → AreValuesOf other.inputs values → explained_replies one explains values lines ≡ explained_replies other explains values lines
 replies_are one other explains known same lines values all =
     ap (λ inputs. explained_replies (with_text inputs one.text) explains values lines) known ∙ same_lines other.inputs one.text other.text explains same lines values all
+
+-- ---- what is replied to a prefix of an input
+
+-- the replies to all lines of an input begin with those to the lines of a prefix of it that have their line feed
+pub whole_begins : (scheme : Scheme) (explains : Explaining) (pairs : List (ℕ × ℤ)) (front rest : List ℕ)
+    → (text : List ℕ) × (session_replies scheme explains pairs (front ++ rest) ≡ ended_replies scheme explains pairs front ++ text)
+whole_begins scheme explains pairs front rest =
+    let lines = input_lines-begin front rest in
+    let more = replies-begin (scheme_showing scheme) explains (values_of pairs (length scheme.inputs)) (ended_lines front) lines.0 in
+    (more.0, ap (replies_by scheme explains pairs) lines.1 ∙ more.1)
+
+-- and so do the replies to those of its lines that have their line feed
+pub ended_begins : (scheme : Scheme) (explains : Explaining) (pairs : List (ℕ × ℤ)) (front rest : List ℕ)
+    → (text : List ℕ) × (ended_replies scheme explains pairs (front ++ rest) ≡ ended_replies scheme explains pairs front ++ text)
+ended_begins scheme explains pairs front rest =
+    let lines = ended_lines-begin front rest in
+    let more = replies-begin (scheme_showing scheme) explains (values_of pairs (length scheme.inputs)) (ended_lines front) lines.0 in
+    (more.0, ap (replies_by scheme explains pairs) lines.1 ∙ more.1)

@@ -50,7 +50,7 @@ use Rattle.command_answers.specs.Explained.{IsExplained}
 use Rattle.code_answers.specs.Schemes.{Scheme}
 use Rattle.command_answers.specs.Serves.{IsServed}
 use Rattle.command_answers.specs.Serves as serve
-use Rattle.command_answers.specs.Serving.{Served, to_its_end, unread, too_long, unwritten}
+use Rattle.command_answers.specs.Serving.{Served, to_its_end, unread, too_long, unwritten, unwritten_at_end}
 use Rattle.command_answers.specs.Sessions.{ended_replies, replies_by, scheme_showing, session_replies}
 use Rattle.command_answers.specs.Sources.{IsScheme, Refuses, households_are_refused, scheme_said}
 use Rattle.command_answers.specs.declared.program.Program.{Program}
@@ -137,8 +137,10 @@ served_as one ended other also heard told old new status w e (unread taken moved
     unread taken moved few rose (subst (λ text. Prints (text ++ unreadable_input_line) ReadFault old new status) (e taken) shown)
 served_as one ended other also heard told old new status w e (too_long taken moved full calm shown) =
     too_long taken moved full calm (subst (λ text. Prints (text ++ input_too_long_line) Refused old new status) (e taken) shown)
-served_as one ended other also heard told old new status w e (unwritten taken rest moved within left calm breaks is) =
-    unwritten taken rest moved within left calm (subst (λ text. Breaks text old new) (w (taken ++ rest)) breaks) is
+served_as one ended other also heard told old new status w e (unwritten taken moved within calm breaks is) =
+    unwritten taken moved within calm (subst (λ text. Breaks text old new) (e taken) breaks) is
+served_as one ended other also heard told old new status w e (unwritten_at_end taken moved few none calm breaks is) =
+    unwritten_at_end taken moved few none calm (subst (λ text. Breaks text old new) (w taken) breaks) is
 
 -- what a session of a program replies is what its scheme says
 same_replies : (scheme : Scheme) (program : Program) (rows : List ℕ) (session : Sitting) (explains : Explaining) → IsRunnable program.face program.tidy → Shows scheme program.face (flat_run program.tidy)

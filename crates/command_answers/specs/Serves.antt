@@ -36,10 +36,6 @@ pub data ServeCutOff (source : Source) (rows taken : List ℕ) : List ℕ → Ty
   is_cut_off : (scheme : Scheme) (explains : Explaining) (pairs : List (ℕ × ℤ)) → IsSession source rows scheme explains pairs → length taken < INPUT_BYTES
       → ServeCutOff source rows taken (ended_replies scheme explains pairs taken ++ unreadable_input_line)
 
--- The replies to all lines of what is typed, also where that is more than is taken of an input.
-pub data ServeInFull (source : Source) (rows typed : List ℕ) : List ℕ → Type 0 where
-  is_in_full : (scheme : Scheme) (explains : Explaining) (pairs : List (ℕ × ℤ)) → IsSession source rows scheme explains pairs → ServeInFull source rows typed (session_replies scheme explains pairs typed)
-
 -- `serve` ended: with an error or for lack of memory before anything was taken from the input, or the session began and had its lines.
 pub data IsServed (source : Source) (rows : List ℕ) (heard told : InputView) (old new : OutputView) (status : Status) : Type 0 where
   refused : (line : List ℕ) → Refuses source (λ inputs. household_of inputs rows) line → told ≡ heard → Prints line Refused old new status

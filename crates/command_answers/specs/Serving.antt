@@ -4,7 +4,6 @@ use Rattle.std.specs.Io.KnownBytes.{prepend_known, IsAtEnd}
 use Rattle.m_places.specs.declared.limits.TheConstants.{INPUT_BYTES}
 use Rattle.m_ports.specs.Counts.{Rose}
 use Rattle.fault_lines.specs.Lines.{input_too_long_line, unreadable_input_line}
-use Rattle.serve_loop.specs.Serving.{IsLeft}
 use Rattle.command_plans.specs.Printing.{Appends, Breaks, Prints}
 use Rattle.command_plans.specs.Views.{InputView, OutputView}
 use Rattle.command_plans.specs.declared.status.Status.{Status}
@@ -13,7 +12,7 @@ use Rattle.command_plans.specs.declared.status.Status.TheVariants.{Done, ReadFau
 -- An input was replied to, until it ended, or a read failed, or as much was taken as may be, or a write failed. No end takes more, and the
 -- input's end and a failed read come while less was taken. `whole` gives the replies to all lines of an input, and `ended` those to the
 -- lines that have their line feed. Where a read failed or too much was taken a line says so after the replies. Where a write failed, what
--- was written is a prefix of a text: the replies to all of the input, or one of those two texts.
+-- was written is a prefix of a text: of the replies to the lines that have their line feed, at the input's end of those to all lines, or of one of those two texts.
 pub data Served (whole ended : List ℕ → List ℕ) (heard told : InputView) (old new : OutputView) (status : Status) : Type 0 where
   to_its_end : (taken : List ℕ) → heard.left ≡ prepend_known taken told.left → length taken < INPUT_BYTES → IsAtEnd told.left → told.faults ≡ heard.faults
       → Appends (whole taken) old new → status ≡ Done → Served whole ended heard told old new status
@@ -21,5 +20,7 @@ pub data Served (whole ended : List ℕ → List ℕ) (heard told : InputView) (
       → Prints (ended taken ++ unreadable_input_line) ReadFault old new status → Served whole ended heard told old new status
   too_long : (taken : List ℕ) → heard.left ≡ prepend_known taken told.left → length taken ≡ INPUT_BYTES → told.faults ≡ heard.faults
       → Prints (ended taken ++ input_too_long_line) Refused old new status → Served whole ended heard told old new status
-  unwritten : (taken rest : List ℕ) → heard.left ≡ prepend_known taken told.left → length taken ≤ INPUT_BYTES → IsLeft told.left rest → told.faults ≡ heard.faults
-      → Breaks (whole (taken ++ rest)) old new → status ≡ WriteFault → Served whole ended heard told old new status
+  unwritten : (taken : List ℕ) → heard.left ≡ prepend_known taken told.left → length taken ≤ INPUT_BYTES → told.faults ≡ heard.faults
+      → Breaks (ended taken) old new → status ≡ WriteFault → Served whole ended heard told old new status
+  unwritten_at_end : (taken : List ℕ) → heard.left ≡ prepend_known taken told.left → length taken < INPUT_BYTES → IsAtEnd told.left → told.faults ≡ heard.faults
+      → Breaks (whole taken) old new → status ≡ WriteFault → Served whole ended heard told old new status

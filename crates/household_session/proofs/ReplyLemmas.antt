@@ -1,5 +1,6 @@
 -- The lines of an input and the replies to them, from one line to the next, and by the bytes before the next line feed.
-use Rattle.std.proofs.Common.{◌≡◌, ◌≢◌, ℕ, ◌<◌, List, [], ◌∷◌, ◌++◌, length, length-append, append-nil, refl, sym, ap, ◌∙◌, arith}
+use Rattle.std.proofs.Common.{◌≡◌, ◌≢◌, ℕ, ◌<◌, Bool, true, false, List, [], ◌∷◌, ◌++◌, length, length-append, append-nil, refl, sym, ap, ◌∙◌, arith}
+use Rattle.std.specs.Prelude.{◌==◌, if◌then◌else◌}
 use Rattle.std.proofs.lemmas.Bool.{ne_eqb, lt-leb}
 use Rattle.m_places.specs.declared.limits.TheConstants.{SESSION_LINE_BYTES}
 use Rattle.m_fixed.specs.declared.amount.Value.{Value}
@@ -132,3 +133,31 @@ pub replies_ended-long : (sitting : Sitting) (one other rest : List ℕ) → IsU
 replies_ended-long sitting one other rest free freed long longer =
     ap (replies_to sitting) (ended_lines-front one rest free) ∙ ended_fronts_alike sitting one other (ended_lines rest) long longer
     ∙ sym (ap (replies_to sitting) (ended_lines-front other rest freed))
+
+-- ---- a prefix of an input
+
+lines_begin : (feed : Bool) (byte : ℕ) (all ended lines : List (List ℕ)) → all ≡ ended ++ lines
+    → (more : List (List ℕ)) × ((if feed then [] ∷ all else onto_first byte all) ≡ (if feed then [] ∷ ended else onto_ended byte ended) ++ more)
+lines_begin true byte all ended lines is = (lines, ap (λ l. [] ∷ l) is)
+lines_begin false byte all [] lines is = (onto_first byte all, refl)
+lines_begin false byte all (first ∷ ended) lines is = (lines, ap (onto_first byte) is)
+
+ended_begin : (feed : Bool) (byte : ℕ) (all ended lines : List (List ℕ)) → all ≡ ended ++ lines
+    → (more : List (List ℕ)) × ((if feed then [] ∷ all else onto_ended byte all) ≡ (if feed then [] ∷ ended else onto_ended byte ended) ++ more)
+ended_begin true byte all ended lines is = (lines, ap (λ l. [] ∷ l) is)
+ended_begin false byte all [] lines is = (onto_ended byte all, refl)
+ended_begin false byte all (first ∷ ended) lines is = (lines, ap (onto_ended byte) is)
+
+-- the lines of an input begin with those of a prefix of it that have their line feed
+pub input_lines-begin : (front rest : List ℕ) → (lines : List (List ℕ)) × (input_lines (front ++ rest) ≡ ended_lines front ++ lines)
+input_lines-begin [] rest = (input_lines rest, refl)
+input_lines-begin (byte ∷ front) rest =
+    let more = input_lines-begin front rest in
+    lines_begin (byte == line_feed) byte (input_lines (front ++ rest)) (ended_lines front) more.0 more.1
+
+-- and so do those of its lines that have their line feed
+pub ended_lines-begin : (front rest : List ℕ) → (lines : List (List ℕ)) × (ended_lines (front ++ rest) ≡ ended_lines front ++ lines)
+ended_lines-begin [] rest = (ended_lines rest, refl)
+ended_lines-begin (byte ∷ front) rest =
+    let more = ended_lines-begin front rest in
+    ended_begin (byte == line_feed) byte (ended_lines (front ++ rest)) (ended_lines front) more.0 more.1

@@ -7,7 +7,7 @@ use Rattle.command_plans.specs.Views.{FilesView, InputView, OutputView}
 use Rattle.command_plans.specs.declared.status.Status.{Status}
 use Rattle.command_plans.specs.declared.status.Status.TheVariants.{Refused, WriteFault}
 use Rattle.command_answers.specs.Serves as serve
-use Rattle.command_answers.specs.Serving.{Served, to_its_end, unread, too_long, unwritten}
+use Rattle.command_answers.specs.Serving.{Served, to_its_end, unread, too_long, unwritten, unwritten_at_end}
 use Rattle.m_commands.specs.Clauses.{KeepsInputLimit}
 use Rattle.m_commands.specs.declared.work.Work.{Work}
 use Rattle.m_commands.specs.declared.work.Work.TheVariants.{Run, Serve, Batch, Large, Compile, Exec, Check, Lint, Cases}
@@ -36,7 +36,8 @@ session_bounded : (whole each : List ℕ → List ℕ) (heard told : InputView) 
 session_bounded whole each heard told old new status (to_its_end taken moved few none calm appends is) = less heard told status taken moved few
 session_bounded whole each heard told old new status (unread taken moved few rose p) = less heard told status taken moved few
 session_bounded whole each heard told old new status (too_long taken moved full calm p) = (taken, moved, omega (arith, full), λ e. said _ old new status p)
-session_bounded whole each heard told old new status (unwritten taken rest moved within left calm breaks is) = (taken, moved, within, λ full. inr is)
+session_bounded whole each heard told old new status (unwritten taken moved within calm breaks is) = (taken, moved, within, λ full. inr is)
+session_bounded whole each heard told old new status (unwritten_at_end taken moved few none calm breaks is) = less heard told status taken moved few
 
 work_bounded : (work : Work) (heard told : InputView) (old new : OutputView) (status : Status)
     → WorkIsAnswered work heard told old new status → KeepsInputLimit heard told status

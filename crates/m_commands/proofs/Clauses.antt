@@ -15,14 +15,14 @@ use Rattle.command_plans.specs.declared.refusal.Refusal.{Refusal}
 use Rattle.command_plans.specs.declared.status.Status.{Status}
 use Rattle.command_plans.specs.declared.status.Status.TheVariants.{Done, Memory, Refused, Usage, ReadFault, WriteFault}
 use Rattle.command_plans.proofs.Walks.{walks_to_end, walks_fit}
-use Rattle.m_commands.specs.Answer.{InFull, Replies}
+use Rattle.m_commands.specs.Answer.{Replies}
 use Rattle.m_commands.specs.Command.{command_of, plan_of}
-use Rattle.m_commands.specs.Clauses.{IsTyped, PrintsOutput, StopsInFront, WritesFront, IsWholeText, output, unreadable, cut_off, in_full, cuts_off}
+use Rattle.m_commands.specs.Clauses.{IsTyped, PrintsOutput, StopsInFront, WritesFront, IsWholeText, output, unreadable, cut_off, cuts_off}
 use Rattle.m_commands.specs.Output.{Output, usage, refuses, answers}
 use Rattle.m_commands.specs.declared.command.Command.{Command}
 use Rattle.m_commands.specs.declared.work.Work.{Work}
 use Rattle.m_commands.specs.inner.Courses.{Course, IsWorkOf, is_no_command, has_no_memory, ended, answered}
-use Rattle.m_commands.proofs.Ways.{Way, way_of, tells, lacks_memory, breaks_off, serves_all, serves_part, serves_most, serves_front, serve_reads, typed_all, typed_rest, typed_left}
+use Rattle.m_commands.proofs.Ways.{Way, way_of, tells, lacks_memory, breaks_off, serves_all, serves_part, serves_most, serves_front, serve_reads, typed_all, typed_rest}
 
 -- a plan that was refused has an output
 refused_output : (words : List (List ℕ)) (disk : Disk) (typed : List ℕ) (before after : FilesView) (command : Command) (refusal : Refusal) → before.told ≡ Some disk → command_of words ≡ Some command
@@ -63,7 +63,7 @@ text_way words disk typed heard told old new status command work c g k i f (serv
 text_way words disk typed heard told old new status command work c g k i f (serves_most taken text s moved full calm r p) =
     let e = typed_rest told.left typed taken (sym (i (serve_reads words command work c k s)) ∙ moved) in
     shown words disk typed text Refused old new status p f (answers command work c g (subst (λ (b : List ℕ). Replies work b text Refused) (sym e.1) (r e.0)))
-text_way words disk typed heard told old new status command work c g k i f (serves_front taken rest text s moved left calm full b is) = absurd (subst IsFaultless is f)
+text_way words disk typed heard told old new status command work c g k i f (serves_front s calm fronts rose is) = absurd (subst IsFaultless is f)
 
 pub text_of : (words : List (List ℕ)) (before after : FilesView) (heard told : InputView) (old new : OutputView) (status : Status) → Course words before after heard told old new status → PrintsOutput words before heard old new status
 text_of words before after heard told old new status (is_no_command n s h p) disk typed t i f = shown words disk typed usage_line Usage old new status p f (usage n)
@@ -98,9 +98,9 @@ writing_way words disk typed before after heard told old new status command work
     let t = typed_rest told.left typed taken (sym (i (serve_reads words command work c k s)) ∙ moved) in
     front words disk typed text Refused before after heard told old new status p (λ x. cc) e
     (output (answers command work c g (subst (λ (b : List ℕ). Replies work b text Refused) (sym t.1) (r t.0))))
-writing_way words disk typed before after heard told old new status command work c g k i e (serves_front taken rest text s moved left calm full b is) =
-    let t = typed_left told.left typed taken rest (sym (i (serve_reads words command work c k s)) ∙ moved) left in
-    (text, in_full command work c g (subst (λ (b : List ℕ). InFull work b text) (sym t) full), b.0)
+writing_way words disk typed before after heard told old new status command work c g k i e (serves_front s calm fronts rose is) =
+    let f = fronts typed (sym (i (serve_reads words command work c k s))) in
+    (f.text, output (answers command work c g f.replies), f.prefix)
 
 pub writing_of : (words : List (List ℕ)) (before after : FilesView) (heard told : InputView) (old new : OutputView) (status : Status) → Course words before after heard told old new status
     → WritesFront words before after heard told old new status
@@ -132,7 +132,7 @@ stopping_way words disk typed heard told old new status command work c g m (brea
 stopping_way words disk typed heard told old new status command work c g m (serves_all taken text s moved none calm r a is) = cc (is, m)
 stopping_way words disk typed heard told old new status command work c g m (serves_part taken text s moved rose cut p) = absurd (no_memory_told text ReadFault old new status p (λ x. cc) m)
 stopping_way words disk typed heard told old new status command work c g m (serves_most taken text s moved full calm r p) = absurd (no_memory_told text Refused old new status p (λ x. cc) m)
-stopping_way words disk typed heard told old new status command work c g m (serves_front taken rest text s moved left calm full b is) = cc (is, m)
+stopping_way words disk typed heard told old new status command work c g m (serves_front s calm fronts rose is) = cc (is, m)
 
 pub stopping_of : (words : List (List ℕ)) (before after : FilesView) (heard told : InputView) (old new : OutputView) (status : Status) → Course words before after heard told old new status → StopsInFront words before old new status
 stopping_of words before after heard told old new status (is_no_command n s h p) disk typed t m = absurd (no_memory_told usage_line Usage old new status p (λ x. cc) m)

@@ -1,5 +1,5 @@
 -- The clause on where a session that did all of its work stands in its input.
-use Rattle.std.proofs.Common.{◌≡◌, true, false, ℕ, List, Option, Some, None, refl, sym, ap, ◌∙◌, inl, inr}
+use Rattle.std.proofs.Common.{◌≡◌, true, false, ℕ, List, Option, Some, None, sym, ap, ◌∙◌, inl, inr}
 use Rattle.std.specs.Option.{option_map_or}
 use Rattle.std.specs.Io.KnownBytes.{IsAtEnd}
 use Rattle.fault_lines.specs.Lines.{unreadable_line, usage_line}
@@ -10,14 +10,13 @@ use Rattle.command_plans.specs.declared.ending.Ending.TheVariants as ending
 use Rattle.command_plans.specs.declared.status.Status.{Status}
 use Rattle.command_plans.specs.declared.status.Status.TheVariants.{Done, ReadFault, Refused, Usage}
 use Rattle.command_answers.specs.Serves as serve
-use Rattle.command_answers.specs.Serving.{Served, to_its_end, unread, too_long, unwritten}
+use Rattle.command_answers.specs.Serving.{Served, to_its_end, unread, too_long, unwritten, unwritten_at_end}
 use Rattle.m_commands.specs.Command.{reads_input, takes_input}
-use Rattle.m_commands.specs.declared.command.Command.{Command}
-use Rattle.m_commands.specs.declared.command.Command.TheVariants as command
 use Rattle.m_commands.specs.declared.command.Form.TheVariants as form
 use Rattle.m_commands.specs.declared.work.Work.{Work}
 use Rattle.m_commands.specs.declared.work.Work.TheVariants.{Run, Serve, Batch, Large, Compile, Exec, Check, Lint, Cases}
-use Rattle.m_commands.specs.inner.Courses.{Course, WorkIsAnswered, command_form, work_form, is_no_command, has_no_memory, ended, answered}
+use Rattle.m_commands.specs.inner.Courses.{Course, WorkIsAnswered, work_form, is_no_command, has_no_memory, ended, answered}
+use Rattle.m_commands.proofs.Ways.{session_asked}
 
 -- a text that was printed doesn't end so
 not_done : (text : List ℕ) (own : Status) (old new : OutputView) (status : Status) → Prints text own old new status → (own ≡ Done → ⊥) → status ≡ Done → ⊥
@@ -28,7 +27,8 @@ session_ends : (whole each : List ℕ → List ℕ) (heard told : InputView) (ol
 session_ends whole each heard told old new status (to_its_end taken moved few none calm appends is) e = none
 session_ends whole each heard told old new status (unread taken moved few rose p) e = absurd (not_done _ ReadFault old new status p (λ x. cc) e)
 session_ends whole each heard told old new status (too_long taken moved full calm p) e = absurd (not_done _ Refused old new status p (λ x. cc) e)
-session_ends whole each heard told old new status (unwritten taken rest moved within left calm breaks is) e = absurd (cc (is, e))
+session_ends whole each heard told old new status (unwritten taken moved within calm breaks is) e = absurd (cc (is, e))
+session_ends whole each heard told old new status (unwritten_at_end taken moved few none calm breaks is) e = none
 
 work_ends : (work : Work) (heard told : InputView) (old new : OutputView) (status : Status) → WorkIsAnswered work heard told old new status → work_form work ≡ Some form.Serve → status ≡ Done → IsAtEnd told.left
 work_ends (Run source rows) heard told old new status a k e = absurd (cc k)
@@ -42,18 +42,6 @@ work_ends (Exec code rows) heard told old new status a k e = absurd (cc k)
 work_ends (Check source rows report) heard told old new status a k e = absurd (cc k)
 work_ends (Lint source) heard told old new status a k e = absurd (cc k)
 work_ends (Cases source table) heard told old new status a k e = absurd (cc k)
-
--- the command that takes from the input is a session
-session_asked : (asked : Command) → takes_input asked ≡ true → command_form asked ≡ Some form.Serve
-session_asked (command.Run names household) e = absurd (cc e)
-session_asked (command.Serve names household) e = refl
-session_asked (command.Batch names table) e = absurd (cc e)
-session_asked (command.Large n) e = absurd (cc e)
-session_asked (command.Compile names) e = absurd (cc e)
-session_asked (command.Exec code household) e = absurd (cc e)
-session_asked (command.Check list household report) e = absurd (cc e)
-session_asked (command.Lint names) e = absurd (cc e)
-session_asked (command.Cases names table) e = absurd (cc e)
 
 pub ends_of : (words : List (List ℕ)) (before after : FilesView) (heard told : InputView) (old new : OutputView) (status : Status)
     → Course words before after heard told old new status → reads_input words ≡ true → status ≡ Done → IsAtEnd told.left

@@ -42,7 +42,7 @@ counted_way work heard told old new status (breaks_off text own r b same a n m) 
 counted_way work heard told old new status (serves_all taken text s moved none quiet r a is) = calm old new status a.1 (λ e. cc (is, e))
 counted_way work heard told old new status (serves_part taken text s moved rose cut p) = prints_counted text ReadFault old new status p (λ x. cc)
 counted_way work heard told old new status (serves_most taken text s moved full quiet r p) = prints_counted text Refused old new status p (λ x. cc)
-counted_way work heard told old new status (serves_front taken rest text s moved left quiet full b is) = record { only = λ e. b.1; always = λ h. is }
+counted_way work heard told old new status (serves_front s quiet fronts rose is) = record { only = λ e. rose; always = λ h. is }
 
 pub counted_of : (words : List (List ℕ)) (before after : FilesView) (heard told : InputView) (old new : OutputView) (status : Status) → Course words before after heard told old new status → Counted old new status
 counted_of words before after heard told old new status (is_no_command n s h p) = prints_counted usage_line Usage old new status p (λ x. cc)
@@ -70,7 +70,7 @@ memory_way words command work heard told old new status c k (breaks_off text own
 memory_way words command work heard told old new status c k (serves_all taken text s moved none quiet r a is) m early = cc (is, m)
 memory_way words command work heard told old new status c k (serves_part taken text s moved rose cut p) m early = absurd (not_memory text ReadFault old new status p (λ x. cc) m)
 memory_way words command work heard told old new status c k (serves_most taken text s moved full quiet r p) m early = absurd (not_memory text Refused old new status p (λ x. cc) m)
-memory_way words command work heard told old new status c k (serves_front taken rest text s moved left quiet full b is) m early = cc (is, m)
+memory_way words command work heard told old new status c k (serves_front s quiet fronts rose is) m early = cc (is, m)
 
 pub memory_of : (words : List (List ℕ)) (before after : FilesView) (heard told : InputView) (old new : OutputView) (status : Status) → Course words before after heard told old new status
     → status ≡ Memory → writes_early words ≡ false → new.written ≡ old.written
@@ -92,7 +92,7 @@ quiet_way work heard told old new status (breaks_off text own r b same a n e) m 
 quiet_way work heard told old new status (serves_all taken text s moved none quiet r a is) m = cc (is, m)
 quiet_way work heard told old new status (serves_part taken text s moved rose cut p) m = absurd (not_memory text ReadFault old new status p (λ x. cc) m)
 quiet_way work heard told old new status (serves_most taken text s moved full quiet r p) m = absurd (not_memory text Refused old new status p (λ x. cc) m)
-quiet_way work heard told old new status (serves_front taken rest text s moved left quiet full b is) m = cc (is, m)
+quiet_way work heard told old new status (serves_front s quiet fronts rose is) m = cc (is, m)
 
 pub quiet_of : (words : List (List ℕ)) (before after : FilesView) (heard told : InputView) (old new : OutputView) (status : Status) → Course words before after heard told old new status → status ≡ Memory → told ≡ heard
 quiet_of words before after heard told old new status (is_no_command n s h p) m = h
@@ -109,7 +109,7 @@ left_way words command work heard told old new status c k (breaks_off text own r
 left_way words command work heard told old new status c k (serves_all taken text s moved none quiet r a is) f = absurd (no_bool (reads_input words) (serve_reads words command work c k s) f)
 left_way words command work heard told old new status c k (serves_part taken text s moved rose cut p) f = absurd (no_bool (reads_input words) (serve_reads words command work c k s) f)
 left_way words command work heard told old new status c k (serves_most taken text s moved full quiet r p) f = absurd (no_bool (reads_input words) (serve_reads words command work c k s) f)
-left_way words command work heard told old new status c k (serves_front taken rest text s moved left quiet full b is) f = absurd (no_bool (reads_input words) (serve_reads words command work c k s) f)
+left_way words command work heard told old new status c k (serves_front s quiet fronts rose is) f = absurd (no_bool (reads_input words) (serve_reads words command work c k s) f)
 
 pub left_of : (words : List (List ℕ)) (before after : FilesView) (heard told : InputView) (old new : OutputView) (status : Status) → Course words before after heard told old new status → reads_input words ≡ false → told ≡ heard
 left_of words before after heard told old new status (is_no_command n s h p) f = h
@@ -138,7 +138,7 @@ told_way work heard told old new status (breaks_off text own r b same a n e) h =
 told_way work heard told old new status (serves_all taken text s moved none quiet r a is) h = absurd (no_rise heard told quiet h)
 told_way work heard told old new status (serves_part taken text s moved rose cut p) h = read_said text old new status p
 told_way work heard told old new status (serves_most taken text s moved full quiet r p) h = absurd (no_rise heard told quiet h)
-told_way work heard told old new status (serves_front taken rest text s moved left quiet full b is) h = absurd (no_rise heard told quiet h)
+told_way work heard told old new status (serves_front s quiet fronts rose is) h = absurd (no_rise heard told quiet h)
 
 pub told_of : (words : List (List ℕ)) (before after : FilesView) (heard told : InputView) (old new : OutputView) (status : Status) → Course words before after heard told old new status
     → heard.faults < told.faults → (status ≡ ReadFault) ⊎ (status ≡ WriteFault)
@@ -161,7 +161,7 @@ usage_way work heard told old new status (breaks_off text own r b same a n m) u 
 usage_way work heard told old new status (serves_all taken text s moved none quiet r a is) u = cc (is, u)
 usage_way work heard told old new status (serves_part taken text s moved rose cut p) u = no_usage text ReadFault old new status (λ x. cc) p u
 usage_way work heard told old new status (serves_most taken text s moved full quiet r p) u = no_usage text Refused old new status (λ x. cc) p u
-usage_way work heard told old new status (serves_front taken rest text s moved left quiet full b is) u = cc (is, u)
+usage_way work heard told old new status (serves_front s quiet fronts rose is) u = cc (is, u)
 
 pub usage_of : (words : List (List ℕ)) (before after : FilesView) (heard told : InputView) (old new : OutputView) (status : Status) → Course words before after heard told old new status → IsToldUsage words status
 usage_of words before after heard told old new status (is_no_command n s h p) = record { only = λ e. n; always = λ none. printed p }

@@ -114,7 +114,7 @@ reading_way words before after heard told old new status command work c g k (ser
   λ disk typed t h. (taken, text, moved, whole text old new status p e, cuts_off command work c (gathers disk before after command work t g) cut),
 )
 reading_way words before after heard told old new status command work c g k (serves_most taken text s moved full calm r p) = λ e. absurd (not_read text Refused old new status (λ x. cc) p e)
-reading_way words before after heard told old new status command work c g k (serves_front taken rest text s moved left calm full b is) = λ e. cc (is, e)
+reading_way words before after heard told old new status command work c g k (serves_front s calm fronts rose is) = λ e. cc (is, e)
 
 pub reading_of : (words : List (List ℕ)) (before after : FilesView) (heard told : InputView) (old new : OutputView) (status : Status) → Course words before after heard told old new status
     → ReadsInOrder words before after heard told old new status

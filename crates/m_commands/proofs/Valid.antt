@@ -106,7 +106,7 @@ complete_way words command work heard told old new status c k h input out few (s
 complete_way words command work heard told old new status c k h input out few (serves_part taken text s moved rose cut p) = absurd (input rose)
 complete_way words command work heard told old new status c k h input out few (serves_most taken text s moved full calm r p) =
     absurd (omega (arith, full, few (serve_reads words command work c k s) taken moved))
-complete_way words command work heard told old new status c k h input out few (serves_front taken rest text s moved left calm full b is) = absurd (out b.1)
+complete_way words command work heard told old new status c k h input out few (serves_front s calm fronts rose is) = absurd (out rose)
 
 pub complete_of : (words : List (List ℕ)) (before after : FilesView) (heard told : InputView) (old new : OutputView) (status : Status) → Course words before after heard told old new status
     → AnswersValid words before after heard told old new status

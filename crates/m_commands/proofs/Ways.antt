@@ -1,13 +1,14 @@
 -- How what was gathered was answered, in one form for all commands.
-use Rattle.std.proofs.Common.{◌≡◌, ℕ, Bool, true, false, List, ◌++◌, length, Option, None, Some, refl, sym, ap, ◌∙◌}
-use Rattle.std.proofs.lemmas.List.{append-nil}
+use Rattle.std.proofs.Common.{◌≡◌, ℕ, ℤ, ◌-◌, ◌≤◌, Bool, true, false, List, ◌++◌, length, length-append, length-take, take, drop, Option, None, Some, refl, sym, ap, ◌∙◌, subst, append_assoc, inl, inr, arith}
+use Rattle.std.proofs.lemmas.Bool.{cases_lt}
+use Rattle.std.proofs.lemmas.List.{append-nil, take-append-drop}
 use Rattle.std.specs.Option.{option_map_or}
 use Rattle.std.specs.Io.KnownBytes.{IsAtEnd, prepend_known}
 use Rattle.m_places.specs.declared.limits.TheConstants.{INPUT_BYTES}
 use Rattle.m_ports.specs.Counts.{Rose}
 use Rattle.m_ports.specs.Sink.{AppendsPrefix}
+use Rattle.m_ports.proofs.SinkLemmas.{AppendsPrefix-before}
 use Rattle.fault_lines.specs.Lines.{input_too_long_line, unreadable_input_line}
-use Rattle.serve_loop.specs.Serving.{IsLeft}
 use Rattle.command_plans.specs.Printing.{Appends, Breaks, Prints, printed, no_memory}
 use Rattle.command_plans.specs.Status.{IsOfEnd}
 use Rattle.command_plans.specs.Views.{InputView, OutputView}
@@ -15,9 +16,14 @@ use Rattle.command_plans.specs.declared.status.Status.{Status}
 use Rattle.command_plans.specs.declared.status.Status.TheVariants.{Done, Memory, ReadFault, Refused, WriteFault}
 use Rattle.code_answers.specs.Parts as parts
 use Rattle.command_answers.specs.Serves as serve
-use Rattle.command_answers.specs.Serving.{to_its_end, unread, too_long, unwritten}
+use Rattle.command_answers.specs.Serving.{to_its_end, unread, too_long, unwritten, unwritten_at_end}
+use Rattle.code_answers.specs.Schemes.{Scheme}
+use Rattle.command_answers.specs.Serves.{IsSession}
 use Rattle.command_answers.specs.Sessions.{ended_replies, session_replies}
-use Rattle.m_commands.specs.Answer.{CutOff, InFull, Replies}
+use Rattle.command_answers.proofs.SessionLemmas.{ended_begins, whole_begins}
+use Rattle.rule_text.specs.declared.Source.{Source}
+use Rattle.why_session.specs.Explains.{Explaining}
+use Rattle.m_commands.specs.Answer.{CutOff, Replies}
 use Rattle.m_commands.specs.Command.{command_of, reads_input, takes_input, writes_early, writes_in_parts}
 use Rattle.m_commands.specs.declared.command.Command.{Command}
 use Rattle.m_commands.specs.declared.command.Command.TheVariants as command
@@ -35,6 +41,21 @@ form_in_parts (Some form.Serve) = false
 form_in_parts (Some form.Batch) = true
 form_in_parts (Some form.Cases) = true
 
+-- whether commands of a form take from the input
+abbrev form_takes : Option Form → Bool
+form_takes None = false
+form_takes (Some form.Run) = false
+form_takes (Some form.Serve) = true
+form_takes (Some form.Batch) = false
+form_takes (Some form.Cases) = false
+
+-- The prefix of an answer was appended, where this is typed.
+pub record IsFront (work : Work) (typed : List ℕ) (old new : OutputView) : Type 0 where
+  pub text : List ℕ
+  pub own : Status
+  pub replies : Replies work typed text own
+  pub prefix : AppendsPrefix old.written new.written text
+
 -- A text was printed, whatever is typed; or there was no memory, before anything was written or, where an answer is written in parts, on the way; or a session
 -- had its input.
 pub data Way (work : Work) (heard told : InputView) (old new : OutputView) (status : Status) : Type 0 where
@@ -48,8 +69,47 @@ pub data Way (work : Work) (heard told : InputView) (old new : OutputView) (stat
       → CutOff work taken text → Prints text ReadFault old new status → Way work heard told old new status
   serves_most : (taken text : List ℕ) → work_form work ≡ Some form.Serve → heard.left ≡ prepend_known taken told.left → length taken ≡ INPUT_BYTES → told.faults ≡ heard.faults
       → ((rest : List ℕ) → Replies work (taken ++ rest) text Refused) → Prints text Refused old new status → Way work heard told old new status
-  serves_front : (taken rest text : List ℕ) → work_form work ≡ Some form.Serve → heard.left ≡ prepend_known taken told.left → IsLeft told.left rest → told.faults ≡ heard.faults
-      → InFull work (taken ++ rest) text → Breaks text old new → status ≡ WriteFault → Way work heard told old new status
+  serves_front : work_form work ≡ Some form.Serve → told.faults ≡ heard.faults → ((typed : List ℕ) → Some typed ≡ heard.left → IsFront work typed old new) → Rose old.faults new.faults
+      → status ≡ WriteFault → Way work heard told old new status
+
+-- ---- what was typed and what was taken of it
+
+-- all of it
+pub typed_all : (left : Option (List ℕ)) (typed taken : List ℕ) → Some typed ≡ prepend_known taken left → IsAtEnd left → typed ≡ taken
+typed_all None typed taken e none = absurd (cc e)
+typed_all (Some bytes) typed taken e none = let s : typed ≡ taken ++ bytes = cc e in s ∙ ap (λ rest. taken ++ rest) none ∙ append-nil taken
+
+-- a prefix of it, before some rest
+pub typed_rest : (left : Option (List ℕ)) (typed taken : List ℕ) → Some typed ≡ prepend_known taken left → (rest : List ℕ) × (typed ≡ taken ++ rest)
+typed_rest None typed taken e = absurd (cc e)
+typed_rest (Some bytes) typed taken e = (bytes, cc e)
+
+-- ---- a session
+
+-- what is written of the replies to lines of an input is the prefix of what is answered to all of it
+session_front : (source : Source) (rows : List ℕ) (scheme : Scheme) (explains : Explaining) (pairs : List (ℕ × ℤ)) (taken rest : List ℕ) (old new : OutputView) → IsSession source rows scheme explains pairs
+    → length taken ≤ INPUT_BYTES → AppendsPrefix old.written new.written (ended_replies scheme explains pairs taken) → IsFront (Serve source rows) (taken ++ rest) old new
+session_front source rows scheme explains pairs taken rest old new s within prefix = elim (cases_lt (length (taken ++ rest)) INPUT_BYTES) [
+  | inl few ↦
+      let more = whole_begins scheme explains pairs taken rest in record {
+        text = session_replies scheme explains pairs (taken ++ rest);
+        own = Done;
+        replies = serve.is_served scheme explains pairs s few;
+        prefix = subst (λ (t : List ℕ). AppendsPrefix old.written new.written t) (sym more.1) (AppendsPrefix-before old.written new.written (ended_replies scheme explains pairs taken) more.0 prefix);
+      }
+  | inr many ↦
+      let count = INPUT_BYTES - length taken in
+      let part = take count rest in
+      let more = ended_begins scheme explains pairs taken part in
+      let full : length (taken ++ part) ≡ INPUT_BYTES = omega (arith, length-append taken part, length-append taken rest, length-take count rest, within, many) in
+      let all : taken ++ rest ≡ (taken ++ part) ++ drop count rest = ap (λ l. taken ++ l) (sym (take-append-drop count rest)) ∙ sym (append_assoc taken part (drop count rest)) in record {
+        text = ended_replies scheme explains pairs (taken ++ part) ++ input_too_long_line;
+        own = Refused;
+        replies = serve.is_too_long scheme explains pairs (taken ++ part) (drop count rest) s all full;
+        prefix = AppendsPrefix-before old.written new.written (ended_replies scheme explains pairs (taken ++ part)) input_too_long_line
+            (subst (λ (t : List ℕ). AppendsPrefix old.written new.written t) (sym more.1) (AppendsPrefix-before old.written new.written (ended_replies scheme explains pairs taken) more.0 prefix));
+      }
+]
 
 pub way_of : (work : Work) (heard told : InputView) (old new : OutputView) (status : Status) → WorkIsAnswered work heard told old new status → Way work heard told old new status
 way_of (Run source rows) heard told old new status (same, printed text own r o p) = tells text own (λ typed. r) o same p
@@ -62,8 +122,12 @@ way_of (Serve source rows) heard told old new status (serve.served scheme explai
     serves_part taken (ended_replies scheme explains pairs taken ++ unreadable_input_line) refl moved rose (serve.is_cut_off scheme explains pairs s few) p
 way_of (Serve source rows) heard told old new status (serve.served scheme explains pairs s (too_long taken moved full calm p)) =
     serves_most taken (ended_replies scheme explains pairs taken ++ input_too_long_line) refl moved full calm (λ rest. serve.is_too_long scheme explains pairs taken rest s refl full) p
-way_of (Serve source rows) heard told old new status (serve.served scheme explains pairs s (unwritten taken rest moved within left calm breaks is)) =
-    serves_front taken rest (session_replies scheme explains pairs (taken ++ rest)) refl moved left calm (serve.is_in_full scheme explains pairs s) breaks is
+way_of (Serve source rows) heard told old new status (serve.served scheme explains pairs s (unwritten taken moved within calm breaks is)) =
+    serves_front refl calm (λ typed e. let t = typed_rest told.left typed taken (e ∙ moved) in subst (λ (b : List ℕ). IsFront (Serve source rows) b old new) (sym t.1)
+    (session_front source rows scheme explains pairs taken t.0 old new s within breaks.0)) breaks.1 is
+way_of (Serve source rows) heard told old new status (serve.served scheme explains pairs s (unwritten_at_end taken moved few none calm breaks is)) =
+    serves_front refl calm (λ typed e. subst (λ (b : List ℕ). IsFront (Serve source rows) b old new) (sym (typed_all told.left typed taken (e ∙ moved) none))
+    (record { text = session_replies scheme explains pairs taken; own = Done; replies = serve.is_served scheme explains pairs s few; prefix = breaks.0 })) breaks.1 is
 way_of (Batch source table) heard told old new status (same, parts.printed text own r o p) = tells text own (λ typed. r) o same p
 way_of (Batch source table) heard told old new status (same, parts.no_memory n m) = lacks_memory same n m
 way_of (Batch source table) heard told old new status (same, parts.broke_off text own r a f m) = breaks_off text own (λ typed. r) refl same a f m
@@ -83,49 +147,34 @@ way_of (Cases source table) heard told old new status (same, parts.broke_off tex
 
 -- ---- the command of a work
 
-takes : (asked : Command) → command_form asked ≡ Some form.Serve → takes_input asked ≡ true
-takes (command.Run names household) e = absurd (cc e)
-takes (command.Serve names household) e = refl
-takes (command.Batch names table) e = absurd (cc e)
-takes (command.Large n) e = absurd (cc e)
-takes (command.Compile names) e = absurd (cc e)
-takes (command.Exec code household) e = absurd (cc e)
-takes (command.Check list household report) e = absurd (cc e)
-takes (command.Lint names) e = absurd (cc e)
-takes (command.Cases names table) e = absurd (cc e)
+-- what a command does is told by its form
+form_does : (asked : Command) → (takes_input asked ≡ form_takes (command_form asked)) × (writes_in_parts asked ≡ form_in_parts (command_form asked))
+form_does (command.Run names household) = (refl, refl)
+form_does (command.Serve names household) = (refl, refl)
+form_does (command.Batch names table) = (refl, refl)
+form_does (command.Large n) = (refl, refl)
+form_does (command.Compile names) = (refl, refl)
+form_does (command.Exec code household) = (refl, refl)
+form_does (command.Check list household report) = (refl, refl)
+form_does (command.Lint names) = (refl, refl)
+form_does (command.Cases names table) = (refl, refl)
 
-in_parts : (asked : Command) → form_in_parts (command_form asked) ≡ true → writes_in_parts asked ≡ true
-in_parts (command.Run names household) e = absurd (cc e)
-in_parts (command.Serve names household) e = absurd (cc e)
-in_parts (command.Batch names table) e = refl
-in_parts (command.Large n) e = absurd (cc e)
-in_parts (command.Compile names) e = absurd (cc e)
-in_parts (command.Exec code household) e = absurd (cc e)
-in_parts (command.Check list household report) e = absurd (cc e)
-in_parts (command.Lint names) e = absurd (cc e)
-in_parts (command.Cases names table) e = refl
+-- one form alone takes from the input
+one_takes : (own : Option Form) → form_takes own ≡ true → own ≡ Some form.Serve
+one_takes None e = absurd (cc e)
+one_takes (Some form.Run) e = absurd (cc e)
+one_takes (Some form.Serve) e = refl
+one_takes (Some form.Batch) e = absurd (cc e)
+one_takes (Some form.Cases) e = absurd (cc e)
+
+-- the command that takes from the input is a session
+pub session_asked : (asked : Command) → takes_input asked ≡ true → command_form asked ≡ Some form.Serve
+session_asked asked e = one_takes (command_form asked) (sym (form_does asked).0 ∙ e)
 
 -- a session was asked for
 pub serve_reads : (words : List (List ℕ)) (asked : Command) (work : Work) → command_of words ≡ Some asked → IsWorkOf asked work → work_form work ≡ Some form.Serve → reads_input words ≡ true
-serve_reads words asked work c k e = ap (λ o. option_map_or takes_input o false) c ∙ takes asked (sym k ∙ e)
+serve_reads words asked work c k e = ap (λ o. option_map_or takes_input o false) c ∙ (form_does asked).0 ∙ ap form_takes (sym k ∙ e)
 
 -- what writes in parts was asked for
 pub batch_writes : (words : List (List ℕ)) (asked : Command) (work : Work) → command_of words ≡ Some asked → IsWorkOf asked work → form_in_parts (work_form work) ≡ true → writes_early words ≡ true
-batch_writes words asked work c k e = ap (λ o. option_map_or writes_in_parts o false) c ∙ in_parts asked (ap form_in_parts (sym k) ∙ e)
-
--- ---- what was typed and what was taken of it
-
--- all of it
-pub typed_all : (left : Option (List ℕ)) (typed taken : List ℕ) → Some typed ≡ prepend_known taken left → IsAtEnd left → typed ≡ taken
-typed_all None typed taken e none = absurd (cc e)
-typed_all (Some bytes) typed taken e none = let s : typed ≡ taken ++ bytes = cc e in s ∙ ap (λ rest. taken ++ rest) none ∙ append-nil taken
-
--- a prefix of it, before some rest
-pub typed_rest : (left : Option (List ℕ)) (typed taken : List ℕ) → Some typed ≡ prepend_known taken left → (rest : List ℕ) × (typed ≡ taken ++ rest)
-typed_rest None typed taken e = absurd (cc e)
-typed_rest (Some bytes) typed taken e = (bytes, cc e)
-
--- a prefix of it, before this rest
-pub typed_left : (left : Option (List ℕ)) (typed taken rest : List ℕ) → Some typed ≡ prepend_known taken left → IsLeft left rest → typed ≡ taken ++ rest
-typed_left None typed taken rest e is = absurd (cc e)
-typed_left (Some bytes) typed taken rest e is = let s : typed ≡ taken ++ bytes = cc e in s ∙ ap (λ r. taken ++ r) is
+batch_writes words asked work c k e = ap (λ o. option_map_or writes_in_parts o false) c ∙ (form_does asked).1 ∙ ap form_in_parts (sym k) ∙ e

@@ -11,7 +11,7 @@ use Rattle.code_answers.specs.Execs.{ExecReplies, ExecHasAnswer}
 use Rattle.command_answers.specs.LargeAnswers.{LargeReplies}
 use Rattle.rule_answers.specs.Lints.{LintReplies}
 use Rattle.command_answers.specs.Runs.{RunReplies, RunHasAnswer}
-use Rattle.command_answers.specs.Serves.{ServeReplies, ServeCutOff, ServeInFull}
+use Rattle.command_answers.specs.Serves.{ServeReplies, ServeCutOff}
 use Rattle.m_commands.specs.declared.work.Work.{Work}
 use Rattle.m_commands.specs.declared.work.Work.TheVariants.{Run, Serve, Batch, Large, Compile, Exec, Check, Lint, Cases}
 
@@ -31,11 +31,6 @@ Replies (Cases source table) typed = CasesReplies source table
 abbrev pub CutOff : Work → (taken : List ℕ) → List ℕ → Type 0
 CutOff (Serve source rows) taken text = ServeCutOff source rows taken text
 CutOff _ taken text = ⊥
-
--- The replies to all that is typed, also where that is more than is taken: what a session writes is a prefix of them where a write fails.
-abbrev pub InFull : Work → (typed : List ℕ) → List ℕ → Type 0
-InFull (Serve source rows) typed text = ServeInFull source rows typed text
-InFull _ typed text = ⊥
 
 -- what was gathered has an answer that isn't an error: the generated source and household have one
 abbrev pub HasAnswer : Work → Type 0

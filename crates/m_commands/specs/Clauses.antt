@@ -19,7 +19,7 @@ use Rattle.command_plans.specs.declared.status.Status.TheVariants.{Done, Refused
 use Rattle.m_source.specs.Source.{source_plan}
 use Rattle.m_source.specs.declared.source.SourceNames.{SourceNames}
 use Rattle.command_answers.specs.Prepared.{IsPreparedCode}
-use Rattle.m_commands.specs.Answer.{CutOff, InFull}
+use Rattle.m_commands.specs.Answer.{CutOff}
 use Rattle.m_commands.specs.Command.{command_of, plan_of, reads_input}
 use Rattle.m_commands.specs.Output.{fetches_of, Output, IsValidCommand}
 use Rattle.m_commands.specs.declared.command.Command.{Command}
@@ -68,14 +68,12 @@ pub record ReadsInOrder (words : List (List ℕ)) (before after : FilesView) (he
       ⊎ ((reads_input words ≡ true) × Rose heard.faults told.faults × TellsOfInput words before heard told old new)
 
 -- A text that a call writes if no write fails: an output, the line of the file that can't be read, or the text of a read of the input that
--- failed; or, of more than a session takes, the replies to all of it.
+-- failed.
 pub data IsWholeText (words : List (List ℕ)) (disk : Disk) (typed : List ℕ) (before after : FilesView) (heard told : InputView) (text : List ℕ) : Type 0 where
   output : {status : Status} → Output words disk typed text status → IsWholeText words disk typed before after heard told text
   unreadable : {made : List Attempt} {name : List ℕ} → after.attempts ≡ before.attempts ++ made → LastFailed made name → text ≡ unreadable_line name
       → IsWholeText words disk typed before after heard told text
   cut_off : (taken : List ℕ) → heard.left ≡ prepend_known taken told.left → Rose heard.faults told.faults → IsCutOff words disk taken text → IsWholeText words disk typed before after heard told text
-  in_full : (command : Command) (work : Work) → command_of words ≡ Some command → end_of disk (plan_of command) ≡ gathered work → InFull work typed text
-      → IsWholeText words disk typed before after heard told text
 
 -- Where the files and the input are told and a write failed, what is appended is the prefix of a whole text.
 abbrev pub WritesFront : List (List ℕ) → FilesView → FilesView → InputView → InputView → OutputView → OutputView → Status → Type 0

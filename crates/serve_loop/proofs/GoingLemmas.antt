@@ -5,7 +5,7 @@ use Rattle.m_places.specs.declared.limits.TheConstants.{SESSION_LINE_BYTES}
 use Rattle.m_text.specs.Bytes.{line_feed}
 use Rattle.m_ports.specs.Counts.{Rose}
 use Rattle.m_ports.specs.Sink.{AppendsPrefix}
-use Rattle.m_ports.proofs.SinkLemmas.{append_known-append, AppendsPrefix-after}
+use Rattle.m_ports.proofs.SinkLemmas.{append_known-append, AppendsPrefix-after, AppendsPrefix-before}
 use Rattle.household_session.specs.Replies.{IsUnended}
 use Rattle.serve_loop.specs.Repliers.{AreLongAlike, Telling, ended_of, whole_of}
 use Rattle.serve_loop.proofs.LineLemmas.{ended-line, ended-long, ended-none, whole-line, whole-long}
@@ -41,26 +41,18 @@ goes_line written faults old now new start telling later before left line more r
   faultless = none ∙ goes.faultless;
 }
 
--- a prefix of a text's prefix is a prefix of the text
-front_of_more : (old new : Option (List ℕ)) (text more whole : List ℕ) → whole ≡ text ++ more → AppendsPrefix old new text → AppendsPrefix old new whole
-front_of_more old new text more whole is prefix = record {
-  part = prefix.part;
-  rest = prefix.rest ++ more;
-  whole = is ∙ ap (λ t. t ++ more) prefix.whole ∙ append_assoc prefix.part prefix.rest more;
-  appended = prefix.appended;
-}
-
 -- the reply to a line broke off
 pub goes_broken : {K : Type 0} (written : K → Option (List ℕ)) (faults : K → ℕ) (old now new : K) (start telling later : Telling) (before left line more reply : List ℕ)
     → Goes written faults old now start telling before left → left ≡ line ++ line_feed ∷ more → IsUnended line
     → ((lines : List (List ℕ)) → telling (line ∷ lines) ≡ reply ++ later lines) → AppendsPrefix (written now) (written new) reply
-    → (rest : List ℕ) → AppendsPrefix (written old) (written new) (whole_of start (before ++ rest))
-goes_broken written faults old now new start telling later before left line more reply goes is free step prefix rest =
-    front_of_more (written old) (written new) (goes.text ++ reply) (whole_of later (more ++ rest)) (whole_of start (before ++ rest))
-    (goes.whole rest
-    ∙ ap (λ text. goes.text ++ text) (ap (λ l. whole_of telling (l ++ rest)) is ∙ ap (whole_of telling) (line_then line more rest) ∙ whole-line telling later line (more ++ rest) reply free step)
-    ∙ sym (append_assoc goes.text reply (whole_of later (more ++ rest))))
-    (AppendsPrefix-after (written old) (written now) (written new) goes.text reply goes.appended prefix)
+    → AppendsPrefix (written old) (written new) (ended_of start before)
+goes_broken written faults old now new start telling later before left line more reply goes is free step prefix =
+    let whole : ended_of start before ≡ (goes.text ++ reply) ++ ended_of later (more ++ []) =
+    ap (ended_of start) (sym (append-nil before)) ∙ goes.ended []
+    ∙ ap (λ text. goes.text ++ text) (ap (λ l. ended_of telling (l ++ [])) is ∙ ap (ended_of telling) (line_then line more []) ∙ ended-line telling later line (more ++ []) reply free step)
+    ∙ sym (append_assoc goes.text reply (ended_of later (more ++ []))) in
+    subst (λ (text : List ℕ). AppendsPrefix (written old) (written new) text) (sym whole) (AppendsPrefix-before (written old) (written new) (goes.text ++ reply) (ended_of later (more ++ []))
+    (AppendsPrefix-after (written old) (written now) (written new) goes.text reply goes.appended prefix))
 
 -- a rise of the count of faults is one from the beginning
 pub rose_from : {K : Type 0} (faults : K → ℕ) (old now new : K) → faults now ≡ faults old → Rose (faults now) (faults new) → Rose (faults old) (faults new)
@@ -103,18 +95,32 @@ goes_cut written faults old now start telling before left fewer alike free freed
   faultless = goes.faultless;
 }
 
--- one way, and then a break
-pub breaks_then : {K : Type 0} (written : K → Option (List ℕ)) (faults : K → ℕ) (old now new : K) (start telling : Telling) (before left piece rest : List ℕ)
-    → Goes written faults old now start telling before left → BreaksOff written faults now new telling ((left ++ piece) ++ rest)
-    → Rose (faults old) (faults new) × AppendsPrefix (written old) (written new) (whole_of start ((before ++ piece) ++ rest))
-unfolding goes_taken
-breaks_then written faults old now new start telling before left piece rest goes breaks =
-    let same : whole_of start ((before ++ piece) ++ rest) ≡ goes.text ++ whole_of telling ((left ++ piece) ++ rest) =
-    (goes_taken written faults old now start telling before left piece goes).whole rest in (
-      rose_from faults old now new goes.faultless breaks.rose,
-      subst (λ (text : List ℕ). AppendsPrefix (written old) (written new) text) (sym same)
-          (AppendsPrefix-after (written old) (written now) (written new) goes.text (whole_of telling ((left ++ piece) ++ rest)) goes.appended breaks.prefix),
-    )
+-- a text was written, and then a write failed
+breaks_after : {K : Type 0} (written : K → Option (List ℕ)) (faults : K → ℕ) (old now new : K) (front text all : List ℕ) → written now ≡ append_known (written old) front → faults now ≡ faults old
+    → all ≡ front ++ text → BreaksOff written faults now new text → BreaksOff written faults old new all
+breaks_after written faults old now new front text all given none is breaks = record {
+  rose = rose_from faults old now new none breaks.rose;
+  prefix = subst (λ (t : List ℕ). AppendsPrefix (written old) (written new) t) (sym is) (AppendsPrefix-after (written old) (written now) (written new) front text given breaks.prefix);
+}
+
+-- one way, and then a break among the lines that a piece ends
+pub breaks_ended : {K : Type 0} (written : K → Option (List ℕ)) (faults : K → ℕ) (old now new : K) (start telling : Telling) (before left piece : List ℕ)
+    → Goes written faults old now start telling before left → BreaksOff written faults now new (ended_of telling (left ++ piece)) → BreaksOff written faults old new (ended_of start (before ++ piece))
+breaks_ended written faults old now new start telling before left piece goes breaks =
+    breaks_after written faults old now new goes.text (ended_of telling (left ++ piece)) (ended_of start (before ++ piece)) goes.appended goes.faultless (goes.ended piece) breaks
+
+-- what all lines have as replies, those that are left after the others
+whole_then : {K : Type 0} (written : K → Option (List ℕ)) (faults : K → ℕ) (old now : K) (start telling : Telling) (before left : List ℕ)
+    → (goes : Goes written faults old now start telling before left) → whole_of start before ≡ goes.text ++ whole_of telling left
+whole_then written faults old now start telling before left goes =
+    ap (whole_of start) (sym (append-nil before)) ∙ goes.whole [] ∙ ap (λ l. goes.text ++ whole_of telling l) (append-nil left)
+
+-- one way, and then a break in the last line
+pub breaks_last : {K : Type 0} (written : K → Option (List ℕ)) (faults : K → ℕ) (old now new : K) (start telling : Telling) (before left : List ℕ)
+    → Goes written faults old now start telling before left → BreaksOff written faults now new (whole_of telling left) → BreaksOff written faults old new (whole_of start before)
+breaks_last written faults old now new start telling before left goes breaks =
+    breaks_after written faults old now new goes.text (whole_of telling left) (whole_of start before) goes.appended goes.faultless
+    (whole_then written faults old now start telling before left goes) breaks
 
 -- ---- at the end
 
@@ -124,7 +130,7 @@ pub goes_whole : {K : Type 0} (written : K → Option (List ℕ)) (faults : K �
     → written new ≡ append_known (written old) (whole_of start before)
 goes_whole written faults old now new start telling before left goes given =
     given ∙ ap (λ known. append_known known (whole_of telling left)) goes.appended ∙ append_known-append (written old) goes.text (whole_of telling left)
-    ∙ ap (append_known (written old)) (ap (λ l. goes.text ++ whole_of telling l) (sym (append-nil left)) ∙ sym (goes.whole []) ∙ ap (whole_of start) (append-nil before))
+    ∙ ap (append_known (written old)) (sym (whole_then written faults old now start telling before left goes))
 
 -- the lines with their line feed have their replies, where what is left has none
 pub goes_ended : {K : Type 0} (written : K → Option (List ℕ)) (faults : K → ℕ) (old now : K) (start telling : Telling) (before left : List ℕ)

@@ -6,12 +6,12 @@ use Rattle.std.proofs.lemmas.List.{take_all}
 use Rattle.m_places.specs.declared.limits.TheConstants.{INPUT_BYTES}
 use Rattle.household_session.specs.Replies.{IsUnended}
 use Rattle.serve_loop.specs.Repliers.{AreLongAlike, Telling}
-use Rattle.serve_loop.specs.Serving.{Counts, Ends, IsLeft}
+use Rattle.serve_loop.specs.Serving.{Counts, Ends}
 use Rattle.serve_loop.specs.inner.Going.{BreaksOff, Finished, Goes, Stopped, Took}
 use Rattle.serve_loop.specs.declared.turns.ServeEnd.{ServeEnd}
 use Rattle.serve_loop.specs.declared.turns.ServeEnd.TheVariants.{Done, ReadFault, WriteFault, TooLong}
 use Rattle.serve_loop.proofs.ByteLemmas.{unended_take}
-use Rattle.serve_loop.proofs.GoingLemmas.{breaks_then, goes_cut, goes_ended, goes_none, goes_taken, goes_then, goes_whole, rose_from}
+use Rattle.serve_loop.proofs.GoingLemmas.{breaks_ended, breaks_last, goes_cut, goes_ended, goes_none, goes_taken, goes_then, goes_whole, rose_from}
 
 -- ---- what is known of the input
 
@@ -22,19 +22,6 @@ prepend_none (Some bytes) = refl
 prepend_more : (known : Option (List ℕ)) (a b : List ℕ) → prepend_known a (prepend_known b known) ≡ prepend_known (a ++ b) known
 prepend_more None a b = refl
 prepend_more (Some bytes) a b = ap Some (sym (append_assoc a b bytes))
-
--- what is left, where it is told
-abbrev pub told_rest : Option (List ℕ) → List ℕ
-told_rest None = []
-told_rest (Some bytes) = bytes
-
-pub told_is_left : (known : Option (List ℕ)) → IsLeft known (told_rest known)
-told_is_left None = tt
-told_is_left (Some bytes) = refl
-
-none_is_left : (known : Option (List ℕ)) → IsAtEnd known → IsLeft known []
-none_is_left None end = tt
-none_is_left (Some bytes) end = end
 
 -- ---- one turn
 
@@ -47,17 +34,8 @@ stopped_at_end left source_faults written faults source_old source_now old now s
     let same : left source_now ≡ left source_old = sym (moved ∙ prepend_none (left source_now)) in
     (same, subst (λ (known : Option (List ℕ)). IsAtEnd known) (sym same) none, calm, done)
 stopped_at_end left source_faults written faults source_old source_now old now start held most WriteFault moved none calm broken =
-    let same : left source_now ≡ left source_old = sym (moved ∙ prepend_none (left source_now)) in (
-      calm,
-      (
-        [],
-        [],
-        omega arith,
-        moved,
-        none_is_left (left source_now) (subst (λ (known : Option (List ℕ)). IsAtEnd known) (sym same) none),
-        subst (λ (bytes : List ℕ). BreaksOff written faults old now start bytes) (sym (append-nil (held ++ []) ∙ append-nil held)) broken,
-      ),
-    )
+    let same : left source_now ≡ left source_old = sym (moved ∙ prepend_none (left source_now)) in
+    (calm, inr (same, subst (λ (known : Option (List ℕ)). IsAtEnd known) (sym same) none, broken))
 stopped_at_end left source_faults written faults source_old source_now old now start held most ReadFault moved none calm never = absurd never
 stopped_at_end left source_faults written faults source_old source_now old now start held most TooLong moved none calm never = absurd never
 
@@ -142,17 +120,25 @@ standing_stopped left source_faults written faults source_old source_now source_
   ),
   (rose_from source_faults source_old source_now source_new standing.calm rose, none ∙ standing.goes.faultless),
 )
-standing_stopped left source_faults written faults source_old source_now source_new old now new start telling held count most WriteFault nothing standing (calm, (piece, rest, short, moved, is, broken)) few room =
-    let whole = breaks_then written faults old now new start telling standing.bytes held piece rest standing.goes broken in (
+standing_stopped left source_faults written faults source_old source_now source_new old now new start telling held count most WriteFault nothing standing (calm, inl (piece, short, moved, broken)) few room =
+    let whole = breaks_ended written faults old now new start telling standing.bytes held piece standing.goes broken in (
       (
         standing.bytes ++ piece,
-        rest,
         omega (arith, length-append standing.bytes piece, standing.counted, short, room),
         standing.moved ∙ ap (prepend_known standing.bytes) moved ∙ prepend_more (left source_new) standing.bytes piece,
-        is,
-        whole.1,
+        inl whole.prefix,
       ),
-      (calm ∙ standing.calm, whole.0),
+      (calm ∙ standing.calm, whole.rose),
+    )
+standing_stopped left source_faults written faults source_old source_now source_new old now new start telling held count most WriteFault nothing standing (calm, inr (same, none, broken)) few room =
+    let whole = breaks_last written faults old now new start telling standing.bytes held standing.goes broken in (
+      (
+        standing.bytes,
+        omega (arith, standing.counted, few),
+        standing.moved ∙ ap (prepend_known standing.bytes) (sym same),
+        inr (omega (arith, standing.counted, few), none, whole.prefix),
+      ),
+      (calm ∙ standing.calm, whole.rose),
     )
 standing_stopped left source_faults written faults source_old source_now source_new old now new start telling held count most TooLong nothing standing never few room = absurd never
 

@@ -1,9 +1,9 @@
 //! The lines that stand whole among bytes.
-ghost use Rattle.std.specs.Prelude.{◌≤◌, ◌++◌, List, ℕ, length, take, drop, IfOk, OnErr};
+ghost use Rattle.std.specs.Prelude.{◌≤◌, length, take, drop, IfOk, OnErr};
 ghost use Rattle.m_ports.specs.Counts.{Rose};
 ghost use Rattle.m_ports.specs.Sink.{AppendsPrefix};
 ghost use Rattle.household_session.specs.Replies.{IsUnended};
-ghost use Rattle.serve_loop.specs.Repliers.{whole_of};
+ghost use Rattle.serve_loop.specs.Repliers.{ended_of};
 ghost use Rattle.serve_loop.specs.inner.Going.{Goes};
 
 use crate::Replier;
@@ -27,8 +27,7 @@ pub(crate) fn do_ended<R: Replier, K: Sink, L: Ledger>(
         (R.replies replier.old) (R.replies replier.new) bytes.now (drop from bytes.now)) }
     ensures place { IfOk result (λ from. (from ≤ length bytes.now) × IsUnended (drop from bytes.now)) }
     ensures failed { OnErr result (Rose (K.faults out.old) (K.faults out.new)) }
-    ensures prefix { OnErr result ((rest : List ℕ) → AppendsPrefix (K.written out.old) (K.written out.new)
-        (whole_of (R.replies replier.old) (bytes.now ++ rest))) }
+    ensures prefix { OnErr result (AppendsPrefix (K.written out.old) (K.written out.new) (ended_of (R.replies replier.old) bytes.now)) }
 {
     let mut from = 0;
     let mut end = line_end(bytes, held);

@@ -20,7 +20,7 @@ pub enum ServeEnd {
     Done,
     /// A read failed. The lines whose line feed was taken have their replies.
     ReadFault,
-    /// A write failed. What was written is a prefix of the replies.
+    /// A write failed. What was written is a prefix of the replies to the lines that have their line feed, or, at the input's end, to all lines.
     WriteFault,
     /// So many bytes were taken as a session takes, without the input's end. The lines whose line feed was taken have their
     /// replies.

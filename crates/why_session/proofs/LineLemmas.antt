@@ -1,12 +1,12 @@
 -- The replies to a line and to further lines.
-use Rattle.std.proofs.Common.{◌≡◌, ℕ, List, [], ◌∷◌, ◌++◌, Option, None, Some, refl, ap, ◌∙◌}
+use Rattle.std.proofs.Common.{◌≡◌, ℕ, List, [], ◌∷◌, ◌++◌, Option, None, Some, refl, sym, ap, ◌∙◌, append_assoc}
 use Rattle.std.specs.List.{AllByRecursion}
 use Rattle.std.specs.Option.{option_map_or}
 use Rattle.m_fixed.specs.declared.amount.Value.{Value}
 use Rattle.household_session.specs.Commands.{session_command}
 use Rattle.household_session.specs.Replies.{command_reply, command_values, lines_replies}
 use Rattle.household_session.specs.Sessions.{Showing}
-use Rattle.why_session.specs.Explains.{Explaining, explained_replies, name_asked}
+use Rattle.why_session.specs.Explains.{Explaining, explained_replies, explained_reply, explained_values, name_asked}
 
 -- the replies where this is asked of the first line
 abbrev pub asked_replies : Showing → Explaining → List Value → List ℕ → List (List ℕ) → Option (List ℕ) → List ℕ
@@ -32,3 +32,14 @@ without_why showing explains values [] none = refl
 without_why showing explains values (first ∷ lines) none =
     line_then showing explains values first lines none.0
     ∙ ap (λ rest. command_reply showing values (session_command first) ++ rest) (without_why showing explains (command_values showing values (session_command first)) lines none.1)
+
+-- the replies to lines begin with those to the first of them
+pub replies-begin : (showing : Showing) (explains : Explaining) (values : List Value) (front lines : List (List ℕ))
+    → (text : List ℕ) × (explained_replies showing explains values (front ++ lines) ≡ explained_replies showing explains values front ++ text)
+replies-begin showing explains values [] lines = (explained_replies showing explains values lines, refl)
+replies-begin showing explains values (first ∷ front) lines =
+    let more = replies-begin showing explains (explained_values showing values first) front lines in (
+      more.0,
+      ap (λ text. explained_reply showing explains values first ++ text) more.1
+          ∙ sym (append_assoc (explained_reply showing explains values first) (explained_replies showing explains (explained_values showing values first) front) more.0),
+    )

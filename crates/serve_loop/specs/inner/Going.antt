@@ -1,11 +1,10 @@
 -- What is known of a session's loop on its way.
-use Rattle.std.specs.Prelude.{◌≡◌, ℕ, ◌<◌, ◌≤◌, List, ◌++◌, length, take, Option, Result, Ok, Err}
+use Rattle.std.specs.Prelude.{◌≡◌, ◌⊎◌, ℕ, ◌<◌, ◌≤◌, List, ◌++◌, length, take, Option, Result, Ok, Err}
 use Rattle.std.specs.Io.KnownBytes.{prepend_known, append_known, IsAtEnd}
 use Rattle.m_ports.specs.Counts.{Rose}
 use Rattle.m_ports.specs.Sink.{AppendsPrefix}
 use Rattle.household_session.specs.Replies.{IsUnended}
 use Rattle.serve_loop.specs.Repliers.{Telling, ended_of, whole_of}
-use Rattle.serve_loop.specs.Serving.{IsLeft}
 use Rattle.serve_loop.specs.declared.pieces.TheConstants.{MOST_HELD}
 use Rattle.serve_loop.specs.declared.turns.ServeEnd.{ServeEnd}
 use Rattle.serve_loop.specs.declared.turns.ServeEnd.TheVariants.{Done, ReadFault, WriteFault, TooLong}
@@ -19,15 +18,15 @@ pub record Goes {K : Type 0} (written : K → Option (List ℕ)) (faults : K →
   pub appended : written now ≡ append_known (written old) text
   pub faultless : faults now ≡ faults old
 
--- A write failed: what was written is a prefix of the replies to these bytes.
-pub record BreaksOff {K : Type 0} (written : K → Option (List ℕ)) (faults : K → ℕ) (old now : K) (start : Telling) (bytes : List ℕ) : Type 0 where
+-- A write failed: what was written is a prefix of this text.
+pub record BreaksOff {K : Type 0} (written : K → Option (List ℕ)) (faults : K → ℕ) (old now : K) (text : List ℕ) : Type 0 where
   pub rose : Rose (faults old) (faults now)
-  pub prefix : AppendsPrefix (written old) (written now) (whole_of start bytes)
+  pub prefix : AppendsPrefix (written old) (written now) text
 
 -- the last line, without its line feed, has its reply, or its write failed
 abbrev pub Finished : {K : Type 0} (written : K → Option (List ℕ)) (faults : K → ℕ) (old now : K) (start : Telling) (held : List ℕ) → ServeEnd → Type 0
 Finished written faults old now start held Done = (written now ≡ append_known (written old) (whole_of start held)) × (faults now ≡ faults old)
-Finished written faults old now start held WriteFault = BreaksOff written faults old now start held
+Finished written faults old now start held WriteFault = BreaksOff written faults old now (whole_of start held)
 Finished written faults old now start held ReadFault = ⊥
 Finished written faults old now start held TooLong = ⊥
 
@@ -43,7 +42,8 @@ pub record Took {S K : Type 0} (left : S → Option (List ℕ)) (source_faults :
   pub goes : Goes written faults old now start telling (held ++ piece) kept
   pub unended : IsUnended kept
 
--- A turn that ended the loop: the input ended or a read failed, and nothing was taken; or a write failed, and at most so many bytes were.
+-- A turn that ended the loop: the input ended or a read failed, and nothing was taken; or a write failed, after at most so many bytes were taken or at the
+-- input's end.
 abbrev pub Stopped : {S K : Type 0} (left : S → Option (List ℕ)) (source_faults : S → ℕ) (written : K → Option (List ℕ)) (faults : K → ℕ)
     (source_old source_now : S) (old now : K) (start : Telling) (held : List ℕ) (most : ℕ) → ServeEnd → Type 0
 Stopped left source_faults written faults source_old source_now old now start held most Done =
@@ -52,8 +52,8 @@ Stopped left source_faults written faults source_old source_now old now start he
     (left source_now ≡ left source_old) × Rose (source_faults source_old) (source_faults source_now) × (written now ≡ written old) × (faults now ≡ faults old)
 Stopped left source_faults written faults source_old source_now old now start held most WriteFault =
     (source_faults source_now ≡ source_faults source_old)
-    × ((piece rest : List ℕ) × (length piece ≤ most) × (left source_old ≡ prepend_known piece (left source_now)) × IsLeft (left source_now) rest
-    × BreaksOff written faults old now start ((held ++ piece) ++ rest))
+    × (((piece : List ℕ) × (length piece ≤ most) × (left source_old ≡ prepend_known piece (left source_now)) × BreaksOff written faults old now (ended_of start (held ++ piece)))
+    ⊎ ((left source_now ≡ left source_old) × IsAtEnd (left source_now) × BreaksOff written faults old now (whole_of start held)))
 Stopped left source_faults written faults source_old source_now old now start held most TooLong = ⊥
 
 -- what a turn did, where the room is this then

@@ -1,9 +1,9 @@
-use Rattle.std.proofs.Common.{refl}
+use Rattle.std.proofs.Common.{refl, inl, inr}
 use Rattle.fault_lines.specs.Lines.{input_too_long_line, unreadable_input_line}
 use Rattle.serve_loop.specs.Repliers.{ended_of}
 use Rattle.command_plans.specs.Views.{output_view}
 use Rattle.command_plans.specs.declared.status.Status.TheVariants.{ReadFault, Refused}
-use Rattle.command_answers.specs.Serving.{to_its_end, unread, too_long, unwritten}
+use Rattle.command_answers.specs.Serving.{to_its_end, unread, too_long, unwritten, unwritten_at_end}
 use Rattle.code_answers.proofs.Printings.{prints_behind}
 use Rattle.command_answers.proofs.session.serve_counted.Goals as goal
 
@@ -23,7 +23,10 @@ returns-in-ReadFault g c =
 pub returns-in-WriteFault : goal.returns-in-WriteFault
 returns-in-WriteFault g c =
     let end = c.in-WriteFault.ensures.end in
-    unwritten end.0 end.1 end.3 end.2 end.4 c.in-WriteFault.ensures.counts.0 (end.5, c.in-WriteFault.ensures.counts.1) refl
+    elim end.3 [
+      | inl ended ↦ unwritten end.0 end.2 end.1 c.in-WriteFault.ensures.counts.0 (ended, c.in-WriteFault.ensures.counts.1) refl
+      | inr last ↦ unwritten_at_end end.0 end.2 last.0 last.1 c.in-WriteFault.ensures.counts.0 (last.2, c.in-WriteFault.ensures.counts.1) refl
+    ]
 
 pub returns : goal.returns
 returns g c =

@@ -1,9 +1,9 @@
-use Rattle.std.proofs.Common.{◌≡◌, ◌+◌, ◌++◌, ◌<◌, ◌≤◌, List, ℕ, length, length-take, length-drop, take, drop, min, sym, ◌∙◌, ap, subst, arith}
+use Rattle.std.proofs.Common.{◌≡◌, ◌+◌, ◌++◌, ◌<◌, ◌≤◌, List, ℕ, length, length-take, length-drop, take, drop, min, inl, sym, ◌∙◌, ap, subst, arith}
 use Rattle.std.proofs.Math.Seq.{take-add}
 use Rattle.household_session.specs.Replies.{IsUnended}
 use Rattle.serve_loop.specs.inner.Going.{Goes}
 use Rattle.serve_loop.proofs.ByteLemmas.{unended_take}
-use Rattle.serve_loop.proofs.TurnLemmas.{goes_kept, stopped_at_end, told_is_left, told_rest}
+use Rattle.serve_loop.proofs.TurnLemmas.{goes_kept, stopped_at_end}
 use Rattle.serve_loop.proofs.turns.turn.Goals as goal
 
 pub returns-in-Ok-eq0 : goal.returns-in-Ok-eq0
@@ -20,16 +20,11 @@ returns-in-Err-do_ended g c =
     let whole : take (c.args.held + c.in-Ok.count) c.take_piece.new.room ≡ take c.args.held c.args.room.now ++ take c.in-Ok.count (drop c.args.held c.take_piece.new.room) =
     take-add c.args.held c.in-Ok.count c.take_piece.new.room ∙ ap (λ (front : List ℕ). front ++ take c.in-Ok.count (drop c.args.held c.take_piece.new.room)) c.take_piece.ensures.kept in (
       c.in-Ok.ensures.faultless,
-      (
+      inl (
         piece,
-        told_rest (g.S.Source.left c.take_piece.new.input),
         omega (arith, c.in-Ok.ensures.within.1, length-take c.in-Ok.count (drop c.args.held c.take_piece.new.room)),
         c.in-Ok.ensures.moved,
-        told_is_left (g.S.Source.left c.take_piece.new.input),
-        record {
-          rose = c.in-Err-do_ended.ensures.failed;
-          prefix = rw whole at (c.in-Err-do_ended.ensures.prefix (told_rest (g.S.Source.left c.take_piece.new.input)));
-        },
+        record { rose = c.in-Err-do_ended.ensures.failed; prefix = rw whole at c.in-Err-do_ended.ensures.prefix },
       ),
     )
 
