@@ -372,11 +372,20 @@ def _(n):
     return case([ONE, RULE, "A = ", *many(f"somme({header}: ", n), "1", ")" * n, " ;"], "A = 1\n")
 
 
-@shape("250 sums of one instance in one another, in each instance of a formula", 10_000)
+@shape("250 sums of one instance in one another, in each instance of a formula", 1_000_000)
+def _(n):
+    front = f"pour i=1..1000: pour j=1..{n // 1000}: "
+    place = len(ONE) + len(RULE) + len(front)
+    return case([ONE, RULE, front, "Bij = ", "somme(k=1;l=1: " * 250, "1", ")" * 250, " ;"], refused("unknown name B11", line=3, byte=place), 1)
+
+
+# Sums that stay: an operand stands between one and the next. They have 501 parts, and the definition is one more.
+@shape("250 sums of 26 letters in one another, with an operand each, in each instance of a formula", 3900)
 def _(n):
     front = f"pour i=1..{n}: "
     place = len(ONE) + len(RULE) + len(front)
-    return case([ONE, RULE, front, "Bi = ", "somme(k=1;l=1: " * 250, "1", ")" * 250, " ;"], refused("unknown name B1", line=3, byte=place), 1)
+    header = ";".join(f"{chr(97 + k)}=1" for k in range(26))
+    return case([ONE, RULE, front, "Bi = ", f"somme({header}: 1 + " * 250, "1", ")" * 250, " ;"], refused("unknown name B1", line=3, byte=place), 1)
 
 
 @shape("pour headers of one letter", 200_000, stacks=DEEP)

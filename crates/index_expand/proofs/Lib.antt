@@ -7,3 +7,4 @@ pub mod PlainLemmas
 pub mod TableLemmas
 pub mod TakenLemmas
 pub mod TermLemmas
+pub mod JoinedLemmas

@@ -1,3 +1,4 @@
 pub mod Operands
 pub mod Repeats
 pub mod Taken
+pub mod Meanings

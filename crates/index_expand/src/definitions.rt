@@ -1,9 +1,11 @@
 //! The definitions of an instance of a formula: one, or one for each cell of a table.
-ghost use Rattle.std.specs.Prelude.{◌≡◌, ◌+◌, ◌∷◌, ◌≤◌, [], OnOk, length, map};
+ghost use Rattle.std.specs.Prelude.{◌≡◌, ◌+◌, ◌∷◌, ◌≤◌, [], IfOk, OnOk, length, map};
 ghost use Rattle.std.specs.List.{range_with_len};
 ghost use Rattle.m_places.specs.Refusals.{Outcome};
 ghost use Rattle.plain_rules.specs.Plain.{table_size};
 ghost use Rattle.index_expand.specs.Expansion.{defined, defined_cell, definitions_at};
+ghost use Rattle.index_expand.specs.Terms.{expanded};
+ghost use Rattle.index_expand.specs.inner.Meanings.{meaning};
 ghost use Rattle.index_expand.specs.inner.Taken.{IsTaken, IsTooMuch, weighed};
 
 use crate::ExpandFault;
@@ -16,7 +18,8 @@ use loop_values::replaced;
 use m_ast::{Role, Slot};
 use m_places::Name;
 use m_symbols::Symbols;
-use plain_rules::Definition;
+use plain_rules::{Definition, PTerm};
+use std::alloc::AllocError;
 
 /// Puts the definitions of one instance of a formula after definitions, where so many parts were counted before, and answers
 /// how many there are with these.
@@ -29,6 +32,7 @@ pub(crate) fn take_instance(
     total: u64,
 ) -> Result<u64, ExpandFault>
     requires letters { length letters.old ≡ 256 }
+    requires same { meaning template.now.term.now ≡ meaning template.now.formula.now.term }
     requires total { total ≤ MOST }
     ensures outcome { let these = definitions_at template.now.symbols.now template.now.formula.now template.now.formula.now.slot letters.old in
         Outcome ExpandFault.Memory result
@@ -68,6 +72,7 @@ fn take_every(
     total: u64,
 ) -> Result<u64, ExpandFault>
     requires letters { length letters.old ≡ 256 }
+    requires same { meaning template.now.term.now ≡ meaning template.now.formula.now.term }
     requires total { total ≤ MOST }
     ensures outcome { let these = definitions_at template.now.symbols.now template.now.formula.now Slot.Every letters.old in
         Outcome ExpandFault.Memory result
@@ -100,6 +105,7 @@ fn take_cells(
     total: u64,
 ) -> Result<u64, ExpandFault>
     requires letters { length letters.old ≡ 256 }
+    requires same { meaning template.now.term.now ≡ meaning template.now.formula.now.term }
     requires total { total ≤ MOST }
     ensures outcome { let these = map (defined_cell template.now.formula.now letters.old) (range_with_len 0 size) in
         Outcome ExpandFault.Memory result
@@ -133,6 +139,7 @@ fn take_definition(
     total: u64,
 ) -> Result<u64, ExpandFault>
     requires letters { length letters.old ≡ 256 }
+    requires same { meaning template.now.term.now ≡ meaning template.now.formula.now.term }
     requires total { total ≤ MOST }
     ensures outcome { let these = defined template.now.formula.now slot cell letters.old ∷ [] in
         Outcome ExpandFault.Memory result
@@ -144,7 +151,7 @@ fn take_definition(
         return Err(ExpandFault::TooManyParts(template.rule));
     }
     let formula = template.formula;
-    let term = expanded(words, letters, cell, &formula.term)?;
+    let term = instance_term(words, letters, template, cell)?;
     let target = word_with(words, letters, &formula.target)?;
     definitions.push(Definition {
         target,
@@ -153,6 +160,21 @@ fn take_definition(
         place: formula.place,
     })?;
     Ok(total + template.weight)
+}
+
+// The term of an instance.
+fn instance_term(
+    words: &mut Words<'_>,
+    letters: &mut [Option<Name>],
+    template: &Template<'_>,
+    cell: Option<u32>,
+) -> Result<PTerm, AllocError>
+    requires letters { length letters.old ≡ 256 }
+    requires same { meaning template.now.term.now ≡ meaning template.now.formula.now.term }
+    ensures term { IfOk result (λ t. t ≡ expanded cell letters.old template.now.formula.now.term) }
+    ensures letters { OnOk result (letters.new ≡ letters.old) }
+{
+    expanded(words, letters, cell, template.term)
 }
 
 // The size of a declared table.

@@ -4,19 +4,21 @@ ghost use Rattle.std.specs.List.{flat_map};
 ghost use Rattle.m_places.specs.Refusals.{Outcome};
 ghost use Rattle.plain_rules.specs.Plain.{TablesHaveCells};
 ghost use Rattle.m_symbols.specs.Declarations.{Declared};
-ghost use Rattle.loop_values.specs.Headers.{instances};
+ghost use Rattle.loop_values.specs.Headers.{IsSingle, instances};
 ghost use Rattle.loop_values.specs.Letters.{bind, no_letters};
 ghost use Rattle.index_expand.specs.Expansion.{definitions_at, formula_definitions};
 ghost use Rattle.index_expand.specs.Faults.{formula_parts};
+ghost use Rattle.index_expand.specs.inner.Meanings.{meaning};
 ghost use Rattle.index_expand.specs.inner.Taken.{IsTaken, IsTooMuch, weighed};
 
 use crate::ExpandFault;
 use crate::definitions::take_instance;
+use crate::joined::{has_nested, joined};
 use crate::parts::{MOST, parts};
 use crate::template::{Binding, Template};
 use crate::words::Words;
-use loop_values::{headers_count, index_values, kept_indexes};
-use m_ast::{Formula, Index};
+use loop_values::{headers_count, index_count, index_values, kept_indexes, only_value};
+use m_ast::{Formula, Index, Term};
 use m_places::{Name, Place};
 use m_symbols::Symbols;
 use plain_rules::Definition;
@@ -45,10 +47,58 @@ pub(crate) fn take_formula(
     if let Some(fault) = refusal(rule, formula) {
         return Err(fault);
     }
+    if has_nested(&formula.term) {
+        let term = joined(words.alloc, &formula.term)?;
+        take_from(
+            words,
+            letters,
+            symbols,
+            rule,
+            formula,
+            &term,
+            definitions,
+            total,
+        )
+    } else {
+        let term = &formula.term;
+        take_from(
+            words,
+            letters,
+            symbols,
+            rule,
+            formula,
+            term,
+            definitions,
+            total,
+        )
+    }
+}
+
+// The same, from a term of the same expansions as the formula's, and of a formula with no more instances than there may be parts.
+fn take_from(
+    words: &mut Words<'_>,
+    letters: &mut [Option<Name>],
+    symbols: &Symbols,
+    rule: Place,
+    formula: &Formula,
+    term: &Term,
+    definitions: &mut Vec<Definition>,
+    total: u64,
+) -> Result<u64, ExpandFault>
+    requires term { meaning term.now ≡ meaning formula.now.term }
+    requires letters { letters.old ≡ no_letters }
+    requires total { total ≤ MOST }
+    ensures outcome { Outcome ExpandFault.Memory result
+        (λ after. IsTaken definitions.old.items definitions.new.items
+        (formula_definitions symbols.now formula.now) (formula_parts symbols.now formula.now) total after)
+        (λ fault. IsTooMuch (formula_parts symbols.now formula.now) total rule fault) }
+    ensures letters { OnOk result (letters.new ≡ letters.old) }
+{
     let template = Template {
         symbols,
         rule,
         formula,
+        term,
         weight: parts(&formula.term) + 1,
     };
     let indexes = kept_indexes(words.alloc, formula.loops.as_slice())?;
@@ -85,6 +135,7 @@ fn take_instances(
     total: u64,
 ) -> Result<u64, ExpandFault>
     requires letters { length letters.old ≡ 256 }
+    requires same { meaning template.now.term.now ≡ meaning template.now.formula.now.term }
     requires total { total ≤ MOST }
     ensures outcome { let these = flat_map (definitions_at template.now.symbols.now template.now.formula.now template.now.formula.now.slot)
         (instances indexes.now letters.old) in
@@ -95,8 +146,52 @@ fn take_instances(
 {
     match indexes {
         [] => take_instance(words, letters, template, definitions, total),
-        [index, rest @ ..] => take_index(words, letters, template, index, rest, definitions, total),
+        [index, rest @ ..] => {
+            if index_count(index) == 1 {
+                take_single(words, letters, template, index, rest, definitions, total)
+            } else {
+                take_index(words, letters, template, index, rest, definitions, total)
+            }
+        }
     }
+}
+
+// The same of an index of one value.
+#[cycle(take_instances)]
+fn take_single(
+    words: &mut Words<'_>,
+    letters: &mut [Option<Name>],
+    template: &Template<'_>,
+    index: &Index,
+    indexes: &[Index],
+    definitions: &mut Vec<Definition>,
+    total: u64,
+) -> Result<u64, ExpandFault>
+    requires letters { length letters.old ≡ 256 }
+    requires same { meaning template.now.term.now ≡ meaning template.now.formula.now.term }
+    requires total { total ≤ MOST }
+    requires single { IsSingle index.now }
+    ensures outcome { let these = flat_map (definitions_at template.now.symbols.now template.now.formula.now template.now.formula.now.slot)
+        (instances (index.now ∷ indexes.now) letters.old) in
+        Outcome ExpandFault.Memory result
+        (λ after. IsTaken definitions.old.items definitions.new.items these (weighed these template.now.weight) total after)
+        (λ fault. IsTooMuch (weighed these template.now.weight) total template.now.rule fault) }
+    ensures letters { OnOk result (letters.new ≡ letters.old) }
+{
+    let value = only_value(words.alloc, index)?;
+    let binding = Binding {
+        letter: index.letter,
+        value: &value,
+    };
+    take_bound(
+        words,
+        letters,
+        template,
+        &binding,
+        indexes,
+        definitions,
+        total,
+    )
 }
 
 // The definitions of the instances of an index that is slower than these.
@@ -111,6 +206,7 @@ fn take_index(
     total: u64,
 ) -> Result<u64, ExpandFault>
     requires letters { length letters.old ≡ 256 }
+    requires same { meaning template.now.term.now ≡ meaning template.now.formula.now.term }
     requires total { total ≤ MOST }
     ensures outcome { let these = flat_map (definitions_at template.now.symbols.now template.now.formula.now template.now.formula.now.slot)
         (instances (index.now ∷ indexes.now) letters.old) in
@@ -151,6 +247,7 @@ fn take_bound(
     total: u64,
 ) -> Result<u64, ExpandFault>
     requires letters { length letters.old ≡ 256 }
+    requires same { meaning template.now.term.now ≡ meaning template.now.formula.now.term }
     requires total { total ≤ MOST }
     ensures outcome { let these = flat_map (definitions_at template.now.symbols.now template.now.formula.now template.now.formula.now.slot)
         (instances indexes.now (bind letters.old binding.now.letter binding.now.value.now)) in

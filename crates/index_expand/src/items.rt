@@ -9,16 +9,18 @@ ghost use Rattle.loop_values.specs.Letters as spec;
 ghost use Rattle.index_expand.specs.Expansion.{expansion, counts_in, formula_definitions, item_definitions, item_conditions, condition_of};
 ghost use Rattle.index_expand.specs.Faults.{expand_fault, formula_parts, check_parts, item_parts, item_place, too_many};
 ghost use Rattle.index_expand.specs.LoopFaults.{least, item_faults, formula_faults, check_faults};
+ghost use Rattle.index_expand.specs.Terms.{expanded};
 ghost use Rattle.index_expand.specs.inner.Taken.{IsTaken, IsTooMuch, AreTaken};
 
 use crate::ExpandFault;
 use crate::faults::{with_check, with_formula};
 use crate::formulas::take_formula;
+use crate::joined::{has_nested, joined};
 use crate::parts::{MOST, parts};
 use crate::terms::expanded;
 use crate::words::Words;
 use loop_values::no_letters;
-use m_ast::{CheckItem, Formula, Item, VerifItem};
+use m_ast::{CheckItem, Formula, Item, Term, VerifItem};
 use m_places::{Name, Place, Seq, SharedName};
 use m_symbols::Symbols;
 use plain_rules::{Condition, Definition, PTerm, Plain};
@@ -292,9 +294,39 @@ fn take_check(
     if count > MOST {
         return Err(ExpandFault::TooManyParts(verif.place));
     }
-    let term = expanded(words, letters, None, &check.condition)?;
+    let term = expanded_check(words, letters, &check.condition)?;
     push_condition(words.alloc, number, check, term, conditions)?;
     Ok(count)
+}
+
+// The term of a condition without its loops.
+fn expanded_check(
+    words: &mut Words<'_>,
+    letters: &mut [Option<Name>],
+    condition: &Term,
+) -> Result<PTerm, AllocError>
+    requires { letters.old ≡ spec.no_letters }
+    ensures term { IfOk result (λ t. t ≡ expanded None spec.no_letters condition.now) }
+    ensures letters { OnOk result (letters.new ≡ letters.old) }
+{
+    if has_nested(condition) {
+        expanded_joined(words, letters, condition)
+    } else {
+        expanded(words, letters, None, condition)
+    }
+}
+
+fn expanded_joined(
+    words: &mut Words<'_>,
+    letters: &mut [Option<Name>],
+    condition: &Term,
+) -> Result<PTerm, AllocError>
+    requires { letters.old ≡ spec.no_letters }
+    ensures term { IfOk result (λ t. t ≡ expanded None spec.no_letters condition.now) }
+    ensures letters { OnOk result (letters.new ≡ letters.old) }
+{
+    let whole = joined(words.alloc, condition)?;
+    expanded(words, letters, None, &whole)
 }
 
 fn push_condition(

@@ -10,6 +10,7 @@ mod fault;
 mod faults;
 mod formulas;
 mod items;
+mod joined;
 mod parts;
 mod template;
 mod terms;

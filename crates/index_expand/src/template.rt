@@ -3,7 +3,7 @@ ghost use Rattle.std.specs.Prelude.{◌+◌, ◌≤◌};
 ghost use Rattle.index_expand.specs.declared.parts.TheConstants.{MOST};
 
 use crate::parts::MOST;
-use m_ast::Formula;
+use m_ast::{Formula, Term};
 use m_places::{Name, Place};
 use m_symbols::Symbols;
 
@@ -15,6 +15,8 @@ pub(crate) struct Template<'a> {
     /// The place of the formula's rule.
     pub(crate) rule: Place,
     pub(crate) formula: &'a Formula,
+    /// A term of the same expansions as the formula's.
+    pub(crate) term: &'a Term,
     /// How many parts each definition has, itself among them.
     pub(crate) weight: u64,
     ghost light: { weight ≤ MOST + 1 },

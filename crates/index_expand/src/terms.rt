@@ -13,7 +13,7 @@ use crate::build::{
 };
 use crate::template::Binding;
 use crate::words::Words;
-use loop_values::{bound_by, index_values, single_count};
+use loop_values::{bind_singles, index_values, put_back, single_count};
 use m_ast::{Header, Index, Link, Member, Node, Term};
 use m_fixed::Op;
 use m_places::{Name, Place};
@@ -261,7 +261,7 @@ fn expand_instances(
     ensures letters { OnOk result (letters.new ≡ letters.old) }
 {
     let singles = single_count(indexes);
-    if singles > 1 {
+    if singles > 0 {
         return expand_singles(words, letters, cell, singles, indexes, body, links);
     }
     match indexes {
@@ -273,30 +273,35 @@ fn expand_instances(
     }
 }
 
-// The same where several indexes of one value come first. Their letters are bound together, so that a header of many of these
-// is no deeper than one of a single index.
+// The same where indexes of one value come first. Their letters are bound together, so that a header of many of these is no deeper
+// than one of a single index, and what they stood for outside of the loop is put back.
 #[inline(never)]
 #[cycle(expanded)]
 fn expand_singles(
     words: &mut Words<'_>,
-    letters: &[Option<Name>],
+    letters: &mut [Option<Name>],
     cell: Option<u32>,
     singles: usize,
     indexes: &[Index],
     body: &Term,
     links: &mut Vec<PLink>,
 ) -> Result<(), AllocError>
-    requires letters { length letters.now ≡ 256 }
+    requires letters { length letters.old ≡ 256 }
     requires some { 0 < singles }
     requires within { singles ≤ length indexes.now }
     requires single { All IsSingle (take singles indexes.now) }
-    ensures { OnOk result (links.new.items
-        ≡ links.old.items ++ map (instance_link cell body.now) (instances indexes.now letters.now)) }
+    ensures links { OnOk result (links.new.items
+        ≡ links.old.items ++ map (instance_link cell body.now) (instances indexes.now letters.old)) }
+    ensures letters { OnOk result (letters.new ≡ letters.old) }
 {
-    let mut inner = bound_by(words.alloc, letters, &indexes[..singles])?;
-    let rest = &indexes[singles..];
-    expand_instances(words, inner.as_mut_slice(), cell, rest, body, links)?;
-    Ok(())
+    let outer = bind_singles(words.alloc, letters, &indexes[..singles])?;
+    match expand_instances(words, letters, cell, &indexes[singles..], body, links) {
+        Ok(()) => {
+            put_back(letters, &indexes[..singles], outer);
+            Ok(())
+        }
+        Err(error) => Err(without(outer, error)),
+    }
 }
 
 // The same for each value of an index, which is slower than these.

@@ -62,3 +62,9 @@ front_index indexes all left x l at = let one : suc left ≡ left + 1 = omega ar
 
 pub front_header : (headers : List Header) (left : ℕ) (x : Header) → left < length headers → x ≡ get_or headers left x → all_indexes (drop left headers) ≡ x.indexes ++ all_indexes (drop (left + 1) headers)
 front_header headers left x l at = let one : suc left ≡ left + 1 = omega arith in ap all_indexes (drop-cons headers left x l ∙ (λ j. sym at j ∷ drop (one j) headers))
+
+pub kept_none : (kept : List Index) → kept ≡ [] → AreKept kept (replicate 256 false) []
+kept_none kept e = record {
+  same = λ letters. ap (λ ys. instances ys letters) e;
+  marked = λ b small h. absurd (false≢true (sym (get_or-replicate 256 b false false small) ∙ h));
+}

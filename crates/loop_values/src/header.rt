@@ -75,6 +75,22 @@ pub fn kept_indexes(alloc: Global, headers: &[Header]) -> Result<Vec<Index>, All
     Ok(kept)
 }
 
+/// The same of the indexes of two headers, of which the second is the inner one.
+pub fn joined_indexes(
+    alloc: Global,
+    outer: &[Index],
+    inner: &[Index],
+) -> Result<Vec<Index>, AllocError>
+    ensures { IfOk result (λ kept. (letters : Letters)
+        → spec.instances kept.items letters ≡ spec.instances (outer.now ++ inner.now) letters) }
+{
+    let mut kept = Vec::new(alloc);
+    let mut bound = [false; 256];
+    keep_all(alloc, &mut kept, &mut bound, inner)?;
+    keep_all(alloc, &mut kept, &mut bound, outer)?;
+    Ok(kept)
+}
+
 // Puts the indexes that are kept of these before those of all inner ones, whose letters are bound.
 fn keep_all(
     alloc: Global,

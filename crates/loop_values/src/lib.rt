@@ -9,7 +9,7 @@ mod letters;
 mod single;
 mod values;
 
-pub use header::{headers_count, instance_count, kept_indexes, repeated_letters};
+pub use header::{headers_count, instance_count, joined_indexes, kept_indexes, repeated_letters};
 pub use letters::{no_letters, replaced};
-pub use single::{bound_by, single_count};
+pub use single::{bind_singles, only_value, put_back, single_count};
 pub use values::{MANY, has_bad_span, index_count, index_values, is_digits, number};

@@ -1,13 +1,15 @@
 //! Indexes of one value, which have one instance together.
-ghost use Rattle.std.specs.Prelude.{◌≡◌, ◌≤◌, ◌∷◌, ◌++◌, [], List, All, IfOk, OnOk, length, take};
+ghost use Rattle.std.specs.Prelude.{◌≡◌, ◌≤◌, ◌∷◌, ◌++◌, [], List, All, IfOk, IfSome, OnOk, length, slice_set, take};
 ghost use Rattle.m_ast.specs.declared.header.Index.{Index};
 ghost use Rattle.loop_values.specs.Headers as spec;
 ghost use Rattle.loop_values.specs.Values.{index_values};
+ghost use Rattle.loop_values.specs.inner.Singles.{unbound};
 
 use crate::values::{index_count, index_values};
 use m_ast::Index;
 use m_places::Name;
 use std::alloc::{AllocError, Global};
+use std::mem::replace;
 
 /// How many indexes at the start have one value each. Takes no memory.
 pub fn single_count(indexes: &[Index]) -> usize
@@ -24,59 +26,83 @@ pub fn single_count(indexes: &[Index]) -> usize
     count
 }
 
-/// What letters stand for within indexes of one value each: the instances of these indexes and of others after them are those
-/// of the others there. Its only error is running out of memory.
-pub fn bound_by(
-    alloc: Global,
-    letters: &[Option<Name>],
-    indexes: &[Index],
-) -> Result<Vec<Option<Name>>, AllocError>
-    requires letters { length letters.now ≡ 256 }
-    requires single { All spec.IsSingle indexes.now }
-    ensures letters { IfOk result (λ inner. length inner.items ≡ 256) }
-    ensures instances { IfOk result (λ inner. (rest : List Index) → spec.instances (indexes.now ++ rest) letters.now ≡ spec.instances rest inner.items) }
-{
-    let mut inner = copied(alloc, letters)?;
-    bind_all(alloc, inner.as_mut_slice(), indexes)?;
-    Ok(inner)
-}
-
-fn copied(alloc: Global, letters: &[Option<Name>]) -> Result<Vec<Option<Name>>, AllocError>
-    ensures { IfOk result (λ copy. copy.items ≡ letters.now) }
-{
-    let mut copy = Vec::with_capacity(alloc, letters.len())?;
-    for letter in letters {
-        copy.push(copied_value(alloc, letter)?)?;
-    }
-    Ok(copy)
-}
-
-fn copied_value(alloc: Global, value: &Option<Name>) -> Result<Option<Name>, AllocError>
-    ensures { IfOk result (λ copy. copy ≡ value.now) }
-{
-    match value {
-        None => Ok(None),
-        Some(value) => Ok(Some(value.copy(alloc)?)),
-    }
-}
-
-// Each letter of the indexes stands for its one value.
-fn bind_all(
+/// Lets the letter of each of these indexes of one value stand for that value, and answers what the letters stood for, in the
+/// order of the indexes: the instances of these indexes and of others after them are those of the others there. Its only error
+/// is running out of memory.
+pub fn bind_singles(
     alloc: Global,
     letters: &mut [Option<Name>],
     indexes: &[Index],
-) -> Result<(), AllocError>
+) -> Result<Vec<Option<Name>>, AllocError>
     requires letters { length letters.old ≡ 256 }
     requires single { All spec.IsSingle indexes.now }
-    ensures { OnOk result ((rest : List Index) → spec.instances (indexes.now ++ rest) letters.old ≡ spec.instances rest letters.new) }
+    ensures letters { OnOk result (length letters.new ≡ 256) }
+    ensures instances { OnOk result ((rest : List Index) → spec.instances (indexes.now ++ rest) letters.old ≡ spec.instances rest letters.new) }
+    ensures as_many { IfOk result (λ outer. length outer.items ≡ length indexes.now) }
+    ensures outer { IfOk result (λ outer. unbound indexes.now outer.items letters.new ≡ letters.old) }
 {
+    let mut outer = Vec::with_capacity(alloc, indexes.len())?;
     for index in indexes {
-        letters[index.letter as usize] = Some(only_value(alloc, index)?);
+        let value = only_value(alloc, index)?;
+        outer.push(replace(&mut letters[index.letter as usize], Some(value)))?;
     }
-    Ok(())
+    Ok(outer)
 }
 
-fn only_value(alloc: Global, index: &Index) -> Result<Name, AllocError>
+/// Lets the letter of each index stand for what it stood for outside of the indexes, from the last one to the first. Takes no
+/// memory.
+pub fn put_back(letters: &mut [Option<Name>], indexes: &[Index], outer: Vec<Option<Name>>)
+    requires letters { length letters.old ≡ 256 }
+    requires as_many { length outer.items ≡ length indexes.now }
+    ensures { letters.new ≡ unbound indexes.now outer.items letters.old }
+{
+    let mut outer = outer;
+    let mut left = indexes.len();
+    while left > 0 {
+        left -= 1;
+        match outer.pop() {
+            Some(value) => put(letters, indexes[left].letter, value),
+            None => unreachable!(),
+        }
+    }
+}
+
+fn put(letters: &mut [Option<Name>], letter: u8, value: Option<Name>)
+    requires { length letters.old ≡ 256 }
+    ensures { letters.new ≡ slice_set letters.old letter value }
+{
+    letters[letter as usize] = value;
+}
+
+/// The value of an index that has one. Its only error is running out of memory.
+pub fn only_value(alloc: Global, index: &Index) -> Result<Name, AllocError>
+    requires { spec.IsSingle index.now }
+    ensures { IfOk result (λ value. index_values index.now ≡ value ∷ []) }
+{
+    match point(index) {
+        Some(value) => value.copy(alloc),
+        None => last_value(alloc, index),
+    }
+}
+
+// The value of an index, where it is written as one point.
+fn point(index: &Index) -> Option<&Name>
+    ensures { IfSome result (λ value. index_values index.now ≡ value.now ∷ []) }
+{
+    match index.values.as_slice() {
+        [span] => {
+            if span.from.bytes() == span.to.bytes() {
+                Some(&span.from)
+            } else {
+                None
+            }
+        }
+        _ => None,
+    }
+}
+
+// The value of an index that has one, however it is written.
+fn last_value(alloc: Global, index: &Index) -> Result<Name, AllocError>
     requires { spec.IsSingle index.now }
     ensures { IfOk result (λ value. index_values index.now ≡ value ∷ []) }
 {

@@ -20,7 +20,7 @@ const TABLES: &[u8] = b" T : tableau[3] calculee : \"t\" ; TA : tableau[2] calcu
 
 // Items, and what the application iliad has of them. A number is shown as `#` and its whole units, `X` that stays as `?`, an
 // operator as brackets round its operands.
-static EXPANSIONS: [(&str, &str); 23] = [
+static EXPANSIONS: [(&str, &str); 28] = [
     ("R = somme(i = 8..10 : i) ;", "R = (#8,#9,#10)"),
     ("R = somme(i = 08..10 : Ui) ;", "R = (U08,U09,U10)"),
     ("R = somme(i = 98..101 : Ui) ;", "R = (U98,U99,U100,U101)"),
@@ -53,6 +53,23 @@ static EXPANSIONS: [(&str, &str); 23] = [
     (
         "R = somme(i = 1,2 : Ui + somme(i = A,B : Vi) + Ui) ;",
         "R = ((U1,(VA,VB),U1),(U2,(VA,VB),U2))",
+    ),
+    ("R = somme(i = 8..08 : somme(j = 1 : Uij)) ;", "R = U81"),
+    (
+        "R = somme(i = 1 ; j = 2 : somme(i = 3 : somme(k = 4 : Uijk + somme(j = 5 : somme(j = 6 : Vij)) + Wj))) + somme(i = 7 : somme(i = A,B : Qi)) ;",
+        "R = ((U324,V36,W2),(QA,QB))",
+    ),
+    (
+        "R = somme(i = 1 : somme(j = A,B : somme(i = 2 : Uij) + Vij)) ;",
+        "R = ((U2A,V1A),(U2B,V1B))",
+    ),
+    (
+        "pour i = 1,2 : Ui = somme(j = 3 : somme(k = 4 : Vijk + somme(i = 5 : i) + i)) ;",
+        "U1 = (V134,#5,#1) | U2 = (V234,#5,#2)",
+    ),
+    (
+        "R = 1 ; verif 1 : application : iliad ; si somme(i = 1 : somme(j = 2 : Uij)) > 3 alors erreur E ;",
+        "R = #1 | 1 E : (U12,#3)",
     ),
     (
         "pour i = 123456 : R = ii + iii ;",

@@ -1,9 +1,12 @@
-use Rattle.std.proofs.Common.{List, ℕ, ap, subst, ◌∙◌}
+use Rattle.std.proofs.Common.{List, ℕ, ap, subst, sym, ◌∙◌}
 use Rattle.std.proofs.Math.ListN.{set}
 use Rattle.std.specs.List.{flat_map}
 use Rattle.std.proofs.lemmas.Result.{err_from_is_err_and}
 use Rattle.loop_values.specs.Headers.{instances}
 use Rattle.loop_values.specs.Letters.{Letters, bind}
+use Rattle.loop_values.proofs.SingleLemmas.{single_first}
+use Rattle.m_places.specs.Refusals.{Outcome}
+use Rattle.index_expand.specs.declared.fault.ExpandFault.TheVariants.{Memory}
 use Rattle.index_expand.specs.Expansion.{definitions_at}
 use Rattle.index_expand.specs.inner.Taken.{IsTaken, IsTooMuch, weighed}
 use Rattle.index_expand.proofs.TermLemmas.{put_back}
@@ -44,3 +47,13 @@ take_index-returns-in_err-count-clause-outcome t c =
     (too_much_next d g c.deref-value-items.result.now c.loop-value.value-index c.value-item.result c.args.template.now.weight c.args.total c.loop-value.count c.args.template.now.rule c.in_err-count.field-0.0
     c.args.definitions.now.items c.loop-value.definitions.items c.loop-value-test.true c.value-item.is c.loop-value.invariant.taken
     (subst P c.loop-value.invariant.letters (c.in_err-count.ensures.outcome n))))
+
+pub take_single-returns-clause-outcome : goal.take_single-returns-clause-outcome
+take_single-returns-clause-outcome t c =
+    let d = definitions_at c.args.template.now.symbols.now c.args.template.now.formula.now c.args.template.now.formula.now.slot in
+    let w = c.args.template.now.weight in
+    let P : List Letters → Type 0 = λ all.
+    Outcome Memory c.take_bound.result
+    (λ after. IsTaken c.args.definitions.now.items c.take_bound.new.definitions.items (flat_map d all) (weighed (flat_map d all) w) c.args.total after)
+    (λ fault. IsTooMuch (weighed (flat_map d all) w) c.args.total c.args.template.now.rule fault) in
+    subst P (sym (single_first c.args.index.now c.args.indexes.now c.args.letters.now c.in_ok-value.value c.in_ok-value.ensures)) c.take_bound.ensures.outcome

@@ -12,6 +12,9 @@ decreases-take_instances l = 3 * length l.indexes.now + 1
 abbrev pub decreases-take_index : goal.decreases-take_index
 decreases-take_index l = 3 * length l.indexes.now + 3
 
+abbrev pub decreases-take_single : goal.decreases-take_single
+decreases-take_single l = 3 * length l.indexes.now + 3
+
 abbrev pub decreases-take_bound : goal.decreases-take_bound
 decreases-take_bound l = 3 * length l.indexes.now + 2
 

@@ -1,4 +1,5 @@
-use Rattle.std.proofs.Common.{◌≡◌, arith, ap, sym, subst, ◌∙◌, length, ◌++◌, map}
+use Rattle.std.proofs.Common.{◌≡◌, arith, ap, sym, subst, ◌∙◌, length, ◌++◌, ◌-◌, map, take, drop}
+use Rattle.std.proofs.lemmas.List.{take-append-drop, take_all, length-drop}
 use Rattle.std.proofs.Math.ListN.{set}
 use Rattle.std.specs.Prelude.{IfOk}
 use Rattle.m_ast.specs.Syntax.{Syntax, apply, chain, among, loop}
@@ -6,6 +7,7 @@ use Rattle.m_ast.specs.View.{syntax_of, terms_of, links_of, members_of}
 use Rattle.plain_rules.specs.View.{links_of as plain_links_of, members_of as plain_members_of}
 use Rattle.loop_values.specs.Headers.{instances}
 use Rattle.loop_values.specs.Letters.{bind}
+use Rattle.loop_values.specs.inner.Singles.{unbound}
 use Rattle.index_expand.specs.Terms.{expanded}
 use Rattle.index_expand.specs.inner.Operands.{link_expanded, member_expanded, instance_link, links_sum}
 use Rattle.index_expand.proofs.TermLemmas.{term_below, link_below, low_below, high_below, terms_map, links_map, members_map, sum_is, instances_next, put_back}
@@ -15,6 +17,20 @@ pub expand_bound-returns-clause-letters : goal.expand_bound-returns-clause-lette
 expand_bound-returns-clause-letters t c =
     ap (λ ls. set ls c.args.binding.now.letter c.replace-outer.result) c.in_ok-expand_instances.ensures.letters
     ∙ put_back c.args.letters.now c.args.binding.now.letter _ c.replace-outer.result c.index-letters-binding.result c.replace-outer.ensures.value
+
+pub expand_singles-returns-in-Ok-clause-links : goal.expand_singles-returns-in-Ok-clause-links
+expand_singles-returns-in-Ok-clause-links t c =
+    let indexes = c.args.indexes.now in
+    let singles = c.args.singles in
+    let rest = drop singles indexes in
+    let whole = take_all (length indexes - singles) rest (omega (arith, length-drop singles indexes)) in
+    c.in-Ok.ensures.links
+    ∙ ap (λ all. c.args.links.now.items ++ map (instance_link c.args.cell c.args.body.now) all)
+    (ap (λ xs. instances xs c.bind_singles.new.letters) whole ∙ sym (c.in_ok-outer.ensures.instances rest) ∙ ap (λ xs. instances xs c.args.letters.now) (take-append-drop singles indexes))
+
+pub expand_singles-returns-in-Ok-clause-letters : goal.expand_singles-returns-in-Ok-clause-letters
+expand_singles-returns-in-Ok-clause-letters t c =
+    c.put_back.ensures ∙ ap (unbound (take c.args.singles c.args.indexes.now) c.in_ok-outer.outer.items) c.in-Ok.ensures.letters ∙ c.in_ok-outer.ensures.outer
 
 pub expand_index-loop-value-preserved : goal.expand_index-loop-value-preserved
 expand_index-loop-value-preserved t c = record {
