@@ -3,6 +3,8 @@ use Rattle.std.specs.Prelude.{◌≡◌, ℕ, ℤ, List, Ok}
 use Rattle.observables.specs.declared.answer.Answer.{Answer}
 use Rattle.reg_machine.specs.Machine.{machine_run}
 use Rattle.code_file.specs.Loading.{text_with}
+use Rattle.code_file.specs.Printable.{IsPrintable}
+use Rattle.code_file.specs.Reading.{IsFormOf}
 use Rattle.code_file.specs.declared.loaded.Loaded.{Loaded}
 use Rattle.household.specs.Household.{household_of, values_of}
 use Rattle.household_session.specs.Sessions.{Sitting, begun}
@@ -19,9 +21,9 @@ pub record IsAnswerOf (loaded : Loaded) (rows : List ℕ) (answer : Answer) : Ty
   pub given : household_of loaded.face.inputs rows ≡ Ok pairs
   pub ran : answer ≡ machine_run loaded.code (values_of pairs loaded.code.counts.inputs)
 
--- the text is the code file of the code, and the command has done its work
+-- the text is the code file of the code, and a form of it where its face is printable, and the command has done its work
 pub data IsFileOf (loaded : Loaded) : List ℕ → Status → Type 0 where
-  is_file : IsFileOf loaded (text_with loaded.code loaded.face) Done
+  is_file : (IsPrintable loaded.face → IsFormOf (text_with loaded.code loaded.face) loaded) → IsFileOf loaded (text_with loaded.code loaded.face) Done
 
 -- the household of these bytes has no fault, and the session begins with it
 pub record IsBegun (program : Program) (rows : List ℕ) (session : Sitting) : Type 0 where
