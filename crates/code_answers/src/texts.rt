@@ -5,6 +5,8 @@ ghost use Rattle.std.specs.List.{AllByRecursion};
 ghost use Rattle.text_pieces.specs.Giving.{Gives};
 ghost use Rattle.m_places.specs.declared.limits.TheConstants.{ROWS};
 ghost use Rattle.code_file.specs.Loading.{text_with};
+ghost use Rattle.code_file.specs.Printable.{IsPrintable};
+ghost use Rattle.code_file.specs.Reading.{IsFormOf};
 ghost use Rattle.observables.specs.Outputs.{names_of};
 ghost use Rattle.m_cases.specs.Cases.{AreExpected};
 ghost use Rattle.m_cases.specs.Mismatches.{HasValueEach};
@@ -104,7 +106,8 @@ fn with_count(given: Result<(), Failed>, count: u64) -> Result<u64, Failed>
 
 /// Gives the code file of loaded code, in pieces of one size. It takes no memory.
 pub fn give_code<K: Sink>(loaded: &Loaded, out: &mut K) -> Result<(), Failed>
-    ensures { Gives K.written K.faults out.old out.new result (text_with loaded.now.code loaded.now.face) }
+    ensures gives { Gives K.written K.faults out.old out.new result (text_with loaded.now.code loaded.now.face) }
+    ensures form { IsPrintable loaded.now.face → IsFormOf (text_with loaded.now.code loaded.now.face) loaded.now }
 {
     let mut room = [0; BUFFER_ROOM];
     let printed = buffer_code::<K, Brand>(loaded, &mut room, out);
@@ -122,6 +125,7 @@ fn buffer_code<'a, K: Sink, O: Origin>(
     requires some { 0 < length room.old }
     ensures name { result.out.ghost_name ≡ out.entry.ghost_name }
     ensures gives { Gives K.written K.faults out.old result.out.now result.result (text_with loaded.now.code loaded.now.face) }
+    ensures form { IsPrintable loaded.now.face → IsFormOf (text_with loaded.now.code loaded.now.face) loaded.now }
 {
     let mut buffered = BufferedSink::<'a, K, O>::new(out, room);
     let printed = write_code(loaded, &mut buffered);

@@ -224,7 +224,7 @@ compile_refused source fault old new status (inl (line, refused, shown)) = print
 compile_refused source fault old new status (inr (same, memory)) = no_memory same memory
 
 compile_as : (source : Source) (loaded : Loaded) → IsPreparedCode source loaded → (text : List ℕ) (own : Status) → IsFileOf loaded text own → CompileReplies source text own
-compile_as source loaded is text own is_file = compile.is_compiled loaded is
+compile_as source loaded is text own (is_file form) = compile.is_compiled loaded is (form is.compiled.printable)
 
 pub compile_answered : (source : Source) (loaded : Loaded) (old new : OutputView) (status : Status) → IsPreparedCode source loaded
     → IsAnswered (IsFileOf loaded) old new status → IsAnswered (CompileReplies source) old new status

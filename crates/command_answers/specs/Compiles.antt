@@ -1,7 +1,7 @@
 -- What `compile` answers.
 use Rattle.std.specs.Prelude.{◌≡◌, ℕ, List, Some}
 use Rattle.rule_text.specs.declared.Source.{Source}
-use Rattle.code_file.specs.Loading.{text_with}
+use Rattle.code_file.specs.Reading.{IsFormOf}
 use Rattle.code_file.specs.declared.loaded.Loaded.{Loaded}
 use Rattle.m_compile.specs.Faults.{IsSourceFault}
 use Rattle.m_compile.specs.Lines.{source_line}
@@ -12,10 +12,10 @@ use Rattle.command_answers.specs.Prepared.{IsPreparedCode}
 use Rattle.code_answers.specs.Schemes.{Scheme}
 use Rattle.command_answers.specs.Sources.{IsScheme}
 
--- The answer of a compilation of a source: the line of its fault, or the code file of what it is compiled to.
+-- The answer of a compilation of a source: the line of its fault, or the code file of what it is compiled to. That is a code file which `exec` takes.
 pub data CompileReplies (source : Source) : List ℕ → Status → Type 0 where
   is_refused : {line : List ℕ} (fault : SourceFault) → IsSourceFault source fault → source_line source.texts fault ≡ Some line → CompileReplies source line Refused
-  is_compiled : (loaded : Loaded) → IsPreparedCode source loaded → CompileReplies source (text_with loaded.code loaded.face) Done
+  is_compiled : {text : List ℕ} (loaded : Loaded) → IsPreparedCode source loaded → IsFormOf text loaded → CompileReplies source text Done
 
 -- a valid source
 pub record CompileHasAnswer (source : Source) : Type 0 where

@@ -143,6 +143,6 @@ compiled_not_refused source fault h is = no_scheme_and_fault source h.scheme fau
 -- `compile` answers in one way, but for the code
 pub one_compile : (source : Source) (t u : List ℕ) (s r : Status) → CompileReplies source t s → CompileReplies source u r → AreOneOutput t s u r
 one_compile source t u s r (compiles.is_refused fault f k) (compiles.is_refused other g l) = one_line source.texts fault other t u (one_fault source fault other f g) k l
-one_compile source t u s r (compiles.is_refused fault f k) (compiles.is_compiled other w) = absurd (no_scheme_and_fault source w.scheme fault w.valid f)
-one_compile source t u s r (compiles.is_compiled one v) (compiles.is_refused fault f k) = absurd (no_scheme_and_fault source v.scheme fault v.valid f)
-one_compile source t u s r (compiles.is_compiled one v) (compiles.is_compiled other w) = both_compiled source one other v w
+one_compile source t u s r (compiles.is_refused fault f k) (compiles.is_compiled other w part) = absurd (no_scheme_and_fault source w.scheme fault w.valid f)
+one_compile source t u s r (compiles.is_compiled one v form) (compiles.is_refused fault f k) = absurd (no_scheme_and_fault source v.scheme fault v.valid f)
+one_compile source t u s r (compiles.is_compiled one v form) (compiles.is_compiled other w part) = both_compiled source one other v form w part

@@ -2,7 +2,7 @@
 use Rattle.std.proofs.Common.{◌≡◌, ℕ, Bool, true, false, List, [], length, nat_le, Option, None, Some, refl, sym, ap, ◌∙◌, subst, cond}
 use Rattle.std.specs.Option.{option_map_or}
 use Rattle.std.specs.Io.KnownBytes.{append_known}
-use Rattle.code_file.specs.Loading.{text_with}
+use Rattle.code_file.specs.Reading.{IsFormOf}
 use Rattle.code_file.specs.declared.loaded.Loaded.{Loaded}
 use Rattle.fault_lines.specs.Lines.{too_long_line}
 use Rattle.rule_text.specs.declared.Source.{Source}
@@ -48,12 +48,12 @@ gathers_made disk (asks name limit behind) f w e =
 -- ---- `compile`
 
 -- what a compilation that did its work has written
-written : (source : Source) (text : List ℕ) (status : Status) → status ≡ Done → CompileReplies source text status → (loaded : Loaded) × IsPreparedCode source loaded × (text ≡ text_with loaded.code loaded.face)
+pub written : (source : Source) (text : List ℕ) (status : Status) → status ≡ Done → CompileReplies source text status → (loaded : Loaded) × IsPreparedCode source loaded × IsFormOf text loaded
 written source text status d (is_refused fault f told) = absurd (cc d)
-written source text status d (is_compiled loaded is) = (loaded, is, refl)
+written source text status d (is_compiled loaded is form) = (loaded, is, form)
 
 code_output : (words : List (List ℕ)) (disk : Disk) (names : SourceNames) (text : List ℕ) (status : Status) → command_of words ≡ Some (Compile names) → status ≡ Done → Output words disk [] text status
-    → (source : Source) × (loaded : Loaded) × (end_of disk (source_plan names) ≡ gathered source) × IsPreparedCode source loaded × (text ≡ text_with loaded.code loaded.face)
+    → (source : Source) × (loaded : Loaded) × (end_of disk (source_plan names) ≡ gathered source) × IsPreparedCode source loaded × IsFormOf text loaded
 code_output words disk names text status c d (usage e) = cc (c, e)
 code_output words disk names text status c d (refuses command e g) = absurd (cc d)
 code_output words disk names text status c d (answers command gathers e g r) =
@@ -69,4 +69,4 @@ writes_of words before after heard told old new status course disk names t c d =
     let r : reads_input words ≡ false = ap (λ o. option_map_or takes_input o false) c in
     let o = text_of words before after heard told old new status course disk [] t (λ s. cc (r, s)) (rw d tt) in
     let w = code_output words disk names o.0 status c d o.2 in
-    (w.0, w.1, w.2, w.3, o.1 ∙ ap (append_known old.written) w.4)
+    (w.0, w.1, o.0, w.2, w.3, w.4, o.1)

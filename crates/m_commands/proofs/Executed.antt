@@ -1,5 +1,5 @@
--- What `compile` has written is answered by `exec` as the source is by `run`.
-use Rattle.std.proofs.Common.{◌≡◌, ℕ, List, [], Ok, Err, sym, ap, ◌∙◌, subst}
+-- By what `compile` has written `exec` answers as `run` does by the source.
+use Rattle.std.proofs.Common.{◌≡◌, ℕ, List, [], Ok, Err, refl, sym, ap, ◌∙◌, subst}
 use Rattle.m_fixed.specs.declared.amount.Value.{Value}
 use Rattle.rule_text.specs.declared.Source.{Source}
 use Rattle.code_file.specs.declared.loaded.Loaded.{Loaded}
@@ -8,19 +8,24 @@ use Rattle.observables.specs.declared.answer.Answer.{Answer}
 use Rattle.observables.specs.declared.face.Face.{Face}
 use Rattle.reg_machine.specs.Machine.{machine_run}
 use Rattle.command_plans.specs.declared.status.Status.{Status}
+use Rattle.command_plans.specs.declared.status.Status.TheVariants.{Done}
 use Rattle.tax_print.specs.Lines.{told_lines}
 use Rattle.code_file.specs.Reading.{IsFormOf}
-use Rattle.code_answers.specs.Execs.{ExecReplies}
+use Rattle.code_answers.specs.Execs.{ExecReplies, ExecHasAnswer}
 use Rattle.code_answers.specs.Execs as exec
 use Rattle.code_answers.specs.Households.{told_status}
 use Rattle.code_answers.specs.Shown.{HouseholdReplies, Shows}
-use Rattle.command_answers.specs.Prepared.{IsPreparedCode}
 use Rattle.code_answers.specs.Shown as prepared
-use Rattle.command_answers.specs.Runs.{RunReplies}
-use Rattle.command_answers.specs.Runs as run
 use Rattle.code_answers.specs.Schemes.{Scheme, told_to}
-use Rattle.command_answers.specs.Sources.{IsScheme, households_are_refused}
+use Rattle.command_answers.specs.Compiles.{CompileReplies}
+use Rattle.command_answers.specs.Prepared.{IsPreparedCode}
+use Rattle.command_answers.specs.Runs.{RunReplies, RunHasAnswer}
+use Rattle.command_answers.specs.Runs as run
+use Rattle.command_answers.specs.Sources.{IsScheme, source_is_refused, households_are_refused}
+use Rattle.m_compile.proofs.OneLaws.{no_valid_and_fault}
 use Rattle.m_commands.proofs.Codes.{no_form_and_fault, one_inputs, one_loaded, one_told, shown_other}
+use Rattle.m_commands.proofs.Compiling.{written}
+use Rattle.m_commands.proofs.Schemes.{one_scheme}
 
 -- what is answered to a household by one scheme is answered to it by the other
 same_replies : (face : Face) (runs : List Value → Answer) (one other : Scheme) (rows text : List ℕ) (status : Status) → Shows one face runs → Shows other face runs
@@ -41,11 +46,39 @@ run_of : (source : Source) (scheme : Scheme) (rows text : List ℕ) (status : St
 run_of source scheme rows text status v (prepared.is_refused fault g k) = run.is_refused (households_are_refused scheme fault v g k)
 run_of source scheme rows text status v (prepared.is_told pairs g) = run.is_told scheme pairs v g
 
--- the code file of what a source is compiled to
-pub executed : (source : Source) (loaded : Loaded) (code rows text : List ℕ) (status : Status) → IsPreparedCode source loaded → IsFormOf code loaded → ExecReplies code rows text status
+-- what `exec` answers by a code file of what a source is compiled to, `run` answers by the source
+executed : (source : Source) (loaded : Loaded) (code rows text : List ℕ) (status : Status) → IsPreparedCode source loaded → IsFormOf code loaded → ExecReplies code rows text status
     → RunReplies source rows text status
 executed source loaded code rows text status p form (exec.code_is_refused fault f k) = absurd (no_form_and_fault code text loaded fault form f k)
 executed source loaded code rows text status p form (exec.is_answered other scheme part shown replies) =
     let e = one_loaded code other loaded part form in
     let a = shown_other scheme other loaded e shown in
     run_of source p.scheme rows text status p.valid (same_replies loaded.face (machine_run loaded.code) scheme p.scheme rows text status a p.shows replies)
+
+-- the code is to households what each scheme of the source is
+shown_by : (source : Source) (loaded : Loaded) (scheme : Scheme) → IsPreparedCode source loaded → IsScheme source scheme → Shows scheme loaded.face (machine_run loaded.code)
+shown_by source loaded scheme p v = subst (λ (s : Scheme). Shows s loaded.face (machine_run loaded.code)) (one_scheme source p.scheme scheme p.valid v) p.shows
+
+-- and what `run` answers by the source, `exec` answers by the code file
+ran : (source : Source) (loaded : Loaded) (code rows text : List ℕ) (status : Status) → IsPreparedCode source loaded → IsFormOf code loaded → RunReplies source rows text status
+    → ExecReplies code rows text status
+ran source loaded code rows text status p form (run.is_refused (source_is_refused fault is told)) =
+    absurd (no_valid_and_fault source p.valid.declared p.valid.base p.valid.written p.valid.requests fault p.valid.valid is)
+ran source loaded code rows text status p form (run.is_refused (households_are_refused scheme fault v g k)) =
+    exec.is_answered loaded scheme form (shown_by source loaded scheme p v) (prepared.is_refused fault g k)
+ran source loaded code rows text status p form (run.is_told scheme pairs v g) = exec.is_answered loaded scheme form (shown_by source loaded scheme p v) (prepared.is_told pairs g)
+
+-- ---- what `compile` has written
+
+-- `exec` answers by it what `run` answers by the source, and no other
+pub executed_as : (source : Source) (code rows text : List ℕ) (status : Status) → CompileReplies source code Done
+    → (ExecReplies code rows text status → RunReplies source rows text status) × (RunReplies source rows text status → ExecReplies code rows text status)
+executed_as source code rows text status compiled =
+    let w = written source code Done refl compiled in
+    (executed source w.0 code rows text status w.1 w.2, ran source w.0 code rows text status w.1 w.2)
+
+-- it has an answer where the source has one
+pub answered_as : (source : Source) (code rows : List ℕ) → CompileReplies source code Done → RunHasAnswer source rows → ExecHasAnswer code rows
+answered_as source code rows compiled h =
+    let w = written source code Done refl compiled in
+    record { loaded = w.0; pairs = h.pairs; form = w.2; given = ap (λ inputs. household_of inputs rows) (shown_by source w.0 h.scheme w.1 h.valid).inputs ∙ h.given }

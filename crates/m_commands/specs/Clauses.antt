@@ -2,7 +2,7 @@
 use Rattle.std.specs.Prelude.{◌≡◌, ◌⊎◌, ℕ, ◌<◌, ◌≤◌, true, List, ◌++◌, length, Some, None}
 use Rattle.std.specs.Io.KnownBytes.{append_known, prepend_known}
 use Rattle.m_places.specs.declared.limits.TheConstants.{INPUT_BYTES}
-use Rattle.code_file.specs.Loading.{text_with}
+use Rattle.code_file.specs.Reading.{IsFormOf}
 use Rattle.code_file.specs.declared.loaded.Loaded.{Loaded}
 use Rattle.rule_text.specs.declared.Source.{Source}
 use Rattle.m_ports.specs.Counts.{Rose}
@@ -87,13 +87,13 @@ StopsInFront words before old new status =
     (disk : Disk) (typed : List ℕ) → before.told ≡ Some disk → status ≡ Memory
     → (new.written ≡ old.written) ⊎ ((text : List ℕ) × (own : Status) × Output words disk typed text own × AppendsPrefix old.written new.written text)
 
--- Where the files are told, `compile` that did all of its work has written the code file of what its source is compiled to: code that is to households
--- what the source is, with its face.
+-- Where the files are told, `compile` that did all of its work has written a code file, of what its source is compiled to: code that is to households
+-- what the source is, with its face. The text has the form that `exec` takes.
 abbrev pub WritesCode : List (List ℕ) → FilesView → OutputView → OutputView → Status → Type 0
 WritesCode words before old new status =
     (disk : Disk) (names : SourceNames) → before.told ≡ Some disk → command_of words ≡ Some (Compile names) → status ≡ Done
-    → (source : Source) × (loaded : Loaded) × (end_of disk (source_plan names) ≡ gathered source) × IsPreparedCode source loaded
-    × (new.written ≡ append_known old.written (text_with loaded.code loaded.face))
+    → (source : Source) × (loaded : Loaded) × (text : List ℕ) × (end_of disk (source_plan names) ≡ gathered source) × IsPreparedCode source loaded × IsFormOf text loaded
+    × (new.written ≡ append_known old.written text)
 
 -- no read and no write failed
 abbrev pub NothingFailed : FilesView → FilesView → InputView → InputView → OutputView → OutputView → Type 0

@@ -3,7 +3,7 @@ use Rattle.std.specs.Prelude.{◌≡◌, ℕ, ℤ, List, [], ◌++◌, Some, Non
 use Rattle.std.specs.Option.{option_map_or}
 use Rattle.fault_lines.specs.Lines.{usage_line, cycle_line, input_too_long_line, recursion_line}
 use Rattle.rule_text.specs.declared.Source.{Source}
-use Rattle.code_file.specs.Loading.{text_with}
+use Rattle.code_file.specs.Reading.{IsFormOf}
 use Rattle.code_file.specs.declared.loaded.Loaded.{Loaded}
 use Rattle.m_symbols.specs.Declarations.{Declared}
 use Rattle.micro_m.specs.declared.base.Base.{Base}
@@ -54,7 +54,8 @@ pub data AreOneOutput : List ℕ → Status → List ℕ → Status → Type 0 w
   the_same : {text other : List ℕ} {status outcome : Status} → text ≡ other → status ≡ outcome → AreOneOutput text status other outcome
   both_cycles : (names others : List (List ℕ)) → AreOneOutput (cycle_line names) Refused (cycle_line others) Refused
   both_recursions : (names others : List (List ℕ)) → AreOneOutput (recursion_line names) Refused (recursion_line others) Refused
-  both_compiled : (source : Source) (one other : Loaded) → IsPreparedCode source one → IsPreparedCode source other → AreOneOutput (text_with one.code one.face) Done (text_with other.code other.face) Done
+  both_compiled : {text other_text : List ℕ} (source : Source) (one other : Loaded) → IsPreparedCode source one → IsFormOf text one → IsPreparedCode source other → IsFormOf other_text other
+      → AreOneOutput text Done other_text Done
   both_linted : (source : Source) (declared : Declared) (base : Base) (one other : Compiled) → HasRules source declared base → IsCompiled source one → IsCompiled source other
       → AreOneOutput (lint_text declared base one) Done (lint_text declared base other) Done
   both_served : (source : Source) (scheme : Scheme) (one other : Explaining) (pairs : List (ℕ × ℤ)) (typed : List ℕ) → IsScheme source scheme → IsExplained source one → IsExplained source other

@@ -1,11 +1,10 @@
 //! What the commands have to do with each other.
 ghost use Rattle.std.specs.Prelude.{◌≡◌, ℕ, List, Option};
-ghost use Rattle.code_file.specs.Reading.{IsFormOf};
-ghost use Rattle.code_file.specs.declared.loaded.Loaded.{Loaded};
 ghost use Rattle.command_plans.specs.declared.status.Status.{Status};
-ghost use Rattle.code_answers.specs.Execs.{ExecReplies};
-ghost use Rattle.command_answers.specs.Prepared.{IsPreparedCode};
-ghost use Rattle.command_answers.specs.Runs.{RunReplies};
+ghost use Rattle.command_plans.specs.declared.status.Status.TheVariants.{Done};
+ghost use Rattle.command_answers.specs.Compiles.{CompileReplies};
+ghost use Rattle.code_answers.specs.Execs.{ExecHasAnswer, ExecReplies};
+ghost use Rattle.command_answers.specs.Runs.{RunHasAnswer, RunReplies};
 ghost use Rattle.rule_text.specs.declared.Source.{Source};
 ghost use Rattle.std.specs.List.{AllByRecursion};
 ghost use Rattle.m_symbols.specs.Declarations.{Declared};
@@ -19,11 +18,12 @@ ghost use Rattle.driver_core.specs.Inputs.{inputs_said};
 ghost use Rattle.m_compile.specs.Sources.{IsValid};
 ghost use Rattle.rule_answers.specs.Lints.{LintReplies};
 
-/// Where a code file is the form of what a source is compiled to, `exec` answers each household by it as `run` does by the source:
-/// with the same text and the same status.
+/// By what `compile` writes of a source, `exec` answers each household as `run` does by the source: with the same texts and statuses, and
+/// no others. So it takes that code file, and has an answer where `run` has one.
 pub fn executed_as_run()
-    ensures { (source : Source) (loaded : Loaded) (code rows text : List ℕ) (status : Status) →
-        IsPreparedCode source loaded → IsFormOf code loaded → ExecReplies code rows text status → RunReplies source rows text status }
+    ensures same { (source : Source) (code rows text : List ℕ) (status : Status) → CompileReplies source code Done →
+        (ExecReplies code rows text status → RunReplies source rows text status) × (RunReplies source rows text status → ExecReplies code rows text status) }
+    ensures answered { (source : Source) (code rows : List ℕ) → CompileReplies source code Done → RunHasAnswer source rows → ExecHasAnswer code rows }
 {}
 
 /// What `lint` answers of a valid source are the lines of findings that are true of its rules, and of what it tells households, whatever amounts of

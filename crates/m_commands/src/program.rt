@@ -77,7 +77,8 @@ pub fn m_tax<R: Threads + Sync, F: Files, S: Source, K: Sink>(
     ensures text { PrintsOutput words.now (files_view F.told F.attempts F.taken files.old) (input_view S.left S.faults input.old)
         (output_view K.written K.faults out.old) (output_view K.written K.faults out.new) result }
 
-    // What `compile` has written, where it did all of its work, is the code file of what its source is compiled to.
+    // What `compile` has written, where it did all of its work, is the code file of what its source is compiled to, in the form
+    // that `exec` takes.
     ensures compiled { WritesCode words.now (files_view F.told F.attempts F.taken files.old)
         (output_view K.written K.faults out.old) (output_view K.written K.faults out.new) result }
 

@@ -1,6 +1,8 @@
 -- The code file of code, and the session that a tidy program begins.
 use Rattle.std.specs.Prelude.{◌≡◌, ℕ, ℤ, List, Ok}
 use Rattle.code_file.specs.Loading.{text_with}
+use Rattle.code_file.specs.Printable.{IsPrintable}
+use Rattle.code_file.specs.Reading.{IsFormOf}
 use Rattle.code_file.specs.declared.loaded.Loaded.{Loaded}
 use Rattle.household.specs.Household.{household_of}
 use Rattle.household_session.specs.Sessions.{Sitting, begun}
@@ -11,9 +13,9 @@ use Rattle.rule_order.specs.declared.ordered.Ordered.{Ordered}
 use Rattle.why_session.specs.Joined.{Joined}
 use Rattle.command_answers.specs.declared.program.Program.{Program}
 
--- the text is the code file of the code, and the command has done its work
+-- the text is the code file of the code, and a form of it where its face is printable, and the command has done its work
 pub data IsFileOf (loaded : Loaded) : List ℕ → Status → Type 0 where
-  is_file : IsFileOf loaded (text_with loaded.code loaded.face) Done
+  is_file : (IsPrintable loaded.face → IsFormOf (text_with loaded.code loaded.face) loaded) → IsFileOf loaded (text_with loaded.code loaded.face) Done
 
 -- the household of these bytes has no fault, and the session begins with it
 pub record IsBegun (program : Program) (rows : List ℕ) (session : Sitting) : Type 0 where

@@ -1,5 +1,8 @@
-use Rattle.m_commands.proofs.Executed.{executed}
+use Rattle.m_commands.proofs.Executed.{executed_as, answered_as}
 use Rattle.m_commands.proofs.laws.executed_as_run.Goals as goal
 
-pub returns : goal.returns
-returns c = λ source loaded code rows text status p form replies. executed source loaded code rows text status p form replies
+pub returns-clause-same : goal.returns-clause-same
+returns-clause-same c = executed_as
+
+pub returns-clause-answered : goal.returns-clause-answered
+returns-clause-answered c = answered_as
