@@ -18,7 +18,7 @@ use Rattle.household.specs.declared.table.Row.{Row}
 use Rattle.household.proofs.GivenLemmas.{pairs_give}
 use Rattle.reg_machine.specs.Machine.{machine_run}
 use Rattle.code_file.specs.declared.loaded.Loaded.{Loaded}
-use Rattle.m_parts.specs.Batch.{answers_of, row_answer}
+use Rattle.m_batch.specs.Batch.{answers_of, row_answer}
 use Rattle.m_cases.specs.Cases.{AreExpected, cases_of}
 use Rattle.m_cases.specs.Mismatches.{HasValueEach, answer_values, count_line, got_of, is_met, mismatch_count, mismatch_lines, named_values, told_values}
 use Rattle.m_cases.specs.declared.cases.Cases.{Cases}
