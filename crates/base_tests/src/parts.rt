@@ -1,6 +1,6 @@
 //! Tables of many rows, which several workers read, each those of a part.
-use crate::households::three_codes;
-use crate::tables::is_refused;
+use crate::households::one_code;
+use crate::rows::check;
 use household::{Codes, HouseholdFault, Row, read_table};
 use std::alloc::Global;
 use std::test::Fail;
@@ -37,18 +37,23 @@ fn all_spoilt() -> &'static [(&'static [u32], u32)] {
     &SPOILT
 }
 
-/// Adds the row of a number: a label with a comma within quotation marks, and the number, or `x` where it is spoilt. Where there is no memory the table is
-/// shorter than it is to be.
-fn add_row(alloc: Global, k: u32, is_spoilt: bool, text: &mut Vec<u8>) {
-    let _begun = text.extend_from_slice(b"\"h,");
-    let row = if is_spoilt {
-        format!(in alloc; "{k}\",x")
-    } else {
-        format!(in alloc; "{k}\",\"{k}\"")
-    };
-    if let Ok(row) = row {
-        let _added = text.extend_from_slice(row.as_bytes());
+/// Adds a number. Where there is no memory the table is shorter than it is to be.
+fn add_number(alloc: Global, k: u32, text: &mut Vec<u8>) {
+    if let Ok(number) = format!(in alloc; "{k}") {
+        let _added = text.extend_from_slice(number.as_bytes());
     }
+}
+
+/// Adds the row of a number: a label with a comma within quotation marks, and the number, or `x` before it where it is spoilt.
+fn add_row(alloc: Global, k: u32, is_spoilt: bool, text: &mut Vec<u8>) {
+    let _label = text.extend_from_slice(b"\"h,");
+    add_number(alloc, k, text);
+    let _amount = text.extend_from_slice(b"\",\"");
+    if is_spoilt {
+        let _spoilt = text.push(b'x');
+    }
+    add_number(alloc, k, text);
+    let _quote = text.push(b'"');
     let _ended = text.extend_from_slice(end_of(k));
 }
 
@@ -94,31 +99,49 @@ fn is_read<R: Threads + Sync>(rt: &R, alloc: Global, codes: &Codes, count: u32) 
     }
 }
 
+/// The first count of rows that are read otherwise.
+fn first_unread<R: Threads + Sync>(rt: &R, alloc: Global, codes: &Codes) -> Option<usize> {
+    for (row, count) in all_counts().iter().enumerate() {
+        if !is_read(rt, alloc, codes, *count) {
+            return Some(row);
+        }
+    }
+    None
+}
+
 #[test]
 fn rows_of_many_parts(rt: HostRuntime) -> Result<(), Fail> {
-    let codes = three_codes(rt.alloc())?;
-    for count in all_counts() {
-        assert!(rt; is_read(&rt, rt.alloc(), &codes, *count), "{count}");
+    let codes = one_code(rt.alloc())?;
+    check(rt.alloc(), first_unread(&rt, rt.alloc(), &codes))
+}
+
+/// Whether a table of 3,000 rows, of which these are spoilt, is refused at this line.
+fn is_refused<R: Threads + Sync>(
+    rt: &R,
+    alloc: Global,
+    codes: &Codes,
+    spoilt: &[u32],
+    line: u32,
+) -> bool {
+    match read_table(rt, alloc, &long_table(alloc, 3_000, spoilt), codes) {
+        Ok(_) => false,
+        Err(fault) => fault == HouseholdFault::BadAmount(line),
     }
-    Ok(())
+}
+
+/// The first spoilt table with another fault.
+fn first_other<R: Threads + Sync>(rt: &R, alloc: Global, codes: &Codes) -> Option<usize> {
+    for (row, (spoilt, line)) in all_spoilt().iter().enumerate() {
+        if !is_refused(rt, alloc, codes, spoilt, *line) {
+            return Some(row);
+        }
+    }
+    None
 }
 
 /// Whatever worker comes to its fault first, a table is refused for the first row that has one.
 #[test]
 fn first_fault_of_many_parts(rt: HostRuntime) -> Result<(), Fail> {
-    let codes = three_codes(rt.alloc())?;
-    for (spoilt, line) in all_spoilt() {
-        let text = long_table(rt.alloc(), 3_000, spoilt);
-        assert!(rt;
-            is_refused(
-                &rt,
-                rt.alloc(),
-                &text,
-                &codes,
-                HouseholdFault::BadAmount(*line)
-            ),
-            "{line}"
-        );
-    }
-    Ok(())
+    let codes = one_code(rt.alloc())?;
+    check(rt.alloc(), first_other(&rt, rt.alloc(), &codes))
 }

@@ -2,16 +2,15 @@
 use std::alloc::Global;
 use std::test::Fail;
 
-/// Fails at this row.
-pub fn other_at(alloc: Global, row: &[u8]) -> Fail {
-    match format!(in alloc; "another answer at {row:?}") {
-        Ok(told) => Fail::from(told),
-        Err(_) => Fail::from("another answer"),
+/// Fails at the row of this number, where there is one.
+pub fn check(alloc: Global, other: Option<usize>) -> Result<(), Fail> {
+    match other {
+        Some(row) => Err(other_at_row(alloc, row)),
+        None => Ok(()),
     }
 }
 
-/// Fails at the row of this number.
-pub fn other_at_row(alloc: Global, row: usize) -> Fail {
+fn other_at_row(alloc: Global, row: usize) -> Fail {
     match format!(in alloc; "another answer in row {row}") {
         Ok(told) => Fail::from(told),
         Err(_) => Fail::from("another answer"),

@@ -1,100 +1,50 @@
 //! What no clause says: that calls succeed, and what the adapters do on the real system.
-use crate::ports::{is_content, is_drained, is_fetched, varied};
-use m_ports::{FetchFault, Files, HostFiles, HostSink, HostSource, Sink, give_all};
+use crate::ports::{is_content, is_drained, is_fault};
+use m_ports::{FetchFault, Files, HostFiles, HostSink, HostSource, give_all};
 use std::alloc::Global;
 use std::io::{ErrorKind, Read, Write};
 use std::test::Fail;
 use std::{env, fs, io, rt};
 
-/// Whether a file of 20,000 bytes is fetched where the limit is no less.
-fn is_file<F: Files>(files: &mut F, alloc: Global, path: &[u8]) -> bool {
-    is_fetched(files, alloc, path, 20_000, Ok(20_000))
-        && is_fetched(files, alloc, path, u64::MAX, Ok(20_000))
-        && is_fetched(files, alloc, path, 19_999, Err(FetchFault::TooLong))
-}
-
-/// Whether what is no file isn't fetched.
-fn is_no_file<F: Files>(files: &mut F, alloc: Global, name: &[u8]) -> bool {
-    is_fetched(files, alloc, name, 9, Err(FetchFault::Failed))
-}
-
-/// Whether no more is read of a file without an end than tells that it is too long.
-fn is_endless<F: Files>(files: &mut F, alloc: Global) -> bool {
-    is_fetched(files, alloc, b"/dev/zero", 20_000, Err(FetchFault::TooLong))
-}
-
-/// Fails where the files of the system answer something else of this file, its directory and others.
-fn check_files<F: Files>(
-    files: &mut F,
-    alloc: Global,
-    path: &[u8],
-    missing: &[u8],
-    directory: &[u8],
-) -> Result<(), Fail> {
-    if !is_file(files, alloc, path) {
-        return Err(Fail::from("the file"));
+/// So many bytes, of which neighbours and pieces differ.
+fn varied(alloc: Global, count: u32) -> Vec<u8> {
+    let mut bytes = Vec::new(alloc);
+    for number in 0..count {
+        let _added = bytes.push((number % 251) as u8);
     }
-    if !is_no_file(files, alloc, missing) || !is_no_file(files, alloc, &[255]) {
-        return Err(Fail::from("a missing file"));
-    }
-    if !is_no_file(files, alloc, directory) {
-        return Err(Fail::from("a directory"));
-    }
-    if !is_endless(files, alloc) {
-        return Err(Fail::from("a file without an end"));
-    }
-    Ok(())
+    bytes
 }
 
-/// Whether the file's own bytes are fetched, once more.
-fn is_fetched_again<F: Files>(files: &mut F, alloc: Global, path: &[u8], text: &[u8]) -> bool {
-    is_fetched(files, alloc, path, 20_000, Ok(20_000))
-        && is_content(files, alloc, path, 20_000, text)
+/// Whether a file of these 20,000 bytes is fetched where the limit is no less, and what is no file isn't. Of a file without an
+/// end no more is read than tells that it is too long.
+fn is_file<F: Files>(files: &mut F, alloc: Global, path: &[u8], text: &[u8]) -> bool {
+    is_content(files, alloc, path, 20_000, text)
+        && is_fault(files, alloc, path, 19_999, FetchFault::TooLong)
+        && is_fault(files, alloc, b"/dev/zero", 20_000, FetchFault::TooLong)
+        && is_fault(files, alloc, b"/missing", 9, FetchFault::Failed)
+        && is_fault(files, alloc, b"/", 9, FetchFault::Failed)
+        && is_fault(files, alloc, &[255], 9, FetchFault::Failed)
 }
 
-/// The same of a file with these bytes, through the adapter.
-fn check_path<H: rt::Files>(
-    rt: &H,
-    alloc: Global,
-    path: &str,
-    missing: &str,
-    directory: &str,
-    text: &[u8],
-) -> Result<(), Fail> {
-    let mut files = HostFiles::new(alloc, rt);
-    check_files(
-        &mut files,
-        alloc,
-        path.as_bytes(),
-        missing.as_bytes(),
-        directory.as_bytes(),
-    )?;
-    if is_fetched_again(&mut files, alloc, path.as_bytes(), text) {
-        Ok(())
-    } else {
-        Err(Fail::from("the file, once more"))
+/// Whether an empty file is fetched more often than a process may have files open.
+fn is_fetched_often<F: Files>(files: &mut F, alloc: Global) -> bool {
+    for _ in 0..1_028u32 {
+        if !is_content(files, alloc, b"/dev/null", 0, b"") {
+            return false;
+        }
     }
+    true
 }
 
-/// The same of a file that is written there and removed.
-fn check_written<H: rt::Files>(
-    rt: &H,
-    alloc: Global,
-    path: &str,
-    missing: &str,
-    directory: &str,
-) -> Result<(), Fail> {
+/// Whether a file that is written there and removed is fetched, and then others.
+fn is_written<H: rt::Files>(rt: &H, alloc: Global, path: &str) -> io::Result<bool> {
     let text = varied(alloc, 20_000);
     fs::write(rt, path, text.as_slice())?;
-    check_path(rt, alloc, path, missing, directory, &text)?;
-    fs::remove_file(rt, path)?;
-    Ok(())
-}
-
-/// The same of a file of this name in a directory.
-fn check_in<H: rt::Files>(rt: &H, alloc: Global, directory: &str, path: &str) -> Result<(), Fail> {
-    let missing = format!(in alloc; "{path}.missing")?;
-    check_written(rt, alloc, path, missing.as_str(), directory)
+    let mut files = HostFiles::new(alloc, rt);
+    let is_file = is_file(&mut files, alloc, path.as_bytes(), &text)
+        && is_fetched_often(&mut files, alloc);
+    let _removed = fs::remove_file(rt, path);
+    Ok(is_file)
 }
 
 #[test]
@@ -102,24 +52,8 @@ fn files_of_the_system(rt: HostRuntime) -> Result<(), Fail> {
     let directory = env::temp_dir(&rt)?.into_string();
     let process = std::process::id(rt.process());
     let path = format!(in rt.alloc(); "{directory}/m_ports_{process}")?;
-    check_in(&rt, rt.alloc(), directory.as_str(), path.as_str())
-}
-
-/// How many of 1,028 fetches of an empty file are given.
-fn given_of_many<F: Files>(files: &mut F, alloc: Global) -> u32 {
-    let mut given = 0u32;
-    for _ in 0..1_028u32 {
-        if is_fetched(files, alloc, b"/dev/null", 0, Ok(0)) {
-            given = given.saturating_add(1);
-        }
-    }
-    given
-}
-
-#[test]
-fn many_files_of_the_system(rt: HostRuntime) {
-    let mut files = HostFiles::new(rt.alloc(), &rt);
-    assert!(rt; given_of_many(&mut files, rt.alloc()) == 1_028);
+    assert!(rt; is_written(&rt, rt.alloc(), path.as_str())?);
+    Ok(())
 }
 
 /// A reader that gives two bytes at most, and fails at its second call.
@@ -138,13 +72,6 @@ impl Read for Failing<'_> {
         let count = piece.len().min(2);
         self.rest.read(&mut piece[..count])
     }
-}
-
-#[test]
-fn input_over_a_reader(rt: HostRuntime) {
-    let text = b"seven77";
-    let mut input = HostSource::new(text.as_slice());
-    assert!(rt; is_drained(&mut input, rt.alloc(), text, 0));
 }
 
 #[test]
@@ -181,25 +108,7 @@ impl Write for Tired<'_> {
     }
 }
 
-/// Whether a text is given or isn't, and this is taken of it.
-fn is_taken(alloc: Global, text: &[u8], given: bool, want: &[u8]) -> bool {
-    let mut taken = Vec::new(alloc);
-    let mut out = HostSink::new(Tired {
-        taken: &mut taken,
-        calls: 0,
-    });
-    let all = give_all(&mut out, text).is_ok();
-    drop(out);
-    all == given && taken.as_slice() == want
-}
-
-#[test]
-fn output_over_a_writer(rt: HostRuntime) {
-    assert!(rt; is_taken(rt.alloc(), b"IRN", true, b"IRN"));
-    assert!(rt; is_taken(rt.alloc(), b"IRN = 1", false, b"IRN "));
-}
-
-/// Whether an output that failed goes on with the next call.
+/// Whether an output whose third call fails gives what the first two took, and goes on with the next.
 fn goes_on(alloc: Global) -> bool {
     let mut taken = Vec::new(alloc);
     let mut out = HostSink::new(Tired {
@@ -207,9 +116,9 @@ fn goes_on(alloc: Global) -> bool {
         calls: 0,
     });
     let failed = give_all(&mut out, b"IRN = 1").is_err();
-    let next = out.give(b"x") == Ok(1);
+    let next = give_all(&mut out, b"x\n!").is_ok();
     drop(out);
-    failed && next && taken.as_slice() == b"IRN x".as_slice()
+    failed && next && taken.as_slice() == b"IRN x\n!".as_slice()
 }
 
 #[test]

@@ -1,7 +1,6 @@
 //! Types that may be sent to other threads and shared with them. That this compiles is the test.
 use household::{Household, HouseholdFault, Row};
 use m_fixed::{Amount, AmountFault, Op, Value};
-use m_list::{ListFault, Listing};
 use m_places::{ErrorKind, Label, Name, Place, Seq, SharedName};
 use observables::{Answer, Face, FaceLabel, Stop};
 
@@ -19,8 +18,6 @@ fn types_cross_threads() {
     crosses_threads::<SharedName>();
     crosses_threads::<ErrorKind>();
     crosses_threads::<Label>();
-    crosses_threads::<Listing>();
-    crosses_threads::<ListFault>();
     crosses_threads::<Household>();
     crosses_threads::<HouseholdFault>();
     crosses_threads::<Row>();

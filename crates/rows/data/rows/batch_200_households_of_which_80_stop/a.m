@@ -1,0 +1,14 @@
+A : saisie revenu classe = 0 alias 1AA : "a" ;
+B : saisie revenu classe = 0 alias 1BB : "b" ;
+C : saisie revenu classe = 0 alias 1CC : "c" ;
+R : calculee restituee : "r" ;
+T : calculee restituee : "t" ;
+A20 : anomalie : "A" : "20" : "00" : "n" : "N" ;
+A30 : anomalie : "A" : "30" : "00" : "s" : "N" ;
+regle 1 : application : iliad ;
+R = A + A ;
+T = C ;
+verif 1000 : application : iliad ;
+si B != 0 alors erreur A20 ;
+verif 2000 : application : iliad ;
+si A * A < 0 alors erreur A30 ;

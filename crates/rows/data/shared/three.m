@@ -1,0 +1,10 @@
+A : saisie revenu classe = 0 alias 1AJ : "a" ;
+B : saisie revenu classe = 0 alias C08 : "b" ;
+C : saisie revenu classe = 0 alias 2AA : "c" ;
+RA : calculee restituee : "a" ;
+RB : calculee restituee : "b" ;
+RC : calculee restituee : "c" ;
+regle 1 : application : iliad ;
+RA = A ;
+RB = B ;
+RC = C ;
