@@ -19,6 +19,8 @@ NUMBER = re.compile(r"[-+]?(?:[0-9]+\.?[0-9]*|\.[0-9]+)(?:[eE][-+]?[0-9]+)?")
 OLD = b"\xd0\xcf\x11\xe0"
 DATE_FORMATS = {*range(14, 23), *range(27, 37), *range(45, 48), *range(50, 59)}
 PERCENT_FORMATS = {9, 10}
+ODD = {"list", "numbered-paragraph", "section", "table"}
+BARE = "a formula without its value: open the file and save it"
 
 
 class Plain(str):
@@ -179,9 +181,9 @@ class Xlsx(Book):
         kind, value = told(cell, "t") or "n", next((child.text or "" for child in below(cell, "v")), None)
         if kind == "inlineStr":
             return "".join(xlsx_text(text) for text in below(cell, "is"))
+        if below(cell, "f") and (value is None or kind == "n" and not value):
+            raise Refused(f"{place}: {BARE}")
         if value is None:
-            if below(cell, "f"):
-                raise Refused(f"{place}: a formula without its value: open the file and save it")
             return ""
         if kind == "s":
             return self.shared[whole(value)]
@@ -264,7 +266,11 @@ class Ods(Book):
             return plain(told(cell, "value") or "", place)
         if kind in ("percentage", "date", "time", "boolean"):
             raise Refused(f"{place}: a {kind}")
-        return " ".join(ods_text(text) for text in below(cell, "p"))
+        if kind is None and told(cell, "formula") is not None:
+            raise Refused(f"{place}: {BARE}")
+        if any(name_of(child) in ODD for child in cell):
+            raise Refused(f"{place}: a list, or what is no text otherwise")
+        return " ".join(ods_text(text) for text in cell if name_of(text) in ("p", "h")) or told(cell, "string-value") or ""
 
 
 def rows_of_sheet(content, wanted):

@@ -40,6 +40,30 @@ class Refused(Exception):
     """A file that can't be read, or that the program would refuse; the text says where and why."""
 
 
+class Pipes:
+    """Whether the program has read all pipes: whoever opened one again would wait for ever."""
+
+    are_read = False
+
+
+class Input(io.RawIOBase):
+    """The standard input, of which a read that fails is told as that, and not as a fault of the output."""
+
+    def readable(self):
+        return True
+
+    def readinto(self, room):
+        try:
+            return os.readv(0, [room])
+        except OSError as fault:
+            raise Refused("unreadable input") from fault
+
+
+def standard_input():
+    """The bytes of the standard input."""
+    return io.BufferedReader(Input(), 1_048_576)
+
+
 @dataclasses.dataclass
 class Token:
     kind: str
@@ -77,6 +101,8 @@ def fetch(name, longest=FILE_BYTES):
     if name in PIPED:
         return taken(io.BytesIO(PIPED[name]), name, longest)
     try:
+        if Pipes.are_read and not os.path.isfile(name):
+            raise OSError
         with open(name, "rb") as file:
             content = taken(file, name, longest)
             if not stat.S_ISREG(os.fstat(file.fileno()).st_mode):
@@ -291,9 +317,13 @@ class Messages:
 
 def begin():
     """Names and lines are written as the bytes that they are, whatever the machine's language is. A signal that ends the tool lets it remove what it began."""
+    if sys.getfilesystemencoding() != "utf-8":
+        # (a language with an alphabet of its own: names would be other letters where they are written than where they are read)
+        os.execv(sys.executable, [sys.executable, "-X", "utf8", *sys.orig_argv[1:]])
     for name, number in (("stdin", 0), ("stderr", 2)):
         if getattr(sys, name) is None:
-            os.dup2(os.open(os.devnull, os.O_RDWR), number)
+            # (a closed input stays one that can't be read)
+            os.dup2(os.open(os.devnull, os.O_WRONLY), number)
             setattr(sys, name, open(number, "r" if number == 0 else "w", closefd=False))
     sys.stderr.reconfigure(encoding="utf-8", errors="surrogateescape")
     sys.stderr = Messages(sys.stderr)

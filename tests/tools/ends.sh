@@ -28,7 +28,7 @@ cat >stand_in <<'END'
 if [ "$1" = run ]; then
     awk -F, 'NR > 1 && $1 == "9ZZ" {print "refused household line " NR ": unknown code"; exit 1} NR > 1 && $2 == "" {print "refused household line " NR ": bad amount"; exit 1}' "$5"
 else
-    [ ! -e killed ] || { printf 'household r0\nIRN = 1\n'; kill -9 $$; }
+    [ ! -e "$(dirname "$0")/killed" ] || { printf 'household r0\nIRN = 1\n'; kill -9 $$; }
     line=$(awk -F, 'NR == 1 && /9ZZ/ {print "refused household line 1: unknown code"} $2 == 10 {print "refused household line " NR ": not of its type"}' "$5")
     [ -z "$line" ] || { echo "$line"; exit 1; }
     awk -F, 'NR > 1 {print "household " $1 "\nIRN = 1"}' "$5"
@@ -87,6 +87,9 @@ ln -s h.csv link.csv
 echo "status $?"
 "$tools/why" a.list h.csv K --html a.m
 echo "status $?"
+ln -s ../target.html page/link.html
+"$tools/why" a.list h.csv K --html page/link.html && ls page target.html
+[ -L page/link.html ] && rm page/link.html target.html
 mkfifo page/fifo
 "$tools/why" a.list h.csv K --html page/fifo
 echo "status $?"
@@ -108,6 +111,30 @@ rm d.list d.m
 stand_in 'case $1 in run) echo "K = 2" ;; check) echo sound ;; esac'
 (ulimit -f 1; "$tools/why" a.list h.csv K --html page/L.html 2>&1; echo "status $?") | cat
 ls -A . page
+echo "-- explain: a pipe that the program has read isn't waited for"
+stand_in 'cat "$5" >/dev/null; echo "refused household line 2: bad amount"; exit 1'
+mkfifo pipe
+cat h.csv >pipe &
+timeout 60 "$tools/explain" run a.list - - pipe
+echo "status $?"
+rm pipe
+echo "-- inputs that can't be read are told as that"
+for words in table-out explain 'table-in -' 'scale pipe name,1AJ a.list - -'; do
+    "$tools"/$words 0>/dev/null
+    echo "status $?"
+    "$tools"/$words <&-
+    echo "status $?"
+done
+echo "-- names are the bytes that they are, whatever the machine's language is"
+localedef -i fr_FR -f ISO-8859-1 "$PWD/fr" >/dev/null 2>&1
+mkdir lé
+printf 'iliad\na.m\nlé/none.m\n' >lé/b.list
+for language in fr C C.UTF-8; do
+    LOCPATH=$PWD LC_ALL=$language "$tools/requests" lé/b.list
+    LOCPATH=$PWD LC_ALL=$language "$tools/variant" a.list K=3 lé/copy && tail -n 1 lé/copy/rules.list
+    rm -r lé/copy
+done
+rm -rf fr lé
 echo "-- messages that can't be written leave the status as it is; a fault of a tool is no answer"
 stand_in 'echo "refused a.m line 1 byte 0: syntax"; exit 1'
 "$tools/same" a.list - a.list - - 2>/dev/full

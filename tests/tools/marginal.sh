@@ -10,3 +10,7 @@ python3 -c "import xml.dom.minidom as m; d = m.parse('picture.svg'); print(len(d
 "$ROOT/tools/marginal" here.list rules/driver.mpp rules/households/single.csv 1AJ 0 1000 0 --of TOTAL --csv; echo "status $?"
 "$ROOT/tools/marginal" here.list rules/driver.mpp gone.csv 1AJ 0 1000 500 --of TOTAL --csv; echo "status $?"
 "$ROOT/tools/marginal" here.list rules/driver.mpp rules/households/single.csv 1AJ 0 1000 500 --of NOPE --csv; echo "status $?"
+mkfifo list driver
+cat here.list >list &
+cat rules/driver.mpp >driver &
+"$ROOT/tools/marginal" list driver rules/households/single.csv 1AJ 20000 30000 10000 --of TOTAL --csv; echo "status $?"

@@ -49,6 +49,13 @@ ods("good.ods", [HEAD + row("<table:table-cell/>") + row(cell('Le<text:s text:c=
 ods("household.ods", [row(cell("code"), cell("montant")) + row(cell("1AJ"), number("3")) + row(cell("1BJ"), "<table:table-cell/>")])
 ods("covered.ods", [HEAD + row(cell("d"), '<table:table-cell table:number-columns-spanned="2" office:value-type="float" office:value="7"/>', "<table:covered-table-cell/>")])
 ods("date.ods", [HEAD + row(cell("d"), '<table:table-cell office:value-type="date" office:date-value="2023-01-01"><text:p>x</text:p></table:table-cell>')])
+# Values that stand in no paragraph, and formulas that nobody has computed.
+bare = {"formula": '<table:table-cell table:formula="of:=[.A1]"/>', "shown": '<table:table-cell table:formula="of:=[.A1]"><text:p/></table:table-cell>', "nothing": '<table:table-cell table:formula="of:=[.A1]" office:value-type="string" office:string-value=""/>',
+        "text": '<table:table-cell office:value-type="string" office:string-value="77"/>', "head": '<table:table-cell office:value-type="string"><text:h>77</text:h></table:table-cell>',
+        "list": '<table:table-cell office:value-type="string"><text:list><text:list-item><text:p>77</text:p></text:list-item></text:list></table:table-cell>'}
+for name, bare_cell in bare.items():
+    ods(f"{name}.ods", [HEAD + row(cell("d"), bare_cell, number("8"))])
+xlsx("uncomputed.xlsx", [HEADS + '<row r="2"><c r="A2" t="str"><v>d</v></c><c r="B2"><f>A1</f><v></v></c><c r="C2" t="str"><f>A1</f><v></v></c></row>'])
 # Few bytes that would be a great text or many fields, and what takes long to read.
 ods("blanks.ods", [HEAD + row(cell('a<text:s text:c="9999999999"/>b'), number("7"))])
 ods("deep.ods", [HEAD + row(cell("<text:span>" * 3000 + "a" + "</text:span>" * 3000), number("7"))])
@@ -79,7 +86,7 @@ for name, how in (("packed.ods", zipfile.ZIP_DEFLATED), ("other.ods", zipfile.ZI
 END
 python3 make.py
 for name in good.xlsx two.xlsx formula.xlsx date.xlsx percent.xlsx error.xlsx truth.xlsx text.xlsx head.xlsx merged.xlsx empty.xlsx cut.xlsx old.xls good.ods household.ods covered.ods date.ods packed.ods other.ods blanks.ods deep.ods many.ods wide.xlsx brackets.xlsx hours.xlsx colour.xlsx \
-    shared.xlsx column.xlsx style.xlsx digits.xlsx row_twice.xlsx repeated.ods name.ods; do
+    shared.xlsx column.xlsx style.xlsx digits.xlsx row_twice.xlsx repeated.ods name.ods formula.ods shown.ods nothing.ods text.ods head.ods list.ods uncomputed.xlsx; do
     "$in" $name
     echo "status $?"
 done
