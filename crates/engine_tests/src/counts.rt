@@ -68,38 +68,50 @@ pub fn width(alloc: Global, flat: &Flat) -> Result<usize, AllocError> {
     Ok(most)
 }
 
-/// One more at a place.
-pub fn bump(counts: &mut [u32], at: usize) {
-    if at < counts.len() {
-        counts[at] = counts[at].saturating_add(1);
+/// How often a node may still be stored and loaded.
+#[derive(Clone, Copy)]
+pub struct Left {
+    pub stores: u32,
+    pub loads: u32,
+}
+
+// One read more of a node.
+fn add_read(left: &mut [Left], node: u32) {
+    let node = node as usize;
+    if node < left.len() {
+        left[node].loads = left[node].loads.saturating_add(1);
     }
 }
 
-fn read_by_nodes(counts: &mut [u32], nodes: &[Node]) {
+fn add_reads_of_nodes(left: &mut [Left], nodes: &[Node]) {
     for node in nodes {
         if let Node::Do(op, a, b, c) = *node {
-            bump(counts, a as usize);
+            add_read(left, a);
             if arity(op) > 1 {
-                bump(counts, b as usize);
+                add_read(left, b);
             }
             if arity(op) > 2 {
-                bump(counts, c as usize);
+                add_read(left, c);
             }
         }
     }
 }
 
-fn read_by_checks(counts: &mut [u32], checks: &[Check]) {
+fn add_reads_of_checks(left: &mut [Left], checks: &[Check]) {
     for check in checks {
-        bump(counts, check.guard as usize);
-        bump(counts, check.condition as usize);
+        add_read(left, check.guard);
+        add_read(left, check.condition);
     }
 }
 
-/// How often each node is read, by nodes within the arity and by checks.
-pub fn reads(alloc: Global, flat: &Flat) -> Result<Vec<u32>, AllocError> {
-    let mut counts = vec![in alloc; 0; flat.nodes.as_slice().len()]?;
-    read_by_nodes(&mut counts, flat.nodes.as_slice());
-    read_by_checks(&mut counts, flat.checks.as_slice());
-    Ok(counts)
+/// A store of each node, and as many loads as nodes within the arity and checks read it.
+pub fn allowed(alloc: Global, flat: &Flat) -> Result<Vec<Left>, AllocError> {
+    let once = Left {
+        stores: 1,
+        loads: 0,
+    };
+    let mut left = vec![in alloc; once; flat.nodes.as_slice().len()]?;
+    add_reads_of_nodes(&mut left, flat.nodes.as_slice());
+    add_reads_of_checks(&mut left, flat.checks.as_slice());
+    Ok(left)
 }

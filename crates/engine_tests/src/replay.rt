@@ -1,17 +1,6 @@
-//! How often code stores and loads each node, by one pass over its instructions.
-use crate::counts::bump;
+//! Whether code stores and loads no node more often than it may, by one pass over its instructions.
+use crate::counts::Left;
 use reg_machine::{Code, Instr};
-use std::alloc::{AllocError, Global};
-
-/// Which nodes the registers and slots hold, how often each node was stored and loaded, and how many nodes there are.
-#[derive(Drop)]
-pub struct Moves {
-    registers: Vec<usize>,
-    slots: Vec<usize>,
-    pub stores: Vec<u32>,
-    pub loads: Vec<u32>,
-    pub made: usize,
-}
 
 // The number at a place, or one that no node has.
 fn look(list: &[usize], at: usize) -> usize {
@@ -28,58 +17,74 @@ fn put(list: &mut [usize], at: usize, number: usize) {
     }
 }
 
-impl Moves {
-    // The next node in a register.
-    fn make(&mut self, register: u8) {
-        put(&mut self.registers, register as usize, self.made);
-        self.made = self.made.saturating_add(1);
+// One store less of a node. Answers whether there was one.
+fn store(left: &mut [Left], node: usize) -> bool {
+    if node >= left.len() || left[node].stores == 0 {
+        return false;
     }
+    left[node].stores -= 1;
+    true
+}
 
-    fn store(&mut self, slot: u32, register: u8) {
-        let node = look(&self.registers, register as usize);
-        bump(&mut self.stores, node);
-        put(&mut self.slots, slot as usize, node);
+// One load less of a node.
+fn load(left: &mut [Left], node: usize) -> bool {
+    if node >= left.len() || left[node].loads == 0 {
+        return false;
     }
+    left[node].loads -= 1;
+    true
+}
 
-    fn load(&mut self, register: u8, slot: u32) {
-        let node = look(&self.slots, slot as usize);
-        bump(&mut self.loads, node);
-        put(&mut self.registers, register as usize, node);
+// Whether a store of a register into a slot is allowed.
+fn stores(left: &mut [Left], slots: &mut [usize], registers: &[usize], k: u32, r: u8) -> bool {
+    let node = look(registers, r as usize);
+    put(slots, k as usize, node);
+    store(left, node)
+}
+
+// The same of a load.
+fn loads(left: &mut [Left], slots: &[usize], registers: &mut [usize], r: u8, k: u32) -> bool {
+    let node = look(slots, k as usize);
+    put(registers, r as usize, node);
+    load(left, node)
+}
+
+// The register of the node that an instruction makes.
+fn made(instr: Instr) -> Option<u8> {
+    match instr {
+        Instr::Take(r, _) => Some(r),
+        Instr::Lit(r, _) => Some(r),
+        Instr::Do(_, r, _, _, _) => Some(r),
+        _ => None,
     }
+}
 
-    fn step(&mut self, instr: Instr) {
-        match instr {
-            Instr::Take(r, _) => self.make(r),
-            Instr::Lit(r, _) => self.make(r),
-            Instr::Do(_, r, _, _, _) => self.make(r),
-            Instr::Store(k, r) => self.store(k, r),
-            Instr::Load(r, k) => self.load(r, k),
-            Instr::Check(_, _, _, _) => {}
-            Instr::Output(_, _) => {}
+// Whether an instruction that makes no node is allowed.
+fn moves(left: &mut [Left], slots: &mut [usize], registers: &mut [usize], instr: Instr) -> bool {
+    match instr {
+        Instr::Store(k, r) => stores(left, slots, registers, k, r),
+        Instr::Load(r, k) => loads(left, slots, registers, r, k),
+        _ => true,
+    }
+}
+
+/// Whether the code makes as many nodes as there are, and moves no node more often than it may. The registers and slots tell which
+/// nodes they hold.
+pub fn replays(
+    code: &Code,
+    left: &mut [Left],
+    slots: &mut [usize],
+    registers: &mut [usize],
+) -> bool {
+    let mut count: usize = 0;
+    for place in 0..code.len() {
+        let instr = code.instr(place);
+        if let Some(r) = made(instr) {
+            put(registers, r as usize, count);
+            count = count.saturating_add(1);
+        } else if !moves(left, slots, registers, instr) {
+            return false;
         }
     }
-}
-
-// Before the first instruction, where there are so many nodes.
-fn start(alloc: Global, slots: usize, nodes: usize) -> Result<Moves, AllocError> {
-    let registers = vec![in alloc; usize::MAX; 16]?;
-    let slots = vec![in alloc; usize::MAX; slots]?;
-    let stores = vec![in alloc; 0; nodes]?;
-    let loads = vec![in alloc; 0; nodes]?;
-    Ok(Moves {
-        registers,
-        slots,
-        stores,
-        loads,
-        made: 0,
-    })
-}
-
-/// What code does with so many nodes.
-pub fn replay(alloc: Global, code: &Code, nodes: usize) -> Result<Moves, AllocError> {
-    let mut replay = start(alloc, code.slots() as usize, nodes)?;
-    for place in 0..code.len() {
-        replay.step(code.instr(place));
-    }
-    Ok(replay)
+    count == left.len()
 }

@@ -1,29 +1,84 @@
-//! Sources: one whose inputs are all held to its end, the generated one, one that looks like a real year, and one with types and notes.
+//! Sources: one whose inputs are all held to its end, and one that looks like a real year.
 ghost use Rattle.std.specs.Prelude.{◌≤◌, IfOk, length};
 ghost use Rattle.m_places.specs.declared.limits.TheConstants.{FILE_BYTES};
 ghost use Rattle.rule_text.specs.Limits.{FileIsWithin, SourceKeepsLimits, TextsAreWithin};
 
-use m_large::large_base;
 use m_places::limits::FILE_BYTES;
 use m_places::{Name, Seq};
 use rule_text::{Source, Text};
-use std::alloc::{AllocError, Global};
+use std::alloc::Global;
 use std::test::Fail;
 
-/// The number of the generated source.
-pub const LARGE: u32 = 200;
-
-// What follows the twenty inputs of the wide base: their sum, and that sum times each of them.
-const WIDE: &[u8] = b"S : calculee : \"s\" ;
+// Twenty inputs, their sum, and that sum times each of them.
+static WIDE: &str = "A01 : saisie revenu classe = 0 alias K01 : \"a\" ;
+A02 : saisie revenu classe = 0 alias K02 : \"a\" ;
+A03 : saisie revenu classe = 0 alias K03 : \"a\" ;
+A04 : saisie revenu classe = 0 alias K04 : \"a\" ;
+A05 : saisie revenu classe = 0 alias K05 : \"a\" ;
+A06 : saisie revenu classe = 0 alias K06 : \"a\" ;
+A07 : saisie revenu classe = 0 alias K07 : \"a\" ;
+A08 : saisie revenu classe = 0 alias K08 : \"a\" ;
+A09 : saisie revenu classe = 0 alias K09 : \"a\" ;
+A10 : saisie revenu classe = 0 alias K10 : \"a\" ;
+A11 : saisie revenu classe = 0 alias K11 : \"a\" ;
+A12 : saisie revenu classe = 0 alias K12 : \"a\" ;
+A13 : saisie revenu classe = 0 alias K13 : \"a\" ;
+A14 : saisie revenu classe = 0 alias K14 : \"a\" ;
+A15 : saisie revenu classe = 0 alias K15 : \"a\" ;
+A16 : saisie revenu classe = 0 alias K16 : \"a\" ;
+A17 : saisie revenu classe = 0 alias K17 : \"a\" ;
+A18 : saisie revenu classe = 0 alias K18 : \"a\" ;
+A19 : saisie revenu classe = 0 alias K19 : \"a\" ;
+A20 : saisie revenu classe = 0 alias K20 : \"a\" ;
+S : calculee : \"s\" ;
 R : calculee restituee : \"r\" ;
 regle 1 : application : iliad ;
 S = somme(j=01..20: Aj) ;
 R = somme(j=01..20: S * Aj) ;
 ";
 
-// What follows the first forty inputs of the base that looks real. Its figures are invented.
-const REAL: &[u8] =
-    b"NBPT : saisie famille classe = 0 avfisc = 0 alias 0NB : \"Nombre de parts\" type REEL ;
+// Two declarants, twenty wages each. Its figures are invented.
+static REAL: &str = "TSV01 : saisie revenu classe = 0 avfisc = 0 alias A01 : \"t\" type REEL ;
+TSV02 : saisie revenu classe = 0 avfisc = 0 alias A02 : \"t\" type REEL ;
+TSV03 : saisie revenu classe = 0 avfisc = 0 alias A03 : \"t\" type REEL ;
+TSV04 : saisie revenu classe = 0 avfisc = 0 alias A04 : \"t\" type REEL ;
+TSV05 : saisie revenu classe = 0 avfisc = 0 alias A05 : \"t\" type REEL ;
+TSV06 : saisie revenu classe = 0 avfisc = 0 alias A06 : \"t\" type REEL ;
+TSV07 : saisie revenu classe = 0 avfisc = 0 alias A07 : \"t\" type REEL ;
+TSV08 : saisie revenu classe = 0 avfisc = 0 alias A08 : \"t\" type REEL ;
+TSV09 : saisie revenu classe = 0 avfisc = 0 alias A09 : \"t\" type REEL ;
+TSV10 : saisie revenu classe = 0 avfisc = 0 alias A10 : \"t\" type REEL ;
+TSV11 : saisie revenu classe = 0 avfisc = 0 alias A11 : \"t\" type REEL ;
+TSV12 : saisie revenu classe = 0 avfisc = 0 alias A12 : \"t\" type REEL ;
+TSV13 : saisie revenu classe = 0 avfisc = 0 alias A13 : \"t\" type REEL ;
+TSV14 : saisie revenu classe = 0 avfisc = 0 alias A14 : \"t\" type REEL ;
+TSV15 : saisie revenu classe = 0 avfisc = 0 alias A15 : \"t\" type REEL ;
+TSV16 : saisie revenu classe = 0 avfisc = 0 alias A16 : \"t\" type REEL ;
+TSV17 : saisie revenu classe = 0 avfisc = 0 alias A17 : \"t\" type REEL ;
+TSV18 : saisie revenu classe = 0 avfisc = 0 alias A18 : \"t\" type REEL ;
+TSV19 : saisie revenu classe = 0 avfisc = 0 alias A19 : \"t\" type REEL ;
+TSV20 : saisie revenu classe = 0 avfisc = 0 alias A20 : \"t\" type REEL ;
+TSC01 : saisie revenu classe = 0 avfisc = 0 alias B01 : \"t\" type REEL ;
+TSC02 : saisie revenu classe = 0 avfisc = 0 alias B02 : \"t\" type REEL ;
+TSC03 : saisie revenu classe = 0 avfisc = 0 alias B03 : \"t\" type REEL ;
+TSC04 : saisie revenu classe = 0 avfisc = 0 alias B04 : \"t\" type REEL ;
+TSC05 : saisie revenu classe = 0 avfisc = 0 alias B05 : \"t\" type REEL ;
+TSC06 : saisie revenu classe = 0 avfisc = 0 alias B06 : \"t\" type REEL ;
+TSC07 : saisie revenu classe = 0 avfisc = 0 alias B07 : \"t\" type REEL ;
+TSC08 : saisie revenu classe = 0 avfisc = 0 alias B08 : \"t\" type REEL ;
+TSC09 : saisie revenu classe = 0 avfisc = 0 alias B09 : \"t\" type REEL ;
+TSC10 : saisie revenu classe = 0 avfisc = 0 alias B10 : \"t\" type REEL ;
+TSC11 : saisie revenu classe = 0 avfisc = 0 alias B11 : \"t\" type REEL ;
+TSC12 : saisie revenu classe = 0 avfisc = 0 alias B12 : \"t\" type REEL ;
+TSC13 : saisie revenu classe = 0 avfisc = 0 alias B13 : \"t\" type REEL ;
+TSC14 : saisie revenu classe = 0 avfisc = 0 alias B14 : \"t\" type REEL ;
+TSC15 : saisie revenu classe = 0 avfisc = 0 alias B15 : \"t\" type REEL ;
+TSC16 : saisie revenu classe = 0 avfisc = 0 alias B16 : \"t\" type REEL ;
+TSC17 : saisie revenu classe = 0 avfisc = 0 alias B17 : \"t\" type REEL ;
+TSC18 : saisie revenu classe = 0 avfisc = 0 alias B18 : \"t\" type REEL ;
+TSC19 : saisie revenu classe = 0 avfisc = 0 alias B19 : \"t\" type REEL ;
+TSC20 : saisie revenu classe = 0 avfisc = 0 alias B20 : \"t\" type REEL ;
+NBPT : saisie famille classe = 0 avfisc = 0 alias 0NB : \"Nombre de parts\" type REEL ;
 RIBEN : saisie revenu classe = 0 avfisc = 1 alias 7UD : \"Dons\" type REEL ;
 TXAB : const = 0.1 ;  ABMIN : const = 400 ;  ABMAX : const = 13000 ;
 S1 : const = 10000 ;  S2 : const = 25000 ;  S3 : const = 80000 ;
@@ -60,7 +115,7 @@ verif 2005 : application : iliad ;  si NBPT non dans (1, 1.5, 2, 2.5, 3..20) alo
 verif 2006 : application : iliad ;  si somme(i=V,C: BRUTi) > 1000000 et non present(NBPT) alors erreur A01 ;
 ";
 
-const DRIVER: &[u8] = b"main():
+static DRIVER: &str = "main():
   AVANT <- without_benefits()
   IRNET, MARG <- call_m()
   if present(RIBEN):
@@ -73,21 +128,19 @@ without_benefits():
   AVANT = IRNET
 ";
 
-// Four inputs with types and without, and a verification of each kind.
-const NOTED: &[u8] = b"V : saisie revenu classe = 0 alias 1AJ : \"v\" type ENTIER ;
-B : saisie revenu classe = 0 alias 1BB : \"b\" type BOOLEEN ;
-C : saisie revenu classe = 0 alias 1CC : \"c\" type REEL ;
-D : saisie revenu classe = 0 alias 1DD : \"d\" ;
-R : calculee restituee : \"r\" ;
-A10 : anomalie : \"A\" : \"10\" : \"00\" : \"too much\" : \"N\" ;
-A20 : discordance : \"A\" : \"20\" : \"00\" : \"nothing\" : \"N\" ;
-A30 : informative : \"A\" : \"30\" : \"00\" : \"both\" : \"N\" ;
-regle 1 : application : iliad ;
-R = V + B + C + D ;
-verif 1000 : application : iliad ;  si V > 9 alors erreur A10 ;
-verif 2000 : application : iliad ;  si V = 0 alors erreur A20 ;
-verif 3000 : application : iliad ;  si B > 0 alors erreur A30 ;
-";
+// The texts, out of reach of the proofs.
+
+fn wide_rules() -> &'static str {
+    WIDE
+}
+
+fn real_rules() -> &'static str {
+    REAL
+}
+
+fn real_driver() -> &'static str {
+    DRIVER
+}
 
 // The bytes of a file.
 fn file(alloc: Global, bytes: &[u8]) -> Result<Seq<u8>, Fail>
@@ -101,11 +154,11 @@ fn file(alloc: Global, bytes: &[u8]) -> Result<Seq<u8>, Fail>
 }
 
 // The same, where there is one.
-fn perhaps_file(alloc: Global, bytes: Option<&[u8]>) -> Result<Option<Seq<u8>>, Fail>
+fn perhaps_file(alloc: Global, text: Option<&str>) -> Result<Option<Seq<u8>>, Fail>
     ensures { IfOk result FileIsWithin }
 {
-    match bytes {
-        Some(bytes) => Ok(Some(file(alloc, bytes)?)),
+    match text {
+        Some(text) => Ok(Some(file(alloc, text.as_bytes())?)),
         None => Ok(None),
     }
 }
@@ -114,30 +167,24 @@ fn perhaps_file(alloc: Global, bytes: Option<&[u8]>) -> Result<Option<Seq<u8>>, 
 fn one_text(alloc: Global, rules: &[u8]) -> Result<Seq<Text>, Fail>
     ensures { IfOk result TextsAreWithin }
 {
-    let bytes = file(alloc, rules)?;
     let name = Name::new(alloc, b"a.m")?;
+    let bytes = file(alloc, rules)?;
     let mut texts = Vec::new(alloc);
     texts.push(Text { name, bytes })?;
     Ok(Seq::from_vec(texts))
 }
 
-fn source(
-    alloc: Global,
-    rules: &[u8],
-    driver: Option<&[u8]>,
-    requests: Option<&[u8]>,
-) -> Result<Source, Fail>
+fn source(alloc: Global, rules: &str, driver: Option<&str>) -> Result<Source, Fail>
     ensures { IfOk result SourceKeepsLimits }
 {
-    let texts = one_text(alloc, rules)?;
-    let driver = perhaps_file(alloc, driver)?;
-    let requests = perhaps_file(alloc, requests)?;
     let application = Name::new(alloc, b"iliad")?;
+    let texts = one_text(alloc, rules.as_bytes())?;
+    let driver = perhaps_file(alloc, driver)?;
     Ok(Source {
         application,
         texts,
         driver,
-        requests,
+        requests: None,
     })
 }
 
@@ -145,70 +192,12 @@ fn source(
 pub fn wide(alloc: Global) -> Result<Source, Fail>
     ensures { IfOk result SourceKeepsLimits }
 {
-    let rules = wide_rules(alloc)?;
-    source(alloc, &rules, None, None)
+    source(alloc, wide_rules(), None)
 }
 
-fn wide_rules(alloc: Global) -> Result<Vec<u8>, AllocError> {
-    let mut text = Vec::new(alloc);
-    for k in 1..21 {
-        let line = format!(in alloc;
-            "A{k:02} : saisie revenu classe = 0 alias K{k:02} : \"a\" ;\n"
-        )?;
-        text.extend_from_slice(line.as_bytes())?;
-    }
-    text.extend_from_slice(WIDE)?;
-    Ok(text)
-}
-
-/// The generated source.
-pub fn large(alloc: Global) -> Result<Source, Fail>
-    ensures { IfOk result SourceKeepsLimits }
-{
-    let base = large_base(alloc, LARGE)?;
-    source(alloc, base.bytes.as_slice(), None, Some(b"T199\n"))
-}
-
-/// A base with two declarants, twenty wages each, a driver and verifications.
+/// A base with two declarants, a driver and verifications.
 pub fn real(alloc: Global) -> Result<Source, Fail>
     ensures { IfOk result SourceKeepsLimits }
 {
-    let rules = real_rules(alloc)?;
-    source(alloc, &rules, Some(DRIVER), None)
-}
-
-fn real_rules(alloc: Global) -> Result<Vec<u8>, AllocError> {
-    let mut text = Vec::new(alloc);
-    add_wages(alloc, &mut text, "V", "A")?;
-    add_wages(alloc, &mut text, "C", "B")?;
-    text.extend_from_slice(REAL)?;
-    Ok(text)
-}
-
-// Twenty inputs of a declarant.
-fn add_wages(
-    alloc: Global,
-    text: &mut Vec<u8>,
-    declarant: &str,
-    code: &str,
-) -> Result<(), AllocError> {
-    for k in 1..21 {
-        let line = format!(in alloc;
-            "TS{declarant}{k:02} : saisie revenu classe = 0 avfisc = 0 alias {code}{k:02} : \"t\" type REEL ;\n"
-        )?;
-        text.extend_from_slice(line.as_bytes())?;
-    }
-    Ok(())
-}
-
-/// Inputs with types, and verifications that are noted.
-pub fn with_notes(alloc: Global) -> Result<Source, Fail>
-    ensures { IfOk result SourceKeepsLimits }
-{
-    source(alloc, noted(), None, None)
-}
-
-// The rules, out of reach of the proof.
-fn noted() -> &'static [u8] {
-    NOTED
+    source(alloc, real_rules(), Some(real_driver()))
 }
