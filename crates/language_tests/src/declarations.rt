@@ -1,193 +1,163 @@
 //! Declarations that are read, with their trees as texts, and texts that begin with none.
-use crate::texts::{add, add_number, add_word, add_words, other_at, tokens_of};
+use crate::items::add_item;
+use crate::readings::{Reading, check_all};
+use crate::terms::add_end;
+use crate::texts::{add, add_number, add_word, add_words};
 use declaration_items::{ItemFault, read_applications, read_declaration};
-use m_ast::{ErrorItem, Item, Role, VariableItem};
+use m_ast::{ErrorItem, Role, VariableItem};
 use m_fixed::Amount;
 use m_lexer::Token;
-use m_places::{ErrorKind, Name, Place};
+use m_places::{ErrorKind, Name};
 use std::alloc::Global;
 use std::test::Fail;
 
-// Texts that begin with a declaration; the declaration as `add_item` shows it; the byte and the line of its first token;
+// Texts that begin with a declaration; the declaration as `add_item` shows it, with the byte and the line of its first token;
 // and how many tokens it has.
-static DECLARATIONS: [(&str, &str, u32, u32, usize); 21] = [
+static DECLARATIONS: [(&str, &str); 21] = [
     (
         "REV : saisie revenu classe = 0 alias 1AJ : \"s\" ;",
-        "REV input 1AJ revenu classe=0",
-        0,
-        1,
-        12,
+        "REV input 1AJ revenu classe=0 0:1 to 12",
     ),
     (
         "\n REV : saisie alias 1AJ : \"s\" type REEL ; IRN",
-        "REV input 1AJ type REEL",
-        2,
-        2,
-        10,
+        "REV input 1AJ type REEL 2:2 to 10",
     ),
-    ("REV:saisie alias REV:\"\";", "REV input REV", 0, 1, 8),
+    ("REV:saisie alias REV:\"\";", "REV input REV 0:1 to 8"),
     (
         "A : saisie b c = -1.5 restituee d = 2 e = -0 alias F : \"g\" type H ;",
-        "A input F b restituee c=-1500000 d=2000000 e=0 type H",
-        0,
-        1,
-        23,
+        "A input F b restituee c=-1500000 d=2000000 e=0 type H 0:1 to 23",
     ),
-    ("IRN : calculee : \"n\" ;", "IRN computed", 0, 1, 6),
+    ("IRN : calculee : \"n\" ;", "IRN computed 0:1 to 6"),
     (
         "IRN : calculee base restituee : \"n\" ;",
-        "IRN computed base restituee",
-        0,
-        1,
-        8,
+        "IRN computed base restituee 0:1 to 8",
     ),
     (
         "IRN : calculee avfisc = 1 : \"n\" type BOOLEEN ;",
-        "IRN computed avfisc=1000000 type BOOLEEN",
-        0,
-        1,
-        11,
+        "IRN computed avfisc=1000000 type BOOLEEN 0:1 to 11",
     ),
-    ("T : tableau[3] calculee : \"t\" ;", "T table 3", 0, 1, 10),
+    ("T : tableau[3] calculee : \"t\" ;", "T table 3 0:1 to 10"),
     (
         "T : tableau[010] calculee restituee : \"t\" ;",
-        "T table 10 restituee",
-        0,
-        1,
-        11,
+        "T table 10 restituee 0:1 to 11",
     ),
     (
         "T : tableau[999999999] calculee : \"t\" ;",
-        "T table 999999999",
-        0,
-        1,
-        10,
+        "T table 999999999 0:1 to 10",
     ),
     (
         "SEUIL : const = 1000 ;",
-        "SEUIL constant 1000000000",
-        0,
-        1,
-        6,
+        "SEUIL constant 1000000000 0:1 to 6",
     ),
-    ("TX : const = -0.1 ;", "TX constant -100000", 0, 1, 7),
-    ("1A : const = 0 ; ; ;", "1A constant 0", 0, 1, 6),
+    ("TX : const = -0.1 ;", "TX constant -100000 0:1 to 7"),
+    ("1A : const = 0 ; ; ;", "1A constant 0 0:1 to 6"),
     (
         "A20 : anomalie : \"A\" : \"20\" : \"00\" : \"revenu nul\" : \"N\" ;",
-        "A20 anomalie <A> <20> <00> <revenu nul> <N>",
-        0,
-        1,
-        14,
+        "A20 anomalie <A> <20> <00> <revenu nul> <N> 0:1 to 14",
     ),
     (
         "E1 : discordance : \"E\" : \"1\" : \"0\" : \"negative\" ;",
-        "E1 discordance <E> <1> <0> <negative>",
-        0,
-        1,
-        12,
+        "E1 discordance <E> <1> <0> <negative> 0:1 to 12",
     ),
     (
         "I : informative : \"\" : \"a:b\" : \"\n\" : \"\" : \"\" ; \"\"",
-        "I informative <> <a:b> <\n> <> <>",
-        0,
-        1,
-        14,
+        "I informative <> <a:b> <\n> <> <> 0:1 to 14",
     ),
-    ("application iliad ;", "silent", 0, 1, 3),
-    ("# a\n\tapplication Iliad ; ", "silent", 5, 2, 3),
-    ("enchaineur ench application : iliad ;", "silent", 0, 1, 6),
+    ("application iliad ;", "silent 0:1 to 3"),
+    ("# a\n\tapplication Iliad ; ", "silent 5:2 to 3"),
+    ("enchaineur ench application : iliad ;", "silent 0:1 to 6"),
     (
         "enchaineur ench application : iliad , batch ;",
-        "silent",
-        0,
-        1,
-        8,
+        "silent 0:1 to 8",
     ),
     (
         "A : calculee : \"t\" ; B : calculee : \"t\" ;",
-        "A computed",
-        0,
-        1,
-        6,
+        "A computed 0:1 to 6",
     ),
 ];
 
 // Texts that begin with none.
-static NONE: [&str; 41] = [
-    "",
-    ";",
-    "A = 1 ;",
-    "T[1] = 1 ;",
-    "regle 1 : application : iliad ; A = 1 ;",
-    "verif 1 : application : iliad ; si A alors erreur E ;",
-    "Rev : const = 1 ;",
-    "REVi : calculee : \"s\" ;",
-    "X : calculee : \"s\" ;",
-    "12 : calculee : \"s\" ;",
-    "A const = 1 ;",
-    "A : const 1 ;",
-    "A : const = ;",
-    "A : const = - - 1 ;",
-    "A : const = B ;",
-    "A : const = 1",
-    "A : const = 1 : \"t\" ;",
-    "REV : saisie revenu classe = 0 : \"s\" ;",
-    "REV : saisie alias : \"s\" ;",
-    "REV : saisie alias 1 : \"s\" ;",
-    "REV : saisie alias 1AJ ;",
-    "REV : saisie alias 1AJ : s ;",
-    "REV : saisie alias 1AJ restituee : \"s\" ;",
-    "REV : tableau[3] saisie alias 1AJ : \"s\" ;",
-    "IRN : calculee alias 1AJ : \"s\" ;",
-    "IRN : calculee classe = : \"s\" ;",
-    "IRN : calculee classe = a : \"s\" ;",
-    "IRN : calculee 1 : \"s\" ;",
-    "IRN : calculee : \"s\" type ;",
-    "IRN : calculee : \"s\" type REEL",
-    "T : tableau[1234567890] calculee : \"t\" ;",
-    "T : tableau[3.0] calculee : \"t\" ;",
-    "T : tableau[N] calculee : \"t\" ;",
-    "T : tableau 3 calculee : \"t\" ;",
-    "E : anomalie : \"A\" : \"1\" : \"0\" ;",
-    "E : anomalie : \"A\" : \"1\" : \"0\" : \"b\" : \"N\" : \"\" ;",
-    "E : anomalie \"A\" : \"1\" : \"0\" : \"b\" ;",
-    "E : erreur : \"A\" : \"1\" : \"0\" : \"b\" ;",
-    "application : iliad ;",
-    "enchaineur ench ;",
-    "enchaineur ench application : iliad , ;",
+static NONE: [(&str, &str); 41] = [
+    ("", "none"),
+    (";", "none"),
+    ("A = 1 ;", "none"),
+    ("T[1] = 1 ;", "none"),
+    ("regle 1 : application : iliad ; A = 1 ;", "none"),
+    (
+        "verif 1 : application : iliad ; si A alors erreur E ;",
+        "none",
+    ),
+    ("Rev : const = 1 ;", "none"),
+    ("REVi : calculee : \"s\" ;", "none"),
+    ("X : calculee : \"s\" ;", "none"),
+    ("12 : calculee : \"s\" ;", "none"),
+    ("A const = 1 ;", "none"),
+    ("A : const 1 ;", "none"),
+    ("A : const = ;", "none"),
+    ("A : const = - - 1 ;", "none"),
+    ("A : const = B ;", "none"),
+    ("A : const = 1", "none"),
+    ("A : const = 1 : \"t\" ;", "none"),
+    ("REV : saisie revenu classe = 0 : \"s\" ;", "none"),
+    ("REV : saisie alias : \"s\" ;", "none"),
+    ("REV : saisie alias 1 : \"s\" ;", "none"),
+    ("REV : saisie alias 1AJ ;", "none"),
+    ("REV : saisie alias 1AJ : s ;", "none"),
+    ("REV : saisie alias 1AJ restituee : \"s\" ;", "none"),
+    ("REV : tableau[3] saisie alias 1AJ : \"s\" ;", "none"),
+    ("IRN : calculee alias 1AJ : \"s\" ;", "none"),
+    ("IRN : calculee classe = : \"s\" ;", "none"),
+    ("IRN : calculee classe = a : \"s\" ;", "none"),
+    ("IRN : calculee 1 : \"s\" ;", "none"),
+    ("IRN : calculee : \"s\" type ;", "none"),
+    ("IRN : calculee : \"s\" type REEL", "none"),
+    ("T : tableau[1234567890] calculee : \"t\" ;", "none"),
+    ("T : tableau[3.0] calculee : \"t\" ;", "none"),
+    ("T : tableau[N] calculee : \"t\" ;", "none"),
+    ("T : tableau 3 calculee : \"t\" ;", "none"),
+    ("E : anomalie : \"A\" : \"1\" : \"0\" ;", "none"),
+    (
+        "E : anomalie : \"A\" : \"1\" : \"0\" : \"b\" : \"N\" : \"\" ;",
+        "none",
+    ),
+    ("E : anomalie \"A\" : \"1\" : \"0\" : \"b\" ;", "none"),
+    ("E : erreur : \"A\" : \"1\" : \"0\" : \"b\" ;", "none"),
+    ("application : iliad ;", "none"),
+    ("enchaineur ench ;", "none"),
+    ("enchaineur ench application : iliad , ;", "none"),
 ];
 
 // Texts and the applications at their start, with the number of their tokens.
-static APPLICATIONS: [(&[u8], &[u8], usize); 3] = [
-    (b"application : iliad ;", b" iliad", 3),
-    (b"application : iliad , batch ;", b" iliad batch", 5),
-    (b"application : A", b" A", 3),
+static APPLICATIONS: [(&str, &str); 3] = [
+    ("application : iliad ;", " iliad to 3"),
+    ("application : iliad , batch ;", " iliad batch to 5"),
+    ("application : A", " A to 3"),
 ];
 
 // Texts with none, or with a comma after them.
-static NO_APPLICATIONS: [&[u8]; 5] = [
-    b"",
-    b"application iliad ;",
-    b"application : ;",
-    b"application : iliad , ;",
-    b"application : 1 ;",
+static NO_APPLICATIONS: [(&str, &str); 5] = [
+    ("", "none"),
+    ("application iliad ;", "none"),
+    ("application : ;", "none"),
+    ("application : iliad , ;", "none"),
+    ("application : 1 ;", "none"),
 ];
 
 // The tables, out of reach of the proofs of what goes over them.
 
-fn all_declarations() -> &'static [(&'static str, &'static str, u32, u32, usize)] {
+fn all_declarations() -> &'static [(&'static str, &'static str)] {
     &DECLARATIONS
 }
 
-fn all_without() -> &'static [&'static str] {
+fn all_without() -> &'static [(&'static str, &'static str)] {
     &NONE
 }
 
-fn all_applications() -> &'static [(&'static [u8], &'static [u8], usize)] {
+fn all_applications() -> &'static [(&'static str, &'static str)] {
     &APPLICATIONS
 }
 
-fn all_without_applications() -> &'static [&'static [u8]] {
+fn all_without_applications() -> &'static [(&'static str, &'static str)] {
     &NO_APPLICATIONS
 }
 
@@ -225,7 +195,8 @@ fn add_role(alloc: Global, text: &mut Vec<u8>, role: &Role) {
     }
 }
 
-fn add_variable(alloc: Global, text: &mut Vec<u8>, variable: &VariableItem) {
+/// Adds a variable's name, role, attributes without and with a number in millionths, and type.
+pub fn add_variable(alloc: Global, text: &mut Vec<u8>, variable: &VariableItem) {
     add(text, variable.name.bytes());
     add_role(alloc, text, &variable.role);
     add_words(text, variable.words.as_slice());
@@ -244,123 +215,62 @@ fn kind_word(kind: ErrorKind) -> &'static [u8] {
     }
 }
 
-fn add_error(text: &mut Vec<u8>, error: &ErrorItem) {
+/// Adds an error's name, kind and texts.
+pub fn add_error(text: &mut Vec<u8>, error: &ErrorItem) {
     add(text, error.name.bytes());
     add_word(text, kind_word(error.kind));
     add_texts(text, error.texts.as_slice());
 }
 
-// An item as a text: a variable's name, role, attributes without and with a number in millionths, and type.
-fn add_item(alloc: Global, text: &mut Vec<u8>, item: &Item) {
-    match item {
-        Item::Variable(variable) => add_variable(alloc, text, variable),
-        Item::Error(error) => add_error(text, error),
-        Item::Silent(_) => add(text, b"silent"),
-        _ => add(text, b"no declaration"),
+fn add_fault(out: &mut Vec<u8>, fault: ItemFault) {
+    match fault {
+        ItemFault::NoItem => add(out, b"none"),
+        ItemFault::Memory => add(out, b"memory"),
     }
 }
 
-fn place_of(item: &Item) -> Place {
-    match item {
-        Item::Variable(variable) => variable.place,
-        Item::Error(error) => error.place,
-        Item::Silent(place) => *place,
-        Item::Rule(rule) => rule.place,
-        Item::Verif(verif) => verif.place,
-    }
-}
-
-// Whether an item is shown so, and its first token stands at this byte of the file 7 and on this line.
-fn is_item(alloc: Global, item: &Item, wanted: &[u8], byte: u32, line: u32) -> bool {
-    let place = place_of(item);
-    let mut text = Vec::new(alloc);
-    add_item(alloc, &mut text, item);
-    text.as_slice() == wanted && place.file == 7 && place.byte == byte && place.line == line
-}
-
-fn is_read(
-    alloc: Global,
-    tokens: &[Token],
-    wanted: &[u8],
-    byte: u32,
-    line: u32,
-    count: usize,
-) -> bool {
+/// Adds the declaration at the start of the tokens, and its end.
+pub fn add_declaration(alloc: Global, out: &mut Vec<u8>, tokens: &[Token]) {
     match read_declaration(alloc, tokens) {
-        Ok((item, end)) => end == count && is_item(alloc, &item, wanted, byte, line),
-        Err(_) => false,
+        Ok((item, end)) => {
+            add_item(alloc, out, &item);
+            add_end(alloc, out, end);
+        }
+        Err(fault) => add_fault(out, fault),
     }
 }
 
-fn is_no_item(alloc: Global, tokens: &[Token]) -> bool {
-    match read_declaration(alloc, tokens) {
-        Ok(_) => false,
-        Err(fault) => fault == ItemFault::NoItem,
+/// Adds the applications at the start of the tokens, and their end.
+pub fn add_applications(alloc: Global, out: &mut Vec<u8>, tokens: &[Token]) {
+    match read_applications(alloc, tokens) {
+        Ok((names, end)) => {
+            add_words(out, names.as_slice());
+            add_end(alloc, out, end);
+        }
+        Err(fault) => add_fault(out, fault),
     }
 }
 
 #[test]
 fn declarations(rt: HostRuntime) -> Result<(), Fail> {
-    for (text, wanted, byte, line, count) in all_declarations() {
-        let (text, wanted) = (text.as_bytes(), wanted.as_bytes());
-        match tokens_of(rt.alloc(), text, 7) {
-            Some(tokens) if is_read(rt.alloc(), &tokens, wanted, *byte, *line, *count) => {}
-            _ => return Err(other_at(rt.alloc(), text)),
-        }
-    }
-    Ok(())
+    check_all(rt.alloc(), Reading::Declaration, all_declarations())
 }
 
 #[test]
 fn no_declarations(rt: HostRuntime) -> Result<(), Fail> {
-    for text in all_without() {
-        let text = text.as_bytes();
-        match tokens_of(rt.alloc(), text, 7) {
-            Some(tokens) if is_no_item(rt.alloc(), &tokens) => {}
-            _ => return Err(other_at(rt.alloc(), text)),
-        }
-    }
-    Ok(())
-}
-
-fn are_names(alloc: Global, names: &[Name], wanted: &[u8]) -> bool {
-    let mut found = Vec::new(alloc);
-    add_words(&mut found, names);
-    found.as_slice() == wanted
-}
-
-fn are_applications(alloc: Global, tokens: &[Token], wanted: &[u8], count: usize) -> bool {
-    match read_applications(alloc, tokens) {
-        Ok((names, end)) => end == count && are_names(alloc, names.as_slice(), wanted),
-        Err(_) => false,
-    }
-}
-
-fn are_no_applications(alloc: Global, tokens: &[Token]) -> bool {
-    match read_applications(alloc, tokens) {
-        Ok(_) => false,
-        Err(fault) => fault == ItemFault::NoItem,
-    }
+    check_all(rt.alloc(), Reading::Declaration, all_without())
 }
 
 #[test]
 fn lists_of_applications(rt: HostRuntime) -> Result<(), Fail> {
-    for (text, wanted, count) in all_applications() {
-        match tokens_of(rt.alloc(), text, 7) {
-            Some(tokens) if are_applications(rt.alloc(), &tokens, wanted, *count) => {}
-            _ => return Err(other_at(rt.alloc(), text)),
-        }
-    }
-    Ok(())
+    check_all(rt.alloc(), Reading::Applications, all_applications())
 }
 
 #[test]
 fn no_applications(rt: HostRuntime) -> Result<(), Fail> {
-    for text in all_without_applications() {
-        match tokens_of(rt.alloc(), text, 7) {
-            Some(tokens) if are_no_applications(rt.alloc(), &tokens) => {}
-            _ => return Err(other_at(rt.alloc(), text)),
-        }
-    }
-    Ok(())
+    check_all(
+        rt.alloc(),
+        Reading::Applications,
+        all_without_applications(),
+    )
 }

@@ -13,12 +13,12 @@ mod lines;
 #[cfg(test)]
 mod nests;
 #[cfg(test)]
+mod readings;
+#[cfg(test)]
 mod terms;
 #[cfg(test)]
 mod texts;
 #[cfg(test)]
 mod threads;
-#[cfg(test)]
-mod token_faults;
 #[cfg(test)]
 mod tokens;

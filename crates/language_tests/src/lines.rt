@@ -1,244 +1,141 @@
 //! Lines of drivers, their tokens, and the first line without them.
+use crate::readings::{Reading, check_all, is_read};
+use crate::texts::{add, add_number, add_word};
+use m_places::limits::FILE_BYTES;
 use mpp_lexer::{DriverFault, DriverPiece, DriverSign, Line, lex_driver};
 use std::alloc::Global;
 use std::test::Fail;
 
-#[derive(Clone, Copy)]
-enum Want {
-    Word(&'static [u8]),
-    Number(i128, &'static [u8]),
-    Sign(DriverSign),
-}
-
-// Texts that have lines: of each line its number, its indentation and its tokens.
-static LINES: [(&[u8], &[(u32, u32, &[Want])]); 9] = [
-    (b"", &[]),
-    (b"\n   \r\n# a tab\t and \xE9\n  # more\n", &[]),
+// Texts that have lines: of each line its number, its indentation and its tokens, a word after `word` and a number after its millionths.
+static LINES: [(&str, &str); 9] = [
+    ("", ""),
+    ("\n   \r\n# a tab\t and \u{e9}\n  # more\n", ""),
     (
-        b"main():\n  IRN = 1\n",
-        &[
-            (
-                1,
-                0,
-                &[
-                    Want::Word(b"main"),
-                    Want::Sign(DriverSign::OpenParen),
-                    Want::Sign(DriverSign::CloseParen),
-                    Want::Sign(DriverSign::Colon),
-                ],
-            ),
-            (
-                2,
-                2,
-                &[
-                    Want::Word(b"IRN"),
-                    Want::Sign(DriverSign::Assign),
-                    Want::Number(1_000_000, b"1"),
-                ],
-            ),
-        ],
+        "main():\n  IRN = 1\n",
+        "1:0 word main OpenParen CloseParen Colon\n2:2 word IRN Assign number 1000000 1\n",
     ),
     // The longest token: `<-`, and not `<` and `-`.
+    ("\n A <-1", "2:1 word A Receive number 1000000 1\n"),
+    ("A< -1", "1:0 word A Less Minus number 1000000 1\n"),
     (
-        b"\n A <-1",
-        &[(
-            2,
-            1,
-            &[
-                Want::Word(b"A"),
-                Want::Sign(DriverSign::Receive),
-                Want::Number(1_000_000, b"1"),
-            ],
-        )],
+        "===!=<=>=<>",
+        "1:0 Equal Assign NotEqual LessEqual GreaterEqual Less Greater\n",
     ),
     (
-        b"A< -1",
-        &[(
-            1,
-            0,
-            &[
-                Want::Word(b"A"),
-                Want::Sign(DriverSign::Less),
-                Want::Sign(DriverSign::Minus),
-                Want::Number(1_000_000, b"1"),
-            ],
-        )],
+        "+-*/,[1AJ]#]\r\n",
+        "1:0 Plus Minus Star Slash Comma OpenBracket word 1AJ CloseBracket\n",
     ),
     (
-        b"===!=<=>=<>",
-        &[(
-            1,
-            0,
-            &[
-                Want::Sign(DriverSign::Equal),
-                Want::Sign(DriverSign::Assign),
-                Want::Sign(DriverSign::NotEqual),
-                Want::Sign(DriverSign::LessEqual),
-                Want::Sign(DriverSign::GreaterEqual),
-                Want::Sign(DriverSign::Less),
-                Want::Sign(DriverSign::Greater),
-            ],
-        )],
-    ),
-    (
-        b"+-*/,[1AJ]#]\r\n",
-        &[(
-            1,
-            0,
-            &[
-                Want::Sign(DriverSign::Plus),
-                Want::Sign(DriverSign::Minus),
-                Want::Sign(DriverSign::Star),
-                Want::Sign(DriverSign::Slash),
-                Want::Sign(DriverSign::Comma),
-                Want::Sign(DriverSign::OpenBracket),
-                Want::Word(b"1AJ"),
-                Want::Sign(DriverSign::CloseBracket),
-            ],
-        )],
-    ),
-    (
-        b"10000000000000.0000004",
-        &[(
-            1,
-            0,
-            &[Want::Number(10_000_000_000_000_000_000, b"10000000000000.0000004")],
-        )],
+        "10000000000000.0000004",
+        "1:0 number 10000000000000000000 10000000000000.0000004\n",
     ),
     // Reserved words are words here.
     (
-        b"del else 1.5A",
-        &[(
-            1,
-            0,
-            &[
-                Want::Word(b"del"),
-                Want::Word(b"else"),
-                Want::Number(1_500_000, b"1.5"),
-                Want::Word(b"A"),
-            ],
-        )],
+        "del else 1.5A",
+        "1:0 word del word else number 1500000 1.5 word A\n",
     ),
 ];
 
 // Texts that have none, and the line at which they are refused.
-const FAULTS: [(&[u8], u32); 9] = [
-    (b"main():\n\tIRN = 1", 2),
-    (b"A = 1\t", 1),
-    (b"A\r", 1),
-    (b"A = 1\r \n", 1),
-    (b"!", 1),
-    (b"\n\nA = 1.\n\t", 3),
-    (b"A ; B", 1),
-    (b"\n10000000000000.0000005", 2),
-    (b"A # \t\n\xE9", 2),
+static FAULTS: [(&str, &str); 9] = [
+    ("main():\n\tIRN = 1", "token 2"),
+    ("A = 1\t", "token 1"),
+    ("A\r", "token 1"),
+    ("A = 1\r \n", "token 1"),
+    ("!", "token 1"),
+    ("\n\nA = 1.\n\t", "token 3"),
+    ("A ; B", "token 1"),
+    ("\n10000000000000.0000005", "token 2"),
+    ("A # \t\n\u{e9}", "token 2"),
 ];
-
-fn is_token(token: &DriverPiece, want: Want) -> bool {
-    match (token, want) {
-        (DriverPiece::Word(name), Want::Word(bytes)) => name.bytes() == bytes,
-        (DriverPiece::Number(amount, name), Want::Number(millionths, bytes)) => {
-            amount.millionths() == millionths && name.bytes() == bytes
-        }
-        (DriverPiece::Sign(sign), Want::Sign(wanted)) => *sign == wanted,
-        _ => false,
-    }
-}
-
-fn is_line(line: &Line, want: (u32, u32, &[Want])) -> bool {
-    let tokens = line.tokens.as_slice();
-    line.number == want.0
-        && line.indent == want.1
-        && tokens.len() == want.2.len()
-        && tokens
-            .iter()
-            .zip(want.2)
-            .all(|(token, wanted)| is_token(token, *wanted))
-}
 
 // The tables, out of reach of the proofs of what goes over them.
 
-fn all_lines() -> &'static [(&'static [u8], &'static [(u32, u32, &'static [Want])])] {
+fn all_lines() -> &'static [(&'static str, &'static str)] {
     &LINES
 }
 
-fn all_faults() -> &'static [(&'static [u8], u32)] {
+fn all_faults() -> &'static [(&'static str, &'static str)] {
     &FAULTS
 }
 
-fn are_lines(lines: &[Line], wanted: &[(u32, u32, &[Want])]) -> bool {
-    lines.len() == wanted.len()
-        && lines
-            .iter()
-            .zip(wanted)
-            .all(|(line, want)| is_line(line, *want))
+fn add_sign(alloc: Global, out: &mut Vec<u8>, sign: DriverSign) {
+    if let Ok(name) = format!(in alloc; " {sign:?}") {
+        add(out, name.as_bytes());
+    }
 }
 
-// Whether a text has these lines.
-fn has_lines(alloc: Global, text: &[u8], wanted: &[(u32, u32, &[Want])]) -> bool {
-    if text.len() > 65_536 {
-        return false;
+fn add_piece(alloc: Global, out: &mut Vec<u8>, piece: &DriverPiece) {
+    match piece {
+        DriverPiece::Word(name) => {
+            add(out, b" word");
+            add_word(out, name.bytes());
+        }
+        DriverPiece::Number(amount, name) => {
+            add(out, b" number ");
+            add_number(alloc, out, amount.millionths());
+            add_word(out, name.bytes());
+        }
+        DriverPiece::Sign(sign) => add_sign(alloc, out, *sign),
+    }
+}
+
+fn add_line(alloc: Global, out: &mut Vec<u8>, line: &Line) {
+    add_number(alloc, out, line.number as i128);
+    add(out, b":");
+    add_number(alloc, out, line.indent as i128);
+    for piece in line.tokens.as_slice() {
+        add_piece(alloc, out, piece);
+    }
+    add(out, b"\n");
+}
+
+fn add_all(alloc: Global, out: &mut Vec<u8>, lines: &[Line]) {
+    for line in lines {
+        add_line(alloc, out, line);
+    }
+}
+
+fn add_at(alloc: Global, out: &mut Vec<u8>, words: &[u8], line: u32) {
+    add(out, words);
+    add_number(alloc, out, line as i128);
+}
+
+/// Adds why a text is no driver, or has no lines.
+pub fn add_fault(alloc: Global, out: &mut Vec<u8>, fault: DriverFault) {
+    match fault {
+        DriverFault::DriverToken(line) => add_at(alloc, out, b"token ", line),
+        DriverFault::DriverTooDeep(line) => add_at(alloc, out, b"deep ", line),
+        DriverFault::DriverSyntax(line) => add_at(alloc, out, b"syntax ", line),
+        DriverFault::Memory => add(out, b"memory"),
+    }
+}
+
+/// Adds the lines of a text.
+pub fn add_lines(alloc: Global, out: &mut Vec<u8>, text: &[u8]) {
+    if text.len() as u64 > FILE_BYTES {
+        return;
     }
     match lex_driver(alloc, text) {
-        Ok(lines) => are_lines(&lines, wanted),
-        Err(_) => false,
-    }
-}
-
-// Whether a text has none, by a bad token in this line.
-fn is_fault(alloc: Global, text: &[u8], line: u32) -> bool {
-    if text.len() > 65_536 {
-        return false;
-    }
-    match lex_driver(alloc, text) {
-        Ok(_) => false,
-        Err(fault) => fault == DriverFault::DriverToken(line),
-    }
-}
-
-// Fails at this text.
-pub fn other_at(alloc: Global, text: &[u8]) -> Fail {
-    match format!(in alloc; "another answer at {text:?}") {
-        Ok(told) => Fail::from(told),
-        Err(_) => Fail::from("another answer"),
+        Ok(lines) => add_all(alloc, out, &lines),
+        Err(fault) => add_fault(alloc, out, fault),
     }
 }
 
 #[test]
 fn lines_with_tokens(rt: HostRuntime) -> Result<(), Fail> {
-    for (text, wanted) in all_lines() {
-        if !has_lines(rt.alloc(), text, wanted) {
-            return Err(other_at(rt.alloc(), text));
-        }
-    }
-    Ok(())
+    check_all(rt.alloc(), Reading::Lines, all_lines())
 }
 
 #[test]
 fn first_lines_without(rt: HostRuntime) -> Result<(), Fail> {
-    for (text, line) in all_faults() {
-        if !is_fault(rt.alloc(), text, *line) {
-            return Err(other_at(rt.alloc(), text));
-        }
-    }
-    Ok(())
-}
-
-// Whether the one line of a text is the last of so many.
-fn is_last(alloc: Global, text: &[u8], number: u32) -> bool {
-    if text.len() > 1_048_576 {
-        return false;
-    }
-    match lex_driver(alloc, text) {
-        Ok(lines) => lines.len() == 1 && lines[0].number == number,
-        Err(_) => false,
-    }
+    check_all(rt.alloc(), Reading::Lines, all_faults())
 }
 
 #[test]
 fn many_lines(rt: HostRuntime) -> Result<(), Fail> {
-    let mut text = vec![in rt.alloc(); b'\n'; 1_000_000]?;
-    let _added = text.push(b'A');
-    assert!(rt; is_last(rt.alloc(), &text, 1_000_001));
+    let mut text = vec![in rt.alloc(); b'\n'; 1_000_001]?;
+    text[1_000_000] = b'A';
+    assert!(rt; is_read(rt.alloc(), Reading::Lines, &text, b"1000001:0 word A\n"));
     Ok(())
 }

@@ -1,36 +1,33 @@
 //! How deep terms may stand inside of one another.
-use crate::texts::{other_at, tokens_of};
+use crate::texts::{add, add_times, other_at, tokens_of};
 use m_lexer::Token;
+use m_places::Place;
 use m_terms::{depth_fault, read_term};
-use std::alloc::{AllocError, Global};
+use std::alloc::Global;
 use std::test::Fail;
 
 // What opens a nest and what closes it, and the byte of the token that makes the 257th of them too deep.
-static NESTS: [(&[u8], &[u8], u32); 5] = [
-    (b"(", b")", 256),
-    (b"T[", b"]", 513),
-    (b"si 1 alors ", b" finsi", 2_816),
-    (b"somme(i=1:", b")", 2_565),
-    (b"1 ou 1 et non 1 = 1 + 1 * -abs(", b")", 7_966),
+static NESTS: [(&str, &str, u32); 5] = [
+    ("(", ")", 256),
+    ("T[", "]", 513),
+    ("si 1 alors ", " finsi", 2_816),
+    ("somme(i=1:", ")", 2_565),
+    ("1 ou 1 et non 1 = 1 + 1 * -abs(", ")", 7_966),
 ];
 
 // The table, out of reach of the proof of what goes over it.
-fn nests() -> &'static [(&'static [u8], &'static [u8], u32)] {
+fn nests() -> &'static [(&'static str, &'static str, u32)] {
     &NESTS
 }
 
 // A text of an opening word so many times, `0`, a closing one so many times, and `;`.
-fn nested(alloc: Global, open: &[u8], count: u32, close: &[u8]) -> Result<Vec<u8>, AllocError> {
+fn nested(alloc: Global, open: &[u8], count: usize, close: &[u8]) -> Vec<u8> {
     let mut text = Vec::new(alloc);
-    for _ in 0..count {
-        text.extend_from_slice(open)?;
-    }
-    text.push(b'0')?;
-    for _ in 0..count {
-        text.extend_from_slice(close)?;
-    }
-    text.push(b';')?;
-    Ok(text)
+    add_times(&mut text, open, count);
+    add(&mut text, b"0");
+    add_times(&mut text, close, count);
+    add(&mut text, b";");
+    text
 }
 
 // Whether the tokens but the last are a term, which is read, copied and dropped.
@@ -43,31 +40,38 @@ fn is_read(alloc: Global, tokens: &[Token]) -> bool {
 
 // Whether a text of tokens is read, and no token is too deep.
 fn is_shallow(alloc: Global, text: &[u8]) -> bool {
-    match tokens_of(alloc, text, 0) {
-        Some(tokens) => depth_fault(&tokens).is_none() && is_read(alloc, &tokens),
+    match tokens_of(alloc, text) {
+        Ok(tokens) => depth_fault(&tokens).is_none() && is_read(alloc, &tokens),
+        Err(_) => false,
+    }
+}
+
+fn is_byte(found: Option<Place>, byte: u32) -> bool {
+    match found {
+        Some(place) => place.byte == byte,
         None => false,
     }
 }
 
 // Whether the first token of a text that is too deep is the one at this byte.
 fn is_deep(alloc: Global, text: &[u8], byte: u32) -> bool {
-    match tokens_of(alloc, text, 0) {
-        Some(tokens) => depth_fault(&tokens).is_some_and(|place| place.byte == byte),
-        None => false,
+    match tokens_of(alloc, text) {
+        Ok(tokens) => is_byte(depth_fault(&tokens), byte),
+        Err(_) => false,
     }
+}
+
+fn ends_at_256(alloc: Global, open: &[u8], close: &[u8], byte: u32) -> bool {
+    is_shallow(alloc, &nested(alloc, open, 256, close))
+        && is_deep(alloc, &nested(alloc, open, 257, close), byte)
 }
 
 // As `rt try` builds it, with checks and without optimisation, a copy of the last of these needs more than the ordinary stack.
 #[test]
 fn nests_of_256_and_257(rt: HostRuntime) -> Result<(), Fail> {
     for (open, close, byte) in nests() {
-        let deepest = nested(rt.alloc(), open, 256, close)?;
-        if !is_shallow(rt.alloc(), &deepest) {
-            return Err(other_at(rt.alloc(), open));
-        }
-        let deeper = nested(rt.alloc(), open, 257, close)?;
-        if !is_deep(rt.alloc(), &deeper, *byte) {
-            return Err(other_at(rt.alloc(), open));
+        if !ends_at_256(rt.alloc(), open.as_bytes(), close.as_bytes(), *byte) {
+            return Err(other_at(rt.alloc(), open.as_bytes()));
         }
     }
     Ok(())

@@ -1,150 +1,148 @@
 //! Terms and headers, each form once with its tree written out by hand.
-use crate::texts::{add, other_at, tokens_of};
+use crate::readings::{Reading, check_all};
+use crate::texts::{add, add_number};
 use m_ast::{Header, Index, Link, Member, Node, Span, Term};
-use m_fixed::{Amount, Op, Value, write_amount};
+use m_fixed::{Op, Value};
 use m_lexer::Token;
 use m_places::Place;
 use m_terms::{TermFault, read_header, read_term};
 use std::alloc::Global;
 use std::test::Fail;
 
-// Texts with the term at their start and the position after it. A term is shown as a text: a name with the byte at which it
-// stands, an operator before its arguments in round brackets, a chain in square ones, and a header in curly ones.
-static TERMS: [(&str, &str, usize); 39] = [
-    ("1.5 ;", "1.5", 1),
-    ("A ;", "A@0", 1),
-    ("X )", "X@0", 1),
-    ("T[X] ]", "T@0[X@2]", 4),
-    ("T[A + 1] ,", "T@0[[A@2 Add 1]]", 6),
-    ("(A) alors", "A@1", 3),
-    ("si A alors 1 sinon 2 finsi sinon", "(Choose A@3 1 2)", 7),
-    ("si A alors 1 finsi finsi", "(Choose A@3 1 undefined)", 5),
-    ("present(A) ;", "(Present A@8)", 4),
-    ("abs(A) ;", "(Abs A@4)", 4),
-    ("positif(A) ;", "(Positive A@8)", 4),
-    ("positif_ou_nul(A) ;", "(PositiveOrNull A@15)", 4),
-    ("null(A) ;", "(Null A@5)", 4),
-    ("arr(A) ;", "(Arr A@4)", 4),
-    ("inf(A) ;", "(Inf A@4)", 4),
-    ("max(A, 1) ;", "(Max A@4 1)", 6),
-    ("min(1, A) ;", "(Min 1 A@7)", 6),
-    ("somme(i = 1..3 : Ai) ;", "({i@6 1..3} Ai@17)", 10),
+// Texts with the term at their start and the position after it. A term is shown as a text: a number by its millionths, a name with the
+// byte at which it stands, an operator before its arguments in round brackets, a chain in square ones, and a header in curly ones.
+static TERMS: [(&str, &str); 39] = [
+    ("1.5 ;", "1500000 to 1"),
+    ("A ;", "A@0 to 1"),
+    ("X )", "X@0 to 1"),
+    ("T[X] ]", "T@0[X@2] to 4"),
+    ("T[A + 1] ,", "T@0[[A@2 Add 1000000]] to 6"),
+    ("(A) alors", "A@1 to 3"),
+    (
+        "si A alors 1 sinon 2 finsi sinon",
+        "(Choose A@3 1000000 2000000) to 7",
+    ),
+    (
+        "si A alors 1 finsi finsi",
+        "(Choose A@3 1000000 undefined) to 5",
+    ),
+    ("present(A) ;", "(Present A@8) to 4"),
+    ("abs(A) ;", "(Abs A@4) to 4"),
+    ("positif(A) ;", "(Positive A@8) to 4"),
+    ("positif_ou_nul(A) ;", "(PositiveOrNull A@15) to 4"),
+    ("null(A) ;", "(Null A@5) to 4"),
+    ("arr(A) ;", "(Arr A@4) to 4"),
+    ("inf(A) ;", "(Inf A@4) to 4"),
+    ("max(A, 1) ;", "(Max A@4 1000000) to 6"),
+    ("min(1, A) ;", "(Min 1000000 A@7) to 6"),
+    ("somme(i = 1..3 : Ai) ;", "({i@6 1..3} Ai@17) to 10"),
     (
         "somme(un i dans V,C et un j dans (08..10) : Aij) ;",
-        "({i@9 V..V C..C}{j@26 08..10} Aij@44)",
-        20,
+        "({i@9 V..V C..C}{j@26 08..10} Aij@44) to 20",
     ),
-    ("-A ;", "(Neg A@1)", 2),
-    ("A - B - C ;", "[A@0 Sub B@4 Sub C@8]", 5),
-    ("A * -2 / C ;", "[A@0 Mul (Neg 2) Div C@9]", 6),
-    ("A + B * C ;", "[A@0 Add [B@4 Mul C@8]]", 5),
-    ("(A + B) * C ;", "[[A@1 Add B@5] Mul C@10]", 7),
-    ("A = B ;", "(Eq A@0 B@4)", 3),
-    ("A != B ;", "(Ne A@0 B@5)", 3),
-    ("A < B ;", "(Lt A@0 B@4)", 3),
-    ("A <= B ;", "(Le A@0 B@5)", 3),
-    ("A > B ;", "(Gt A@0 B@4)", 3),
-    ("A >= B + 1 ;", "(Ge A@0 [B@5 Add 1])", 5),
-    ("A dans (1) ;", "(A@0 in 1..1)", 5),
+    ("-A ;", "(Neg A@1) to 2"),
+    ("A - B - C ;", "[A@0 Sub B@4 Sub C@8] to 5"),
+    ("A * -2 / C ;", "[A@0 Mul (Neg 2000000) Div C@9] to 6"),
+    ("A + B * C ;", "[A@0 Add [B@4 Mul C@8]] to 5"),
+    ("(A + B) * C ;", "[[A@1 Add B@5] Mul C@10] to 7"),
+    ("A = B ;", "(Eq A@0 B@4) to 3"),
+    ("A != B ;", "(Ne A@0 B@5) to 3"),
+    ("A < B ;", "(Lt A@0 B@4) to 3"),
+    ("A <= B ;", "(Le A@0 B@5) to 3"),
+    ("A > B ;", "(Gt A@0 B@4) to 3"),
+    ("A >= B + 1 ;", "(Ge A@0 [B@5 Add 1000000]) to 5"),
+    ("A dans (1) ;", "(A@0 in 1000000..1000000) to 5"),
     (
         "A non dans (B, -2) ;",
-        "(A@0 out B@12..B@12 (Neg 2)..(Neg 2))",
-        9,
+        "(A@0 out B@12..B@12 (Neg 2000000)..(Neg 2000000)) to 9",
     ),
-    ("A dans (-1..3, 3..3) ;", "(A@0 in (Neg 1)..3 3..3)", 12),
-    ("non A = B ;", "(Not (Eq A@4 B@8))", 4),
-    ("A et B et C ;", "[A@0 And B@5 And C@10]", 5),
-    ("A ou B et C ;", "[A@0 Or [B@5 And C@10]]", 5),
-    ("non A ou non B ;", "[(Not A@4) Or (Not B@13)]", 5),
-    ("1AJ ;", "1AJ@0", 1),
-    ("A;B;", "A@0", 1),
+    (
+        "A dans (-1..3, 3..3) ;",
+        "(A@0 in (Neg 1000000)..3000000 3000000..3000000) to 12",
+    ),
+    ("non A = B ;", "(Not (Eq A@4 B@8)) to 4"),
+    ("A et B et C ;", "[A@0 And B@5 And C@10] to 5"),
+    ("A ou B et C ;", "[A@0 Or [B@5 And C@10]] to 5"),
+    ("non A ou non B ;", "[(Not A@4) Or (Not B@13)] to 5"),
+    ("1AJ ;", "1AJ@0 to 1"),
+    ("A;B;", "A@0 to 1"),
 ];
 
 // Texts at whose start no term stands.
-static NO_TERMS: [&str; 21] = [
-    "",
-    "A",
-    "A :",
-    "A B ;",
-    "A + ;",
-    "(A ;",
-    "T[A ;",
-    "T[] ;",
-    "- - A ;",
-    "non non A ;",
-    "A = B = C ;",
-    "A dans () ;",
-    "A dans (1..B) ;",
-    "A dans (-B) ;",
-    "A non (1) ;",
-    "si A alors 1 ;",
-    "si A sinon 1 finsi ;",
-    "abs(A, B) ;",
-    "max(A) ;",
-    "somme(i = : A) ;",
-    "\"A\" ;",
+static NO_TERMS: [(&str, &str); 21] = [
+    ("", "none"),
+    ("A", "none"),
+    ("A :", "none"),
+    ("A B ;", "none"),
+    ("A + ;", "none"),
+    ("(A ;", "none"),
+    ("T[A ;", "none"),
+    ("T[] ;", "none"),
+    ("- - A ;", "none"),
+    ("non non A ;", "none"),
+    ("A = B = C ;", "none"),
+    ("A dans () ;", "none"),
+    ("A dans (1..B) ;", "none"),
+    ("A dans (-B) ;", "none"),
+    ("A non (1) ;", "none"),
+    ("si A alors 1 ;", "none"),
+    ("si A sinon 1 finsi ;", "none"),
+    ("abs(A, B) ;", "none"),
+    ("max(A) ;", "none"),
+    ("somme(i = : A) ;", "none"),
+    ("\"A\" ;", "none"),
 ];
 
 // Texts with the header at their start and the position after it.
-static HEADERS: [(&str, &str, usize); 5] = [
-    ("i = V,C :", "{i@0 V..V C..C}", 5),
-    ("i=V..X,010;j=1..3:", "{i@0 V..X 010..010}{j@11 1..3}", 13),
+static HEADERS: [(&str, &str); 5] = [
+    ("i = V,C :", "{i@0 V..V C..C} to 5"),
+    ("i=V..X,010;j=1..3:", "{i@0 V..X 010..010}{j@11 1..3} to 13"),
     (
         "un i dans V,C et un j dans (1..3) :",
-        "{i@3 V..V C..C}{j@20 1..3}",
-        15,
+        "{i@3 V..V C..C}{j@20 1..3} to 15",
     ),
-    ("un z dans (9) :", "{z@3 9..9}", 6),
-    ("a = 123456789 :", "{a@0 123456789..123456789}", 3),
+    ("un z dans (9) :", "{z@3 9..9} to 6"),
+    ("a = 123456789 :", "{a@0 123456789..123456789} to 3"),
 ];
 
 // Texts at whose start no header stands.
-static NO_HEADERS: [&[u8]; 11] = [
-    b"",
-    b"i = V",
-    b"i = V ;",
-    b"i = v :",
-    b"I = V :",
-    b"ij = V :",
-    b"i = 1.5 :",
-    b"i = 1234567890 :",
-    b"i = 1.. :",
-    b"un i dans (1 :",
-    b"i = 1 et un j dans 2 :",
+static NO_HEADERS: [(&str, &str); 11] = [
+    ("", "none"),
+    ("i = V", "none"),
+    ("i = V ;", "none"),
+    ("i = v :", "none"),
+    ("I = V :", "none"),
+    ("ij = V :", "none"),
+    ("i = 1.5 :", "none"),
+    ("i = 1234567890 :", "none"),
+    ("i = 1.. :", "none"),
+    ("un i dans (1 :", "none"),
+    ("i = 1 et un j dans 2 :", "none"),
 ];
 
 // The tables, out of reach of the proofs of what goes over them.
 
-fn terms() -> &'static [(&'static str, &'static str, usize)] {
+fn terms() -> &'static [(&'static str, &'static str)] {
     &TERMS
 }
 
-fn no_terms() -> &'static [&'static str] {
+fn no_terms() -> &'static [(&'static str, &'static str)] {
     &NO_TERMS
 }
 
-fn headers() -> &'static [(&'static str, &'static str, usize)] {
+fn headers() -> &'static [(&'static str, &'static str)] {
     &HEADERS
 }
 
-fn no_headers() -> &'static [&'static [u8]] {
+fn no_headers() -> &'static [(&'static str, &'static str)] {
     &NO_HEADERS
 }
 
-fn add_amount(out: &mut Vec<u8>, amount: Amount) {
-    let mut room = [0; 32];
-    let length = write_amount(amount, &mut room);
-    if length <= 32 {
-        add(out, &room[..length]);
-    }
-}
-
-fn add_word(out: &mut Vec<u8>, word: &[u8], place: Place) {
+// A name with the byte at which it stands.
+fn add_named(alloc: Global, out: &mut Vec<u8>, word: &[u8], place: Place) {
     add(out, word);
     add(out, b"@");
-    if let Some(byte) = Amount::new(place.byte as i128 * 1_000_000) {
-        add_amount(out, byte);
-    }
+    add_number(alloc, out, place.byte as i128);
 }
 
 fn add_op(alloc: Global, out: &mut Vec<u8>, op: Op) {
@@ -153,10 +151,10 @@ fn add_op(alloc: Global, out: &mut Vec<u8>, op: Op) {
     }
 }
 
-fn add_value(out: &mut Vec<u8>, value: Value) {
+fn add_value(alloc: Global, out: &mut Vec<u8>, value: Value) {
     match value {
         Value::Undef => add(out, b"undefined"),
-        Value::Num(amount) => add_amount(out, amount),
+        Value::Num(amount) => add_number(alloc, out, amount.millionths()),
         Value::Over => add(out, b"over"),
     }
 }
@@ -176,29 +174,31 @@ fn add_span(out: &mut Vec<u8>, span: &Span) {
     add(out, span.to.bytes());
 }
 
-fn add_index(out: &mut Vec<u8>, index: &Index) {
+fn add_index(alloc: Global, out: &mut Vec<u8>, index: &Index) {
     add(out, b"{");
-    add_word(out, &[index.letter], index.place);
+    add_named(alloc, out, &[index.letter], index.place);
     for span in index.values.as_slice() {
         add_span(out, span);
     }
     add(out, b"}");
 }
 
-fn add_header(out: &mut Vec<u8>, header: &Header) {
+/// Adds a header.
+pub fn add_header(alloc: Global, out: &mut Vec<u8>, header: &Header) {
     for index in header.indexes.as_slice() {
-        add_index(out, index);
+        add_index(alloc, out, index);
     }
 }
 
+/// Adds a term.
 #[cycle(shown)]
-fn add_term(alloc: Global, out: &mut Vec<u8>, term: &Term) {
+pub fn add_term(alloc: Global, out: &mut Vec<u8>, term: &Term) {
     match &term.node {
-        Node::Lit(value) => add_value(out, *value),
-        Node::Named(name, place) => add_word(out, name.bytes(), *place),
-        Node::X(place) => add_word(out, b"X", *place),
+        Node::Lit(value) => add_value(alloc, out, *value),
+        Node::Named(name, place) => add_named(alloc, out, name.bytes(), *place),
+        Node::X(place) => add_named(alloc, out, b"X", *place),
         Node::Cell(name, index, place) => {
-            add_word(out, name.bytes(), *place);
+            add_named(alloc, out, name.bytes(), *place);
             add(out, b"[");
             add_term(alloc, out, index);
             add(out, b"]");
@@ -224,7 +224,7 @@ fn add_term(alloc: Global, out: &mut Vec<u8>, term: &Term) {
         }
         Node::Loop(header, body) => {
             add(out, b"(");
-            add_header(out, header);
+            add_header(alloc, out, header);
             add(out, b" ");
             add_term(alloc, out, body);
             add(out, b")");
@@ -260,99 +260,61 @@ fn add_members(alloc: Global, out: &mut Vec<u8>, members: &[Member]) {
     }
 }
 
-// Whether a copy of the term is shown so.
-fn is_shown(alloc: Global, term: &Term, tree: &[u8]) -> bool {
-    let Ok(copy) = term.copy(alloc) else {
-        return false;
-    };
-    let mut out = Vec::new(alloc);
-    add_term(alloc, &mut out, &copy);
-    out.as_slice() == tree
+/// Adds a position after what is read.
+pub fn add_end(alloc: Global, out: &mut Vec<u8>, end: usize) {
+    add(out, b" to ");
+    add_number(alloc, out, end as i128);
 }
 
-// Whether a copy of the header is shown so.
-fn is_header_shown(alloc: Global, header: &Header, tree: &[u8]) -> bool {
-    let Ok(copy) = header.copy(alloc) else {
-        return false;
-    };
-    let mut out = Vec::new(alloc);
-    add_header(&mut out, &copy);
-    out.as_slice() == tree
+fn add_fault(out: &mut Vec<u8>, fault: TermFault) {
+    match fault {
+        TermFault::NoTerm => add(out, b"none"),
+        TermFault::Memory => add(out, b"memory"),
+    }
 }
 
-// Whether this term stands at the start of the tokens, up to this position.
-fn is_term(alloc: Global, tokens: &[Token], tree: &[u8], end: usize) -> bool {
+/// Adds a copy of the term at the start of the tokens, and its end.
+pub fn add_read_term(alloc: Global, out: &mut Vec<u8>, tokens: &[Token]) {
     match read_term(alloc, tokens, 0) {
-        Ok((term, to)) => to == end && is_shown(alloc, &term, tree),
-        Err(_) => false,
+        Ok((term, end)) => {
+            if let Ok(copy) = term.copy(alloc) {
+                add_term(alloc, out, &copy);
+            }
+            add_end(alloc, out, end);
+        }
+        Err(fault) => add_fault(out, fault),
     }
 }
 
-// Whether this header stands at the start of the tokens, up to this position.
-fn is_header(alloc: Global, tokens: &[Token], tree: &[u8], end: usize) -> bool {
+/// Adds a copy of the header at the start of the tokens, and its end.
+pub fn add_read_header(alloc: Global, out: &mut Vec<u8>, tokens: &[Token]) {
     match read_header(alloc, tokens, 0) {
-        Ok((header, to)) => to == end && is_header_shown(alloc, &header, tree),
-        Err(_) => false,
-    }
-}
-
-fn is_no_term(alloc: Global, tokens: &[Token]) -> bool {
-    match read_term(alloc, tokens, 0) {
-        Ok(_) => false,
-        Err(fault) => fault == TermFault::NoTerm,
-    }
-}
-
-fn is_no_header(alloc: Global, tokens: &[Token]) -> bool {
-    match read_header(alloc, tokens, 0) {
-        Ok(_) => false,
-        Err(fault) => fault == TermFault::NoTerm,
+        Ok((header, end)) => {
+            if let Ok(copy) = header.copy(alloc) {
+                add_header(alloc, out, &copy);
+            }
+            add_end(alloc, out, end);
+        }
+        Err(fault) => add_fault(out, fault),
     }
 }
 
 #[test]
 fn each_form_of_term(rt: HostRuntime) -> Result<(), Fail> {
-    for (text, tree, end) in terms() {
-        let (text, tree) = (text.as_bytes(), tree.as_bytes());
-        match tokens_of(rt.alloc(), text, 0) {
-            Some(tokens) if is_term(rt.alloc(), &tokens, tree, *end) => {}
-            _ => return Err(other_at(rt.alloc(), text)),
-        }
-    }
-    Ok(())
+    check_all(rt.alloc(), Reading::Term, terms())
 }
 
 #[test]
 fn no_term_stands(rt: HostRuntime) -> Result<(), Fail> {
-    for text in no_terms() {
-        let text = text.as_bytes();
-        match tokens_of(rt.alloc(), text, 0) {
-            Some(tokens) if is_no_term(rt.alloc(), &tokens) => {}
-            _ => return Err(other_at(rt.alloc(), text)),
-        }
-    }
-    Ok(())
+    check_all(rt.alloc(), Reading::Term, no_terms())
 }
 
 #[test]
 fn each_form_of_header(rt: HostRuntime) -> Result<(), Fail> {
-    for (text, tree, end) in headers() {
-        let (text, tree) = (text.as_bytes(), tree.as_bytes());
-        match tokens_of(rt.alloc(), text, 0) {
-            Some(tokens) if is_header(rt.alloc(), &tokens, tree, *end) => {}
-            _ => return Err(other_at(rt.alloc(), text)),
-        }
-    }
-    Ok(())
+    check_all(rt.alloc(), Reading::Header, headers())
 }
 
 #[test]
 fn no_header_stands(rt: HostRuntime) -> Result<(), Fail> {
-    for text in no_headers() {
-        match tokens_of(rt.alloc(), text, 0) {
-            Some(tokens) if is_no_header(rt.alloc(), &tokens) => {}
-            _ => return Err(other_at(rt.alloc(), text)),
-        }
-    }
-    Ok(())
+    check_all(rt.alloc(), Reading::Header, no_headers())
 }

@@ -1,21 +1,28 @@
 //! Texts that the tests read and write.
-use m_lexer::{Token, lex};
-use m_places::Name;
+use m_lexer::{LexFault, Token, lex};
 use m_places::limits::FILE_BYTES;
+use m_places::{Name, Place};
 use std::alloc::Global;
 use std::test::Fail;
 
 // The tokens of a text.
-pub fn tokens_of(alloc: Global, text: &[u8], file: u32) -> Option<Vec<Token>> {
+pub fn tokens_of(alloc: Global, text: &[u8]) -> Result<Vec<Token>, LexFault> {
     if text.len() as u64 > FILE_BYTES {
-        return None;
+        return Err(LexFault::Memory);
     }
-    lex(alloc, text, file).ok()
+    lex(alloc, text, 7)
 }
 
 // Adds bytes. Where there is no memory the text stays as it is, so it isn't what was wanted.
 pub fn add(text: &mut Vec<u8>, bytes: &[u8]) {
     let _added = text.extend_from_slice(bytes);
+}
+
+// Adds a word so many times.
+pub fn add_times(text: &mut Vec<u8>, word: &[u8], count: usize) {
+    for _ in 0..count {
+        add(text, word);
+    }
 }
 
 pub fn add_number(alloc: Global, text: &mut Vec<u8>, number: i128) {
@@ -32,6 +39,16 @@ pub fn add_word(text: &mut Vec<u8>, word: &[u8]) {
 pub fn add_words(text: &mut Vec<u8>, words: &[Name]) {
     for word in words {
         add_word(text, word.bytes());
+    }
+}
+
+// The byte and the line of a place; of a place in another file than 7 nothing.
+pub fn add_place(alloc: Global, text: &mut Vec<u8>, place: Place) {
+    if place.file == 7 {
+        add(text, b" ");
+        add_number(alloc, text, place.byte as i128);
+        add(text, b":");
+        add_number(alloc, text, place.line as i128);
     }
 }
 

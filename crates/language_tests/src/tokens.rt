@@ -1,260 +1,201 @@
-//! Tokens at the edges.
-use crate::texts::{other_at, tokens_of};
-use m_lexer::{Key, Kind, Sign, Token};
+//! Tokens at the edges, first faults, and words and numbers of great length.
+use crate::readings::{Reading, check_all, is_read};
+use crate::texts::{add, add_number, add_place, add_word};
+use m_lexer::{Key, Kind, LexFault, Sign, Token};
+use m_places::Place;
 use std::alloc::Global;
 use std::test::Fail;
 
-/// What a token is to be. A number has its millionths and its digits.
-#[derive(Clone, Copy)]
-pub enum Want<'a> {
-    Word(&'a [u8]),
-    Number(i128, &'a [u8]),
-    Text(&'a [u8]),
-    Key(Key),
-    Sign(Sign),
-}
-
-// Texts that have tokens, each with its byte and line.
-static LISTS: [(&[u8], &[(Want<'static>, u32, u32)]); 21] = [
-    (b"", &[]),
-    (b"# to the end", &[]),
-    (b" \t\r\n# a\n", &[]),
+// Texts, and their tokens: a word, a number with its millionths, or a text, and its bytes; or a key or a sign. After each stand its byte
+// and its line.
+static TOKENS: [(&str, &str); 20] = [
+    ("", ""),
+    ("# to the end", ""),
+    (" \t\r\n# a\n", ""),
+    ("1AJ 1_000 _", " word 1AJ 0:1 word 1_000 4:1 word _ 10:1"),
     (
-        b"1AJ 1_000 _",
-        &[
-            (Want::Word(b"1AJ"), 0, 1),
-            (Want::Word(b"1_000"), 4, 1),
-            (Want::Word(b"_"), 10, 1),
-        ],
+        "08..10",
+        " number 8000000 08 0:1 Range 2:1 number 10000000 10 4:1",
+    ),
+    ("1 ..", " number 1000000 1 0:1 Range 2:1"),
+    ("1..", " number 1000000 1 0:1 Range 1:1"),
+    ("a..b", " word a 0:1 Range 1:1 word b 3:1"),
+    ("1.5A", " number 1500000 1.5 0:1 word A 3:1"),
+    (
+        "<= < = != >= > =",
+        " LessEqual 0:1 Less 3:1 Equal 5:1 NotEqual 7:1 GreaterEqual 10:1 Greater 13:1 Equal 15:1",
+    ),
+    ("<<==", " Less 0:1 LessEqual 1:1 Equal 3:1"),
+    (
+        "+-*/()[],;:",
+        " Plus 0:1 Minus 1:1 Star 2:1 Slash 3:1 OpenParen 4:1 CloseParen 5:1 OpenBracket 6:1 CloseBracket 7:1 Comma 8:1 Semicolon 9:1 Colon 10:1",
     ),
     (
-        b"08..10",
-        &[
-            (Want::Number(8000000, b"08"), 0, 1),
-            (Want::Sign(Sign::Range), 2, 1),
-            (Want::Number(10000000, b"10"), 4, 1),
-        ],
+        "si sinon positif positif_ou_nul X XA sI",
+        " Si 0:1 Sinon 3:1 Positif 9:1 PositifOuNul 17:1 X 32:1 word XA 34:1 word sI 37:1",
+    ),
+    ("\"\"\"a\"", " text  0:1 text a 2:1"),
+    ("\"a\nb\" c\n\"#\"", " text a\nb 0:1 word c 6:2 text # 8:3"),
+    ("a\tb\r\nc", " word a 0:1 word b 2:1 word c 5:2"),
+    ("a#b\"\nc", " word a 0:1 word c 5:2"),
+    (
+        "10000000000000.0000004",
+        " number 10000000000000000000 10000000000000.0000004 0:1",
     ),
     (
-        b"1 ..",
-        &[
-            (Want::Number(1000000, b"1"), 0, 1),
-            (Want::Sign(Sign::Range), 2, 1),
-        ],
+        "0.0000005 0.0000004",
+        " number 1 0.0000005 0:1 number 0 0.0000004 10:1",
     ),
     (
-        b"1..",
-        &[
-            (Want::Number(1000000, b"1"), 0, 1),
-            (Want::Sign(Sign::Range), 1, 1),
-        ],
-    ),
-    (
-        b"a..b",
-        &[
-            (Want::Word(b"a"), 0, 1),
-            (Want::Sign(Sign::Range), 1, 1),
-            (Want::Word(b"b"), 3, 1),
-        ],
-    ),
-    (
-        b"1.5A",
-        &[
-            (Want::Number(1500000, b"1.5"), 0, 1),
-            (Want::Word(b"A"), 3, 1),
-        ],
-    ),
-    (
-        b"<= < = != >= > =",
-        &[
-            (Want::Sign(Sign::LessEqual), 0, 1),
-            (Want::Sign(Sign::Less), 3, 1),
-            (Want::Sign(Sign::Equal), 5, 1),
-            (Want::Sign(Sign::NotEqual), 7, 1),
-            (Want::Sign(Sign::GreaterEqual), 10, 1),
-            (Want::Sign(Sign::Greater), 13, 1),
-            (Want::Sign(Sign::Equal), 15, 1),
-        ],
-    ),
-    (
-        b"<<==",
-        &[
-            (Want::Sign(Sign::Less), 0, 1),
-            (Want::Sign(Sign::LessEqual), 1, 1),
-            (Want::Sign(Sign::Equal), 3, 1),
-        ],
-    ),
-    (
-        b"+-*/()[],;:",
-        &[
-            (Want::Sign(Sign::Plus), 0, 1),
-            (Want::Sign(Sign::Minus), 1, 1),
-            (Want::Sign(Sign::Star), 2, 1),
-            (Want::Sign(Sign::Slash), 3, 1),
-            (Want::Sign(Sign::OpenParen), 4, 1),
-            (Want::Sign(Sign::CloseParen), 5, 1),
-            (Want::Sign(Sign::OpenBracket), 6, 1),
-            (Want::Sign(Sign::CloseBracket), 7, 1),
-            (Want::Sign(Sign::Comma), 8, 1),
-            (Want::Sign(Sign::Semicolon), 9, 1),
-            (Want::Sign(Sign::Colon), 10, 1),
-        ],
-    ),
-    (
-        b"si sinon positif positif_ou_nul X XA sI",
-        &[
-            (Want::Key(Key::Si), 0, 1),
-            (Want::Key(Key::Sinon), 3, 1),
-            (Want::Key(Key::Positif), 9, 1),
-            (Want::Key(Key::PositifOuNul), 17, 1),
-            (Want::Key(Key::X), 32, 1),
-            (Want::Word(b"XA"), 34, 1),
-            (Want::Word(b"sI"), 37, 1),
-        ],
-    ),
-    (
-        b"\"\"\"a\"",
-        &[(Want::Text(b""), 0, 1), (Want::Text(b"a"), 2, 1)],
-    ),
-    (
-        b"\"a\nb\" c\n\"#\"",
-        &[
-            (Want::Text(b"a\nb"), 0, 1),
-            (Want::Word(b"c"), 6, 2),
-            (Want::Text(b"#"), 8, 3),
-        ],
-    ),
-    (b"# \xe9\n\"\xe9\"", &[(Want::Text(b"\xe9"), 4, 2)]),
-    (
-        b"a\tb\r\nc",
-        &[
-            (Want::Word(b"a"), 0, 1),
-            (Want::Word(b"b"), 2, 1),
-            (Want::Word(b"c"), 5, 2),
-        ],
-    ),
-    (
-        b"a#b\"\nc",
-        &[(Want::Word(b"a"), 0, 1), (Want::Word(b"c"), 5, 2)],
-    ),
-    (
-        b"10000000000000.0000004",
-        &[(
-            Want::Number(10000000000000000000, b"10000000000000.0000004"),
-            0,
-            1,
-        )],
-    ),
-    (
-        b"0.0000005 0.0000004",
-        &[
-            (Want::Number(1, b"0.0000005"), 0, 1),
-            (Want::Number(0, b"0.0000004"), 10, 1),
-        ],
-    ),
-    (
-        b"regle verif application enchaineur si alors sinon finsi erreur saisie calculee const tableau alias type pour un dans et ou non somme \
+        "regle verif application enchaineur si alors sinon finsi erreur saisie calculee const tableau alias type pour un dans et ou non somme \
           present positif positif_ou_nul null arr inf abs max min anomalie discordance informative X",
-        &[
-            (Want::Key(Key::Regle), 0, 1),
-            (Want::Key(Key::Verif), 6, 1),
-            (Want::Key(Key::Application), 12, 1),
-            (Want::Key(Key::Enchaineur), 24, 1),
-            (Want::Key(Key::Si), 35, 1),
-            (Want::Key(Key::Alors), 38, 1),
-            (Want::Key(Key::Sinon), 44, 1),
-            (Want::Key(Key::Finsi), 50, 1),
-            (Want::Key(Key::Erreur), 56, 1),
-            (Want::Key(Key::Saisie), 63, 1),
-            (Want::Key(Key::Calculee), 70, 1),
-            (Want::Key(Key::Const), 79, 1),
-            (Want::Key(Key::Tableau), 85, 1),
-            (Want::Key(Key::Alias), 93, 1),
-            (Want::Key(Key::TypeKey), 99, 1),
-            (Want::Key(Key::Pour), 104, 1),
-            (Want::Key(Key::Un), 109, 1),
-            (Want::Key(Key::Dans), 112, 1),
-            (Want::Key(Key::Et), 117, 1),
-            (Want::Key(Key::Ou), 120, 1),
-            (Want::Key(Key::Non), 123, 1),
-            (Want::Key(Key::Somme), 127, 1),
-            (Want::Key(Key::Present), 133, 1),
-            (Want::Key(Key::Positif), 141, 1),
-            (Want::Key(Key::PositifOuNul), 149, 1),
-            (Want::Key(Key::Null), 164, 1),
-            (Want::Key(Key::Arr), 169, 1),
-            (Want::Key(Key::Inf), 173, 1),
-            (Want::Key(Key::Abs), 177, 1),
-            (Want::Key(Key::Max), 181, 1),
-            (Want::Key(Key::Min), 185, 1),
-            (Want::Key(Key::Anomalie), 189, 1),
-            (Want::Key(Key::Discordance), 198, 1),
-            (Want::Key(Key::Informative), 210, 1),
-            (Want::Key(Key::X), 222, 1),
-        ],
+        " Regle 0:1 Verif 6:1 Application 12:1 Enchaineur 24:1 Si 35:1 Alors 38:1 Sinon 44:1 Finsi 50:1 Erreur 56:1 Saisie 63:1 Calculee 70:1 \
+          Const 79:1 Tableau 85:1 Alias 93:1 TypeKey 99:1 Pour 104:1 Un 109:1 Dans 112:1 Et 117:1 Ou 120:1 Non 123:1 Somme 127:1 Present 133:1 \
+          Positif 141:1 PositifOuNul 149:1 Null 164:1 Arr 169:1 Inf 173:1 Abs 177:1 Max 181:1 Min 185:1 Anomalie 189:1 Discordance 198:1 \
+          Informative 210:1 X 222:1",
     ),
 ];
 
-fn is_kind(kind: &Kind, want: Want<'_>) -> bool {
-    match (kind, want) {
-        (Kind::Word(name), Want::Word(bytes)) => name.bytes() == bytes,
-        (Kind::Number(amount, name), Want::Number(millionths, bytes)) => {
-            amount.millionths() == millionths && name.bytes() == bytes
+// Texts that have no tokens, each with its first fault, and the byte and the line of it.
+static FAULTS: [(&str, &str); 15] = [
+    ("1.", "bad byte 1:1"),
+    ("!", "bad byte 0:1"),
+    (".", "bad byte 0:1"),
+    ("a.b", "bad byte 1:1"),
+    ("a !b", "bad byte 2:1"),
+    ("12.5.3", "bad byte 4:1"),
+    ("a \né", "bad byte 3:2"),
+    ("\"abc", "open 0:1"),
+    ("a\n \"b\nc", "open 3:2"),
+    ("\"a\n\" \"", "open 5:2"),
+    ("\" 99999999999999", "open 0:1"),
+    ("99999999999999", "too great 0:1"),
+    ("10000000000000.0000005", "too great 0:1"),
+    ("a\n99999999999999 \"", "too great 2:2"),
+    (
+        "REV : saisie revenu classe = 0 alias 1AJ : \"s",
+        "open 43:1",
+    ),
+];
+
+// The tables, out of reach of the proof of what goes over them.
+
+fn all_tokens() -> &'static [(&'static str, &'static str)] {
+    &TOKENS
+}
+
+fn all_faults() -> &'static [(&'static str, &'static str)] {
+    &FAULTS
+}
+
+fn add_key(alloc: Global, out: &mut Vec<u8>, key: Key) {
+    if let Ok(name) = format!(in alloc; " {key:?}") {
+        add(out, name.as_bytes());
+    }
+}
+
+fn add_sign(alloc: Global, out: &mut Vec<u8>, sign: Sign) {
+    if let Ok(name) = format!(in alloc; " {sign:?}") {
+        add(out, name.as_bytes());
+    }
+}
+
+fn add_kind(alloc: Global, out: &mut Vec<u8>, kind: &Kind) {
+    match kind {
+        Kind::Word(name) => {
+            add(out, b" word");
+            add_word(out, name.bytes());
         }
-        (Kind::Text(name), Want::Text(bytes)) => name.bytes() == bytes,
-        (Kind::Key(key), Want::Key(wanted)) => *key == wanted,
-        (Kind::Sign(sign), Want::Sign(wanted)) => *sign == wanted,
-        _ => false,
-    }
-}
-
-// Whether a token of the file 7 is this, and stands at this byte and on this line.
-fn is_token(token: &Token, want: Want<'_>, byte: u32, line: u32) -> bool {
-    let place = token.place;
-    place.file == 7 && place.byte == byte && place.line == line && is_kind(&token.kind, want)
-}
-
-// The table, out of reach of the proof of what goes over it.
-fn all_lists() -> &'static [(&'static [u8], &'static [(Want<'static>, u32, u32)])] {
-    &LISTS
-}
-
-fn are_tokens(tokens: &[Token], wanted: &[(Want<'static>, u32, u32)]) -> bool {
-    if tokens.len() != wanted.len() {
-        return false;
-    }
-    for (token, (want, byte, line)) in tokens.iter().zip(wanted) {
-        if !is_token(token, *want, *byte, *line) {
-            return false;
+        Kind::Number(amount, name) => {
+            add(out, b" number ");
+            add_number(alloc, out, amount.millionths());
+            add_word(out, name.bytes());
         }
-    }
-    true
-}
-
-fn is_list(alloc: Global, source: &[u8], wanted: &[(Want<'static>, u32, u32)]) -> bool {
-    match tokens_of(alloc, source, 7) {
-        Some(tokens) => are_tokens(&tokens, wanted),
-        None => false,
+        Kind::Text(name) => {
+            add(out, b" text");
+            add_word(out, name.bytes());
+        }
+        Kind::Key(key) => add_key(alloc, out, *key),
+        Kind::Sign(sign) => add_sign(alloc, out, *sign),
     }
 }
 
-/// Whether a text has one token, which is this.
-pub fn is_one(alloc: Global, source: &[u8], want: Want<'_>) -> bool {
-    match tokens_of(alloc, source, 7) {
-        Some(tokens) => match tokens.as_slice() {
-            [token] => is_token(token, want, 0, 1),
-            _ => false,
-        },
-        None => false,
+/// Adds tokens.
+pub fn add_tokens(alloc: Global, out: &mut Vec<u8>, tokens: &[Token]) {
+    for token in tokens {
+        add_kind(alloc, out, &token.kind);
+        add_place(alloc, out, token.place);
+    }
+}
+
+fn add_at(alloc: Global, out: &mut Vec<u8>, words: &[u8], place: Place) {
+    add(out, words);
+    add_place(alloc, out, place);
+}
+
+/// Adds why a text has no tokens.
+pub fn add_fault(alloc: Global, out: &mut Vec<u8>, fault: LexFault) {
+    match fault {
+        LexFault::BadByte(place) => add_at(alloc, out, b"bad byte", place),
+        LexFault::OpenString(place) => add_at(alloc, out, b"open", place),
+        LexFault::NumberTooGreat(place) => add_at(alloc, out, b"too great", place),
+        LexFault::Memory => add(out, b"memory"),
     }
 }
 
 #[test]
 fn tokens_at_the_edges(rt: HostRuntime) -> Result<(), Fail> {
-    for (source, wanted) in all_lists() {
-        if !is_list(rt.alloc(), source, wanted) {
-            return Err(other_at(rt.alloc(), source));
-        }
-    }
+    check_all(rt.alloc(), Reading::Tokens, all_tokens())
+}
+
+#[test]
+fn first_faults(rt: HostRuntime) -> Result<(), Fail> {
+    check_all(rt.alloc(), Reading::Tokens, all_faults())
+}
+
+// Bytes that aren't UTF-8 stand in comments and texts, and nowhere else.
+#[test]
+fn bytes_above_127(rt: HostRuntime) {
+    assert!(rt;
+        is_read(
+            rt.alloc(),
+            Reading::Tokens,
+            b"# \xe9\n\"\xe9\"",
+            b" text \xe9 4:2"
+        )
+    );
+    assert!(rt;
+        is_read(
+            rt.alloc(),
+            Reading::Tokens,
+            b"# \xe9\n\xe9",
+            b"bad byte 4:2"
+        )
+    );
+}
+
+// Whether a text of these bytes is one token, which is shown with these words before the text.
+fn is_one(alloc: Global, text: &[u8], words: &[u8]) -> bool {
+    let mut wanted = Vec::new(alloc);
+    add(&mut wanted, words);
+    add_word(&mut wanted, text);
+    add(&mut wanted, b" 0:1");
+    is_read(alloc, Reading::Tokens, text, &wanted)
+}
+
+#[test]
+fn large_words(rt: HostRuntime) -> Result<(), Fail> {
+    let word = vec![in rt.alloc(); b'A'; 16_777_216]?;
+    assert!(rt; is_one(rt.alloc(), &word, b" word"));
+    Ok(())
+}
+
+#[test]
+fn large_numbers(rt: HostRuntime) -> Result<(), Fail> {
+    let mut number = vec![in rt.alloc(); b'0'; 10_000]?;
+    number[9_999] = b'7';
+    assert!(rt; is_one(rt.alloc(), &number, b" number 7000000"));
+    number[0] = b'9';
+    assert!(rt; is_read(rt.alloc(), Reading::Tokens, &number, b"too great 0:1"));
     Ok(())
 }
