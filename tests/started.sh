@@ -343,6 +343,20 @@ for signal in TERM KILL; do
     judge 0 0 "" "a trial that SIG$signal ends"
 done
 
+# So does ./build, which leaves its messages.
+mkdir -p "$dir/site/crates/m_tax"
+: >"$dir/site/crates.txt"
+cp build "$dir/site/build"
+rm -f "$dir/begun" "$dir/ended"
+PATH=$dir/bin:$PATH "$dir/site/build" >"$dir/out" 2>/dev/null &
+tries=0
+until [ -e "$dir/begun" ] || [ $tries -eq 100 ]; do sleep 0.1 && tries=$((tries + 1)); done
+kill -TERM $! && wait $!
+status=$?
+until [ -e "$dir/ended" ] || [ $tries -eq 200 ]; do sleep 0.1 && tries=$((tries + 1)); done
+if [ -e "$dir/ended" ]; then ls "$dir/site/out"; else echo "rt goes on"; fi >"$dir/err"
+judge "$status" 1 "" "a build that SIGTERM ends" build.log
+
 # Where the input of a session is closed, a trial doesn't take it for an empty one.
 "$dir/bare/m_tax" serve $list - - $household >"$dir/out" 2>"$dir/err" <&-
 judge "$?" 70 "" "a closed input, in a trial" "$trial

@@ -15,6 +15,7 @@ top=$(cd "$here/../.." && pwd)
 older=$(cd "${1:-$top}" && pwd)
 work=${WORK:-$(mktemp -d)}
 [ -n "${WORK:-}" ] || trap 'rm -rf "$work"' EXIT
+trap 'exit 1' HUP INT TERM
 
 # timer NAME TOP: builds the timing program over the m_fixed of a clone, in both places.
 timer() {

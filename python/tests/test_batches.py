@@ -52,6 +52,16 @@ class Batches(Room):
                 rows[1204] = {"1AJ": wrong}
                 self.assertEqual(self.told_before(rows, size, error)[0], list(range(1204)))
 
+    def test_an_iterator_of_one_household_that_changes(self):
+        def rows():
+            household = {}
+            for k in range(50):
+                household["1AJ"] = 1000 + k
+                yield household
+
+        for size in (1, 7, 1000):
+            self.assertEqual([answer["IRN"] for answer in self.rules.batch(rows(), rows_at_once=size)], list(range(50)))
+
     def test_an_iterator_that_raises(self):
         def rows(count):
             for k in range(count):

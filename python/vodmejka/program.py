@@ -125,7 +125,7 @@ def spelled(code: str, amount: Amount) -> str:
 
 def household_bytes(household: Mapping[str, Amount]) -> bytes:
     """A household as a file; a code whose amount is None, or an empty text as in a table, is left out."""
-    rows = [[code, spelled(code, amount)] for code, amount in household.items() if amount not in (None, "")]
+    rows = [[code, spelled(code, amount)] for code, amount in household.items() if amount is not None and not (isinstance(amount, str) and amount == "")]
     return csv_text([["code", "amount"], *rows]).encode(ENCODING)
 
 

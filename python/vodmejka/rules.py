@@ -176,7 +176,9 @@ class Rules:
         form = Form(self._outputs())
         notes = sum(line.startswith("note ") for line in self._lines)
         size = max(1, min(at_once, MOST_ROWS, VALUES // (len(form.names) + notes + 1)))
-        return Batch([self.program, "batch", *self._words], self._room.name, form, size, self.inputs(), self._told).answers(rows)
+        # (an iterator may hand out one mapping again and again, changed each time: a part is read before it is written)
+        taken = rows if isinstance(rows, (list, tuple)) else map(dict, rows)
+        return Batch([self.program, "batch", *self._words], self._room.name, form, size, self.inputs(), self._told).answers(taken)
 
     def _frame(self, frame: Any, at_once: int) -> Any:
         """The answers to the rows of a frame, as a frame."""

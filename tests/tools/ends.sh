@@ -43,6 +43,8 @@ draw h.csv
 for range in '0 0.5 0.1' '0 30000 500' '-2.5 0 0.5'; do "$tools/marginal" a.list - h.csv 1AJ $range --of IRN | sed -n 's/.*middle">\(.*\)<.text>/\1/p' | tr '\n' ' '; done
 echo
 : >killed && draw h.csv
+stand_in 'awk -F, '\''NR > 1 {print "household " $1 "\nIRN = 0"}'\'' "$5"'
+"$tools/marginal" a.list - h.csv 1AJ -10 0 10 --of IRN --csv
 rm killed fault.csv
 echo "-- variant: cells by their whole names, numbers of any length"
 printf 'iliad\nt.m\n' >t.list
