@@ -78,11 +78,10 @@ pub fn replays(
 ) -> bool {
     let mut count: usize = 0;
     for place in 0..code.len() {
-        let instr = code.instr(place);
-        if let Some(r) = made(instr) {
+        if let Some(r) = made(code.instr(place)) {
             put(registers, r as usize, count);
             count = count.saturating_add(1);
-        } else if !moves(left, slots, registers, instr) {
+        } else if !moves(left, slots, registers, code.instr(place)) {
             return false;
         }
     }
