@@ -6,12 +6,14 @@ use Rattle.m_lexer.specs.declared.token.Token.{Token}
 use Rattle.m_lexer.specs.declared.token.Key.TheVariants as keys
 use Rattle.m_lexer.specs.declared.token.Sign.TheVariants.{Comma}
 use Rattle.m_ast.specs.declared.item.Item.{Item}
-use Rattle.m_terms.specs.Tokens.{first, is_sign}
+use Rattle.m_lexer.specs.Chains.{first}
+use Rattle.m_terms.specs.Tokens.{is_sign}
 use Rattle.m_terms.specs.Terms.{BeginsBy}
-use Rattle.m_terms.specs.inner.Reading.{begins_by, choose}
-use Rattle.m_terms.proofs.Sound.{Each, absent, here}
+use Rattle.m_lexer.specs.inner.Chains.{choose}
+use Rattle.m_terms.specs.inner.Reading.{begins_by}
+use Rattle.m_lexer.proofs.ChainSound.{Each, absent, here}
 use Rattle.m_terms.proofs.Passes.{Behind, behind_drop, behind_shorter}
-use Rattle.m_terms.proofs.Complete.{open_complete}
+use Rattle.m_lexer.proofs.ChainComplete.{open_complete}
 use Rattle.declaration_items.specs.declared.fault.ItemFault.{ItemFault}
 use Rattle.declaration_items.specs.declared.fault.ItemFault.TheVariants.{NoItem, Memory}
 use Rattle.declaration_items.specs.Grammar.{input, computed, constant, error, SpellsApplications, SpellsDeclaration, a_variable, an_error, an_application, a_chaining}

@@ -7,10 +7,12 @@ use Rattle.m_lexer.specs.declared.token.Kind.TheVariants.{Key, Sign}
 use Rattle.m_lexer.specs.declared.token.Key.TheVariants as keys
 use Rattle.m_lexer.specs.declared.token.Sign.TheVariants as signs
 use Rattle.m_ast.specs.declared.item.Item.{Item}
-use Rattle.m_terms.specs.Tokens.{kind_is_sign, kind_is_key, is_sign, First, first, Chain, ended, further, Joined}
-use Rattle.m_terms.specs.inner.Reading.{open_at, chain_at}
+use Rattle.m_lexer.specs.Chains.{First, first, Chain, ended, further}
+use Rattle.m_terms.specs.Tokens.{kind_is_sign, kind_is_key, is_sign, Joined}
+use Rattle.m_lexer.specs.inner.Chains.{open_at, chain_at}
 use Rattle.m_terms.proofs.Passes.{next, first_passes, behind_shorter}
-use Rattle.m_terms.proofs.Complete.{open_complete, joined_complete}
+use Rattle.m_lexer.proofs.ChainComplete.{open_complete}
+use Rattle.m_terms.proofs.Complete.{joined_complete}
 use Rattle.m_places.specs.declared.verification.ErrorKind.{ErrorKind}
 use Rattle.m_places.specs.declared.verification.ErrorKind.TheVariants as kinds
 use Rattle.m_lexer.specs.declared.token.Key.{Key as AKey}

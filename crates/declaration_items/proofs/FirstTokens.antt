@@ -12,8 +12,9 @@ use Rattle.m_lexer.specs.declared.token.Kind.TheVariants.{Word, Number, Text, Ke
 use Rattle.m_lexer.specs.declared.token.Key.{Key as AKey}
 use Rattle.m_lexer.specs.declared.token.Key.TheVariants as keys
 use Rattle.m_lexer.specs.declared.token.Sign.{Sign as ASign}
-use Rattle.m_terms.specs.Tokens.{same_sign, same_key, kind_is_sign, kind_is_key, First, first}
-use Rattle.m_terms.specs.inner.Reading.{open_at}
+use Rattle.m_lexer.specs.Chains.{First, first}
+use Rattle.m_terms.specs.Tokens.{same_sign, same_key, kind_is_sign, kind_is_key}
+use Rattle.m_lexer.specs.inner.Chains.{open_at}
 use Rattle.declaration_items.specs.Tokens.{placed, place_where, word_of, name_of, amount_of, error_kind_of, word, name, amount, error_kind, key_place, SpellsSign, SpellsKey, SpellsKeyAt}
 
 -- the first token is of this kind

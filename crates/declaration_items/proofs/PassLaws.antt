@@ -2,7 +2,8 @@
 use Rattle.std.proofs.Common.{ℕ, ℤ, List, Option}
 use Rattle.m_lexer.specs.declared.token.Token.{Token}
 use Rattle.m_lexer.specs.declared.token.Sign.TheVariants as signs
-use Rattle.m_terms.specs.Tokens.{is_sign, First, Chain, ended, further}
+use Rattle.m_lexer.specs.Chains.{First, Chain, ended, further}
+use Rattle.m_terms.specs.Tokens.{is_sign}
 use Rattle.m_terms.proofs.Passes.{Behind, over, skip, Passes, first_passes, joined_passes}
 use Rattle.declaration_items.specs.Tokens.{word, text}
 use Rattle.declaration_items.specs.Grammar.{Attribute, attribute, Attributes, SpellsAmount, positive, negative, SpellsNumber, without, with_one, SpellsAttributes, attributes, SpellsType, no_type, a_type, SpellsEnd, ending, SpellsSize, no_table, table, input, computed, constant, error, SpellsApplications, applications, SpellsDeclaration, a_variable, an_error, an_application, a_chaining}

@@ -10,9 +10,11 @@ use Rattle.m_lexer.specs.declared.token.Sign.TheVariants as signs
 use Rattle.m_ast.specs.declared.item.Item.{Item}
 use Rattle.m_ast.specs.declared.item.Item.TheVariants as items
 use Rattle.declaration_items.specs.declared.lists.Listed.TheVariants.{Texts}
-use Rattle.m_terms.specs.Tokens.{is_sign, is_key, First}
-use Rattle.m_terms.specs.inner.Reading.{open_at, ◌>>=◌}
-use Rattle.m_terms.proofs.Sound.{Each, absent, here, bind_each, choose_each, each_from, open_each, Sound, chain_sound, joined_sound}
+use Rattle.m_lexer.specs.Chains.{First}
+use Rattle.m_terms.specs.Tokens.{is_sign, is_key}
+use Rattle.m_lexer.specs.inner.Chains.{open_at, ◌>>=◌}
+use Rattle.m_lexer.proofs.ChainSound.{Each, absent, here, bind_each, choose_each, each_from, open_each, Sound, chain_sound}
+use Rattle.m_terms.proofs.Sound.{joined_sound}
 use Rattle.declaration_items.specs.Tokens.{word, name, whole, amount, text, error_kind, key_place, SpellsSign, SpellsKey, SpellsKeyAt}
 use Rattle.declaration_items.specs.Grammar.{attribute, attributes_of, SpellsAmount, positive, negative, SpellsNumber, without, with_one, SpellsAttributes, attributes, SpellsType, no_type, a_type, SpellsEnd, ending, SpellsSize, no_table, table, input, computed, constant, SpellsTexts, IsFourOrFive, error_item, error, SpellsApplications, applications, SpellsDeclaration, a_variable, an_error, an_application, a_chaining}
 use Rattle.declaration_items.specs.inner.Reading.{amount_at, number_at, lists_at, type_at, end_at, cells_at, size_at, input_at, computed_at, constant_at, is_four_or_five, list_at, error_at, named_at, applications_at, application_at, chaining_at, declared_at, declaration_at}

@@ -3,8 +3,8 @@ use Rattle.std.proofs.Common.{◌≡◌, ◌<◌, ℕ, ℤ, List, [], ◌∷◌,
 use Rattle.std.proofs.lemmas.List.Elements.{filter_map-append}
 use Rattle.std.proofs.lemmas.List.{append-nil}
 use Rattle.m_lexer.specs.declared.token.Token.{Token}
-use Rattle.m_terms.specs.inner.Reading.{open_at}
-use Rattle.m_terms.proofs.Chains.{Going, chain_start, chain_turn, chain_stop, chain_stuck}
+use Rattle.m_lexer.specs.inner.Chains.{open_at}
+use Rattle.m_lexer.proofs.Chains.{Going, chain_start, chain_turn, chain_stop, chain_stuck}
 use Rattle.declaration_items.specs.Tokens.{word}
 use Rattle.declaration_items.specs.Grammar.{Attribute, attribute, Attributes, attributes_of, no_attributes, word_without, pair_with}
 use Rattle.declaration_items.specs.inner.Reading.{number_at, attributes_at, lists_at, with_one_more}

@@ -17,7 +17,8 @@ use Rattle.m_ast.specs.declared.item.ErrorItem.{ErrorItem}
 use Rattle.m_ast.specs.declared.variable.VariableItem.{VariableItem}
 use Rattle.m_ast.specs.declared.variable.Role.{Role}
 use Rattle.m_ast.specs.declared.variable.Role.TheVariants.{Input, Computed, Constant}
-use Rattle.m_terms.specs.Tokens.{is_sign, First, Chain, Joined}
+use Rattle.m_lexer.specs.Chains.{First, Chain}
+use Rattle.m_terms.specs.Tokens.{is_sign, Joined}
 use Rattle.declaration_items.specs.Tokens.{word, name, whole, amount, text, error_kind, SpellsSign, SpellsKey, SpellsKeyAt}
 
 -- [ "-" ] NUMBER: `-0.5` is the amount on the other side of zero

@@ -5,7 +5,8 @@ use Rattle.m_lexer.specs.declared.token.Token.{Token}
 use Rattle.m_lexer.specs.declared.token.Key.TheVariants as keys
 use Rattle.m_lexer.specs.declared.token.Sign.TheVariants as signs
 use Rattle.m_ast.specs.declared.item.Item.{Item}
-use Rattle.m_terms.specs.Tokens.{First, is_sign}
+use Rattle.m_lexer.specs.Chains.{First}
+use Rattle.m_terms.specs.Tokens.{is_sign}
 use Rattle.m_terms.specs.Terms.{BeginsBy}
 use Rattle.declaration_items.specs.Tokens.{name, SpellsSign, SpellsKey}
 use Rattle.declaration_items.specs.Grammar.{SpellsDeclaration, SpellsApplications}

@@ -9,7 +9,8 @@ use Rattle.m_lexer.specs.declared.token.Kind.TheVariants.{Word, Number, Text, Ke
 use Rattle.m_lexer.specs.declared.token.Key.{Key as AKey}
 use Rattle.m_lexer.specs.declared.token.Key.TheVariants as keys
 use Rattle.m_lexer.specs.declared.token.Sign.{Sign as ASign}
-use Rattle.m_terms.specs.Tokens.{First, is_sign, is_key, is_name, is_whole}
+use Rattle.m_lexer.specs.Chains.{First}
+use Rattle.m_terms.specs.Tokens.{is_sign, is_key, is_name, is_whole}
 
 -- what a token says, and its place
 abbrev pub placed : {A : Type 0} → Option A → Place → Option (A × Place)

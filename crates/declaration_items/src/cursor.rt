@@ -5,7 +5,8 @@ ghost use Rattle.std.specs.Bool.{OnTrue};
 ghost use Rattle.std.specs.List.{list_all};
 ghost use Rattle.m_text.specs.Bytes.{is_digit};
 ghost use Rattle.m_terms.specs.Tokens.{is_sign, is_key, kind_is_sign, kind_is_key, is_name, is_whole};
-ghost use Rattle.m_terms.specs.inner.Reading.{open_at, begins_by};
+ghost use Rattle.m_lexer.specs.inner.Chains.{open_at};
+ghost use Rattle.m_terms.specs.inner.Reading.{begins_by};
 ghost use Rattle.declaration_items.specs.Tokens.{word, placed_word, name, whole, amount, text, error_kind};
 ghost use Rattle.declaration_items.specs.Tokens.{key_place, word_of, name_of, whole_of, amount_of, text_of, error_kind_of};
 

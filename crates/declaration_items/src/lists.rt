@@ -1,6 +1,6 @@
 //! Lists of names and of texts.
 ghost use Rattle.std.specs.Prelude.{◌≡◌, ◌<◌, length, Some, None, OnOk};
-ghost use Rattle.m_terms.specs.inner.Reading.{open_at};
+ghost use Rattle.m_lexer.specs.inner.Chains.{open_at};
 ghost use Rattle.declaration_items.specs.inner.Reading.{Gives, GivesBy, between, part, list_at, applications_at};
 
 use crate::cursor::Cursor;

@@ -18,7 +18,8 @@ use Rattle.m_ast.specs.declared.item.ErrorItem.{ErrorItem}
 use Rattle.m_ast.specs.declared.item.Slot.TheVariants.{Whole}
 use Rattle.m_ast.specs.declared.variable.VariableItem.{VariableItem}
 use Rattle.m_ast.specs.declared.variable.Role.TheVariants.{Input, Computed}
-use Rattle.m_terms.specs.Tokens.{First, first, further, ended, joined, at, is_name, is_not_small, is_whole}
+use Rattle.m_lexer.specs.Chains.{First, first, further, ended}
+use Rattle.m_terms.specs.Tokens.{joined, at, is_name, is_not_small, is_whole}
 use Rattle.m_terms.specs.Grammar.{two, link, SpellsPrim, SpellsProduct, SpellsSum, SpellsExpr, SpellsInner, gather, number, word, called_two, plain, affirmed, alone, compared}
 use Rattle.declaration_items.specs.Tokens.{name, placed}
 use Rattle.declaration_items.specs.Grammar.{input, computed, error, attributes, attribute, attributes_of, with_one, without, positive, ending, no_type, no_table, applications, variable, error_item, a_variable, an_error, no_attributes}

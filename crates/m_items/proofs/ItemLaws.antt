@@ -13,11 +13,13 @@ use Rattle.m_ast.specs.declared.item.Formula.{Formula}
 use Rattle.m_ast.specs.declared.item.CheckItem.{CheckItem}
 use Rattle.m_ast.specs.declared.item.RuleItem.{RuleItem}
 use Rattle.m_ast.specs.declared.item.VerifItem.{VerifItem}
-use Rattle.m_terms.specs.Tokens.{is_key, kind_is_sign, kind_is_key, first, ended, further}
-use Rattle.m_terms.specs.inner.Reading.{open_at, choose, begins_by, ◌>>=◌}
-use Rattle.m_terms.proofs.Sound.{Each, absent, here, bind_each, Sound}
+use Rattle.m_lexer.specs.Chains.{first, ended, further}
+use Rattle.m_terms.specs.Tokens.{is_key, kind_is_sign, kind_is_key}
+use Rattle.m_lexer.specs.inner.Chains.{open_at, choose, ◌>>=◌}
+use Rattle.m_terms.specs.inner.Reading.{begins_by}
+use Rattle.m_lexer.proofs.ChainSound.{Each, absent, here, bind_each, Sound}
 use Rattle.m_terms.proofs.Passes.{Passes}
-use Rattle.m_terms.proofs.Complete.{open_complete}
+use Rattle.m_lexer.proofs.ChainComplete.{open_complete}
 use Rattle.declaration_items.specs.Tokens.{name, SpellsSign, SpellsKeyAt}
 use Rattle.declaration_items.specs.Grammar.{SpellsDeclaration}
 use Rattle.declaration_items.specs.Standing.{BeginsDeclaration, by_name, by_application, by_chaining}

@@ -1,3 +1,6 @@
+pub mod ChainComplete
+pub mod ChainSound
+pub mod Chains
 pub mod Going
 pub mod InPlace
 pub mod Named

@@ -1,3 +1,4 @@
+pub mod Chains
 pub mod Spellings
 pub mod Tokens
 pub mod inner

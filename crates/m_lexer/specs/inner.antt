@@ -1,2 +1,3 @@
 -- What the contracts of inner functions speak of. Those of the public calls need none of it.
 pub mod Steps
+pub mod Chains

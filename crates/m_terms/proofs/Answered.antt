@@ -13,14 +13,16 @@ use Rattle.m_ast.specs.Syntax.{Syntax}
 use Rattle.m_ast.specs.declared.header.Header.{Header}
 use Rattle.m_terms.specs.declared.fault.TermFault.{TermFault}
 use Rattle.m_terms.specs.declared.fault.TermFault.TheVariants.{NoTerm, Memory}
-use Rattle.m_terms.specs.Tokens.{First, first, is_sign, kind_is_sign}
+use Rattle.m_lexer.specs.Chains.{First, first}
+use Rattle.m_terms.specs.Tokens.{is_sign, kind_is_sign}
 use Rattle.m_terms.specs.Headers.{SpellsHeader}
 use Rattle.m_terms.specs.Grammar.{SpellsInner}
 use Rattle.m_terms.specs.Terms.{SpellsTerm, follows, follows_of, BeginsBy, TermStands, HeaderStands, NoTermStands, NoHeaderStands}
-use Rattle.m_terms.specs.inner.Reading.{Fails, begins_by, header_at, expr_at, inner_at, choose}
-use Rattle.m_terms.proofs.Sound.{Each, absent, here}
+use Rattle.m_lexer.specs.inner.Chains.{choose}
+use Rattle.m_terms.specs.inner.Reading.{Fails, begins_by, header_at, expr_at, inner_at}
+use Rattle.m_lexer.proofs.ChainSound.{Each, absent, here}
 use Rattle.m_terms.proofs.Passes.{Behind, behind_drop, behind_shorter}
-use Rattle.m_terms.proofs.Complete.{open_complete}
+use Rattle.m_lexer.proofs.ChainComplete.{open_complete}
 use Rattle.m_terms.proofs.HeaderLaws.{grip_of, Loose, header_sound, header_passes, header_complete}
 use Rattle.m_terms.proofs.TermLaws.{tightness, Below, inner_sound, inner_passes, inner_complete, expr_sound, expr_passes, expr_complete}
 

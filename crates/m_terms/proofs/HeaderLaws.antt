@@ -10,12 +10,16 @@ use Rattle.m_ast.specs.declared.header.Header.{Header}
 use Rattle.m_ast.specs.declared.header.Index.{Index}
 use Rattle.m_ast.specs.declared.header.Span.{Span}
 use Rattle.m_terms.specs.declared.cursor.Mark.TheVariants.{OfKey, OfSign}
-use Rattle.m_terms.specs.Tokens.{is_sign, is_key, kind_is_sign, kind_is_key, First, first, Joined, joined}
+use Rattle.m_lexer.specs.Chains.{First, first}
+use Rattle.m_terms.specs.Tokens.{is_sign, is_key, kind_is_sign, kind_is_key, Joined, joined}
 use Rattle.m_terms.specs.Headers.{point, point_of, letter, letter_of, letter_at_place, index, SpellsSpan, alone, range, SpellsValues, SpellsPlaces, bare, bracketed, SpellsAssigned, assigned, SpellsWalked, walked, SpellsHeader, by_signs, by_words}
-use Rattle.m_terms.specs.inner.Reading.{open_at, mark_at, joined_at, span_at, values_at, places_at, assigned_at, walked_at, indexes_at, header_from, begins, header_at, ◌>>=◌}
-use Rattle.m_terms.proofs.Sound.{Each, absent, here, bind_each, choose_each, each_from, open_each, mark_each, Sound, joined_sound}
+use Rattle.m_lexer.specs.inner.Chains.{open_at, ◌>>=◌}
+use Rattle.m_terms.specs.inner.Reading.{mark_at, joined_at, span_at, values_at, places_at, assigned_at, walked_at, indexes_at, header_from, begins, header_at}
+use Rattle.m_lexer.proofs.ChainSound.{Each, absent, here, bind_each, choose_each, each_from, open_each, Sound}
+use Rattle.m_terms.proofs.Sound.{mark_each, joined_sound}
 use Rattle.m_terms.proofs.Passes.{later, over, skip, Passes, first_passes, joined_passes}
-use Rattle.m_terms.proofs.Complete.{Complete, open_complete, joined_complete}
+use Rattle.m_lexer.proofs.ChainComplete.{Complete, open_complete}
+use Rattle.m_terms.proofs.Complete.{joined_complete}
 
 -- how tightly a token binds a list of spans or members before it
 abbrev pub grip_of : Kind → ℕ

@@ -1,4 +1,3 @@
-pub mod Chains
 pub mod Exits
 pub mod Depths
 pub mod DepthLaws

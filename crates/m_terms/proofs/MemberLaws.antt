@@ -9,12 +9,15 @@ use Rattle.m_lexer.specs.declared.token.Kind.TheVariants.{Word, Number, Text, Ke
 use Rattle.m_lexer.specs.declared.token.Sign.TheVariants as signs
 use Rattle.m_ast.specs.Syntax.{Syntax, lit}
 use Rattle.m_terms.specs.declared.cursor.Mark.TheVariants.{OfSign}
-use Rattle.m_terms.specs.Tokens.{at, sign, is_sign, First, first}
+use Rattle.m_lexer.specs.Chains.{First, first}
+use Rattle.m_terms.specs.Tokens.{at, sign, is_sign}
 use Rattle.m_terms.specs.Grammar.{one, member, SpellsSigned, positive, negative, SpellsMember, amount, name, range, SpellsMembers}
-use Rattle.m_terms.specs.inner.Reading.{open_at, joined_at, number_of, number, word_of, plain_word, signed_at, ends_at, member_at}
-use Rattle.m_terms.proofs.Sound.{here, bind_each, choose_each, each_from, open_each, mark_each, Sound, joined_sound}
+use Rattle.m_lexer.specs.inner.Chains.{open_at}
+use Rattle.m_terms.specs.inner.Reading.{joined_at, number_of, number, word_of, plain_word, signed_at, ends_at, member_at}
+use Rattle.m_lexer.proofs.ChainSound.{here, bind_each, choose_each, each_from, open_each, Sound}
+use Rattle.m_terms.proofs.Sound.{mark_each, joined_sound}
 use Rattle.m_terms.proofs.Passes.{next, later, over, skip, Passes, joined_passes}
-use Rattle.m_terms.proofs.Complete.{Complete}
+use Rattle.m_lexer.proofs.ChainComplete.{Complete}
 use Rattle.m_terms.proofs.HeaderLaws.{Loose, range_closed, commas_complete}
 
 same : {A : Type 0} {x y : A} → Some x ≡ Some y → x ≡ y

@@ -1,7 +1,9 @@
 -- What is spelled takes tokens from the start: what is left stands after.
 use Rattle.std.proofs.Common.{◌≡◌, ◌<◌, ◌+◌, ℕ, zero, suc, List, ◌∷◌, length, drop, Option, ap, arith}
+use Rattle.m_lexer.proofs.ChainComplete.{Shrinks}
 use Rattle.m_lexer.specs.declared.token.Token.{Token}
-use Rattle.m_terms.specs.Tokens.{First, first, Chain, ended, further, Joined, joined}
+use Rattle.m_lexer.specs.Chains.{First, first, Chain, ended, further}
+use Rattle.m_terms.specs.Tokens.{Joined, joined}
 
 -- rest stands after one or more tokens of ts
 pub data Behind : List Token → List Token → Type 0 where
@@ -26,6 +28,9 @@ behind_drop (later b) (suc n) e = behind_drop b n (omega arith)
 
 abbrev pub Passes : {A : Type 0} → (A → List Token → List Token → Type 0) → Type 0
 Passes {A} R = (x : A) (ts rest : List Token) → R x ts rest → Behind rest ts
+
+pub shrinks_passing : {A : Type 0} (R : A → List Token → List Token → Type 0) → Passes R → Shrinks R
+shrinks_passing R passes _ _ _ d = behind_shorter (passes _ _ _ d)
 
 pub first_passes : {B : Type 0} {table : Token → Option B} {b : B} {ts rest : List Token} → First table b ts rest → Behind rest ts
 first_passes (first e) = next

@@ -14,7 +14,8 @@ use Rattle.m_ast.specs.Syntax.{Syntax}
 use Rattle.m_terms.specs.Terms.{SpellsTerm}
 use Rattle.m_ast.specs.declared.term.Link.{Link}
 use Rattle.m_terms.specs.Depth.{depth_behind, first_too_deep}
-use Rattle.m_terms.specs.Tokens.{at, sign, key, is_sign, is_key, kind_is_sign, kind_is_key, First, first, Chain, ended, further, Joined, joined}
+use Rattle.m_lexer.specs.Chains.{First, first, Chain, ended, further}
+use Rattle.m_terms.specs.Tokens.{at, sign, key, is_sign, is_key, kind_is_sign, kind_is_key, Joined, joined}
 use Rattle.m_terms.specs.Headers.{point, point_of, letter, letter_of, letter_at_place, SpellsSpan, SpellsValues, SpellsPlaces, SpellsAssigned, SpellsWalked, SpellsHeader, bare, bracketed, assigned, walked, by_signs, by_words}
 use Rattle.m_terms.specs.Headers.{alone as one_value, range as values_between}
 use Rattle.m_terms.specs.Grammar.{addition, addition_of, multiplication, multiplication_of, conjunction, conjunction_of, disjunction, disjunction_of, comparison, comparison_of, function_of, link, Gathered, gather, SpellsPrim, number, word, own, read, brackets, either, only, called, called_two, looped, SpellsFactor, plain, minus, SpellsProduct, SpellsSum, SpellsSigned, positive, negative, SpellsMember, amount, name, range, SpellsMembers, SpellsRelation, alone, compared, inside, outside, SpellsNegation, affirmed, negated, SpellsConjunction, SpellsExpr, SpellsInner}

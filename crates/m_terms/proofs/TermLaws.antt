@@ -13,13 +13,16 @@ use Rattle.m_ast.specs.declared.term.Member.{Member}
 use Rattle.m_ast.specs.Syntax.{Syntax, cell, loop}
 use Rattle.m_terms.specs.declared.cursor.Mark.{Mark}
 use Rattle.m_terms.specs.declared.cursor.Mark.TheVariants.{OfKey, OfSign}
-use Rattle.m_terms.specs.Tokens.{at, sign, key, kind_is_sign, kind_is_key, First, first}
+use Rattle.m_lexer.specs.Chains.{First, first}
+use Rattle.m_terms.specs.Tokens.{at, sign, key, kind_is_sign, kind_is_key}
 use Rattle.m_terms.specs.Headers.{SpellsHeader}
 use Rattle.m_terms.specs.Grammar.{one, two, three, addition, addition_of, multiplication, multiplication_of, conjunction, conjunction_of, disjunction, disjunction_of, comparison, comparison_of, function_of, link, gathered, Gathered, gather, SpellsPrim, number, word, own, read, brackets, either, only, called, called_two, looped, SpellsFactor, plain, minus, SpellsProduct, SpellsSum, SpellsMembers, SpellsRelation, alone, compared, inside, outside, SpellsNegation, affirmed, negated, SpellsConjunction, SpellsExpr, SpellsInner}
-use Rattle.m_terms.specs.inner.Reading.{open_at, is, mark_at, gathered_at, until_at, other_at, choice_at, named_at, called_at, called_two_at, call_at, loop_at, other_word_at, word_at, prim_of, prim_at, factor_at, product_at, sum_at, members_at, inside_at, outside_at, membership_at, relation_at, negation_at, conjunction_at, expr_at, inner_at, choose}
-use Rattle.m_terms.proofs.Sound.{Each, absent, here, bind_each, choose_each, each_from, open_each, token, mark_each, Sound, chain_sound}
-use Rattle.m_terms.proofs.Passes.{next, later, over, skip, Passes, chain_passes}
-use Rattle.m_terms.proofs.Complete.{Complete, chain_binds, chain_complete}
+use Rattle.m_lexer.specs.inner.Chains.{open_at, choose}
+use Rattle.m_terms.specs.inner.Reading.{is, mark_at, gathered_at, until_at, other_at, choice_at, named_at, called_at, called_two_at, call_at, loop_at, other_word_at, word_at, prim_of, prim_at, factor_at, product_at, sum_at, members_at, inside_at, outside_at, membership_at, relation_at, negation_at, conjunction_at, expr_at, inner_at}
+use Rattle.m_lexer.proofs.ChainSound.{Each, absent, here, bind_each, choose_each, each_from, open_each, Sound, chain_sound}
+use Rattle.m_terms.proofs.Sound.{token, mark_each}
+use Rattle.m_terms.proofs.Passes.{next, later, over, skip, Passes, shrinks_passing, chain_passes}
+use Rattle.m_lexer.proofs.ChainComplete.{Complete, chain_binds, chain_complete}
 use Rattle.m_terms.proofs.HeaderLaws.{header_sound, header_passes, header_complete}
 use Rattle.m_terms.proofs.MemberLaws.{list_sound, list_passes, list_complete}
 
@@ -65,7 +68,7 @@ module _ (operator : Token → Option Op) (R : Syntax → List Token → List To
   pub gathered_complete : (p : List Token → Option (Syntax × List Token)) (j : ℕ) → Passes R → Complete (Below (suc j)) R p → ((t : Token) (b : Op) (ts : List Token) → operator t ≡ Some b → Below (suc j) (t ∷ ts)) → ((ts : List Token) → Below j ts → open_at operator ts ≡ None) → Complete (Below j) (Gathered operator R) (gathered_at operator p)
   unfolding gathered_at
   gathered_complete p j passes complete binds closed _ _ _ (gather {mid = mid} d c e) h =
-      rw (complete _ _ _ d (chain_binds operator link R passes p (Below (suc j)) (Below j) complete binds (λ ts h. omega arith) closed c h), chain_complete operator link R passes p (Below (suc j)) (Below j) complete binds (λ ts h. omega arith) closed (length mid) [] c h (omega arith), e) refl
+      rw (complete _ _ _ d (chain_binds operator link R (shrinks_passing R passes) p (Below (suc j)) (Below j) complete binds (λ ts h. omega arith) closed c h), chain_complete operator link R (shrinks_passing R passes) p (Below (suc j)) (Below j) complete binds (λ ts h. omega arith) closed (length mid) [] c h (omega arith), e) refl
 
 -- Which token goes on with what stands before it.
 multiplies : (k : Kind) (b : Op) → multiplication_of k ≡ Some b → tightness k < 6

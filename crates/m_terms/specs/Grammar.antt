@@ -17,7 +17,8 @@ use Rattle.m_ast.specs.declared.term.Link.{Link}
 use Rattle.m_ast.specs.declared.term.Member.{Member}
 use Rattle.m_ast.specs.Syntax.{Syntax, lit, named, the_x, cell, apply, chain, among, loop, no_terms, a_term}
 use Rattle.m_ast.specs.View.{links_of, members_of}
-use Rattle.m_terms.specs.Tokens.{at, sign, key, is_sign, Chain, Joined}
+use Rattle.m_lexer.specs.Chains.{Chain}
+use Rattle.m_terms.specs.Tokens.{at, sign, key, is_sign, Joined}
 use Rattle.m_terms.specs.Headers.{SpellsHeader}
 
 -- an operator on one, two or three arguments

@@ -9,7 +9,8 @@ use Rattle.m_lexer.specs.declared.token.Sign.TheVariants as signs
 use Rattle.m_ast.specs.declared.header.Header.{Header}
 use Rattle.m_ast.specs.declared.header.Index.{Index}
 use Rattle.m_ast.specs.declared.header.Span.{Span}
-use Rattle.m_terms.specs.Tokens.{sign, key, is_sign, is_key, First, Joined, is_name, is_whole, small_letter}
+use Rattle.m_lexer.specs.Chains.{First}
+use Rattle.m_terms.specs.Tokens.{sign, key, is_sign, is_key, Joined, is_name, is_whole, small_letter}
 
 -- point := NAME | "X" | WHOLE, as its bytes
 abbrev pub point_of : Kind → Option (List ℕ)

@@ -8,7 +8,8 @@ use Rattle.m_lexer.specs.declared.token.Sign.TheVariants.{CloseParen, CloseBrack
 use Rattle.m_places.specs.declared.limits.TheConstants.{BRACKET_DEPTH}
 use Rattle.m_ast.specs.Syntax.{Syntax}
 use Rattle.m_ast.specs.declared.header.Header.{Header}
-use Rattle.m_terms.specs.Tokens.{First, is_sign}
+use Rattle.m_lexer.specs.Chains.{First}
+use Rattle.m_terms.specs.Tokens.{is_sign}
 use Rattle.m_terms.specs.Headers.{SpellsHeader}
 use Rattle.m_terms.specs.Grammar.{SpellsExpr, SpellsInner}
 

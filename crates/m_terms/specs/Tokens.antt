@@ -44,17 +44,6 @@ is_sign s t = kind_is_sign s t.kind
 abbrev pub is_key : AKey → Token → Option (Unit {0})
 is_key k t = kind_is_key k t.kind
 
--- the first token, of which the table says something
-pub data First {B : Type 0} (table : Token → Option B) : B → List Token → List Token → Type 0 where
-  first : {b : B} {t : Token} {ts : List Token} → table t ≡ Some b → First table b (t ∷ ts) ts
-
--- { opening R }: opens says which tokens open a further one, and what they say of it
-pub data Chain {A B X : Type 0} (opens : Token → Option B) (made : B → A → X) (R : A → List Token → List Token → Type 0) : List X → List Token → List Token → Type 0 where
-  ended : {ts : List Token} → Chain opens made R [] ts ts
-  further : {t : Token} {b : B} {x : A} {xs : List X} {ts mid rest : List Token}
-      → opens t ≡ Some b → R x ts mid → Chain opens made R xs mid rest →
-      Chain opens made R (made b x ∷ xs) (t ∷ ts) rest
-
 -- R { opening R }, where the opening says nothing of it
 pub data Joined {A : Type 0} (opens : Token → Option (Unit {0})) (R : A → List Token → List Token → Type 0) : List A → List Token → List Token → Type 0 where
   joined : {x : A} {xs : List A} {ts mid rest : List Token}

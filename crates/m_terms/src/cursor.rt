@@ -8,7 +8,8 @@ ghost use Rattle.std.specs.List.{list_all};
 ghost use Rattle.m_terms.specs.Headers.{point, point_of, letter, letter_of};
 ghost use Rattle.m_terms.specs.Grammar.{comparison, comparison_of};
 ghost use Rattle.m_terms.specs.Terms.{follows, follows_of};
-ghost use Rattle.m_terms.specs.inner.Reading.{open_at, mark_at, begins, is_kind, plain_word, operator_of, operator_at, begins_by};
+ghost use Rattle.m_lexer.specs.inner.Chains.{open_at};
+ghost use Rattle.m_terms.specs.inner.Reading.{mark_at, begins, is_kind, plain_word, operator_of, operator_at, begins_by};
 ghost use Rattle.m_ast.specs.Syntax.{named};
 
 use m_fixed::Op;

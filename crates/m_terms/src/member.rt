@@ -3,7 +3,8 @@ ghost use Rattle.std.specs.Prelude.{◌≡◌, ◌<◌, length, IfOk, OnOk};
 ghost use Rattle.m_terms.specs.Grammar.{member};
 ghost use Rattle.m_terms.specs.Tokens.{is_sign};
 ghost use Rattle.m_lexer.specs.declared.token.Sign.TheVariants.{Comma};
-ghost use Rattle.m_terms.specs.inner.Reading.{Gives, GivesBy, open_at, number, signed_at, ends_at, joined_at, member_at, members_at};
+ghost use Rattle.m_lexer.specs.inner.Chains.{open_at};
+ghost use Rattle.m_terms.specs.inner.Reading.{Gives, GivesBy, number, signed_at, ends_at, joined_at, member_at, members_at};
 
 use crate::build::{applied, boxed};
 use crate::cursor::{Cursor, Mark};

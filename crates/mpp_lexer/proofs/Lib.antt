@@ -2,4 +2,3 @@ pub mod Tokens
 pub mod Steps
 pub mod Texts
 pub mod OneReading
-pub mod Numbers

@@ -5,9 +5,9 @@ use Rattle.std.proofs.lemmas.Bool.{cases_lt}
 use Rattle.std.proofs.lemmas.List.{append-nil}
 use Rattle.mpp_lexer.specs.declared.piece.Line.{Line}
 use Rattle.mpp_parser.specs.Drivers.{Many, no_more, one_more}
-use Rattle.mpp_parser.specs.inner.Reading.{choose}
+use Rattle.m_lexer.specs.inner.Chains.{choose}
 use Rattle.mpp_parser.specs.inner.Blocks.{many_at}
-use Rattle.mpp_parser.proofs.Sound.{Each, absent, here}
+use Rattle.m_lexer.proofs.ChainSound.{Each, absent, here}
 
 -- lines of a kind, up to a rest
 pub data Front (P : Line → Type 0) : List Line → List Line → Type 0 where

@@ -13,8 +13,11 @@ use Rattle.mpp_parser.specs.declared.term.Kind.TheVariants.{Attribute}
 use Rattle.mpp_parser.specs.Keywords.{keyword_of, operator_keyword_of}
 use Rattle.mpp_parser.specs.Grammar.{is, key, found, tax_benefit, SpellsCell, plain, indexed, SpellsNumber, a_number, SpellsNumbers, numbers, SpellsKind, benefit, attribute}
 use Rattle.mpp_parser.specs.inner.Reading.{sign_at, key_at, number_at, index_of, free, word_of, word_at, bracket_at, cell_rest_at, cell_at, numbers_at, benefit_of, kind_at, enclosed_at}
-use Rattle.mpp_parser.proofs.Sound.{Each, absent, here, bind_each, choose_each, each_from, Opened, open_each, sign_each, Sound, chain_sound}
-use Rattle.mpp_parser.proofs.Complete.{Below, Complete, Shrinks, chain_shrinks, chain_complete}
+use Rattle.m_lexer.specs.Chains.{First}
+use Rattle.m_lexer.proofs.ChainSound.{Each, absent, here, bind_each, choose_each, each_from, opened, open_each, Sound, chain_sound}
+use Rattle.mpp_parser.proofs.Sound.{sign_each}
+use Rattle.m_lexer.proofs.ChainComplete.{Complete, Shrinks, chain_shrinks, chain_complete}
+use Rattle.mpp_parser.proofs.Tightness.{Below}
 use Rattle.mpp_parser.proofs.Levels.{bracket_closed}
 
 -- Single tokens.
@@ -37,8 +40,8 @@ key_each k ts = each_from (open_each (key k) ts) known
     is_key (Number z v) u us e f = absurd (cc)
     is_key (Sign s) u us e f = absurd (cc)
 
-    known : (o : Unit {0} × List DriverPiece) → Opened (key k) ts o → IsKey k ts o
-    known o h = is_key h.token o.0 o.1 h.opened h.first
+    known : (o : Unit {0} × List DriverPiece) → First (key k) o.0 ts o.1 → IsKey k ts o
+    known o h = let f = opened h in is_key f.0 o.0 o.1 f.1 f.2
 
 abbrev pub IsFree : List DriverPiece → List ℕ × List DriverPiece → Type 0
 IsFree ts o = (keyword_of o.0 ≡ None) × (ts ≡ Word o.0 ∷ o.1)
@@ -55,8 +58,8 @@ word_each ts = each_from (open_each word_of ts) known
     is_free (Number z u) v us e f = absurd (cc)
     is_free (Sign s) v us e f = absurd (cc)
 
-    known : (o : List ℕ × List DriverPiece) → Opened word_of ts o → IsFree ts o
-    known o h = is_free h.token o.0 o.1 h.opened h.first
+    known : (o : List ℕ × List DriverPiece) → First word_of o.0 ts o.1 → IsFree ts o
+    known o h = let f = opened h in is_free f.0 o.0 o.1 f.1 f.2
 
 pub word_given : (w : List ℕ) (ts : List DriverPiece) → keyword_of w ≡ None → word_at (Word w ∷ ts) ≡ Some (w, ts)
 word_given w ts e = rw e refl
@@ -76,8 +79,8 @@ cell_rest_sound w ts e =
     an_index (Word v) n us f = absurd (cc)
     an_index (Sign s) n us f = absurd (cc)
 
-    closed : (o : Unit {0} × List DriverPiece) → ts ≡ Sign OpenBracket ∷ o.1 → (n : ℕ × List DriverPiece) → Opened index_of o.1 n → (r : Unit {0} × List DriverPiece) → n.1 ≡ Sign CloseBracket ∷ r.1 → SpellsCell (record { name = w; index = Some n.0 }) (Word w ∷ ts) r.1
-    closed o g n h r i = subst (λ us. SpellsCell (record { name = w; index = Some n.0 }) (Word w ∷ us) r.1) (sym (g ∙ ap (λ us. Sign OpenBracket ∷ us) (h.first ∙ ap (λ us. h.token ∷ us) i))) (an_index h.token n.0 r.1 h.opened)
+    closed : (o : Unit {0} × List DriverPiece) → ts ≡ Sign OpenBracket ∷ o.1 → (n : ℕ × List DriverPiece) → First index_of n.0 o.1 n.1 → (r : Unit {0} × List DriverPiece) → n.1 ≡ Sign CloseBracket ∷ r.1 → SpellsCell (record { name = w; index = Some n.0 }) (Word w ∷ ts) r.1
+    closed o g n h r i = let f = opened h in subst (λ us. SpellsCell (record { name = w; index = Some n.0 }) (Word w ∷ us) r.1) (sym (g ∙ ap (λ us. Sign OpenBracket ∷ us) (f.2 ∙ ap (λ us. f.0 ∷ us) i))) (an_index f.0 n.0 r.1 f.1)
 
 pub cell_sound : Sound SpellsCell cell_at
 unfolding cell_at

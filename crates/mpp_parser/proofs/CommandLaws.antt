@@ -18,9 +18,10 @@ use Rattle.mpp_parser.specs.Trees.{Term}
 use Rattle.mpp_parser.specs.Commands.{Act, when, partition, no_acts}
 use Rattle.mpp_parser.specs.CommandView.{block_of}
 use Rattle.mpp_parser.specs.Drivers.{Says, SpellsCommand, sets, deletes, calls, partitions, only, either}
-use Rattle.mpp_parser.specs.inner.Reading.{line_at, choose}
+use Rattle.m_lexer.specs.inner.Chains.{choose}
+use Rattle.mpp_parser.specs.inner.Reading.{line_at}
 use Rattle.mpp_parser.specs.inner.Blocks.{is_else, else_at, otherwise_at, said_at, command_at}
-use Rattle.mpp_parser.proofs.Sound.{Each, absent, here, bind_each}
+use Rattle.m_lexer.proofs.ChainSound.{Each, absent, here, bind_each}
 use Rattle.mpp_parser.proofs.Sentences.{line_found, line_complete, one_line}
 use Rattle.mpp_parser.proofs.BlockLaws.{Front, stop, go_on, front_then, front_weaker, Begins, front_begins, Sound, Reaches, Greedy, Shrinks, Apart, read_is}
 

@@ -10,7 +10,7 @@ use Rattle.mpp_parser.specs.declared.sentence.Sentence.TheVariants as sentences
 use Rattle.mpp_parser.specs.Commands.{Act}
 use Rattle.mpp_parser.specs.Drivers.{Says, Many, no_more, one_more, SpellsCommand, SpellsBlock, block, SpellsInnerBlock, SpellsFunction, function, SpellsDriver, IsLongest}
 use Rattle.mpp_parser.specs.inner.Blocks.{many_at, command_at, commands_at, some_of, block_at, headed_at, function_at, functions_at}
-use Rattle.mpp_parser.proofs.Sound.{Each, absent, here, bind_each}
+use Rattle.m_lexer.proofs.ChainSound.{Each, absent, here, bind_each}
 use Rattle.mpp_parser.proofs.Sentences.{line_complete}
 use Rattle.mpp_parser.proofs.BlockLaws.{Front, stop, go_on, front_then, front_weaker, Begins, front_begins, Sound, Reaches, Greedy, Shrinks, Apart, many_sound, many_shrinks, ManyReaches, many_greedy, read_is}
 use Rattle.mpp_parser.proofs.CommandLaws.{tested, line_each, eqb_same, command_sound, command_shrinks, command_tail, command_starts, command_apart, command_greedy, Starts, Deep}

@@ -12,8 +12,10 @@ use Rattle.mpp_parser.specs.Keywords.{keyword_of}
 use Rattle.mpp_parser.specs.Trees.{Term, named, exists}
 use Rattle.mpp_parser.specs.Grammar.{is, disjunction, conjunction, comparison, addition, multiplication, unary, cast_of, SpellsCell, plain, indexed, SpellsKind, SpellsPrim, number, cell, brackets, present, cast, exist, SpellsFactor, bare, minus, SpellsProduct, SpellsSum, SpellsRelation, alone, compared, SpellsNegation, affirmed, negated, SpellsConjunction, SpellsDisjunction, SpellsInner, SpellsTerm}
 use Rattle.mpp_parser.specs.inner.Reading.{sign_at, key_at, bracket_at, cell_rest_at, cell_at, kind_at, until_at, word_prim_at, prim_at, factor_at, product_at, sum_at, relation_at, negation_at, conjunction_at, disjunction_at, inner_at, term_at}
-use Rattle.mpp_parser.proofs.Sound.{Each, absent, here, bind_each, choose_each, each_from, open_each, sign_each, Sound}
-use Rattle.mpp_parser.proofs.Complete.{tightness, Below, Complete, Shrinks}
+use Rattle.m_lexer.proofs.ChainSound.{Each, absent, here, bind_each, choose_each, each_from, opened, open_each, Sound}
+use Rattle.mpp_parser.proofs.Sound.{sign_each}
+use Rattle.m_lexer.proofs.ChainComplete.{Complete, Shrinks}
+use Rattle.mpp_parser.proofs.Tightness.{tightness, Below}
 use Rattle.mpp_parser.proofs.Levels.{gathered_sound, gathered_shrinks, gathered_complete, gathered_begins, multiplication_binds, multiplication_closed, addition_binds, addition_closed, comparison_binds, comparison_closed, bracket_closed, conjunction_binds, conjunction_closed, disjunction_binds, disjunction_closed}
 use Rattle.mpp_parser.proofs.Cells.{key_each, cell_rest_sound, cell_sound, cell_shrinks, cell_complete, kind_sound, kind_shrinks, EndsKind, kind_complete, enclosed_sound, enclosed_complete}
 
@@ -57,7 +59,7 @@ module _ (E : Term → List DriverPiece → List DriverPiece → Type 0) (e : Li
       bind_each (sum_sound ts) (λ a d.
       choose_each (open_each comparison a.1) (here (alone d)) (λ o g.
       bind_each (sum_sound o.1) (λ b f.
-      here (compared (subst (λ m. SpellsSum E a.0 ts m) g.first d) g.opened f))))
+      here (let h = opened g in compared (subst (λ m. SpellsSum E a.0 ts m) h.2 d) h.1 f))))
 
   negation_sound : Sound (SpellsNegation E) (negation_at e)
   unfolding negation_at

@@ -10,9 +10,11 @@ use Rattle.mpp_parser.specs.declared.keyword.Keyword.TheVariants as keys
 use Rattle.mpp_parser.specs.Keywords.{keyword_of}
 use Rattle.mpp_parser.specs.Trees.{Term}
 use Rattle.mpp_parser.specs.Grammar.{found, disjunction, conjunction, comparison, addition, multiplication, link, gathered, Gathered, gather}
-use Rattle.mpp_parser.specs.inner.Reading.{open_at, sign_at, gathered_at}
-use Rattle.mpp_parser.proofs.Sound.{here, bind_each, Sound, chain_sound}
-use Rattle.mpp_parser.proofs.Complete.{key_tightness, Below, Complete, Shrinks, chain_shrinks, chain_binds, chain_complete}
+use Rattle.m_lexer.specs.inner.Chains.{open_at}
+use Rattle.mpp_parser.specs.inner.Reading.{sign_at, gathered_at}
+use Rattle.m_lexer.proofs.ChainSound.{here, bind_each, Sound, chain_sound}
+use Rattle.m_lexer.proofs.ChainComplete.{Complete, Shrinks, chain_shrinks, chain_binds, chain_complete}
+use Rattle.mpp_parser.proofs.Tightness.{key_tightness, Below}
 
 -- R { operator R }, once for each level
 module _ (operator : DriverPiece → Option Op) (R : Term → List DriverPiece → List DriverPiece → Type 0) where

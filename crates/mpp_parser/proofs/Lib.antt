@@ -1,7 +1,6 @@
-pub mod Chains
 pub mod Exits
 pub mod Sound
-pub mod Complete
+pub mod Tightness
 pub mod Levels
 pub mod Cells
 pub mod Expressions

@@ -13,10 +13,13 @@ use Rattle.mpp_parser.specs.declared.term.CellName.{CellName}
 use Rattle.mpp_parser.specs.declared.sentence.Sentence.{Sentence}
 use Rattle.mpp_parser.specs.declared.sentence.Sentence.TheVariants as sentences
 use Rattle.mpp_parser.specs.Keywords.{keyword_of}
-use Rattle.mpp_parser.specs.Grammar.{is, Chain, ended, further, SpellsCell, plain, indexed, SpellsKind, SpellsTerm, SpellsCells, cells, SpellsSentence, function, set, del, call, when, otherwise, partition}
+use Rattle.m_lexer.specs.Chains.{Chain, ended, further}
+use Rattle.mpp_parser.specs.Grammar.{is, SpellsCell, plain, indexed, SpellsKind, SpellsTerm, SpellsCells, cells, SpellsSentence, function, set, del, call, when, otherwise, partition}
 use Rattle.mpp_parser.specs.inner.Reading.{sign_at, cell_rest_at, bracket_at, cell_at, term_at, called_at, cells_at, call_at, command_rest_at, function_rest_at, named_at, partition_at, worded_at, sentence_at, whole, line_at, ReadsAll}
-use Rattle.mpp_parser.proofs.Sound.{Each, absent, here, bind_each, choose_each, sign_each, Sound, chain_sound}
-use Rattle.mpp_parser.proofs.Complete.{Below, chain_complete}
+use Rattle.m_lexer.proofs.ChainSound.{Each, absent, here, bind_each, choose_each, Sound, chain_sound}
+use Rattle.mpp_parser.proofs.Sound.{sign_each}
+use Rattle.m_lexer.proofs.ChainComplete.{chain_complete}
+use Rattle.mpp_parser.proofs.Tightness.{Below}
 use Rattle.mpp_parser.proofs.Cells.{key_each, word_each, cell_rest_sound, cell_sound, cell_shrinks, cell_complete, kind_sound, kind_complete}
 use Rattle.mpp_parser.proofs.Expressions.{until_sound, until_complete, term_sound, term_shrinks, term_complete}
 

@@ -27,15 +27,6 @@ use Rattle.mpp_parser.specs.Keywords.{keyword_of}
 use Rattle.mpp_parser.specs.Trees.{Term, lit, named, apply, chain, exists, no_terms, a_term, no_links, a_link}
 use Rattle.mpp_parser.specs.TermView.{links_of}
 
--- What stands any number of times.
-
--- { opening R }: opens says which tokens open a further one, and what they say of it
-pub data Chain {A B X : Type 0} (opens : DriverPiece → Option B) (made : B → A → X) (R : A → List DriverPiece → List DriverPiece → Type 0) : List X → List DriverPiece → List DriverPiece → Type 0 where
-  ended : {ts : List DriverPiece} → Chain opens made R [] ts ts
-  further : {t : DriverPiece} {b : B} {x : A} {xs : List X} {ts mid rest : List DriverPiece}
-      → opens t ≡ Some b → R x ts mid → Chain opens made R xs mid rest →
-      Chain opens made R (made b x ∷ xs) (t ∷ ts) rest
-
 -- this sign
 abbrev pub is : DriverSign → DriverPiece → Option (Unit {0})
 is s (Sign t) = cond (sameb signs.the_type t s) (Some tt) None

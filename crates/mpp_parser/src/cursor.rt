@@ -3,7 +3,8 @@ ghost use Rattle.std.specs.Prelude.{◌≡◌, ◌<◌, ◌∷◌, [], length, S
 ghost use Rattle.m_places.specs.Refusals.{Takes};
 ghost use Rattle.std.specs.Bool.{OnTrue};
 ghost use Rattle.mpp_parser.specs.Grammar.{comparison, addition, multiplication, keyed};
-ghost use Rattle.mpp_parser.specs.inner.Reading.{open_at, sign_at, key_at, number_at, index_at, word_at, operator_of};
+ghost use Rattle.m_lexer.specs.inner.Chains.{open_at};
+ghost use Rattle.mpp_parser.specs.inner.Reading.{sign_at, key_at, number_at, index_at, word_at, operator_of};
 
 use crate::expression::Level;
 use crate::keyword::{Keyword, keyword_of};

@@ -16,7 +16,7 @@ use Rattle.m_ast.specs.declared.item.Slot.{Slot}
 use Rattle.m_ast.specs.declared.variable.VariableItem.{VariableItem}
 use Rattle.m_ast.specs.declared.variable.Role.{Role}
 use Rattle.m_ast.specs.declared.variable.Role.TheVariants.{Input, Computed, Constant}
-use Rattle.m_terms.specs.Tokens.{First, first, ended, further}
+use Rattle.m_lexer.specs.Chains.{First, first, ended, further}
 use Rattle.declaration_items.specs.Tokens.{amount, amount_of, word}
 use Rattle.declaration_items.specs.Grammar.{SpellsAmount, positive, negative, SpellsVariable, input, computed, constant, SpellsDeclaration, a_variable, an_error, an_application, a_chaining}
 use Rattle.declaration_items.proofs.PassLaws.{applications_passes, declaration_passes}

@@ -17,7 +17,8 @@ use Rattle.m_ast.specs.declared.term.Link.{Link}
 use Rattle.m_ast.specs.declared.term.Member.{Member}
 use Rattle.m_ast.specs.Syntax.{Syntax, lit, named, the_x, cell, apply, chain, among, loop, Terms, no_terms, a_term, Links, no_links, a_link, Members, no_members, a_member}
 use Rattle.m_ast.specs.View.{links_of, members_of}
-use Rattle.m_terms.specs.Tokens.{is_sign, First, first, Chain, ended, further, joined}
+use Rattle.m_lexer.specs.Chains.{First, first, Chain, ended, further}
+use Rattle.m_terms.specs.Tokens.{is_sign, joined}
 use Rattle.m_terms.specs.Grammar.{addition, multiplication, conjunction, disjunction, link, gathered, Gathered, gather, SpellsPrim, number, word, own, read, brackets, either, only, called, called_two, looped, SpellsFactor, plain, minus, SpellsProduct, SpellsSum, SpellsSigned, positive, negative, SpellsMember, amount, name, range, SpellsMembers, SpellsRelation, alone, compared, inside, outside, SpellsNegation, affirmed, negated, SpellsConjunction, SpellsExpr, SpellsInner}
 use Rattle.m_terms.specs.Terms.{SpellsTerm}
 use Rattle.m_terms.proofs.Passes.{Behind}

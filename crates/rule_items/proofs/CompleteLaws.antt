@@ -12,14 +12,16 @@ use Rattle.m_ast.specs.declared.header.Header.{Header}
 use Rattle.m_ast.specs.declared.item.Slot.{Slot}
 use Rattle.m_ast.specs.declared.item.Formula.{Formula}
 use Rattle.m_ast.specs.declared.item.CheckItem.{CheckItem}
-use Rattle.m_terms.specs.Tokens.{is_key, kind_is_sign, kind_is_key, First, first, ended, further}
+use Rattle.m_lexer.specs.Chains.{First, first, ended, further}
+use Rattle.m_terms.specs.Tokens.{is_key, kind_is_sign, kind_is_key}
 use Rattle.m_terms.specs.Terms.{SpellsTerm, follows, follows_of, BeginsBy}
-use Rattle.m_terms.specs.inner.Reading.{open_at}
-use Rattle.m_terms.proofs.Complete.{open_complete, chain_complete}
+use Rattle.m_lexer.specs.inner.Chains.{open_at}
+use Rattle.m_lexer.proofs.ChainComplete.{open_complete, chain_complete}
 use Rattle.declaration_items.specs.Tokens.{placed, word_of, whole_of, word, placed_word, whole, SpellsSign}
 use Rattle.declaration_items.specs.inner.Reading.{key_at}
 use Rattle.declaration_items.proofs.FirstTokens.{BeginsWith, begins_with, nothing_opened, sign_first, key_first, BeginsWithWord, a_word}
 use Rattle.declaration_items.proofs.CompleteLaws.{applications_complete}
+use Rattle.m_terms.proofs.Passes.{shrinks_passing}
 use Rattle.rule_items.specs.Many.{Many, no_more, one_more}
 use Rattle.rule_items.specs.Grammar.{SpellsHead, head, SpellsLoop, loop, SpellsLoops, SpellsSlot, no_index, every_cell, one_cell, SpellsFormula, formula, SpellsChaining, unchained, chained, SpellsCheck, check}
 use Rattle.rule_items.specs.declared.head.Head.{Head}
@@ -76,7 +78,7 @@ unfolding loop_at
 loop_complete (loop {rest = rest} d s) = rw (headed_complete d (rest, s), open_complete s) refl
 
 loops_complete : {hs : List Header} {ts rest : List Token} → SpellsLoops hs ts rest → BeginsWithWord rest → loops_at ts ≡ Some (hs, rest)
-loops_complete {ts = ts} c (a_word b) = chain_complete (is_key keys.Pour) (λ _ h. h) SpellsLoop loop_passes loop_at (λ _. Unit {0}) (λ ts. key_at keys.Pour ts ≡ None) (λ _ _ _ d h. loop_complete d) (λ _ _ _ _. tt) (λ _ _. tt) (λ _ h. h) (length ts) [] c (nothing_opened (kind_is_key keys.Pour) b refl) (omega arith)
+loops_complete {ts = ts} c (a_word b) = chain_complete (is_key keys.Pour) (λ _ h. h) SpellsLoop (shrinks_passing SpellsLoop loop_passes) loop_at (λ _. Unit {0}) (λ ts. key_at keys.Pour ts ≡ None) (λ _ _ _ d h. loop_complete d) (λ _ _ _ _. tt) (λ _ _. tt) (λ _ h. h) (length ts) [] c (nothing_opened (kind_is_key keys.Pour) b refl) (omega arith)
 
 slot_complete : {s : Slot} {ts mid rest : List Token} → SpellsSlot s ts mid → SpellsSign signs.Equal mid rest → slot_at ts ≡ Some (s, mid)
 unfolding slot_at index_at

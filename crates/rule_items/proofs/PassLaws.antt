@@ -5,7 +5,7 @@ use Rattle.m_lexer.specs.declared.token.Token.{Token}
 use Rattle.m_lexer.specs.declared.token.Key.{Key as AKey}
 use Rattle.m_ast.specs.declared.header.Header.{Header}
 use Rattle.m_ast.specs.declared.item.Slot.{Slot}
-use Rattle.m_terms.specs.Tokens.{First, ended, further}
+use Rattle.m_lexer.specs.Chains.{First, ended, further}
 use Rattle.m_terms.specs.Grammar.{SpellsInner}
 use Rattle.m_terms.specs.Terms.{SpellsTerm}
 use Rattle.m_terms.proofs.Passes.{Behind, over, next, Passes, first_passes}

@@ -7,7 +7,7 @@ use Rattle.m_ast.specs.declared.item.Formula.{Formula}
 use Rattle.m_ast.specs.declared.item.CheckItem.{CheckItem}
 use Rattle.m_ast.specs.declared.item.RuleItem.{RuleItem}
 use Rattle.m_ast.specs.declared.item.VerifItem.{VerifItem}
-use Rattle.m_terms.proofs.Sound.{Each, absent, here, Sound}
+use Rattle.m_lexer.proofs.ChainSound.{Each, absent, here, Sound}
 use Rattle.m_terms.proofs.Passes.{Passes, behind_shorter}
 use Rattle.rule_items.specs.Many.{Many, no_more, one_more, OneOrMore, one}
 use Rattle.rule_items.specs.Grammar.{rule_of, verification_of, SpellsFormula, SpellsRule, rule, SpellsCheck, SpellsVerification, verification}

@@ -10,12 +10,14 @@ use Rattle.m_lexer.specs.declared.token.Sign.TheVariants as signs
 use Rattle.m_ast.specs.Syntax.{Syntax}
 use Rattle.m_ast.specs.declared.header.Header.{Header}
 use Rattle.m_ast.specs.declared.item.Slot.{Slot}
-use Rattle.m_terms.specs.Tokens.{is_sign, is_key, First, first}
+use Rattle.m_lexer.specs.Chains.{First, first}
+use Rattle.m_terms.specs.Tokens.{is_sign, is_key}
 use Rattle.m_terms.specs.Grammar.{SpellsInner}
 use Rattle.m_terms.specs.Headers.{SpellsHeader}
 use Rattle.m_terms.specs.Terms.{SpellsTerm, follows}
-use Rattle.m_terms.specs.inner.Reading.{begins_by, choose, inner_at}
-use Rattle.m_terms.proofs.Sound.{Each, absent, here, bind_each, choose_each, each_from, open_each, Sound, chain_sound}
+use Rattle.m_lexer.specs.inner.Chains.{choose}
+use Rattle.m_terms.specs.inner.Reading.{begins_by, inner_at}
+use Rattle.m_lexer.proofs.ChainSound.{Each, absent, here, bind_each, choose_each, each_from, open_each, Sound, chain_sound}
 use Rattle.m_terms.proofs.HeaderLaws.{header_sound}
 use Rattle.m_terms.proofs.TermLaws.{inner_sound, expr_sound}
 use Rattle.declaration_items.specs.Tokens.{word, placed_word, whole, key_place, SpellsSign, SpellsKey, SpellsKeyAt}

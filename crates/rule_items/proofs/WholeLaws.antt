@@ -17,7 +17,8 @@ use Rattle.m_ast.specs.declared.item.Formula.{Formula}
 use Rattle.m_ast.specs.declared.item.CheckItem.{CheckItem}
 use Rattle.m_ast.specs.declared.item.RuleItem.{RuleItem}
 use Rattle.m_ast.specs.declared.item.VerifItem.{VerifItem}
-use Rattle.m_terms.specs.Tokens.{Chain, ended, further, Joined, joined}
+use Rattle.m_lexer.specs.Chains.{Chain, ended, further}
+use Rattle.m_terms.specs.Tokens.{Joined, joined}
 use Rattle.m_terms.specs.Headers.{SpellsPlaces, bare, bracketed, SpellsAssigned, assigned, SpellsWalked, walked, SpellsHeader, by_signs, by_words}
 use Rattle.m_terms.specs.Grammar.{addition, multiplication, conjunction, disjunction, link, gathered, Gathered, gather, SpellsPrim, number, word, own, read, brackets, either, only, called, called_two, looped, SpellsFactor, plain, minus, SpellsProduct, SpellsSum, SpellsSigned, positive, negative, SpellsMember, amount, name, range, SpellsMembers, SpellsRelation, alone, compared, inside, outside, SpellsNegation, affirmed, negated, SpellsConjunction, SpellsExpr, SpellsInner}
 use Rattle.m_terms.specs.Terms.{SpellsTerm}

@@ -1,7 +1,7 @@
 -- Words that say nothing: a loop over them, and what stands after them.
 use Rattle.std.proofs.Common.{◌≡◌, ℕ, List, [], ◌∷◌, Option, Some, None, refl, ap}
 use Rattle.m_lexer.specs.declared.token.Token.{Token}
-use Rattle.m_terms.specs.inner.Reading.{open_at, choose}
+use Rattle.m_lexer.specs.inner.Chains.{open_at, choose}
 use Rattle.declaration_items.specs.Tokens.{word}
 use Rattle.rule_items.specs.inner.Reading.{behind_words}
 

@@ -18,7 +18,8 @@ use Rattle.m_ast.specs.declared.item.Formula.{Formula}
 use Rattle.m_ast.specs.declared.item.RuleItem.{RuleItem}
 use Rattle.m_ast.specs.declared.item.CheckItem.{CheckItem}
 use Rattle.m_ast.specs.declared.item.VerifItem.{VerifItem}
-use Rattle.m_terms.specs.Tokens.{First, Chain, is_key}
+use Rattle.m_lexer.specs.Chains.{First, Chain}
+use Rattle.m_terms.specs.Tokens.{is_key}
 use Rattle.m_terms.specs.Headers.{SpellsHeader}
 use Rattle.m_terms.specs.Terms.{SpellsTerm}
 use Rattle.declaration_items.specs.Tokens.{word, placed_word, whole, SpellsSign, SpellsKey, SpellsKeyAt}

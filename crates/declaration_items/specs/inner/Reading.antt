@@ -12,7 +12,8 @@ use Rattle.m_ast.specs.declared.item.Item.{Item}
 use Rattle.m_ast.specs.declared.item.Item.TheVariants as items
 use Rattle.m_ast.specs.declared.variable.Role.TheVariants.{Input, Computed, Constant}
 use Rattle.m_terms.specs.Tokens.{is_sign, is_key}
-use Rattle.m_terms.specs.inner.Reading.{open_at, chain_at, joined_at, choose, ◌>>=◌}
+use Rattle.m_lexer.specs.inner.Chains.{open_at, chain_at, choose, ◌>>=◌}
+use Rattle.m_terms.specs.inner.Reading.{joined_at}
 use Rattle.declaration_items.specs.declared.fault.ItemFault.{ItemFault}
 use Rattle.declaration_items.specs.declared.fault.ItemFault.TheVariants.{NoItem, Memory}
 use Rattle.declaration_items.specs.Tokens.{word, name, whole, amount, text, error_kind, key_place}

@@ -9,7 +9,7 @@ use Rattle.m_ast.specs.declared.item.ErrorItem.{ErrorItem}
 use Rattle.m_ast.specs.declared.variable.VariableItem.{VariableItem}
 use Rattle.m_ast.specs.Items.{variable_code}
 use Rattle.rule_text.specs.declared.Text.{Text}
-use Rattle.m_terms.specs.Tokens.{Chain, ended, further}
+use Rattle.m_lexer.specs.Chains.{Chain, ended, further}
 use Rattle.m_terms.proofs.Passes.{Behind, over, skip, first_passes}
 use Rattle.declaration_items.specs.Tokens.{word as a_word}
 use Rattle.declaration_items.specs.Grammar.{Attribute, attribute, Attributes, SpellsNumber, SpellsAttributes, attributes, SpellsVariable, input, computed, constant, SpellsError, error, IsFourOrFive, SpellsDeclaration, a_variable, an_error, an_application, a_chaining}

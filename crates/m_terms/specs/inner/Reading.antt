@@ -27,16 +27,6 @@ use Rattle.m_terms.specs.Tokens.{is_sign, kind_is_sign, kind_is_key}
 use Rattle.m_terms.specs.Headers.{point, letter, span, index, header}
 use Rattle.m_terms.specs.Grammar.{one, two, three, addition, addition_of, multiplication, multiplication_of, conjunction, conjunction_of, disjunction, disjunction_of, comparison, function_of, link, member, gathered}
 
-infixl 10 ◌>>=◌
-abbrev pub ◌>>=◌ : {A B : Type 0} → Option A → (A → Option B) → Option B
-(Some x) >>= f = f x
-None >>= f = None
-
--- f of the value, or y where there is none
-abbrev pub choose : {A B : Type 0} → Option A → B → (A → B) → B
-choose (Some x) y f = f x
-choose None y f = y
-
 -- What a reader of the code returned is what reading gives, unless memory ran out.
 abbrev pub Fails : {A : Type 0} → TermFault → Option A → Type 0
 Fails NoTerm read = read ≡ None
@@ -51,11 +41,6 @@ Gives = GivesBy (λ x. x)
 
 -- Tokens.
 
--- the first token, if the table says something of it
-abbrev pub open_at : {B : Type 0} → (Token → Option B) → List Token → Option (B × List Token)
-open_at opens [] = None
-open_at opens (t ∷ ts) = choose (opens t) None (λ b. Some (b, ts))
-
 -- a reserved word or a sign
 abbrev pub is_kind : Mark → Kind → Option (Unit {0})
 is_kind (OfKey k) = kind_is_key k
@@ -66,11 +51,6 @@ is m t = is_kind m t.kind
 
 abbrev pub mark_at : Mark → List Token → Option (Unit {0} × List Token)
 mark_at m = open_at (is m)
-
--- What stands any number of times: at most n further ones, after those that are done.
-unfoldable pub chain_at : {A B X : Type 0} → (Token → Option B) → (B → A → X) → (List Token → Option (A × List Token)) → ℕ → List X → List Token → Option (List X × List Token)
-chain_at opens made p zero done ts = Some (done, ts)
-chain_at opens made p (suc n) done ts = choose (open_at opens ts) (Some (done, ts)) (λ o. p o.1 >>= λ x. chain_at opens made p n (done ++ made o.0 x.0 ∷ []) x.1)
 
 unfoldable pub joined_at : {A : Type 0} → (Token → Option (Unit {0})) → (List Token → Option (A × List Token)) → List Token → Option (List A × List Token)
 joined_at opens p ts = p ts >>= λ first. chain_at opens (λ _ x. x) p (length first.1) (first.0 ∷ []) first.1

@@ -14,7 +14,8 @@ use Rattle.mpp_parser.specs.Keywords.{keyword_of}
 use Rattle.mpp_parser.specs.Grammar.{found}
 use Rattle.mpp_parser.specs.Commands.{Act, set, del, when, partition, call}
 use Rattle.mpp_parser.specs.CommandView.{block_of}
-use Rattle.mpp_parser.specs.inner.Reading.{◌>>=◌, choose, line_at}
+use Rattle.m_lexer.specs.inner.Chains.{◌>>=◌, choose}
+use Rattle.mpp_parser.specs.inner.Reading.{line_at}
 
 -- at most n further ones, after those that are done: as many as can be read
 unfoldable pub many_at : {A : Type 0} → (List Line → Option (A × List Line)) → ℕ → List A → List Line → List A × List Line

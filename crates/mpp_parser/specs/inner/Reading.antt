@@ -26,16 +26,6 @@ use Rattle.mpp_parser.specs.Keywords.{keyword_of}
 use Rattle.mpp_parser.specs.Trees.{Term, lit, named, exists}
 use Rattle.mpp_parser.specs.Grammar.{is, key, disjunction, conjunction, comparison, addition, multiplication, link, gathered, unary, binary, cast_of, tax_benefit}
 
-infixl 10 ◌>>=◌
-abbrev pub ◌>>=◌ : {A B : Type 0} → Option A → (A → Option B) → Option B
-(Some x) >>= f = f x
-None >>= f = None
-
--- f of the value, or y where there is none
-abbrev pub choose : {A B : Type 0} → Option A → B → (A → B) → B
-choose (Some x) y f = f x
-choose None y f = y
-
 -- What a reader of the code returned is what reading gives, unless memory ran out.
 abbrev pub Fails : {A : Type 0} → Unread → Option A → Type 0
 Fails NotSpelled read = read ≡ None
@@ -46,11 +36,6 @@ GivesBy view (Ok x) read rest = read ≡ Some (view x, rest)
 GivesBy view (Err e) read rest = Fails e read
 
 -- Tokens.
-
--- the first token, if it opens
-abbrev pub open_at : {B : Type 0} → (DriverPiece → Option B) → List DriverPiece → Option (B × List DriverPiece)
-open_at opens [] = None
-open_at opens (t ∷ ts) = choose (opens t) None (λ b. Some (b, ts))
 
 abbrev pub sign_at : DriverSign → List DriverPiece → Option (Unit {0} × List DriverPiece)
 sign_at s = open_at (is s)
@@ -83,11 +68,6 @@ word_of _ = None
 
 abbrev pub word_at : List DriverPiece → Option (List ℕ × List DriverPiece)
 word_at = open_at word_of
-
--- What stands any number of times: at most n further ones, after those that are done.
-unfoldable pub chain_at : {A B X : Type 0} → (DriverPiece → Option B) → (B → A → X) → (List DriverPiece → Option (A × List DriverPiece)) → ℕ → List X → List DriverPiece → Option (List X × List DriverPiece)
-chain_at opens made p zero done ts = Some (done, ts)
-chain_at opens made p (suc n) done ts = choose (open_at opens ts) (Some (done, ts)) (λ o. p o.1 >>= λ x. chain_at opens made p n (done ++ made o.0 x.0 ∷ []) x.1)
 
 abbrev pub links_at : (DriverPiece → Option Op) → (List DriverPiece → Option (Term × List DriverPiece)) → List DriverPiece → Option (List DLink × List DriverPiece)
 links_at operator p ts = chain_at operator link p (length ts) [] ts

@@ -17,7 +17,8 @@ use Rattle.m_ast.specs.declared.item.CheckItem.{CheckItem}
 use Rattle.m_ast.specs.declared.item.VerifItem.{VerifItem}
 use Rattle.m_terms.specs.Tokens.{is_sign, is_key}
 use Rattle.m_terms.specs.Terms.{follows}
-use Rattle.m_terms.specs.inner.Reading.{open_at, chain_at, choose, begins_by, header_at, expr_at, inner_at, ◌>>=◌}
+use Rattle.m_lexer.specs.inner.Chains.{open_at, chain_at, choose, ◌>>=◌}
+use Rattle.m_terms.specs.inner.Reading.{begins_by, header_at, expr_at, inner_at}
 use Rattle.m_terms.specs.declared.fault.TermFault.{TermFault}
 use Rattle.m_terms.specs.declared.fault.TermFault.TheVariants.{NoTerm, Memory}
 use Rattle.declaration_items.specs.declared.fault.ItemFault.{ItemFault}

@@ -1,7 +1,7 @@
 use Rattle.std.proofs.Common.{◌<◌, length}
 use Rattle.m_terms.specs.Tokens.{is_sign}
-use Rattle.m_terms.specs.inner.Reading.{open_at}
-use Rattle.m_terms.proofs.Chains.{Going}
+use Rattle.m_lexer.specs.inner.Chains.{open_at}
+use Rattle.m_lexer.proofs.Chains.{Going}
 use Rattle.declaration_items.specs.inner.Reading.{part, list_at}
 use Rattle.declaration_items.proofs.lists.read_list.Given as goal
 

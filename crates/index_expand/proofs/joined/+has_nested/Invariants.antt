@@ -1,4 +1,3 @@
-use Rattle.std.proofs.Common.{ℕ}
 use Rattle.m_ast.specs.View.{terms_of, links_of, members_of}
 use Rattle.index_expand.proofs.Loads.{load, terms_load, links_load, members_load}
 use Rattle.index_expand.proofs.joined.+has_nested.Given as goal

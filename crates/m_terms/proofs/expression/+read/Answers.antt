@@ -1,5 +1,5 @@
 use Rattle.std.proofs.Common.{arith, refl}
-use Rattle.m_terms.proofs.Chains.{chain_start, chain_turn, chain_stop, chain_stuck}
+use Rattle.m_lexer.proofs.Chains.{chain_start, chain_turn, chain_stop, chain_stuck}
 use Rattle.m_terms.proofs.Exits.{fails}
 use Rattle.m_terms.proofs.Depths.{inner_none, inner_some}
 use Rattle.m_terms.proofs.expression.+read.Goals as goal

@@ -1,7 +1,7 @@
 use Rattle.std.proofs.Common.{◌≤◌, ◌+◌, ◌*◌, length}
 use Rattle.m_terms.specs.Grammar.{link}
 use Rattle.m_terms.specs.inner.Reading.{operator_at, operand_at, links_at, inner_at}
-use Rattle.m_terms.proofs.Chains.{Going}
+use Rattle.m_lexer.proofs.Chains.{Going}
 use Rattle.m_terms.proofs.Depths.{floor}
 use Rattle.m_terms.proofs.expression.+read.Given as goal
 

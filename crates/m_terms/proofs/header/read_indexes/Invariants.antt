@@ -1,6 +1,6 @@
 use Rattle.std.proofs.Common.{◌<◌, length}
 use Rattle.m_terms.specs.inner.Reading.{is, index_at, indexes_at}
-use Rattle.m_terms.proofs.Chains.{Going}
+use Rattle.m_lexer.proofs.Chains.{Going}
 use Rattle.m_terms.proofs.header.read_indexes.Given as goal
 
 abbrev pub invariant-indexes : goal.invariant-indexes

@@ -1,6 +1,6 @@
 use Rattle.std.proofs.Common.{arith, refl}
 use Rattle.m_terms.specs.inner.Reading.{joined_at}
-use Rattle.m_terms.proofs.Chains.{chain_start, chain_turn, chain_stop, chain_stuck}
+use Rattle.m_lexer.proofs.Chains.{chain_start, chain_turn, chain_stop, chain_stuck}
 use Rattle.m_terms.proofs.Exits.{exit}
 use Rattle.m_terms.proofs.member.read_list.Goals as goal
 

@@ -1,6 +1,6 @@
 use Rattle.std.proofs.Common.{sym}
 use Rattle.mpp_lexer.specs.Tokens.{number}
-use Rattle.mpp_lexer.proofs.Numbers.{too_great_only}
+use Rattle.m_lexer.proofs.Numbers.{too_great_only}
 use Rattle.mpp_lexer.proofs.line.number_piece.Goals as goal
 
 pub returns-in_ok-new-in-Ok : goal.returns-in_ok-new-in-Ok

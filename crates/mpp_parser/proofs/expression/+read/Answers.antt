@@ -1,5 +1,5 @@
 use Rattle.std.proofs.Common.{arith, refl}
-use Rattle.mpp_parser.proofs.Chains.{chain_start, chain_turn, chain_stop, chain_stuck}
+use Rattle.m_lexer.proofs.Chains.{chain_start, chain_turn, chain_stop, chain_stuck}
 use Rattle.mpp_parser.proofs.Exits.{exit, inner_none, inner_some}
 use Rattle.mpp_parser.proofs.expression.+read.Goals as goal
 

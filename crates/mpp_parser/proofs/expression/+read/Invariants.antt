@@ -3,7 +3,7 @@ use Rattle.mpp_parser.specs.declared.expression.Level.{Level}
 use Rattle.mpp_parser.specs.declared.expression.Level.TheVariants.{Or, And, Sum, Product}
 use Rattle.mpp_parser.specs.Grammar.{link}
 use Rattle.mpp_parser.specs.inner.Reading.{links_at, operator_of, part_at, inner_at}
-use Rattle.mpp_parser.proofs.Chains.{Going}
+use Rattle.m_lexer.proofs.Chains.{Going}
 use Rattle.mpp_parser.proofs.expression.+read.Given as goal
 
 -- how many readers stand above those of brackets

@@ -2,7 +2,7 @@ use Rattle.std.proofs.Common.{◌<◌, length}
 use Rattle.mpp_lexer.specs.declared.piece.DriverSign.TheVariants.{Comma}
 use Rattle.mpp_parser.specs.Grammar.{is}
 use Rattle.mpp_parser.specs.inner.Reading.{number_at, numbers_at}
-use Rattle.mpp_parser.proofs.Chains.{Going}
+use Rattle.m_lexer.proofs.Chains.{Going}
 use Rattle.mpp_parser.proofs.expression.read_numbers.Given as goal
 
 abbrev pub invariant-numbers : goal.invariant-numbers

@@ -1,6 +1,6 @@
 use Rattle.std.proofs.Common.{arith, refl}
 use Rattle.mpp_parser.specs.inner.Reading.{cells_at}
-use Rattle.mpp_parser.proofs.Chains.{chain_start, chain_turn, chain_stop, chain_stuck}
+use Rattle.m_lexer.proofs.Chains.{chain_start, chain_turn, chain_stop, chain_stuck}
 use Rattle.mpp_parser.proofs.Exits.{exit}
 use Rattle.mpp_parser.proofs.sentence.read_cells.Goals as goal
 

@@ -2,7 +2,7 @@ use Rattle.std.proofs.Common.{length}
 use Rattle.mpp_lexer.specs.declared.piece.DriverSign.TheVariants.{Comma}
 use Rattle.mpp_parser.specs.Grammar.{is}
 use Rattle.mpp_parser.specs.inner.Reading.{cell_at, cells_at}
-use Rattle.mpp_parser.proofs.Chains.{Going}
+use Rattle.m_lexer.proofs.Chains.{Going}
 use Rattle.mpp_parser.proofs.sentence.read_cells.Given as goal
 
 abbrev pub invariant-cells : goal.invariant-cells

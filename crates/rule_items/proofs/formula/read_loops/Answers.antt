@@ -1,5 +1,5 @@
 use Rattle.std.proofs.Common.{arith}
-use Rattle.m_terms.proofs.Chains.{chain_turn, chain_stop, chain_stuck}
+use Rattle.m_lexer.proofs.Chains.{chain_turn, chain_stop, chain_stuck}
 use Rattle.rule_items.proofs.Exits.{exit}
 use Rattle.rule_items.proofs.formula.read_loops.Goals as goal
 

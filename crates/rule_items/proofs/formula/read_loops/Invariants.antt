@@ -1,7 +1,7 @@
 use Rattle.std.proofs.Common.{◌≤◌, length}
 use Rattle.m_lexer.specs.declared.token.Key.TheVariants.{Pour}
 use Rattle.m_terms.specs.Tokens.{is_key}
-use Rattle.m_terms.proofs.Chains.{Going}
+use Rattle.m_lexer.proofs.Chains.{Going}
 use Rattle.rule_items.specs.inner.Reading.{loop_at, loops_at}
 use Rattle.rule_items.proofs.formula.read_loops.Given as goal
 

@@ -1,20 +1,19 @@
 -- A loop over a chain: what is done, and what the rest adds, is the whole.
 use Rattle.std.proofs.Common.{◌≡◌, ◌≤◌, ◌<◌, ℕ, zero, suc, List, [], ◌∷◌, ◌++◌, length, Option, Some, None, refl, sym, ◌∙◌, arith}
-use Rattle.m_lexer.specs.declared.token.Token.{Token}
-use Rattle.m_terms.specs.inner.Reading.{open_at, chain_at}
+use Rattle.m_lexer.specs.inner.Chains.{open_at, chain_at}
 
-module _ {A B X : Type 0} (opens : Token → Option B) (made : B → A → X) (p : List Token → Option (A × List Token)) where
+module _ {T A B X : Type 0} (opens : T → Option B) (made : B → A → X) (p : List T → Option (A × List T)) where
   -- with these done at ts, the chain gives the whole
-  pub record Going (whole : Option (List X × List Token)) (done : List X) (ts : List Token) : Type 0 where
+  pub record Going (whole : Option (List X × List T)) (done : List X) (ts : List T) : Type 0 where
     pub left : ℕ
     pub enough : length ts ≤ left
     pub same : chain_at opens made p left done ts ≡ whole
 
-  module _ {whole : Option (List X × List Token)} {done : List X} {ts : List Token} where
+  module _ {whole : Option (List X × List T)} {done : List X} {ts : List T} where
     pub chain_start : whole ≡ chain_at opens made p (length ts) done ts → Going whole done ts
     chain_start e = record { left = length ts; enough = omega arith; same = sym e }
 
-    pub chain_turn : {b : B} {x : A} {us rest : List Token} → Going whole done ts → open_at opens ts ≡ Some (b, us) → p us ≡ Some (x, rest) → length rest < length ts → Going whole (done ++ made b x ∷ []) rest
+    pub chain_turn : {b : B} {x : A} {us rest : List T} → Going whole done ts → open_at opens ts ≡ Some (b, us) → p us ≡ Some (x, rest) → length rest < length ts → Going whole (done ++ made b x ∷ []) rest
     unfolding chain_at
     chain_turn {b} {x} {us} {rest} g o r shorter = go g.left g.enough g.same
       where
@@ -30,7 +29,7 @@ module _ {A B X : Type 0} (opens : Token → Option B) (made : B → A → X) (p
         go zero = refl
         go (suc n) = rw o refl
 
-    pub chain_stuck : {b : B} {us : List Token} → Going whole done ts → open_at opens ts ≡ Some (b, us) → length us < length ts → p us ≡ None → whole ≡ None
+    pub chain_stuck : {b : B} {us : List T} → Going whole done ts → open_at opens ts ≡ Some (b, us) → length us < length ts → p us ≡ None → whole ≡ None
     unfolding chain_at
     chain_stuck g o shorter r = sym g.same ∙ go g.left g.enough
       where
