@@ -4,6 +4,7 @@ use Rattle.std.specs.List.{list_all}
 use denote.Enum.Bare.{sameb}
 use Rattle.m_text.specs.Bytes.{is_digit}
 use Rattle.m_places.specs.declared.place.Place.{Place}
+use Rattle.m_lexer.specs.Chains.{Chain}
 use Rattle.m_lexer.specs.declared.token.Token.{Token}
 use Rattle.m_lexer.specs.declared.token.Kind.{Kind}
 use Rattle.m_lexer.specs.declared.token.Kind.TheVariants.{Key, Sign}

@@ -9,6 +9,7 @@ use Rattle.m_fixed.specs.declared.amount.Value.TheVariants.{Num}
 use Rattle.m_fixed.specs.declared.operator.Op.{Op}
 use Rattle.m_fixed.specs.declared.operator.Op.TheVariants as ops
 use Rattle.m_text.specs.Numbers.{whole_number}
+use Rattle.m_lexer.specs.Chains.{Chain}
 use Rattle.mpp_lexer.specs.declared.piece.DriverPiece.{DriverPiece}
 use Rattle.mpp_lexer.specs.declared.piece.DriverPiece.TheVariants.{Word, Number, Sign}
 use Rattle.mpp_lexer.specs.declared.piece.DriverSign.{DriverSign}
