@@ -3,10 +3,10 @@
 
     measure.py PROGRAM FOLDER
 
-At the top of the repository, which has the examples. A table has 100,000 rows of 8 columns (examples/impot2023: 9). Each table is computed by `m_tax batch` on one
-processor (`taskset -c 0`), by the C that a plain translator makes of the rules and the driver (translate.py), and by straight-line C for the code file
-(straight.py), whose outputs must be the same bytes. Seconds are user and system, the least of three runs by turns. What a row takes is what is above a table
-without rows. On all processors it is seconds by the clock, since threads overlap.
+At the top of the repository, which has the examples. A table has 100,000 rows of 8 columns (examples/impot2023: 9).
+Each table is computed by `m_tax batch` on one processor (`taskset -c 0`), by the C that a plain translator makes of the rules and the driver (translate.py),
+and by straight-line C for the code file (straight.py), whose outputs must be the same bytes. Seconds are user and system,
+the least of three runs by turns. What a row takes is what is above a table without rows. On all processors it is seconds by the clock, since threads overlap.
 """
 import os
 import subprocess

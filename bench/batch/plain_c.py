@@ -26,7 +26,8 @@ static inline wide quotient(wide a, wide b) { return b == 0 ? 0 : b < 0 ? neares
 static inline wide whole(wide a) { if (a >> 63 == 0 || a >> 63 == -1) return (long long)a / 1000000; return a / ONE; }
 static inline wide arr_of(wide a) { return whole(a < 0 ? a - 500050 : a + 500050) * ONE; }
 static inline wide inf_of(wide a) { wide b = a + 1, q = whole(b); return (q * ONE > b ? q - 1 : q) * ONE; }
-#define BOTH(name, e) static inline value name(value a, value b) { if (!(a.k | b.k)) return e; if (a.k == 2 || b.k == 2) return over; if (a.k && b.k) return undef; if (a.k) a.v = 0; else b.v = 0; return e; }
+#define BOTH(name, e) static inline value name(value a, value b) { if (!(a.k | b.k)) return e; if (a.k == 2 || b.k == 2) return over; \
+    if (a.k && b.k) return undef; if (a.k) a.v = 0; else b.v = 0; return e; }
 #define STRICT(name, e) static inline value name(value a, value b) { if (!(a.k | b.k)) return e; if (a.k == 2 || b.k == 2) return over; return undef; }
 #define ONLY(name, e) static inline value name(value a) { if (a.k) return a; return e; }
 BOTH(m_add, num(a.v + b.v))

@@ -91,7 +91,8 @@ def main():
     runs = int(sys.argv[3]) if len(sys.argv) > 3 else 10
     if len(os.sched_getaffinity(0)) < 4:
         sys.exit("four processors are needed")
-    print("| Base | Of the runs | seconds on one processor | on four | times as fast | microseconds a row on one | on four |\n|---|---|---:|---:|---:|---:|---:|")
+    print("| Base | Of the runs | seconds on one processor | on four | times as fast | microseconds a row on one | on four |\n"
+          "|---|---|---:|---:|---:|---:|---:|")
     for name, (folder, source, header, rows) in (("impots", impots(room)), ("impot2023", impot2023())):
         compare(program, name, folder, source, header, rows, room, runs)
 

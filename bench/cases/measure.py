@@ -3,8 +3,9 @@
 
     measure.py [PROGRAM]
 
-It writes tables of 800, 4,000 and 8,000 rows over a base of 1,000 sums into a folder of its own, and prints user and system seconds of `cases`, the least of three runs,
-and the times of the time for the times of the rows, the last of which is a figure. The last line of each answer is compared with the count that follows from how the table is made.
+It writes tables of 800, 4,000 and 8,000 rows over a base of 1,000 sums into a folder of its own, and prints user and system seconds of `cases`,
+the least of three runs, and the times of the time for the times of the rows, the last of which is a figure. The last line of each answer
+is compared with the count that follows from how the table is made.
 """
 import os
 import resource

@@ -42,7 +42,12 @@ def counts(text):
     lines = text.split(b"\n")
     first = lines.index(b"code")
     instructions = lines[first + 1:-2]
-    return len(instructions), int(lines[1].split()[1]), sum(line.startswith(b"st ") for line in instructions), sum(line.startswith(b"ld ") for line in instructions)
+    return (
+        len(instructions),
+        int(lines[1].split()[1]),
+        sum(line.startswith(b"st ") for line in instructions),
+        sum(line.startswith(b"ld ") for line in instructions),
+    )
 
 
 def asked(program, words, place, name):
@@ -98,7 +103,8 @@ def main():
             out.write(text)
     smallest = asked(program, ["exec", nothing, none], folder, "the smallest")[:2]
     print(f"The smallest code file: `exec` takes {smallest[0] * 1e3:.1f} ms and {smallest[1] / 1e6:.1f} MB.\n")
-    print("| Base | MB | instructions | slots | stores | loads | `compile` | `run` | `exec` | MB read a second, with the run | bytes of memory an instruction |")
+    print("| Base | MB | instructions | slots | stores | loads | `compile` | `run` | `exec` | MB read a second, with the run "
+          "| bytes of memory an instruction |")
     print("|---|---:|---:|---:|---:|---:|---:|---:|---:|---:|---:|")
     for name in EXAMPLES:
         words, household, place = example(name, folder)

@@ -1,5 +1,6 @@
 #!/bin/sh
-# Times `compile` and `exec`, and counts stores and loads with other choices of a victim. It needs ./build before and python3, and prints a table for RESULTS.md.
+# Times `compile` and `exec`, and counts stores and loads with other choices of a victim. It needs ./build before and python3,
+# and prints a table for RESULTS.md.
 #
 #     sh bench/code/files.sh [PROGRAM]
 set -eu

@@ -20,7 +20,8 @@ def main():
         "large_100000": ["-", f"{folder}/100000/requests.txt", f"{folder}/100000/large.m"],
         "large_10000_of_40_calls": [f"{folder}/calls/driver.mpp", f"{folder}/calls/requests.txt", f"{folder}/calls/large.m"],
     }
-    heads = ["nodes", "instructions", "width", "slots", "stores", "loads", "`allocate`, microseconds", "flat run, microseconds", "machine, microseconds", "machine to flat"]
+    heads = ["nodes", "instructions", "width", "slots", "stores", "loads", "`allocate`, microseconds",
+             "flat run, microseconds", "machine, microseconds", "machine to flat"]
     print("| Source | " + " | ".join(heads) + " |\n|---|" + "---:|" * len(heads))
     for name, words in rows.items():
         runs = []

@@ -173,7 +173,8 @@ row() {
         -v none="$none" -v all="$all" -v to="$work/all" '
         NR == 1 || $2 < best { best = $2; count = $1 }
         END {
-            printf "| %s | %d | %.1f | %.0f | %.1f | %.0f | %.1f |\n", name, count, best / 1e3, size / best, (all - none) / 5e6, peak / 1024, (peak - least) * 1024 / size
+            printf "| %s | %d | %.1f | %.0f | %.1f | %.0f | %.1f |\n", name, count, best / 1e3, size / best, (all - none) / 5e6,
+                peak / 1024, (peak - least) * 1024 / size
             print all - none >> to
         }' "$work/times"
 }
@@ -189,6 +190,8 @@ for kind in household table; do
         row 'the proved reader' "$kind" "$file" "$driver/out/bench_household"
         row 'plain reader' "$kind" "$file" "$work/plain"
         echo
-        awk -v name="${kind}_of_$rows" 'NR == 1 { own = $1 } NR == 2 { printf "figure household.%s_instructions_to_plain_reader %.3g <=3\n", name, own / $1 }' "$work/all"
+        awk -v name="${kind}_of_$rows" '
+            NR == 1 { own = $1 }
+            NR == 2 { printf "figure household.%s_instructions_to_plain_reader %.3g <=3\n", name, own / $1 }' "$work/all"
     done
 done

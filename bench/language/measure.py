@@ -43,7 +43,8 @@ def main():
         if status != 0 or status_too != 0:
             sys.exit(f"{shape}: status {status}, {text[:200]}; {status_too}, {text_too[:200]}")
         times, most = scanned(scanner, rules, folder), max(peak, peak_too)
-        print(f"| {read:,} | {files} | {seconds:.2f} | {compiled:.2f} | {most / 1e6:.0f} | {most / read:.1f} | {times:.3f} | {seconds / times:.1f} | {compiled / times:.1f} |", flush=True)
+        print(f"| {read:,} | {files} | {seconds:.2f} | {compiled:.2f} | {most / 1e6:.0f} | {most / read:.1f} | "
+              f"{times:.3f} | {seconds / times:.1f} | {compiled / times:.1f} |", flush=True)
     figure("language.run_60_MB_to_scanner", seconds / times, "<=6")
     figure("language.compile_60_MB_to_scanner", compiled / times)
     figure("language.compile_60_MB_s", compiled, f"<={1.3 * RUN_BEFORE:.2f}")

@@ -61,7 +61,9 @@ base)
         while (1) {
             for (p = 0; p < 2; p++)
                 for (k = 1; k <= 20; k++)
-                    line(sprintf("TS%s%02d : saisie revenu classe = 0 priorite = 10 categorie_TL = 20 cotsoc = 5 ind_abat = 0 acompte = 1 avfisc = 0 rapcat = 8 sanction = 0 alias %s%02d : \"Traitements d\351clar\351s\" type REEL ;", p ? "C" : "V", k, p ? "B" : "A", k))
+                    line(sprintf("TS%s%02d : saisie revenu classe = 0 priorite = 10 categorie_TL = 20 cotsoc = 5 ind_abat = 0 " \
+                        "acompte = 1 avfisc = 0 rapcat = 8 sanction = 0 alias %s%02d : \"Traitements d\351clar\351s\" type REEL ;",
+                        p ? "C" : "V", k, p ? "B" : "A", k))
             for (k = 1; k <= count; k++)
                 line(lines[k])
         }

@@ -1,10 +1,11 @@
 #!/usr/bin/env python3
 """How many of the true findings `lint` gives: measure.py PROGRAM [BASES] [SEED]
 
-At the top of the repository. For both examples and for so many random bases (100; those of tests/second/changing that have no fault) it counts what `lint` finds,
-and what households don't tell against: of HOUSEHOLDS made-up ones with amounts near the numbers of the rules, verifications that none of them stops or notes, and
-inputs of which another amount changed no answer in PAIRS pairs each. These are at least the true ones, and maybe more. What is never defined is counted by the
-reference implementation, exactly. Where households tell against a finding, or a cell is missed, it says so, and the status is 1.
+At the top of the repository. For both examples and for so many random bases (100; those of tests/second/changing that have no fault)
+it counts what `lint` finds, and what households don't tell against: of HOUSEHOLDS made-up ones with amounts near the numbers of the rules,
+verifications that none of them stops or notes, and inputs of which another amount changed no answer in PAIRS pairs each.
+These are at least the true ones, and maybe more. What is never defined is counted by the reference implementation, exactly.
+Where households tell against a finding, or a cell is missed, it says so, and the status is 1.
 """
 import csv
 import io
@@ -35,7 +36,8 @@ EXAMPLES = {
     "examples/impots, the rules alone": ["examples/impots/rules.list", "-", "-"],
 }
 TOLD = re.compile(r"(?:failed|noted|over verification) ([0-9]+) ([^ \n]+)")
-HEADS = ["Base", "verifications", "never stop: `lint`", "no household stops", "inputs", "unused: `lint`", "no household depends on", "never defined: `lint`", "by definition"]
+HEADS = ["Base", "verifications", "never stop: `lint`", "no household stops", "inputs", "unused: `lint`", "no household depends on",
+         "never defined: `lint`", "by definition"]
 
 
 class Trial:
@@ -92,7 +94,10 @@ class Trial:
         unused = []
         for code in self.types:
             first = [self.household() for _ in range(pairs)]
-            other = [{**household, code: self.amount(code)} if self.draw.random() < 0.8 else {c: a for c, a in household.items() if c != code} for household in first]
+            other = [
+                {**household, code: self.amount(code)} if self.draw.random() < 0.8 else {c: a for c, a in household.items() if c != code}
+                for household in first
+            ]
             both = self.answers(first + other)
             if both[:pairs] == both[pairs:]:
                 unused.append(code)

@@ -1,5 +1,6 @@
 /* Lets one call of the C library fail: the call number FAIL_AT, from 1, of the kind FAIL_KIND (memory, open, read, write).
-   Where that call comes, the file FAIL_MARK is made; of an open or a read it has the file's name. Loaded before the program by LD_PRELOAD; failing.py builds it. */
+   Where that call comes, the file FAIL_MARK is made; of an open or a read it has the file's name. Loaded before the program
+   by LD_PRELOAD; failing.py builds it. */
 #define _GNU_SOURCE
 #include <dlfcn.h>
 #include <errno.h>

@@ -9,10 +9,12 @@ LD_PRELOAD). What must come of it stands in docs/FORMATS.md:
 - no memory: status 5 with nothing on the standard output, but of `batch` and `cases`, of which a prefix of the answer may stand; or the same as
   without it, where the call only asked for room that isn't needed (a sort's, say);
 - an open or a read that fails: status 3 and the line `unreadable NAME`, of a file that the command names; the same as without it, where the
-  machine's own list of processors (below /sys) can't be opened or read; in a session that has begun, the replies to the lines so far and the line `unreadable input`;
+  machine's own list of processors (below /sys) can't be opened or read; in a session that has begun, the replies to the lines so far
+  and the line `unreadable input`;
 - a write that fails: status 4, and a prefix of the answer.
 
-Prints a line for each run that ends in another way, and a table of the counts of runs. Past 3,000 calls of a kind only some hundred are tried. The status is 1 where there was one.
+Prints a line for each run that ends in another way, and a table of the counts of runs. Past 3,000 calls of a kind only some hundred are tried.
+The status is 1 where there was one.
 """
 import os
 import re

@@ -62,7 +62,11 @@ def run(program, words, folder, stack, memory):
     child = os.fork()
     if child == 0:
         os.chdir(folder)
-        for name, end, flags in (("typed", 0, os.O_RDONLY), ("printed", 1, os.O_WRONLY | os.O_CREAT | os.O_TRUNC), ("told", 2, os.O_WRONLY | os.O_CREAT | os.O_TRUNC)):
+        for name, end, flags in (
+            ("typed", 0, os.O_RDONLY),
+            ("printed", 1, os.O_WRONLY | os.O_CREAT | os.O_TRUNC),
+            ("told", 2, os.O_WRONLY | os.O_CREAT | os.O_TRUNC),
+        ):
             os.dup2(os.open(name, flags, 0o644), end)
         resource.setrlimit(resource.RLIMIT_STACK, (stack << 10, stack << 10))
         resource.setrlimit(resource.RLIMIT_AS, (memory, memory))
@@ -128,7 +132,8 @@ def told(program, shape, room, stack, memory):
     tenth = f"{small['seconds']:.3f}" if small else ""
     growth = f"{times:.1f}" if small else ""
     answer = big["answer"].replace("|", "\\|")
-    print(f"| {shape.name} | {shape.full:,} | {stack} | {tenth} | {big['seconds']:.3f} | {growth} | {big['peak'] / 1e6:.0f} | `{answer}` ({big['bytes']:,}) | {big['status']} | {'; '.join(faults) or 'as it must be'} |", flush=True)
+    print(f"| {shape.name} | {shape.full:,} | {stack} | {tenth} | {big['seconds']:.3f} | {growth} | {big['peak'] / 1e6:.0f} "
+          f"| `{answer}` ({big['bytes']:,}) | {big['status']} | {'; '.join(faults) or 'as it must be'} |", flush=True)
     return not faults
 
 
@@ -139,7 +144,8 @@ def main():
         name, _, number = word.partition("=")
         limits[name] = int(number)
         words.remove(word)
-    print("| Shape | size | stack, KB | seconds at a tenth | seconds | times | peak, MB | answer (bytes) | status | verdict |\n|---|---:|---:|---:|---:|---:|---:|---|---:|---|")
+    print("| Shape | size | stack, KB | seconds at a tenth | seconds | times | peak, MB | answer (bytes) | status | verdict |\n"
+          "|---|---:|---:|---:|---:|---:|---:|---|---:|---|")
     bad = 0
     for shape in shapes.SHAPES:
         if words and not any(word in shape.name for word in words):

@@ -17,7 +17,10 @@ HERE = os.path.dirname(os.path.abspath(__file__))
 IMPOTS = os.path.join(os.path.dirname(os.path.dirname(HERE)), "examples", "impots")
 ANSWER = re.compile(rb"".join(name + rb"( = -?[0-9]+(\.[0-9]+)?| undefined)\n" for name in (b"IRNET", b"MARG", b"AVANT", b"GAIN")))
 STOP = re.compile(rb"failed 200[1-6] A01 anomalie\nA:01:00:parts:N\n")
-OF_DRIVER = re.compile(rb"refused driver line ([0-9]+): (bad token|too deep|syntax|function twice [A-Za-z0-9_]+|(unknown|bad target) [A-Za-z0-9_]+)\n|refused driver: no main\n")
+OF_DRIVER = re.compile(
+    rb"refused driver line ([0-9]+): (bad token|too deep|syntax|function twice [A-Za-z0-9_]+|(unknown|bad target) [A-Za-z0-9_]+)\n"
+    rb"|refused driver: no main\n"
+)
 OF_HOUSEHOLD = re.compile(rb"refused household line ([0-9]+): (bad row|unknown code|bad amount|code twice)\n|refused household: bad header\n")
 TOKEN = re.compile(rb'[ \t\r\n]+|#[^\n]*|(?P<text>"[^"]*")|(?P<end>;)|(?P<other>[0-9]+\.[0-9]+|\.\.|[<>!]=|[A-Za-z0-9_]+|[-+*/=<>()\[\],:])')
 

@@ -1,11 +1,13 @@
 #!/usr/bin/env python3
 """Times a million households by `.batch` of python/vodmejka against the command `batch` alone: measure.py PROGRAM FOLDER [ROWS]
 
-At the top of the repository. The rules are those of examples/impot2023 with their driver: nine codes, eight values. The command computes ROWS (1,000,000) in tables
-of 100,000, which is the most that one takes, and its output is dropped. Python is handed the same households one after the other, and reads of each answer
-nothing, one value, or all. Seconds are user and system of the process and of what it starts, one run each. Since the machine may be loaded, the command is run anew before each
-of these, and a ratio is that to the run right before. The sums of what is paid are compared. What the bench's own loop takes (it makes no household, but hands them out, reads and
-adds) is measured over dicts in the place of answers, and told on a line of its own: it is a part of Python's seconds, and of the ratio.
+At the top of the repository. The rules are those of examples/impot2023 with their driver: nine codes, eight values.
+The command computes ROWS (1,000,000) in tables of 100,000, which is the most that one takes, and its output is dropped.
+Python is handed the same households one after the other, and reads of each answer nothing, one value, or all. Seconds are user and system
+of the process and of what it starts, one run each. Since the machine may be loaded, the command is run anew before each of these,
+and a ratio is that to the run right before. The sums of what is paid are compared. What the bench's own loop takes (it makes no household,
+but hands them out, reads and adds) is measured over dicts in the place of answers, and told on a line of its own:
+it is a part of Python's seconds, and of the ratio.
 """
 import collections
 import itertools
@@ -37,8 +39,8 @@ def made():
 
 
 def by_package(program, what, rows, folder):
-    """The part of a process of its own: the sum of what is paid, where it is read, and seconds of this process, of the programs that it started, by the clock, and of the
-    bench's own loop."""
+    """The part of a process of its own: the sum of what is paid, where it is read, and seconds of this process, of the programs
+    that it started, by the clock, and of the bench's own loop."""
     from vodmejka import Rules
 
     rules, households, read = Rules(*WORDS, program=program, cache=os.path.join(folder, "cache")), made(), READ[what]

@@ -1,8 +1,9 @@
 #!/usr/bin/env python3
 """Writes rule files of 64 MB in eight files: generate.py FOLDER [MEGABYTES]
 
-They are like published ones: declarations with a description, rules with comments over them, formulas of some terms over variables of the same and of earlier files, so
-that all of them make one base below the limits. list.txt names the eight, and fault.txt the same but for the last, whose last line can't be read, so that reading alone is done.
+They are like published ones: declarations with a description, rules with comments over them, formulas of some terms over variables
+of the same and of earlier files, so that all of them make one base below the limits. list.txt names the eight, and fault.txt
+the same but for the last, whose last line can't be read, so that reading alone is done.
 """
 import os
 import sys

@@ -1,8 +1,9 @@
 #!/usr/bin/env python3
 """Times rule files of 64 MB in eight files on four processors and on one: measure.py PROGRAM FOLDER [MEGABYTES]
 
-FOLDER gets the files of generate.py. Elapsed seconds, the least of three runs; one processor is `taskset -c 0`. A whole `run` is timed, and one of files whose last line can't be
-read, which does no more than reading. The bytes and the status of both must be equal, and those of the fault at its place. Prints one line with both ratios, and both as figures.
+FOLDER gets the files of generate.py. Elapsed seconds, the least of three runs; one processor is `taskset -c 0`. A whole `run` is timed,
+and one of files whose last line can't be read, which does no more than reading. The bytes and the status of both must be equal,
+and those of the fault at its place. Prints one line with both ratios, and both as figures.
 """
 import os
 import subprocess

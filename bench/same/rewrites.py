@@ -1,8 +1,9 @@
 #!/usr/bin/env python3
 """Rewrites of a small rule base, each through tools/same: python3 bench/same/rewrites.py [--check]
 
-At the top of the repository. Each rewrite that keeps the meaning changes one thing of the base below; so does each that changes the meaning. Prints the table of
-RESULTS.md. With --check it says instead only what must be: no rewrite that keeps the meaning has a household in which the two differ, and each that changes it has one.
+At the top of the repository. Each rewrite that keeps the meaning changes one thing of the base below; so does each that changes the meaning.
+Prints the table of RESULTS.md. With --check it says instead only what must be: no rewrite that keeps the meaning has a household
+in which the two differ, and each that changes it has one.
 """
 import os
 import subprocess
@@ -40,12 +41,18 @@ KEPT = {
     "rules in another order": [(RULE_20, ""), ("verif 1", RULE_20 + "verif 1")],
     "a step renamed": [("BASE", "ASSIETTE")],
     "a step written out": [('BASE : calculee : "" ;\n', ""), ("BASE = SOMA + SOMB ;\n", ""), ("BASE", "(SOMA + SOMB)")],
-    "a term given a step of its own": [('PART : calculee', 'DROIT : calculee : "" ;\nPART : calculee'), ("alors TAUX * BASE", "alors DROIT"), ("IMP = ", "DROIT = TAUX * BASE ;\nIMP = ")],
+    "a term given a step of its own": [
+        ('PART : calculee', 'DROIT : calculee : "" ;\nPART : calculee'),
+        ("alors TAUX * BASE", "alors DROIT"),
+        ("IMP = ", "DROIT = TAUX * BASE ;\nIMP = "),
+    ],
     "a loop written out": [("pour i = A,B : SOMi = max(0, REVi - SEUIL) ;", "SOMA = max(0, REVA - SEUIL) ;\nSOMB = max(0, REVB - SEUIL) ;")],
     "a sum as a sum over a loop": [("SOMA + SOMB ;", "somme(i=A,B: SOMi) ;")],
     "a constant computed by hand": [("2 * SEUIL", "2000")],
     "the sides of a condition exchanged": [("BASE > 2 * SEUIL", "2 * SEUIL < BASE")],
-    "a condition turned round, and its branches": [("si BASE > 2 * SEUIL alors TAUX * BASE sinon 0 finsi", "si BASE <= 2 * SEUIL alors 0 sinon TAUX * BASE finsi")],
+    "a condition turned round, and its branches": [
+        ("si BASE > 2 * SEUIL alors TAUX * BASE sinon 0 finsi", "si BASE <= 2 * SEUIL alors 0 sinon TAUX * BASE finsi"),
+    ],
     "the operands of a sum exchanged": [("SOMA + SOMB", "SOMB + SOMA")],
 }
 MORE = {
@@ -85,7 +92,10 @@ def listed(room, name, text):
 def said(room, changes):
     """The status of tools/same, and what it printed."""
     lists = listed(room, "plain", BASE), listed(room, "other", rewritten(changes))
-    done = subprocess.run([os.path.join(TOP, "tools", "same"), lists[0], "-", lists[1], "-", "-"], stdout=subprocess.PIPE, stderr=subprocess.STDOUT, check=False)
+    done = subprocess.run(
+        [os.path.join(TOP, "tools", "same"), lists[0], "-", lists[1], "-", "-"],
+        stdout=subprocess.PIPE, stderr=subprocess.STDOUT, check=False,
+    )
     return done.returncode, done.stdout.decode("latin-1")
 
 

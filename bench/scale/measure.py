@@ -4,8 +4,9 @@
     measure.py PROGRAM FOLDER [HOUSEHOLDS [STEP..]]
 
 The steps are make, cut, run, join, in this order (all of them, where none is named), each of which needs those before it in the same FOLDER. HOUSEHOLDS is
-38,000,000 where it isn't said, for which FOLDER needs 12 GB. The table is made by households.c; `cut` looks that no label stands twice, `run` checks each line of
-the answers, and `join` looks through all of them again and prints them into a file. For each step: seconds by the clock, seconds of all processors, and bytes.
+38,000,000 where it isn't said, for which FOLDER needs 12 GB. The table is made by households.c; `cut` looks that no label stands twice,
+`run` checks each line of the answers, and `join` looks through all of them again and prints them into a file. For each step:
+seconds by the clock, seconds of all processors, and bytes.
 """
 import os
 import resource

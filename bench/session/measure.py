@@ -5,7 +5,8 @@
 
 Each line is a base, an edit that is made to and fro, and so many edits and shows. What a session took is read off its clock of the processor (user and system)
 while it waits: after its first edit, after its first show, and after all others. Each reply is compared: an edit says `ok`, and each second show of the same
-edit says the same. What a show says after an edit is what `run` says of the household with that edit. The memory is what the heap holds while the session waits after its first show (live.c, by LD_PRELOAD), less the 48 bytes a node of the program's own list.
+edit says the same. What a show says after an edit is what `run` says of the household with that edit. The memory is what the heap holds
+while the session waits after its first show (live.c, by LD_PRELOAD), less the 48 bytes a node of the program's own list.
 """
 import os
 import subprocess
@@ -139,7 +140,8 @@ def row(program, name, words, place, code, amounts, count, room):
     nodes = nodes_of(program, words[:3], place)
     held = live(program, words, place, room, typed(code, amounts, 1))
     each = others / count
-    print(f"| {name} | {nodes:,} | {count:,} | {begun:.3f} | {first * 1e3:.2f} | {each * 1e6:.2f} | {1 / each:,.0f} | {peak / 1e6:.0f} | {held / 1e6:.1f} |", flush=True)
+    print(f"| {name} | {nodes:,} | {count:,} | {begun:.3f} | {first * 1e3:.2f} | {each * 1e6:.2f} | {1 / each:,.0f} "
+          f"| {peak / 1e6:.0f} | {held / 1e6:.1f} |", flush=True)
     return each, nodes, held
 
 
@@ -159,7 +161,8 @@ def same_as_run(program, words, place, code, amount, room):
 def main():
     program, room = os.path.abspath(sys.argv[1]), sys.argv[2]
     subprocess.run(["cc", "-O1", "-shared", "-fPIC", "-o", os.path.join(room, "live.so"), os.path.join(os.path.dirname(HERE), "live.c")], check=True)
-    print("| Base | nodes | edits and shows | seconds to begin | first show, ms | a later show with its edit, microseconds | shows a second | peak, MB | held after the first show, MB |")
+    print("| Base | nodes | edits and shows | seconds to begin | first show, ms | a later show with its edit, microseconds "
+          "| shows a second | peak, MB | held after the first show, MB |")
     print("|---|---:|---:|---:|---:|---:|---:|---:|---:|")
     each = {}
     for name, code, _, count in EXAMPLES:
@@ -180,7 +183,8 @@ def main():
     (few, little), (many, much) = held
     a_node = (much - little) / (many - few)
     ratio = each[100_000][0] / each[1_000][0]
-    print(f"\nA show of `large 100000` takes {ratio:.2f} of one of `large 1000`. {a_node:.0f} bytes are held for each node more, {NODE_BYTES} of them by the program.\n")
+    print(f"\nA show of `large 100000` takes {ratio:.2f} of one of `large 1000`. "
+          f"{a_node:.0f} bytes are held for each node more, {NODE_BYTES} of them by the program.\n")
     for name, key in (("impots", EXAMPLES[0][0]), ("impot2023", EXAMPLES[1][0]), ("large_100000", 100_000)):
         figure(f"session.{name}_shows_a_second", 1 / each[key][0])
     figure("session.large_100000_to_large_1000", ratio, "<=1.2")

@@ -39,7 +39,8 @@ peak() {
     cat "$work/peak"
 }
 
-echo '| File, three times | MB in all | Tokens | Terms | `lex` | reading | `lex`, million instructions | reading, million instructions | held by the trees for a byte |'
+echo '| File, three times | MB in all | Tokens | Terms | `lex` | reading | `lex`, million instructions |' \
+    'reading, million instructions | held by the trees for a byte |'
 echo '|---|---|---|---|---|---|---|---|---|'
 for kind in dense base nests; do
     for room in 1333333 13333333; do
@@ -52,7 +53,8 @@ for kind in dense base nests; do
         awk -v kind="$kind" -v size="$(wc -c <"$file")" -v lexed="$lexed" -v read="$read" -v least="$least" -v most="$most" '
             { tokens += $1; terms = $2; lex += $3; reading += $4 }
             END {
-                printf "| %s | %.1f | %d | %d | %.2f s | %.2f s | %d | %d | %.1f |\n", kind, 3 * size / 1e6, tokens, terms, lex / 1e6, reading / 1e6, lexed, read - lexed, (most - least) * 1024 / (3 * size)
+                printf "| %s | %.1f | %d | %d | %.2f s | %.2f s | %d | %d | %.1f |\n", kind, 3 * size / 1e6, tokens, terms,
+                    lex / 1e6, reading / 1e6, lexed, read - lexed, (most - least) * 1024 / (3 * size)
                 printf "figure terms.%s_of_%d_MB_reading_to_lex %.3g <=3\n", kind, 3 * size / 1e6, (read - lexed) / lexed
             }' "$work/read.lines"
     done
