@@ -1,7 +1,8 @@
 """Runs the blocks of docs/PYTHON.md in order, as they stand: python3 python/tests/page.py
 
-At the top of the repository. Blocks of `sh` are commands; those of `pycon` are compared line by line, as doctest does, all in one room of names. /tmp stands for a folder
-of its own. Those with pandas are left out where it isn't there. Prints how many examples there were, and each that differs; the status is 0 where none does.
+At the top of the repository. Blocks of `sh` are commands; those of `pycon` are compared line by line, as doctest does, all in one room of names.
+/tmp stands for a folder of its own. Those with pandas are left out where it isn't there. Prints how many examples there were,
+and each that differs; the status is 0 where none does.
 """
 import doctest
 import importlib.util

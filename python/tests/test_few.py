@@ -145,7 +145,10 @@ class Few(Room):
 
     def test_a_program_that_fails_where_few_are_asked_for(self):
         """The part is computed for all then."""
-        for script in ("kill -KILL $$", "exit 0", "echo refused requests line 1; exit 1", "echo household '~'; exit 0", "printf 'household ~\\nIRN = 1'; exit 0", "exit 5"):
+        for script in (
+            "kill -KILL $$", "exit 0", "echo refused requests line 1; exit 1", "echo household '~'; exit 0",
+            "printf 'household ~\\nIRN = 1'; exit 0", "exit 5",
+        ):
             self.rules = self.rules_by(f'{NOTED} [ "$4" = - ] || {{ {script}; }};')
             self.assertEqual([answer["IRN"] for answer in self.batch()], list(range(ALL)))
             self.assertIn("IRN", self.asked())

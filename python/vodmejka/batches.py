@@ -1,7 +1,7 @@
 """Any number of households by the command `batch`, some thousand at a time: while it computes a part, the next one is read and written.
 
-Where values of a few names alone are read of the answers, the program is asked for no others from the next part on; where something else is wanted of such a part, the
-program computes it a second time, and is asked for all from then on.
+Where values of a few names alone are read of the answers, the program is asked for no others from the next part on; where something else
+is wanted of such a part, the program computes it a second time, and is asked for all from then on.
 """
 from __future__ import annotations
 
@@ -296,7 +296,8 @@ def printed_in(file: int) -> Printed:
 
 
 def pieces_of(form: Form, printed: Printed, due: int, asked: str | None = None) -> list[Piece]:
-    """What the program printed, in pieces with as many answers as are due, which tell the values of a form. `asked` is a name that each may have an amount of."""
+    """What the program printed, in pieces with as many answers as are due, which tell the values of a form. `asked` is a name
+    that each may have an amount of."""
     if printed and not (printed[: len(LABEL_LINE)] == LABEL_LINE.encode() and printed[-1:] == b"\n"):
         raise Broken(f"a first line without a label, or a last line without its end: {printed[:200]!r}, {printed[-200:]!r}")
     places = list(cuts(printed))

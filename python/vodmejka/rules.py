@@ -65,7 +65,10 @@ class Rules:
         for copy, (_, text) in zip(self._names, rules):
             self._put(copy, text)
         self._words = ["list", *("-" if text is None else self._put(name, text) for name, text in zip(("driver", "requests"), given))]
-        pieces = [program_digest(self.program).encode(), content, *(text for _, text in rules), *(b"none" if text is None else b"some" + text for text in given)]
+        pieces = [
+            program_digest(self.program).encode(), content, *(text for _, text in rules),
+            *(b"none" if text is None else b"some" + text for text in given),
+        ]
         self._code = self._compiled(digest_of(*pieces), cache)
         self._lines = self._interface()
 
