@@ -4,8 +4,8 @@
     tests/definitions.py            prints how many there are, by crate and by command
     tests/definitions.py --page     prints docs/DEFINITIONS.md
 
-It begins at the clauses of `m_tax` in m_commands, and goes along the names that each definition of `crates/*/specs` and each type of `crates/*/src` cites. What the kit
-states (lists, numbers, options) is not followed. Lines of comments and empty lines aren't counted.
+It begins at the clauses of `m_tax` in m_commands, and goes along the names that each definition of `crates/*/specs` and each type
+of `crates/*/src` cites. What the kit states (lists, numbers, options) is not followed. Lines of comments and empty lines aren't counted.
 """
 import os
 import re
@@ -176,7 +176,8 @@ def answers():
 
 
 def by_command():
-    """Of each command: how many lines there are to read for its answers alone, with all that they lead to; and the lines that every command needs, those of the clauses without any answer."""
+    """Of each command: how many lines there are to read for its answers alone, with all that they lead to; and the lines that every command
+    needs, those of the clauses without any answer."""
     found = answers()
     alone = {name for names in found.values() for _, name in names}
     frame = Reading(alone)
@@ -209,10 +210,12 @@ def main():
         print(f"all: {len(found)} definitions, {lines} lines")
         return
     print("# What the theorem stands on\n")
-    print("Every definition and type that the clauses of `m_tax` lead to, down to the operators: what is to be read by who wants to know what was proved. `tests/definitions.py --page` makes this")
+    print("Every definition and type that the clauses of `m_tax` lead to, down to the operators: what is to be read by who wants to know "
+          "what was proved. `tests/definitions.py --page` makes this")
     print("page. Lines are those of code; what the kit states of lists, numbers and options isn't followed.\n")
     print(f"In all {len(found)} definitions, {lines} lines.\n")
-    print("Who wants to know what one command answers reads less: the lines that all commands share, of words, files, limits, statuses and what is written when")
+    print("Who wants to know what one command answers reads less: the lines that all commands share, of words, files, limits, statuses "
+          "and what is written when")
     print(f"something fails, are {shared}, and with them are to be read\n")
     print("| Command | lines |\n|---|---:|")
     for command, count in commands:

@@ -30,7 +30,9 @@ same "crates.txt and the table of crates in ARCHITECTURE" "$room/index" "$room/t
 sed -n 's/^\([a-z][a-z0-9_]*\)[^:#]*:.*/\1/p' crates.txt | grep -v '_tests$' | grep -vx rows | sort >"$room/proved"
 awk '/^## /{in_table = /^## Crate by crate/} in_table && /^\| [a-z][a-z0-9_]* \|/{print $2}' docs/PROVED.md | sort >"$room/rows"
 same "crates.txt, without tests, and the table of PROVED" "$room/proved" "$room/rows"
-awk -F'|' '/^## /{in_table = /^## Crate by crate/} in_table && /^\| [a-z]/{gsub(/ /, "", $2); n = split($3, part, "`"); for (k = 2; k <= n; k += 2) print $2, part[k]}' docs/PROVED.md |
+awk -F'|' '
+    /^## /{in_table = /^## Crate by crate/}
+    in_table && /^\| [a-z]/{gsub(/ /, "", $2); n = split($3, part, "`"); for (k = 2; k <= n; k += 2) print $2, part[k]}' docs/PROVED.md |
     sed -n 's/^\([a-z0-9_]*\) \(.*::\)\{0,1\}\([A-Za-z_][A-Za-z0-9_][A-Za-z0-9_]*\)$/\1 \3/p' | sort -u >"$room/named"
 while read -r crate word; do
     if [ -d "crates/$crate" ] && grep -rqw -- "$word" "crates/$crate/src" "crates/$crate/specs" "crates/$crate/proofs" 2>/dev/null; then echo "$crate $word"; fi

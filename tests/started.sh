@@ -250,8 +250,9 @@ fi
 opened() {
     rm -f "$dir"/calls.*
     strace -ff -e trace=file,network,process -o "$dir/calls" out/m_tax "$@" >/dev/null 2>&1 </dev/null
-    cat $(printf '%s\n' "$dir"/calls.* | sort -V) | grep -v -e '^execve(' -e '^+++' -e '^exit' -e '"/etc/ld\.so\.' -e '"/lib' -e '"/usr/lib' -e '^newfstatat([0-9]*, "",' \
-        -e '^access("/etc/ld' -e '^wait4(' -e '^arch_prctl' -e '^openat(AT_FDCWD, "/sys/devices/system/cpu/online", O_RDONLY' -e '^openat(AT_FDCWD, "/sys/fs/cgroup/cpu\.max", O_RDONLY' \
+    cat $(printf '%s\n' "$dir"/calls.* | sort -V) | grep -v -e '^execve(' -e '^+++' -e '^exit' -e '"/etc/ld\.so\.' -e '"/lib' \
+        -e '"/usr/lib' -e '^newfstatat([0-9]*, "",' -e '^access("/etc/ld' -e '^wait4(' -e '^arch_prctl' \
+        -e '^openat(AT_FDCWD, "/sys/devices/system/cpu/online", O_RDONLY' -e '^openat(AT_FDCWD, "/sys/fs/cgroup/cpu\.max", O_RDONLY' \
         -e '^clone3\?(.*CLONE_THREAD' | sed 's/^openat(AT_FDCWD, "\(.*\)", O_RDONLY[A-Z_|]*) = [0-9]*$/reads \1/'
 }
 if [ $way = built ] && command -v strace >/dev/null 2>&1 && strace -o "$dir/calls.0" true 2>/dev/null; then
@@ -301,7 +302,8 @@ touch -d '2000-01-01' "$dir/old/out/built"
 judge "$?" 6 "program: run a b" "sources that are newer" "m_tax: the sources are newer than the program; this is the program as ./build proved it last"
 rm "$dir/old/out/built"
 "$dir/old/m_tax" run "a b" >"$dir/out" 2>"$dir/err"
-judge "$?" 6 "program: run a b" "a build that was ended" "m_tax: nothing tells whether the program is of these sources, since ./build was ended; ./build goes on"
+judge "$?" 6 "program: run a b" "a build that was ended" \
+    "m_tax: nothing tells whether the program is of these sources, since ./build was ended; ./build goes on"
 
 # ./build through a symbolic link finds no crates beside the link, and makes nothing there.
 mkdir "$dir/links"

@@ -5,8 +5,9 @@
 
 A program is the path of one that takes the words of `m_tax`, as `out/m_tax` does. Its text and its status must be those
 of the reading, byte by byte; of several cycles or recursions it may show another true one, `compile` may print any code
-file of the source, and the lines of a reason may stand in any order in which each stands after those that it reads. Each row in which they differ is kept in a folder of its own, in the form of crates/rows/data, with what the
-reading says; the program's answer stands in `program_text` and `program_status`. The status is 0 where nothing differs.
+file of the source, and the lines of a reason may stand in any order in which each stands after those that it reads. Each row
+in which they differ is kept in a folder of its own, in the form of crates/rows/data, with what the reading says;
+the program's answer stands in `program_text` and `program_status`. The status is 0 where nothing differs.
 """
 
 import collections

@@ -21,14 +21,18 @@ REFUSED = re.compile(
     rb"|.+ line [0-9]+ byte [0-9]+: (?:PLACED))$".replace(b"PLACED", PLACED).replace(b"NAME", NAME),
     re.DOTALL,
 )
-REPLY = re.compile(rb"^(?:ok|\.|refused unknown code|refused unknown variable|refused bad amount|refused not of its type|refused bad command|refused line too long)$")
+REPLY = re.compile(
+    rb"^(?:ok|\.|refused unknown code|refused unknown variable|refused bad amount|refused not of its type|refused bad command"
+    rb"|refused line too long)$"
+)
 FINDING = re.compile(rb"^(?:never defined NAME|never stops [0-9]{1,9} [0-9A-Za-z_]+|unused input [0-9A-Za-z_]+)$".replace(b"NAME", NAME))
 TEXT = rb"(?:" + AMOUNT + rb"|undefined|over|stop)"
 MISMATCH = re.compile(rb"^mismatch .+ " + NAME + rb" expected " + TEXT + rb" got " + TEXT + rb"$", re.DOTALL)
 COUNTED = re.compile(rb"^cases [0-9]+ mismatches [0-9]+$")
 USAGE = b"usage: m_tax "
 CODE_LINE = re.compile(
-    rb"^(?:slots [0-9]+|input [0-9A-Za-z_]+(?: whole| truth)?|label verif [0-9]{1,9} [0-9A-Za-z_]+ (?:anomalie|discordance|informative) (?:[0-9a-f]{2})+|label driver [0-9]+"
+    rb"^(?:slots [0-9]+|input [0-9A-Za-z_]+(?: whole| truth)?"
+    rb"|label verif [0-9]{1,9} [0-9A-Za-z_]+ (?:anomalie|discordance|informative) (?:[0-9a-f]{2})+|label driver [0-9]+"
     rb"|note [0-9]+|output NAME|code|in [0-9]+ [0-9]+|lit [0-9]+ (?:undef|over|-?[0-9]{1,20})|do [0-9]+ [a-z_]+(?: [0-9]+){1,3}|(?:st|ld|out) [0-9]+ [0-9]+"
     rb"|c[ko] [0-9]+ [0-9]+ [0-9]+)$".replace(b"NAME", NAME)
 )

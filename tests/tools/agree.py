@@ -17,7 +17,10 @@ from reading.faults import Refused  # noqa: E402
 from reading.items import items_of  # noqa: E402
 from reading.tokens import tokens_of  # noqa: E402
 
-PIECES = rb'; : ( ) , = [ ] .. - si alors finsi regle 1 A a "x" X 1.5 dans non pour un et somme( max( . " sinon erreur application == <- if else: not del partition'.split()
+PIECES = (
+    rb'; : ( ) , = [ ] .. - si alors finsi regle 1 A a "x" X 1.5 dans non pour un et somme( max( . " sinon erreur application '
+    rb'== <- if else: not del partition'
+).split()
 PIECES += [b"\n", b"\n  ", b"\n    ", b"\t", b"\xe9", b"1234567890", b" ", b"\r"]
 
 

@@ -1,6 +1,9 @@
 # Tables of cases from answers that a person has looked at, and from two sheets; what is refused.
 printf 'name,1AJ\ndupont,2500.5\n"a, ""b""",\nmartin,1\nleroy,-1\n' >t.csv
-printf 'household dupont\nnoted 7 A1 informative\nhousehold x\nIRN = 1500.5\nT[1] undefined\nhousehold a, "b"\nIRN = 0\nT[1] over\nhousehold martin\nIRN = 0\nT[1] = -0.5\nhousehold leroy\nfailed 1 E01 anomalie\nt\n' >answers
+{
+    printf 'household dupont\nnoted 7 A1 informative\nhousehold x\nIRN = 1500.5\nT[1] undefined\nhousehold a, "b"\nIRN = 0\nT[1] over\n'
+    printf 'household martin\nIRN = 0\nT[1] = -0.5\nhousehold leroy\nfailed 1 E01 anomalie\nt\n'
+} >answers
 "$ROOT/tools/cases-in" t.csv answers; echo "status $?"
 { printf '\357\273\277'; cat t.csv; } >marked.csv
 "$ROOT/tools/cases-in" --only IRN marked.csv answers | head -n 2
@@ -37,15 +40,20 @@ printf 'name,1AJ\ndupont,1\n' >one.csv
 python3 - <<'P'
 import zipfile
 def sheet(rows):
-    cells = lambda row: "".join('<table:table-cell office:value-type="float" office:value="%s"><text:p>%s</text:p></table:table-cell>' % (f, f) if isinstance(f, (int, float)) else '<table:table-cell office:value-type="string"><text:p>%s</text:p></table:table-cell>' % f for f in row)
+    value = '<table:table-cell office:value-type="float" office:value="%s"><text:p>%s</text:p></table:table-cell>'
+    text = '<table:table-cell office:value-type="string"><text:p>%s</text:p></table:table-cell>'
+    cells = lambda row: "".join(value % (f, f) if isinstance(f, (int, float)) else text % f for f in row)
     return "".join("<table:table-row>%s</table:table-row>" % cells(row) for row in rows)
 def book(path, sheets):
-    names = 'xmlns:office="urn:oasis:names:tc:opendocument:xmlns:office:1.0" xmlns:table="urn:oasis:names:tc:opendocument:xmlns:table:1.0" xmlns:text="urn:oasis:names:tc:opendocument:xmlns:text:1.0"'
+    names = ('xmlns:office="urn:oasis:names:tc:opendocument:xmlns:office:1.0" xmlns:table="urn:oasis:names:tc:opendocument:xmlns:table:1.0" '
+             'xmlns:text="urn:oasis:names:tc:opendocument:xmlns:text:1.0"')
     tables = "".join('<table:table table:name="%s">%s</table:table>' % (name, sheet(rows)) for name, rows in sheets)
     with zipfile.ZipFile(path, "w") as out:
         out.writestr("mimetype", "application/vnd.oasis.opendocument.spreadsheet")
-        out.writestr("content.xml", '<office:document-content %s><office:body><office:spreadsheet>%s</office:spreadsheet></office:body></office:document-content>' % (names, tables))
-book("b.ods", [("foyers", [["nom", "1AJ"], ["dupont", 2500.5], ["martin", 1]]), ("attendu", [["nom", "IRN", "T[1]"], ["dupont", 1500.5, "undefined"], ["martin", "", "stop"]])])
+        out.writestr("content.xml", '<office:document-content %s><office:body><office:spreadsheet>%s'
+                     '</office:spreadsheet></office:body></office:document-content>' % (names, tables))
+book("b.ods", [("foyers", [["nom", "1AJ"], ["dupont", 2500.5], ["martin", 1]]),
+               ("attendu", [["nom", "IRN", "T[1]"], ["dupont", 1500.5, "undefined"], ["martin", "", "stop"]])])
 book("c.ods", [("foyers", [["nom", "1AJ"], ["dupont", 2500.5]]), ("attendu", [["nom", "IRN"], ["dupont", "beaucoup"]])])
 P
 "$ROOT/tools/cases-in" --book b.ods --households foyers --expected attendu; echo "status $?"

@@ -26,7 +26,9 @@ cat >stand_in <<'END'
 #!/bin/sh
 # A household is refused where a code is 9ZZ or an amount empty; a table where it has the code 9ZZ, or the amount 10.
 if [ "$1" = run ]; then
-    awk -F, 'NR > 1 && $1 == "9ZZ" {print "refused household line " NR ": unknown code"; exit 1} NR > 1 && $2 == "" {print "refused household line " NR ": bad amount"; exit 1}' "$5"
+    awk -F, '
+        NR > 1 && $1 == "9ZZ" {print "refused household line " NR ": unknown code"; exit 1}
+        NR > 1 && $2 == "" {print "refused household line " NR ": bad amount"; exit 1}' "$5"
 else
     [ ! -e "$(dirname "$0")/killed" ] || { printf 'household r0\nIRN = 1\n'; kill -9 $$; }
     line=$(awk -F, 'NR == 1 && /9ZZ/ {print "refused household line 1: unknown code"} $2 == 10 {print "refused household line " NR ": not of its type"}' "$5")
@@ -40,7 +42,9 @@ draw h.csv
 "$tools/marginal" a.list - h.csv 9ZZ 0 10 10 --of IRN --csv
 "$tools/marginal" a.list - h.csv 1€é 0 10 10 --of IRN --csv
 "$tools/marginal" a.list - h.csv 1AJ -2000000 2000000 4000000 --of IRN --csv
-for range in '0 0.5 0.1' '0 30000 500' '-2.5 0 0.5'; do "$tools/marginal" a.list - h.csv 1AJ $range --of IRN | sed -n 's/.*middle">\(.*\)<.text>/\1/p' | tr '\n' ' '; done
+for range in '0 0.5 0.1' '0 30000 500' '-2.5 0 0.5'; do
+    "$tools/marginal" a.list - h.csv 1AJ $range --of IRN | sed -n 's/.*middle">\(.*\)<.text>/\1/p' | tr '\n' ' '
+done
 echo
 : >killed && draw h.csv
 stand_in 'awk -F, '\''NR > 1 {print "household " $1 "\nIRN = 0"}'\'' "$5"'
@@ -77,7 +81,8 @@ printf 'unreadable x\r\n' | "$tools/explain" | tr '\r' '|'
 : >nothing && chmod +x nothing
 M_TAX=./nothing "$tools/explain" run a b c d 2>&1 | sed "s|$PWD|.|"
 rm nothing
-printf 'refused a.m line %05000d byte 1: syntax\nrefused list line 0\nrefused household line 0: bad row\n' 7 | "$tools/explain" --list a.list --household h.csv | cut -c 1-40
+printf 'refused a.m line %05000d byte 1: syntax\nrefused list line 0\nrefused household line 0: bad row\n' 7 |
+    "$tools/explain" --list a.list --household h.csv | cut -c 1-40
 echo "-- why: a page that can't be written leaves nothing"
 stand_in 'case $1 in run) echo "K = 2" ;; check) echo sound ;; esac'
 mkdir page folder

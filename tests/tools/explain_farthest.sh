@@ -1,17 +1,21 @@
 # The token at which a refused item or line can't go on, and what could stand there: rules and drivers; marks and carriage returns; places for editors.
 explain=$ROOT/tools/explain
 RULE='regle 1 : application : iliad ; '
-for formula in 'A = 1\nB = 2 ;' 'A = (1 + 2 ;' 'A = si B == 1 alors 2 finsi ;' 'A = 0,30 ;' 'A = max(1,2,3) ;' 'A = max(1) ;' 'A = si B alors 1 ;' 'A = multimax(1, B) ;' 'A == 1 ;' 'A = si alors 1 finsi ;' 'A = ;'; do
+for formula in 'A = 1\nB = 2 ;' 'A = (1 + 2 ;' 'A = si B == 1 alors 2 finsi ;' 'A = 0,30 ;' 'A = max(1,2,3) ;' 'A = max(1) ;' \
+    'A = si B alors 1 ;' 'A = multimax(1, B) ;' 'A == 1 ;' 'A = si alors 1 finsi ;' 'A = ;'; do
     printf "$RULE$formula" >a.m
     printf 'refused a.m line 1 byte 0: syntax\n' | "$explain" | tail -n 3
 done
 echo "-- other items"
-for item in 'A = 1 ;' 'a : const = 1 ;' 'A : saisie : "" ;' 'E : anomalie : "a" : "b" ;' 'regle 1 : iliad ; A = 1 ;' 'verif 1 : application : iliad ; si A alors erreur ;'; do
+for item in 'A = 1 ;' 'a : const = 1 ;' 'A : saisie : "" ;' 'E : anomalie : "a" : "b" ;' 'regle 1 : iliad ; A = 1 ;' \
+    'verif 1 : application : iliad ; si A alors erreur ;'; do
     printf '%s' "$item" >a.m
     printf 'refused a.m line 1 byte 0: syntax\n' | "$explain"
 done
 echo "-- drivers"
-for line in 'A = 1 +' 'A = 0,30' 'if A = 1:\n    A = 1' 'if A\n    A = 1' 'A < - f()' 'A <- f(1)' 'A = f()' 'A = (1' 'f()' 'partition with avfisc:\n    A = 1' 'else:\n    A = 1' 'if A:\n  A = 1' 'A = 1\n   A = 1' 'if A:\n    A = 1\n   A = 1' 'if A:\n    A = 1\n  else:\n  A = 1'; do
+for line in 'A = 1 +' 'A = 0,30' 'if A = 1:\n    A = 1' 'if A\n    A = 1' 'A < - f()' 'A <- f(1)' 'A = f()' 'A = (1' 'f()' \
+    'partition with avfisc:\n    A = 1' 'else:\n    A = 1' 'if A:\n  A = 1' 'A = 1\n   A = 1' 'if A:\n    A = 1\n   A = 1' \
+    'if A:\n    A = 1\n  else:\n  A = 1'; do
     printf "main():\n  $line\n" >d.mpp
     printf 'refused driver line 1: syntax\n' | "$explain" --driver d.mpp | tail -n +4
 done

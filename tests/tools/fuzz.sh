@@ -1,5 +1,6 @@
 # needs the program
-# Changed inputs in parts: their words, that two parts find what the whole finds, what is kept of a wrong program and dropped later, and a run that is ended by a signal.
+# Changed inputs in parts: their words, that two parts find what the whole finds, what is kept of a wrong program and dropped later,
+# and a run that is ended by a signal.
 wrong=$PWD/wrong
 printf '#!/bin/sh\necho "no form"\n' >"$wrong"
 chmod +x wrong
@@ -31,5 +32,6 @@ print("status", child.wait())' "$ROOT/tests/fuzz" 100000 999 "$wrong" --from 7
 after=$(sed -n 's/.* inputs from 7 to \([0-9]*\))$/\1/p' ended)
 [ "$(tail -n 1 ended)" = "fuzz: ended by a signal; the rest is: tests/fuzz $((100006 - after)) 999 $wrong --from $((after + 1))" ] && echo "the rest is said"
 failed=$(sed -n 's/.* passed, \([0-9]*\) failed .*/\1/p' ended)
-grep -q "^fuzz: $((after - 6 - failed)) passed" ended && [ "$failed" -gt 50 ] && [ "$(grep -c 'of seed 999: ' ended)" = "$failed" ] && echo "what was found is said"
+grep -q "^fuzz: $((after - 6 - failed)) passed" ended && [ "$failed" -gt 50 ] &&
+    [ "$(grep -c 'of seed 999: ' ended)" = "$failed" ] && echo "what was found is said"
 rm -rf "$ROOT"/out/fuzz/999_*

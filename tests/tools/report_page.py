@@ -1,8 +1,9 @@
 """Compares the figures of a report of tools/reform with those of the files beside it: python3 report_page.py FOLDER [--step STEP]
 
-The bytes of report.html are parsed; and where a headless Chromium is found (BROWSER names it, or one of these stands on the path: chromium-headless-shell, chromium,
-google-chrome), the document as that browser has opened it too, with a look that nothing failed to load. What is compared: the sums in the text; each cell of the table
-with summary.csv; and each bar of the pictures, which are computed here anew of households.csv. Prints a line; on standard error whether a browser opened the page.
+The bytes of report.html are parsed; and where a headless Chromium is found (BROWSER names it, or one of these stands on the path:
+chromium-headless-shell, chromium, google-chrome), the document as that browser has opened it too, with a look that nothing failed to load.
+What is compared: the sums in the text; each cell of the table with summary.csv; and each bar of the pictures, which are computed here anew
+of households.csv. Prints a line; on standard error whether a browser opened the page.
 """
 import csv
 import html.parser
@@ -111,7 +112,10 @@ def differences(page, folder):
     if len(page.pictures) != len(pictures):
         yield f"{len(page.pictures)} pictures and not {len(pictures)}"
     for number, (shown, wanted) in enumerate(zip(page.pictures, pictures), 1):
-        yield from (f"picture {number}: {one!r} and not {other!r}" for one, other in zip(shown + [None] * len(wanted), wanted + [None] * len(shown)) if one != other)
+        yield from (
+            f"picture {number}: {one!r} and not {other!r}"
+            for one, other in zip(shown + [None] * len(wanted), wanted + [None] * len(shown)) if one != other
+        )
     if page.links:
         yield f"links to {page.links}"
 

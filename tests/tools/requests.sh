@@ -1,6 +1,7 @@
 # All variables, kinds, patterns of names and of cells, and what can't be asked for.
 requests=$ROOT/tools/requests
-(cd "$ROOT" && tools/requests examples/loops/rules.list | tr '\n' ' ' && echo && tools/requests examples/impots/rules.list '*T' 'TMI[?]' 'T*B' --computed | tr '\n' ' ')
+(cd "$ROOT" && tools/requests examples/loops/rules.list | tr '\n' ' ' && echo &&
+    tools/requests examples/impots/rules.list '*T' 'TMI[?]' 'T*B' --computed | tr '\n' ' ')
 echo
 (cd "$ROOT" && tools/requests examples/first/rules.list --constants --inputs && tools/requests examples/impot2023/rules.list | wc -l | tr -d ' ')
 printf 'iliad\na.m\n' >a.list

@@ -84,7 +84,8 @@ def runs():
     with Room(script("long", "echo begun; exec >&-; exec sleep 600\n"), 1, 4 << 30) as room:
         tell("waits too long after the end of its output", said(room, Row([], {}, b"")), (b"", None))
     rooms.CLOCK = 30
-    with Room(script("limits", "ulimit -v; ulimit -c; ls /proc/self/fd | wc -l; echo dropped >&2; trap 'echo no' PIPE; kill -PIPE $$; exit 6\n"), 60, 1 << 30) as room:
+    with Room(script("limits", "ulimit -v; ulimit -c; ls /proc/self/fd | wc -l; echo dropped >&2; "
+                               "trap 'echo no' PIPE; kill -PIPE $$; exit 6\n"), 60, 1 << 30) as room:
         tell("limits, descriptors and errors", said(room, Row([], {}, b"")), (b"1048576\n0\n4\nno\n", 6))
 
 

@@ -6,7 +6,11 @@ here=$(dirname "$0")
 cat >/dev/null <"$2"
 [ ! -e "$here/stop" ] || { echo "refused household line 2: bad row"; exit 1; }
 awk -F, -v lose="$(cat "$here/lose" 2>/dev/null)" -v twice="$(cat "$here/twice" 2>/dev/null)" '
-    NR > 1 && $1 !~ /^\r?$/ {sub(/\r/, ""); sub(/^"/, "", $1); sub(/"$/, "", $1); n = $1 == lose ? 0 : $1 == twice ? 2 : 1; while (n-- > 0) print "household " $1 "\nIRN = " $2}' "$5"
+    NR > 1 && $1 !~ /^\r?$/ {
+        sub(/\r/, ""); sub(/^"/, "", $1); sub(/"$/, "", $1)
+        n = $1 == lose ? 0 : $1 == twice ? 2 : 1
+        while (n-- > 0) print "household " $1 "\nIRN = " $2
+    }' "$5"
 END
 chmod +x stand_in
 M_TAX=$PWD/stand_in

@@ -31,7 +31,11 @@ printf 'iliad\nlong.m\n' >long.list
 {
     printf 'V : saisie alias 1AJ : "" ;\nT : tableau[5] calculee : "" ;\nA : calculee restituee : "" ;\nregle 1 : application : iliad ;\nT[X] = V ;\n'
     printf 'A = T[%05001d] + T[%05000d9]\n' 4 0
-    awk 'BEGIN {printf "+ T[1"; for (k = 1; k < 25000; k++) printf "+1"; printf "]\n+ T[9999999999999"; for (k = 1; k < 340; k++) printf "*9999999999999"; print "]\n+ T[-(2 + 1)*2] ;"}'
+    awk 'BEGIN {
+        printf "+ T[1"; for (k = 1; k < 25000; k++) printf "+1"
+        printf "]\n+ T[9999999999999"; for (k = 1; k < 340; k++) printf "*9999999999999"
+        print "]\n+ T[-(2 + 1)*2] ;"
+    }'
 } >long.m
 "$slips" long.list
 printf 'A : calculee : "" ;\nB : calculee restituee : "" ;\nregle 1 : application : iliad ; B = A ;\n' >c.m

@@ -1,7 +1,10 @@
 # Tables as French spreadsheets write them: each oddity, and what is refused with its place.
 in=$ROOT/tools/table-in
 # Excel, UTF-8: a mark, carriage returns, decimal commas, blanks of three kinds, a euro sign, empty columns and lines, a label with ; and a line end.
-printf '\357\273\277Foyer;1AJ;1BJ;;\r\n"Dupont;\nfils";1 234,50;;;\r\nMartin;1\302\240234\302\240567,8;-12\342\200\257345,6 \342\202\254;;\r\n;;;;\r\n"Le ""Bihan""";0;"1,5";;\r\n' >excel.csv
+{
+    printf '\357\273\277Foyer;1AJ;1BJ;;\r\n"Dupont;\nfils";1 234,50;;;\r\n'
+    printf 'Martin;1\302\240234\302\240567,8;-12\342\200\257345,6 \342\202\254;;\r\n;;;;\r\n"Le ""Bihan""";0;"1,5";;\r\n'
+} >excel.csv
 "$in" excel.csv
 # Latin-1, with hard blanks.
 printf 'Foyer;1AJ\r\nDupr\351;1\240000,25\r\n' | "$in" -
@@ -40,12 +43,16 @@ echo "status $?"
 "$in"
 echo "status $?"
 # Nothing is dropped in silence: heads that are no codes, no labels, what may mean two amounts, nothing below the heads, quotes and ends.
-for text in 'Foyer;1aj\nd;5\n' 'Foyer;salaire\nd;5\n' '1AJ;1BJ\n5;6\n' 'n;1AJ\nd;45.000\n' 'n\t1AJ\nd\t45.000\n' 'name,1AJ\nd,"1,234"\n' 'Foyer;1AJ\n' 'Code;Montant\n' 'n|1AJ\nd|5\n' \
-    'n;1AJ\n"d;5\ne;6\n' 'n;1AJ\n"d"e;5\n' 'n;1AJ;1BJ\nd;5;6\ne;12' 'Code;Montant\n1aj;5\n' 'Code;Montant\n;5\n' 'Code;Montant\n1AJ;5\n1AJ;6\n' 'n;1AJ\nd;\0005\n' '\377\376N\000\t'; do
+for text in 'Foyer;1aj\nd;5\n' 'Foyer;salaire\nd;5\n' '1AJ;1BJ\n5;6\n' 'n;1AJ\nd;45.000\n' 'n\t1AJ\nd\t45.000\n' 'name,1AJ\nd,"1,234"\n' \
+    'Foyer;1AJ\n' 'Code;Montant\n' 'n|1AJ\nd|5\n' 'n;1AJ\n"d;5\ne;6\n' 'n;1AJ\n"d"e;5\n' 'n;1AJ;1BJ\nd;5;6\ne;12' 'Code;Montant\n1aj;5\n' \
+    'Code;Montant\n;5\n' 'Code;Montant\n1AJ;5\n1AJ;6\n' 'n;1AJ\nd;\0005\n' '\377\376N\000\t'; do
     printf "$text" | "$in" -
     echo "status $?"
 done
-(cd "$ROOT" && printf 'Foyer;1aj\nd;5\n' | tools/table-in --list examples/first/rules.list - ; printf '1aj;n\n5;6\n' | tools/table-in --list examples/first/rules.list -)
+(
+    cd "$ROOT" && printf 'Foyer;1aj\nd;5\n' | tools/table-in --list examples/first/rules.list -
+    printf '1aj;n\n5;6\n' | tools/table-in --list examples/first/rules.list -
+)
 printf 'name,1AJ\nd,45.000\n' | "$in" -
 printf 'Foyer;1AJ\rd, e, f;5\rg;6\r' | "$in" -
 "$in" --leave 2>/dev/null

@@ -56,7 +56,10 @@ awk 'BEGIN {for (k = 0; k < 20000; k++) print "household h" k "\nIRN = 1"}' >man
 echo "status $?"
 "$out" --requests nowhere <stops
 echo "status $?"
-printf 'household a\nnoted 2000 A20 discordance\nhousehold x\nnoted 7 A21 informative\nIRN = 9\nIRN = 1\nhousehold b\nIRN = 2\nhousehold c\nfailed 7 A22 anomalie\nt\n' >notes
+{
+    printf 'household a\nnoted 2000 A20 discordance\nhousehold x\nnoted 7 A21 informative\nIRN = 9\nIRN = 1\n'
+    printf 'household b\nIRN = 2\nhousehold c\nfailed 7 A22 anomalie\nt\n'
+} >notes
 "$out" <notes; echo "status $?"
 printf 'household a\nnoted 2000 A20 discordance\n' | "$out"; echo "status $?"
 printf 'household a\nIRN = 1\nnoted 2000 A20 discordance\nt\n' | "$out"; echo "status $?"

@@ -21,5 +21,8 @@ printf 'K2 : const = 4 ;\n' >> a.m
 ls
 # Formulas of rules that don't count, for they are of another application or chained; one that does, in a loop's rule.
 printf 'iliad\nb.m\n' > b.list
-printf 'A : calculee : "" ;\nB : calculee : "" ;\nC : calculee : "" ;\nregle 1 : application : b ;\nA = 1 ;\nregle 2 : application : iliad ; enchaineur : E ;\nB = 1 ;\nregle 3 : application : b, iliad ;\nC = 1 ;\n' > b.m
+{
+    printf 'A : calculee : "" ;\nB : calculee : "" ;\nC : calculee : "" ;\nregle 1 : application : b ;\nA = 1 ;\n'
+    printf 'regle 2 : application : iliad ; enchaineur : E ;\nB = 1 ;\nregle 3 : application : b, iliad ;\nC = 1 ;\n'
+} > b.m
 for name in A B C; do "$ROOT/tools/variant" b.list $name=3 of_$name; echo "status $?"; done

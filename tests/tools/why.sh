@@ -1,5 +1,6 @@
 # needs the program
-# IRN = max(0, REV - SEUIL) + T[2], with T[X] = X * 10 over three cells and a sum of the loop: REV is 2,500.5, so IRN is 1,500.5 + 20, and S of V and C is 3 + 0.
+# IRN = max(0, REV - SEUIL) + T[2], with T[X] = X * 10 over three cells and a sum of the loop: REV is 2,500.5, so IRN is 1,500.5 + 20,
+# and S of V and C is 3 + 0.
 printf 'iliad\na.m\n' > l.txt
 cat > a.m <<'M'
 REV : saisie revenu classe = 0 alias 1AJ : "wages" ;

@@ -18,7 +18,8 @@ SPOILT_LITERALS = b"10000000000000000001 -10000000000000000001 -0 007 1.5 undefi
 LINES = b"""
 mcode 1|slots 0|slots 1|input 1AJ|input 2AJ whole|label driver 0|label driver 4294967296|label verif 1 E anomalie 6e|note 0|output IRN
 output T[1024]|output T[01]|output irn|code|in 0 0|lit 0 0|lit 16 0|do 0 neg 0|do 0 add 0|do 0 choose 0 0|st 0 0|ld 0 0|ck 0 0 0|co 0 0 0
-out 0 0|end||code |input somme|input X|output X|output X[0]|label verif 1 X anomalie 6e|note 4294967295|label verif 1 e anomalie 6e|label verif 1 E anomalie 6|label verif 1 E anomalie|label verif 1 E noted 6E
+out 0 0|end||code |input somme|input X|output X|output X[0]|label verif 1 X anomalie 6e|note 4294967295|label verif 1 e anomalie 6e
+label verif 1 E anomalie 6|label verif 1 E anomalie|label verif 1 E noted 6E
 """.strip().replace(b"\n", b"|").split(b"|")
 
 

@@ -63,7 +63,10 @@ class Findings:
             amounts = {cell: amount_of_type(draw, declared.types[code]) for code, cell in declared.inputs.items() if draw.random() < 0.7}
             lines = self.compiled.told(amounts.items())
             words = [line.split(b" ") for line in lines[0].split(b"\n")]
-            stops = {b"never stops " + b" ".join(line[-2:] if line[0] == b"over" else line[1:3]) for line in words if line[0] in (b"failed", b"over", b"noted") and len(line) > 2}
+            stops = {
+                b"never stops " + b" ".join(line[-2:] if line[0] == b"over" else line[1:3])
+                for line in words if line[0] in (b"failed", b"over", b"noted") and len(line) > 2
+            }
             if stops & set(silent):
                 return True
             for line in unused:
