@@ -259,13 +259,16 @@ class Driver:
                 if before[1] is not None and before[1][0] in ("function", "if", "else", "partition"):
                     opened.append((line.indent, ("none",)))
                 else:
-                    self.fault("syntax", line.number, line.indent, "a line with more indentation", (), "only a function's first line, if, else: and partition have a block under them")
+                    self.fault("syntax", line.number, line.indent, "a line with more indentation", (),
+                               "only a function's first line, if, else: and partition have a block under them")
             elif line.indent and not (opened and opened[-1][0] == line.indent):
                 self.fault("syntax", line.number, line.indent, "an indentation of no block round it", (), "lines of one block have one indentation")
             if before and before[0].indent >= line.indent and before[1] and before[1][0] in ("function", "if", "else", "partition"):
-                self.fault("syntax", before[0].number, None, "a line that begins a block, and none is under it", (), "a block of one command or more stands under it, with more indentation")
+                self.fault("syntax", before[0].number, None, "a line that begins a block, and none is under it", (),
+                           "a block of one command or more stands under it, with more indentation")
             if said is not None and said[0] != "function" and line.indent == 0:
-                self.fault("syntax", line.number, 0, "a command without indentation", (), "a command stands in a function, with indentation; a function begins with NAME():")
+                self.fault("syntax", line.number, 0, "a command without indentation", (),
+                           "a command stands in a function, with indentation; a function begins with NAME():")
             if said is not None and said[0] == "function" and line.indent:
                 self.fault("syntax", line.number, line.indent, "a function with indentation", (), "the first line of a function has no indentation")
             if said is not None and said[0] == "else" and not self.has_if(opened, line):
@@ -273,7 +276,8 @@ class Driver:
             if opened and opened[-1][0] == line.indent:
                 opened[-1] = (line.indent, said)
             if begins and k + 1 == len(self.said):
-                self.fault("syntax", line.number, None, "a line that begins a block, and none is under it", (), "a block of one command or more stands under it, with more indentation")
+                self.fault("syntax", line.number, None, "a line that begins a block, and none is under it", (),
+                           "a block of one command or more stands under it, with more indentation")
             if said is not None and said[0] == "function":
                 self.functions.append((said[1], line.number))
 

@@ -26,7 +26,8 @@ def bars(pairs, unit):
         for k, height in enumerate(several):
             top, end = min(y(height), y(0)), max(y(height), y(0))
             left = 75 + number * wide + k * each
-            out.append(f'<rect x="{left:.1f}" y="{top:.1f}" width="{max(1, each - 1):.1f}" height="{end - top:.1f}" fill="{("#1b5e9b", "#d08a3c")[k]}"><title>{html.escape(label)}: {float(height):,.6g}{unit}</title></rect>')
+            out.append(f'<rect x="{left:.1f}" y="{top:.1f}" width="{max(1, each - 1):.1f}" height="{end - top:.1f}" '
+                       f'fill="{("#1b5e9b", "#d08a3c")[k]}"><title>{html.escape(label)}: {float(height):,.6g}{unit}</title></rect>')
         out.append(f'<text x="{75 + number * wide + wide * 0.4:.1f}" y="{HEIGHT - 16}" text-anchor="middle">{html.escape(label)}</text>')
     return "\n".join([*out, "</svg>"])
 
@@ -85,16 +86,21 @@ def page(words, rows, found, step, sign, heads):
         f"<h1>What the reform does to {html.escape(words.of)}</h1>",
         f"<p>Before: <code>{html.escape(words.before)}</code>. After: <code>{html.escape(words.after)}</code>. Table: <code>{html.escape(words.table)}</code>,"
         f" {whole.households} households of the weight {plain(whole.weight)}; {whole.stopped} of them stop.</p>",
-        f"<p>{html.escape(words.of)} is <b id=before>{plain(Fraction(whole.before, UNIT))}</b> before and <b id=after>{plain(Fraction(whole.after, UNIT))}</b> after,"
+        f"<p>{html.escape(words.of)} is <b id=before>{plain(Fraction(whole.before, UNIT))}</b> before"
+        f" and <b id=after>{plain(Fraction(whole.after, UNIT))}</b> after,"
         f" a difference of <b id=difference>{plain(Fraction(whole.after - whole.before, UNIT))}</b>. {'More' if sign < 0 else 'Less'} of it is a gain.</p>",
         "<h2>Who gains and who loses</h2><p>The share of households, by the gain of each.</p>",
         changes_picture(rows, total, sign),
     ]
     if len(found) > 1:
-        gains = [(name.split()[1], [Fraction((group.before - group.after) * sign, (group.weight - group.stopped_weight) or 1) / UNIT]) for name, group in found[1:]]
+        gains = [
+            (name.split()[1], [Fraction((group.before - group.after) * sign, (group.weight - group.stopped_weight) or 1) / UNIT])
+            for name, group in found[1:]
+        ]
         parts += [f"<h2>The gain by tenth of {html.escape(words.by)}</h2><p>The mean gain of a household of each tenth.</p>", bars(gains, "")]
     if step:
-        parts += [f"<h2>Marginal rates</h2><p>The share of households by what {plain(step[1])} more of {html.escape(step[0])} adds, before (blue) and after.</p>", marginal_picture(rows, step, total)]
+        parts += [f"<h2>Marginal rates</h2><p>The share of households by what {plain(step[1])} more of {html.escape(step[0])} adds, "
+                  "before (blue) and after.</p>", marginal_picture(rows, step, total)]
     head = "".join(f"<th>{html.escape(name)}</th>" for name in heads)
     parts.append(f"<h2>The figures</h2><table><tr>{head}</tr>{cells}</table></html>\n")
     return "\n".join(parts)

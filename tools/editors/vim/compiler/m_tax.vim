@@ -4,4 +4,6 @@ if exists("current_compiler")
 endif
 let current_compiler = "m_tax"
 CompilerSet makeprg=tools/explain\ --places
-CompilerSet errorformat=%f:%l:%c:\ error:\ %m,refused\ %f\ line\ %l\ byte\ %*[0-9]:\ %m,slip\ %f\ line\ %l\ byte\ %*[0-9]:\ %m,fault\ %f\ line\ %l\ byte\ %*[0-9]:\ %m
+CompilerSet errorformat=%f:%l:%c:\ error:\ %m
+CompilerSet errorformat+=refused\ %f\ line\ %l\ byte\ %*[0-9]:\ %m,slip\ %f\ line\ %l\ byte\ %*[0-9]:\ %m
+CompilerSet errorformat+=fault\ %f\ line\ %l\ byte\ %*[0-9]:\ %m
