@@ -64,6 +64,23 @@ def keeps_what_passed():
         return "--anew" in it.read()
 
 
+def seconds_below(gate):
+    """The seconds of CPU of each process that proves below the gate, by its id and its crate and column, looked at until the gate ends."""
+    seen = {}
+    while gate.poll() is None:
+        found = processes()
+        is_below = below(found, gate.pid)
+        for pid, (parent, words, folder, seconds) in found.items():
+            kind = kind_of(words, folder)
+            outer = found.get(parent)
+            if kind and is_below(pid) and not (outer and kind_of(outer[1], outer[2])):
+                # (a process that forked counts its children once they ended; those that run are added)
+                running = sum(s for p, (up, w, f, s) in found.items() if up == pid)
+                seen[pid, kind] = max(seen.get((pid, kind), 0), seconds + running)
+        time.sleep(0.2)
+    return seen
+
+
 def main():
     words = [word for word in sys.argv[1:] if word != "--anew"]
     anew = ["--anew"] if "--anew" in sys.argv and keeps_what_passed() else []
@@ -81,18 +98,7 @@ def main():
 
     reader = threading.Thread(target=hand_on)
     reader.start()
-    seen = {}
-    while gate.poll() is None:
-        found = processes()
-        is_below = below(found, gate.pid)
-        for pid, (parent, words, folder, seconds) in found.items():
-            kind = kind_of(words, folder)
-            outer = found.get(parent)
-            if kind and is_below(pid) and not (outer and kind_of(outer[1], outer[2])):
-                # (a process that forked counts its children once they ended; those that run are added)
-                running = sum(s for p, (up, w, f, s) in found.items() if up == pid)
-                seen[pid, kind] = max(seen.get((pid, kind), 0), seconds + running)
-        time.sleep(0.2)
+    seen = seconds_below(gate)
     reader.join()
     table = collections.defaultdict(lambda: collections.Counter())
     for (_, (crate, column)), seconds in seen.items():
