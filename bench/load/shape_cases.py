@@ -5,7 +5,6 @@ pieces of it), the words of the command, what is typed, what must be printed, an
 """
 
 FILE = 16_777_216  # bytes of a file
-ALL = 67_108_864  # bytes of all rule files
 GREATEST = 4_000_000  # weight of a driver
 PARTS = 2_000_000
 DEEP = (8192, 512)  # KB of stack, where a shape is to be run in little too
