@@ -60,47 +60,6 @@ fn code_is_made_and_run(rt: HostRuntime) {
     assert!(rt; answers(rt.alloc(), &instrs, 1, number(2_500_500_000), wanted));
 }
 
-#[test]
-fn nothing_is_read_before_it_is_written(rt: HostRuntime) {
-    let instrs = [
-        Instr::Lit(1, number(1_000_000_000)),
-        Instr::Do(Op::Sub, 0, 0, 1, 0),
-        Instr::Output(0, 0),
-    ];
-    let wanted = Told::Wrong(CodeWrong::BadOrder(1));
-    assert!(rt; answers(rt.alloc(), &instrs, 1, Value::Undef, wanted));
-}
-
-#[test]
-fn registers_are_sixteen(rt: HostRuntime) {
-    let instrs = [
-        Instr::Take(16, 0),
-        Instr::Lit(1, number(1_000_000_000)),
-        Instr::Do(Op::Sub, 0, 0, 1, 0),
-        Instr::Output(0, 0),
-    ];
-    let wanted = Told::Wrong(CodeWrong::BadNumber(0));
-    assert!(rt; answers(rt.alloc(), &instrs, 1, Value::Undef, wanted));
-}
-
-#[test]
-fn outputs_are_given(rt: HostRuntime) {
-    let none = [
-        Instr::Take(0, 0),
-        Instr::Lit(1, number(1_000_000_000)),
-        Instr::Do(Op::Sub, 0, 0, 1, 0),
-    ];
-    let wanted = Told::Wrong(CodeWrong::NoOutput);
-    assert!(rt; answers(rt.alloc(), &none, 1, Value::Undef, wanted));
-}
-
-#[test]
-fn outputs_are_given_once(rt: HostRuntime) {
-    let twice = [Instr::Take(0, 0), Instr::Output(0, 0), Instr::Output(0, 0)];
-    let wanted = Told::Wrong(CodeWrong::BadNumber(2));
-    assert!(rt; answers(rt.alloc(), &twice, 1, Value::Undef, wanted));
-}
-
 /// There are 4,294,967,295 slots and as many outputs: neither takes room.
 #[test]
 fn counts_take_no_room(rt: HostRuntime) {
@@ -116,29 +75,4 @@ fn counts_take_no_room(rt: HostRuntime) {
     assert!(rt; answers(rt.alloc(), &instrs, 1, number(3_000_000), wanted));
     let wanted = Told::Wrong(CodeWrong::NoOutput);
     assert!(rt; answers(rt.alloc(), &instrs, 4_294_967_295, Value::Undef, wanted));
-}
-
-/// A check ends a run where its guard is 1, and a machine runs again as if it hadn't run before.
-#[test]
-fn runs_end_at_checks(rt: HostRuntime) {
-    let instrs = [
-        Instr::Take(0, 0),
-        Instr::Output(0, 0),
-        Instr::Lit(1, number(1_000_000)),
-        Instr::Check(1, 0, true, 0),
-        Instr::Check(0, 1, false, 1),
-    ];
-    assert!(rt;
-        answers(
-            rt.alloc(),
-            &instrs,
-            1,
-            Value::Over,
-            Told::Stopped(Stop::Over(0))
-        )
-    );
-    let one = number(1_000_000);
-    assert!(rt; answers(rt.alloc(), &instrs, 1, one, Told::Stopped(Stop::Failed(1))));
-    let wanted = Told::Value(number(2_000_000));
-    assert!(rt; answers(rt.alloc(), &instrs, 1, number(2_000_000), wanted));
 }

@@ -1,6 +1,6 @@
 use Rattle.std.proofs.Common.{◌≡◌, ◌≤◌, length, ◌∙◌, arith}
 use Rattle.code_tests.proofs.Labels.{labels_below}
-use Rattle.code_tests.proofs.sessions.tidied.Goals as goal
+use Rattle.code_tests.proofs.programs.tidied.Goals as goal
 
 pub returns-clause-sizes : goal.returns-clause-sizes
 returns-clause-sizes c =
