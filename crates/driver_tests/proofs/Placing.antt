@@ -14,5 +14,5 @@ items_placed first (v ∷ vs) = ap (λ (rest : List Variable). record { item = v
 pub declared_placed : (items : List Item) (declared : Declared) → declared ≡ declared_by items → IsPlaced declared
 declared_placed items declared e = subst IsPlaced (sym e) (items_placed 0 (variables_of items))
 
-pub placed : (items : List Item) (declared : Declared) → declared ≡ declared_by items → declared.variables ≡ placed_from 0 (map (λ (v : Variable). v.item) declared.variables)
-placed items declared e = declared_placed items declared e
+pub placed : (declared : Declared) → IsPlaced declared → declared.variables ≡ placed_from 0 (map (λ (v : Variable). v.item) declared.variables)
+placed declared e = e
