@@ -1,12 +1,8 @@
-//! Tests of the crates that turn names into cells, and drivers into flat programs, through their public calls. They stand apart from
-//! those crates, so that a crate isn't proved a second time with its tests. What drivers do to rules, their notes and the types of inputs
-//! are rows of the program `rows`.
+//! Tests of what files of requests ask for, and of what drivers weigh, through the public calls of those crates. They stand apart from
+//! them, so that a crate isn't proved a second time with its tests. What drivers answer and why they are refused, what they do to rules,
+//! their notes and the types of inputs are rows of the program `rows`.
 #![tactic(auto)]
 
-#[cfg(test)]
-mod declared;
-#[cfg(test)]
-mod drivers;
 #[cfg(test)]
 mod requests;
 #[cfg(test)]

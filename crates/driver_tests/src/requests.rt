@@ -1,106 +1,150 @@
-//! Files of requests: the cells that their lines name, and the first line that names none.
-ghost use Rattle.std.specs.Prelude.{◌<◌, ◌≤◌, All, IfSome, length};
+//! Requests: the cells that the lines of a file name, or the first line that names none, and what is given back without a file.
+ghost use Rattle.std.specs.Prelude.{◌≤◌, IfSome, length};
 ghost use Rattle.m_places.specs.declared.limits.TheConstants.{FILE_BYTES};
-ghost use Rattle.m_symbols.specs.Declarations.{owners_from};
 ghost use Rattle.m_requests.specs.Placed.{IsPlaced};
 
-use crate::declared::{add, add_at, other_at, refused, symbols, symbols_of};
+use m_ast::Item;
+use m_items::parse;
+use m_lexer::{Token, lex};
 use m_places::Seq;
 use m_places::limits::FILE_BYTES;
-use m_requests::{RequestFault, cell_names, read_requests};
-use m_symbols::Symbols;
+use m_requests::{RequestFault, read_requests};
+use m_symbols::{Symbols, declare};
 use std::alloc::Global;
 use std::test::Fail;
 
-// Files, and the cells that they ask for.
-static CELLS: [(&str, &str); 15] = [
-    ("", ""),
-    ("\n", ""),
-    ("\r\n\n\r\n", ""),
-    ("A", " 0"),
-    ("A\n", " 0"),
-    ("A\r\n", " 0"),
-    ("C\nREV\nIRN\nBASE\n", " 4 5 1032 1033"),
-    ("IRN\nA\nIRN\nA\nT[1]\nT[1]", " 1032 0 1032 0 2 2"),
-    ("T[0]\nT[2]\nT[1]\n", " 1 3 2"),
-    ("U[1]\r\nU[0]\r\n", " 7 6"),
-    ("W[0]\nW[9]\nW[10]\nW[99]\nW[100]\n", " 8 17 18 107 108"),
-    ("W[999]\nW[1000]\nW[1023]\n", " 1007 1008 1031"),
-    ("\n\nA\n\n\r\nT[0]\n\n", " 0 1"),
-    ("A\n\n\nC", " 0 4"),
-    ("C\nC\nC\n", " 4 4 4"),
+/// The computed A is cell 0, the table T of 3 cells 1 to 3, the constant C 4, the input REV (1AJ) 5, the table U of 2 cells 6 and 7,
+/// the table W of 1,024 cells 8 to 1031, and IRN and BASE 1032 and 1033. REV, U and IRN have the word `restituee`, and BASE has
+/// `restituee = 1`.
+const DECLARED: &[u8] =
+    b"A : calculee : \"a\" ; T : tableau[3] calculee : \"t\" ; C : const = 0 ; REV : saisie base restituee alias 1AJ : \"r\" ; \
+      U : tableau[2] calculee restituee : \"u\" ; W : tableau[1024] calculee : \"w\" ; IRN : calculee base restituee : \"i\" ; \
+      BASE : calculee restituee = 1 : \"b\" ;";
+
+/// How many lines `A` a file begins with, each with an empty line after it, the lines after those, and what all lines ask for.
+static FILES: [(u32, &str, &str); 58] = [
+    (0, "", ""),
+    (0, "\n", ""),
+    (0, "\r\n\n\r\n", ""),
+    (0, "A", " 0"),
+    (0, "A\n", " 0"),
+    (0, "A\r\n", " 0"),
+    (0, "C\nREV\nIRN\nBASE\n", " 4 5 1032 1033"),
+    (0, "IRN\nA\nIRN\nA\nT[1]\nT[1]", " 1032 0 1032 0 2 2"),
+    (0, "T[0]\nT[2]\nT[1]\n", " 1 3 2"),
+    (0, "U[1]\r\nU[0]\r\n", " 7 6"),
+    (0, "W[0]\nW[9]\nW[10]\nW[99]\nW[100]\n", " 8 17 18 107 108"),
+    (0, "W[999]\nW[1000]\nW[1023]\n", " 1007 1008 1031"),
+    (0, "\n\nA\n\n\r\nT[0]\n\n", " 0 1"),
+    (0, "A\n\n\nC", " 0 4"),
+    (0, "C\nC\nC\n", " 4 4 4"),
+    (0, "T", "bad 1"),
+    (0, "T[3]", "bad 1"),
+    (0, "T[]", "bad 1"),
+    (0, "T[", "bad 1"),
+    (0, "T]", "bad 1"),
+    (0, "T[1", "bad 1"),
+    (0, "T[1]]", "bad 1"),
+    (0, "T[[1]]", "bad 1"),
+    (0, "T[1][1]", "bad 1"),
+    (0, "T[1] ", "bad 1"),
+    (0, "T [1]", "bad 1"),
+    (0, "T[ 1]", "bad 1"),
+    (0, "T[-1]", "bad 1"),
+    (0, "T[+1]", "bad 1"),
+    (0, "T[1.0]", "bad 1"),
+    (0, "T[X]", "bad 1"),
+    (0, "T[A]", "bad 1"),
+    (0, "W[00]", "bad 1"),
+    (0, "W[01]", "bad 1"),
+    (0, "W[0010]", "bad 1"),
+    (0, "W[1024]", "bad 1"),
+    (0, "W[10000]", "bad 1"),
+    (0, "W[4294967297]", "bad 1"),
+    (0, "A[0]", "bad 1"),
+    (0, "REV[0]", "bad 1"),
+    (0, "C[0]", "bad 1"),
+    (0, "[0]", "bad 1"),
+    (0, " A", "bad 1"),
+    (0, "A ", "bad 1"),
+    (0, " ", "bad 1"),
+    (0, "A\r", "bad 1"),
+    (0, "a", "bad 1"),
+    (0, "1AJ", "bad 1"),
+    (0, "A,C", "bad 1"),
+    (0, "# all", "bad 1"),
+    (0, "A\nB\nT\n", "bad 2"),
+    (0, "\n\r\nA\n\nA # twice\nA\n", "bad 5"),
+    (0, "A\r\nC\r\nIR\r\nIRN\r\n", "bad 3"),
+    (0, "A\né\n", "bad 2"),
+    // a bad line is told first, also after too many others
+    (100_000, "", "cells 100000"),
+    (100_000, "\r\n\n", "cells 100000"),
+    (100_000, "A", "too many"),
+    (100_000, "A\nB\nT", "bad 200002"),
 ];
 
-// Files, and the first line that names no cell.
-static BAD_LINES: [(&str, &str); 39] = [
-    ("T", "bad 1"),
-    ("T[3]", "bad 1"),
-    ("T[]", "bad 1"),
-    ("T[", "bad 1"),
-    ("T]", "bad 1"),
-    ("T[1", "bad 1"),
-    ("T[1]]", "bad 1"),
-    ("T[[1]]", "bad 1"),
-    ("T[1][1]", "bad 1"),
-    ("T[1] ", "bad 1"),
-    ("T [1]", "bad 1"),
-    ("T[ 1]", "bad 1"),
-    ("T[-1]", "bad 1"),
-    ("T[+1]", "bad 1"),
-    ("T[1.0]", "bad 1"),
-    ("T[X]", "bad 1"),
-    ("T[A]", "bad 1"),
-    ("W[00]", "bad 1"),
-    ("W[01]", "bad 1"),
-    ("W[0010]", "bad 1"),
-    ("W[1024]", "bad 1"),
-    ("W[10000]", "bad 1"),
-    ("W[4294967297]", "bad 1"),
-    ("A[0]", "bad 1"),
-    ("REV[0]", "bad 1"),
-    ("C[0]", "bad 1"),
-    ("[0]", "bad 1"),
-    (" A", "bad 1"),
-    ("A ", "bad 1"),
-    (" ", "bad 1"),
-    ("A\r", "bad 1"),
-    ("a", "bad 1"),
-    ("1AJ", "bad 1"),
-    ("A,C", "bad 1"),
-    ("# all", "bad 1"),
-    ("A\nB\nT\n", "bad 2"),
-    ("\n\r\nA\n\nA # twice\nA\n", "bad 5"),
-    ("A\r\nC\r\nIR\r\nIRN\r\n", "bad 3"),
-    ("A\né\n", "bad 2"),
-];
+// The texts, out of reach of the proofs of what goes over them.
 
-// Lines after 100,000 requests, and what all these lines ask for. A bad line is told first, also after too many others.
-static LAST_LINES: [(&str, &str); 4] = [
-    ("", "100000 cells"),
-    ("\r\n\n", "100000 cells"),
-    ("A", "too many"),
-    ("A\nB\nT", "bad 200002"),
-];
-
-// The tables, out of reach of the proofs of what goes over them.
-
-fn all_cells() -> &'static [(&'static str, &'static str)] {
-    &CELLS
+fn declared() -> &'static [u8] {
+    DECLARED
 }
 
-fn all_bad_lines() -> &'static [(&'static str, &'static str)] {
-    &BAD_LINES
+fn all_files() -> &'static [(u32, &'static str, &'static str)] {
+    &FILES
 }
 
-fn last_lines() -> &'static [(&'static str, &'static str)] {
-    &LAST_LINES
+// What a text declares, whose names and codes differ.
+fn symbols_of(alloc: Global, text: &[u8]) -> Option<Symbols>
+    ensures { IfSome result IsPlaced }
+{
+    if text.len() as u64 > FILE_BYTES {
+        return None;
+    }
+    match lex(alloc, text, 0) {
+        Ok(tokens) => of_tokens(alloc, &tokens),
+        Err(_) => None,
+    }
+}
+
+fn of_tokens(alloc: Global, tokens: &[Token]) -> Option<Symbols>
+    ensures { IfSome result IsPlaced }
+{
+    match parse(alloc, tokens) {
+        Ok(items) => of_items(alloc, items.as_slice()),
+        Err(_) => None,
+    }
+}
+
+fn of_items(alloc: Global, items: &[Item]) -> Option<Symbols>
+    ensures { IfSome result IsPlaced }
+{
+    if items.len() >= 4_294_967_296 {
+        return None;
+    }
+    match declare(alloc, items) {
+        Ok(symbols) => Some(symbols),
+        Err(_) => None,
+    }
+}
+
+// Adds bytes. Where there is no memory the text stays as it is, so it isn't what was wanted.
+fn add(out: &mut Vec<u8>, bytes: &[u8]) {
+    let _added = out.extend_from_slice(bytes);
+}
+
+// Adds words and a number.
+fn add_at(alloc: Global, out: &mut Vec<u8>, words: &[u8], number: u32) {
+    add(out, words);
+    if let Ok(digits) = format!(in alloc; "{number}") {
+        add(out, digits.as_bytes());
+    }
 }
 
 // Cells by their numbers, and more than a hundred by how many they are.
 fn add_cells(alloc: Global, out: &mut Vec<u8>, cells: &[u32]) {
     if cells.len() > 100 {
-        add_at(alloc, out, b"", cells.len().min(1_000_000) as u32);
-        add(out, b" cells");
+        add_at(alloc, out, b"cells ", cells.len().min(1_000_000) as u32);
         return;
     }
     for cell in cells {
@@ -143,57 +187,31 @@ fn many_lines(alloc: Global, count: u32, last: &[u8]) -> Vec<u8> {
     bytes
 }
 
-// Fails at the first of these files, each after so many lines, that asks for something else.
-fn check_all(
-    alloc: Global,
-    count: u32,
-    rows: &[(&'static str, &'static str)],
-    symbols: &Symbols,
-) -> Result<(), Fail>
+// The last lines of the first file that asks for something else.
+fn first_other(alloc: Global, symbols: &Symbols) -> Option<&'static str>
     requires { IsPlaced symbols.now }
 {
-    for (text, wanted) in rows {
-        let bytes = many_lines(alloc, count, text.as_bytes());
+    for (count, last, wanted) in all_files() {
+        let bytes = many_lines(alloc, *count, last.as_bytes());
         if !is_asked(alloc, bytes, symbols, wanted.as_bytes()) {
-            return Err(other_at(alloc, text));
+            return Some(*last);
         }
     }
-    Ok(())
+    None
+}
+
+fn first_other_file(alloc: Global) -> Option<&'static str> {
+    match symbols_of(alloc, declared()) {
+        Some(symbols) => first_other(alloc, &symbols),
+        None => Some("refused declarations"),
+    }
 }
 
 #[test]
 fn lines_name_cells(rt: HostRuntime) -> Result<(), Fail> {
-    match symbols(rt.alloc()) {
-        Some(symbols) => check_all(rt.alloc(), 0, all_cells(), &symbols),
-        None => Err(refused()),
-    }
-}
-
-#[test]
-fn the_first_bad_line(rt: HostRuntime) -> Result<(), Fail> {
-    match symbols(rt.alloc()) {
-        Some(symbols) => check_all(rt.alloc(), 0, all_bad_lines(), &symbols),
-        None => Err(refused()),
-    }
-}
-
-#[test]
-fn as_many_as_there_may_be(rt: HostRuntime) -> Result<(), Fail> {
-    match symbols(rt.alloc()) {
-        Some(symbols) => check_all(rt.alloc(), 100_000, last_lines(), &symbols),
-        None => Err(refused()),
-    }
-}
-
-// The printed names of cells, each with a space before it.
-fn add_printed(alloc: Global, out: &mut Vec<u8>, cells: &[u32], symbols: &Symbols)
-    requires { All (λ c. c < length (owners_from 0 symbols.now.variables)) cells.now }
-{
-    if let Ok(names) = cell_names(alloc, symbols, cells) {
-        for name in names.as_slice() {
-            add(out, b" ");
-            add(out, name.bytes());
-        }
+    match first_other_file(rt.alloc()) {
+        Some(last) => Err(Fail::from(last)),
+        None => Ok(()),
     }
 }
 
@@ -206,24 +224,12 @@ fn is_given_back(alloc: Global, symbols: &Symbols, wanted: &[u8]) -> bool
     out.as_slice() == wanted
 }
 
-fn are_printed(alloc: Global, symbols: &Symbols, wanted: &[u8]) -> bool {
-    if symbols.cells() < 1033 {
-        return false;
+// The same of what a text declares.
+fn gives_back(alloc: Global, text: &[u8], wanted: &[u8]) -> bool {
+    match symbols_of(alloc, text) {
+        Some(symbols) => is_given_back(alloc, &symbols, wanted),
+        None => false,
     }
-    let mut out = Vec::new(alloc);
-    add_printed(alloc, &mut out, &[5, 6, 7, 1032], symbols);
-    out.as_slice() == wanted
-}
-
-// Without a file all that has the word `restituee` is given back, a table by its cells, and printed in this order.
-#[test]
-fn without_a_file(rt: HostRuntime) -> Result<(), Fail> {
-    let Some(symbols) = symbols(rt.alloc()) else {
-        return Err(refused());
-    };
-    assert!(rt; is_given_back(rt.alloc(), &symbols, b" 5 6 7 1032"));
-    assert!(rt; are_printed(rt.alloc(), &symbols, b" REV U[0] U[1] IRN"));
-    Ok(())
 }
 
 // 100 tables of 1,000 cells that are given back, and these declarations.
@@ -237,16 +243,11 @@ fn many_tables(alloc: Global, last: &[u8]) -> Vec<u8> {
     text
 }
 
-// Whether this is all that the declarations give back.
-fn gives_many(alloc: Global, last: &[u8], wanted: &[u8]) -> bool {
-    match symbols_of(alloc, &many_tables(alloc, last)) {
-        Some(symbols) => is_given_back(alloc, &symbols, wanted),
-        None => false,
-    }
-}
-
+// Without a file all that has the word `restituee` is given back, a table by its cells, and 100,000 of them at most.
 #[test]
-fn as_many_as_may_be_given_back(rt: HostRuntime) {
-    assert!(rt; gives_many(rt.alloc(), b"", b"100000 cells"));
-    assert!(rt; gives_many(rt.alloc(), b"A : calculee restituee : \"a\" ;", b"too many"));
+fn without_a_file(rt: HostRuntime) {
+    let one = b"A : calculee restituee : \"a\" ;";
+    assert!(rt; gives_back(rt.alloc(), declared(), b" 5 6 7 1032"));
+    assert!(rt; gives_back(rt.alloc(), &many_tables(rt.alloc(), b""), b"cells 100000"));
+    assert!(rt; gives_back(rt.alloc(), &many_tables(rt.alloc(), one), b"too many"));
 }
