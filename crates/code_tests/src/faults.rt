@@ -1,5 +1,6 @@
 //! Code files with a fault, which is the first one.
 use crate::reads::example;
+use crate::sessions::add;
 use code_file::{CodeFault, read_code};
 use m_places::limits::CODE_FILE_BYTES;
 use std::alloc::Global;
@@ -139,20 +140,10 @@ fn first_other(alloc: Global, text: &[u8]) -> Option<usize> {
     None
 }
 
-#[test]
-fn each_prefix_ends_early(rt: HostRuntime) {
-    assert!(rt; first_other(rt.alloc(), example()).is_none());
-}
-
-// Adds bytes. Where there is no memory the text stays as it is, so it has another fault.
-fn add(text: &mut Vec<u8>, bytes: &[u8]) {
-    let _added = text.extend_from_slice(bytes);
-}
-
 fn add_line(text: &mut Vec<u8>, line: &[u8]) {
     if line.len() > 0 {
-        add(text, line);
-        add(text, b"\n");
+        add(text, line, 1);
+        add(text, b"\n", 1);
     }
 }
 
@@ -162,7 +153,7 @@ fn with_line(alloc: Global, line: &[u8], at: u32) -> Vec<u8> {
     let mut number = 1u32;
     for old in example().split(|byte| *byte == b'\n') {
         if number == at {
-            add(&mut text, line);
+            add(&mut text, line, 1);
         } else {
             add_line(&mut text, old);
         }
@@ -188,5 +179,6 @@ fn first_other_line(alloc: Global) -> Option<usize> {
 
 #[test]
 fn the_first_fault_is_told(rt: HostRuntime) {
-    assert!(rt; first_other_line(rt.alloc()).is_none());
+    assert!(rt; first_other(rt.alloc(), example()).is_none(), "a prefix");
+    assert!(rt; first_other_line(rt.alloc()).is_none(), "a line");
 }

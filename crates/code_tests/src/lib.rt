@@ -9,8 +9,6 @@ mod edges;
 #[cfg(test)]
 mod faults;
 #[cfg(test)]
-mod machines;
-#[cfg(test)]
 mod numbers;
 #[cfg(test)]
 mod programs;
@@ -22,7 +20,5 @@ mod sessions;
 mod sets;
 #[cfg(test)]
 mod sheets;
-#[cfg(test)]
-mod tables;
 #[cfg(test)]
 mod two_threads;

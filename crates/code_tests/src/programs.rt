@@ -10,7 +10,7 @@ use flat_code::{Check, Flat, Node, Tidy, run_flat};
 use m_fixed::Op;
 use m_places::Seq;
 use observables::Answer;
-use reg_machine::{Code, Instr};
+use reg_machine::{Code, CodeWrong, Instr, make_code};
 use register_alloc::allocate;
 use std::alloc::{AllocError, Global};
 use std::test::Fail;
@@ -187,4 +187,19 @@ fn a_value_takes_the_first_free_register(rt: HostRuntime) -> Result<(), Fail> {
     let tidy = tidied(rt.alloc())?;
     assert!(rt; is_form_code(rt.alloc(), &tidy));
     Ok(())
+}
+
+// Whether code of as many slots and outputs as there may be is refused for the output that it doesn't give.
+fn is_refused(alloc: Global) -> bool {
+    let instrs = [Instr::Take(0, 0), Instr::Output(7, 0)];
+    match make_code(alloc, 1, 4_294_967_295, 2, 4_294_967_295, &instrs) {
+        Ok(_) => false,
+        Err(wrong) => wrong == CodeWrong::NoOutput,
+    }
+}
+
+/// There are 4,294,967,295 slots and as many outputs: neither takes room.
+#[test]
+fn counts_take_no_room(rt: HostRuntime) {
+    assert!(rt; is_refused(rt.alloc()));
 }

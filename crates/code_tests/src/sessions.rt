@@ -3,11 +3,13 @@
 ghost use Rattle.std.specs.Prelude.{◌≡◌, ◌<◌, IfOk, length};
 
 use crate::programs::tidied;
+use code_file::read_code;
 use household::{Codes, Household};
 use household_session::Session;
-use m_places::{Name, Seq};
+use m_places::Seq;
+use m_places::limits::CODE_FILE_BYTES;
 use m_ports::{MemSink, MemSource};
-use observables::{Coded, Face, FaceLabel, InputType, named_face};
+use observables::{Coded, Face};
 use serve_loop::{ServeEnd, serve};
 use std::alloc::{AllocError, Global};
 use std::marker::Brand;
@@ -15,36 +17,32 @@ use std::sync::ledger::{Blank, Ledger};
 use std::test::Fail;
 use steps::Steps;
 
-// The list of the name IRN. Where there is no memory it is empty.
-fn one_name(alloc: Global) -> Seq<Name> {
-    let mut names = Vec::new(alloc);
-    if let Ok(name) = Name::new(alloc, b"IRN") {
-        let _added = names.push(name);
+/// Code of one input, label and output: what it shows of itself is that of the program.
+const SHOWN: &[u8] = b"mcode 1
+slots 0
+input 1AJ
+label driver 2
+output IRN
+code
+in 0 0
+out 0 0
+end
+";
+
+// The text, out of reach of the proofs.
+fn shown() -> &'static [u8] {
+    SHOWN
+}
+
+fn face(alloc: Global) -> Option<Face> {
+    let bytes = shown();
+    if bytes.len() as u64 > CODE_FILE_BYTES {
+        return None;
     }
-    Seq::from_vec(names)
-}
-
-// The list of the input 1AJ, which takes each amount. Where there is no memory it is empty.
-fn one_input(alloc: Global) -> Seq<Coded> {
-    let mut inputs = Vec::new(alloc);
-    if let Ok(code) = Name::new(alloc, b"1AJ") {
-        let _added = inputs.push(Coded {
-            code,
-            kind: InputType::Any,
-        });
+    match read_code(alloc, bytes) {
+        Ok(loaded) => Some(loaded.face),
+        Err(_) => None,
     }
-    Seq::from_vec(inputs)
-}
-
-// The same of the label.
-fn one_label(alloc: Global) -> Seq<FaceLabel> {
-    let mut labels = Vec::new(alloc);
-    let _added = labels.push(FaceLabel::DriverLine(2));
-    Seq::from_vec(labels)
-}
-
-fn face(alloc: Global) -> Result<Face, AllocError> {
-    named_face(alloc, one_input(alloc), one_label(alloc), one_name(alloc))
 }
 
 fn codes(alloc: Global, inputs: &[Coded]) -> Result<Codes, AllocError>
@@ -70,7 +68,7 @@ fn started_with(alloc: Global, face: Face, codes: Codes) -> Result<Session, Allo
 
 // The same, where there is memory.
 fn started(alloc: Global) -> Option<Session> {
-    let face = face(alloc).ok()?;
+    let face = face(alloc)?;
     if face.inputs.as_slice().len() != 1
         || face.labels.as_slice().len() != 1
         || face.outputs.as_slice().len() != 1
@@ -104,8 +102,8 @@ fn failed_writes(rt: HostRuntime) -> Result<(), Fail> {
     Ok(())
 }
 
-// Adds bytes so many times. Where there is no memory nothing is added, so the replies aren't what was wanted.
-fn add(text: &mut Vec<u8>, bytes: &[u8], times: u32) {
+/// Adds bytes so many times. Where there is no memory nothing is added, so the replies aren't what was wanted.
+pub fn add(text: &mut Vec<u8>, bytes: &[u8], times: u32) {
     for _ in 0..times {
         let _added = text.extend_from_slice(bytes);
     }

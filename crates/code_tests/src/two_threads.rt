@@ -5,7 +5,7 @@ ghost use Rattle.m_batch.specs.Batch.{HasInputsBelow};
 
 use crate::numbers::number;
 use household::{Household, Pair, Row};
-use m_batch::{run_batch, run_household};
+use m_batch::run_batch;
 use m_fixed::{Amount, Op};
 use m_places::{Gate, Name, Seq};
 use observables::Answer;
@@ -148,24 +148,5 @@ fn two_workers_meet(rt: HostRuntime) -> Result<(), Fail> {
     let rows = rows(rt.alloc())?;
     assert!(rt; rows.len() == 256 && are_answered(&rt, rt.alloc(), &code, &rows, &gate));
     assert!(rt; have_met(&gate));
-    Ok(())
-}
-
-// Whether the household of a row alone is answered so many millionths.
-fn is_alone(alloc: Global, code: &Code, row: &Row, millionths: i128) -> bool
-    requires code { code.now.counts.inputs ≡ 1 }
-    requires row { HasInputsBelow 1 row.now }
-{
-    match run_household(alloc, code, &row.household) {
-        Ok(answer) => is_number(&answer, millionths),
-        Err(_) => false,
-    }
-}
-
-#[test]
-fn a_household_alone(rt: HostRuntime) -> Result<(), Fail> {
-    let code = code(rt.alloc())?;
-    let row = row(rt.alloc(), 250)?;
-    assert!(rt; is_alone(rt.alloc(), &code, &row, 1_500_000_000));
     Ok(())
 }
