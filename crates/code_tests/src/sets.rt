@@ -5,11 +5,11 @@ use dirty_set::Bits;
 use std::alloc::{AllocError, Global};
 use std::test::Fail;
 
-// The empty set of numbers below 100,000,000.
-fn empty(alloc: Global) -> Result<Bits, AllocError>
-    ensures { IfOk result (λ set. length set ≡ 100_000_000) }
+// The empty set of numbers below a count.
+fn empty(alloc: Global, count: u32) -> Result<Bits, AllocError>
+    ensures { IfOk result (λ set. length set ≡ count) }
 {
-    let set = Bits::new(alloc, 100_000_000)?;
+    let set = Bits::new(alloc, count)?;
     Ok(set)
 }
 
@@ -49,7 +49,7 @@ fn has_members(set: &mut Bits) -> bool
 
 #[test]
 fn members(rt: HostRuntime) -> Result<(), Fail> {
-    let mut set = empty(rt.alloc())?;
+    let mut set = empty(rt.alloc(), 100_000_000)?;
     assert!(rt; has_members(&mut set));
     Ok(())
 }
