@@ -1,4 +1,4 @@
-//! What drivers weigh whose functions call each other, over a base without rules.
+//! What drivers cost whose functions call each other, over a base without rules.
 use driver_core::{CCommand, CCommandNode, Core};
 use driver_weight::weight;
 use m_places::Seq;
@@ -16,7 +16,7 @@ fn no_rules(alloc: Global) -> Base {
     }
 }
 
-// Whether a driver of three cells whose functions have these bodies weighs so much.
+// Whether a driver of three cells whose functions have these bodies costs so much.
 fn weighs(alloc: Global, bodies: Vec<Seq<CCommand>>, wanted: u64) -> bool {
     let core = Core {
         cells: 3,
