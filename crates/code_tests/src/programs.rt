@@ -1,278 +1,205 @@
-//! Programs written by hand, and their tidy form.
-ghost use Rattle.std.specs.Prelude.{◌≡◌, ◌<◌, [], ◌∷◌, IfOk, length};
+//! A program written by hand, its tidy form, and the register code of that: the input less 1000, which is over where the square of
+//! the input is; the opposite of the input is read by nothing.
+ghost use Rattle.std.specs.Prelude.{◌≡◌, ◌≤◌, ◌<◌, All, IfOk, IsTrue, length};
 ghost use Rattle.std.specs.List.{AllByRecursion};
 ghost use Rattle.flat_code.specs.Runs.{AreNodes, IsCheck, IsFlat};
 
-use crate::numbers::units;
+use crate::numbers::{number, units};
 use dead_rules::tidy;
-use flat_code::{Check, Flat, Node};
+use flat_code::{Check, Flat, Node, Tidy, run_flat};
 use m_fixed::Op;
 use m_places::Seq;
+use observables::Answer;
+use reg_machine::{Code, CodeWrong, Instr, make_code};
+use register_alloc::allocate;
 use std::alloc::{AllocError, Global};
 use std::test::Fail;
 
-// A list of one number.
-pub fn one_output(alloc: Global, number: u32) -> Result<Seq<u32>, AllocError>
-    ensures { IfOk result (λ outputs. outputs ≡ number ∷ []) }
+// Two literals and what is made of them and the input.
+fn nodes(alloc: Global) -> Result<Seq<Node>, AllocError>
+    ensures { IfOk result (λ nodes. AreNodes 1 0 nodes × (length nodes ≡ 6)) }
 {
-    let outputs = vec![in alloc; number]?;
-    Ok(Seq::from_vec(outputs))
+    let thousand = units(1_000);
+    let one = units(1);
+    let nodes = vec![in alloc;
+        Node::Input(0),
+        Node::Do(Op::Neg, 0, 0, 0),
+        Node::Lit(thousand),
+        Node::Do(Op::Sub, 0, 2, 0),
+        Node::Lit(one),
+        Node::Do(Op::Mul, 0, 0, 0),
+    ]?;
+    Ok(Seq::from_vec(nodes))
 }
 
-fn no_checks(alloc: Global) -> Seq<Check>
-    ensures { result ≡ [] }
-{
-    Seq::from_vec(Vec::new(alloc))
-}
-
-/// A program without checks that has one output.
-pub fn unchecked(
-    alloc: Global,
-    inputs: u32,
-    nodes: Seq<Node>,
-    output: u32,
-) -> Result<Flat, AllocError>
-    requires nodes { AreNodes inputs 0 nodes }
-    requires output { output < length nodes }
-    ensures valid { IfOk result IsFlat }
-    ensures nodes { IfOk result (λ flat. flat.nodes ≡ nodes) }
-{
-    let outputs = one_output(alloc, output)?;
-    Ok(Flat {
-        inputs,
-        nodes,
-        checks: no_checks(alloc),
-        outputs,
-    })
-}
-
-// A list of one check.
 fn one_check(alloc: Global) -> Result<Seq<Check>, AllocError>
-    ensures { IfOk result (λ checks. AllByRecursion (IsCheck 4) checks) }
+    ensures { IfOk result (λ checks. AllByRecursion (IsCheck 6) checks × AllByRecursion (λ check. check.label < 1) checks) }
 {
     let checks = vec![in alloc;
         Check {
-            guard: 2,
-            condition: 0,
-            over_only: false,
-            label: 7
+            guard: 4,
+            condition: 5,
+            over_only: true,
+            label: 0
         },
     ]?;
     Ok(Seq::from_vec(checks))
 }
 
-fn sum_nodes(alloc: Global) -> Result<Seq<Node>, AllocError>
-    ensures { IfOk result (λ nodes. AreNodes 1 0 nodes × (length nodes ≡ 6)) }
+fn one_output(alloc: Global) -> Result<Seq<u32>, AllocError>
+    ensures { IfOk result (λ outputs. AllByRecursion (λ output. output < 6) outputs × (length outputs ≡ 1)) }
 {
-    let zero = units(0);
-    let one = units(1);
-    let nodes = vec![in alloc;
-        Node::Input(0),
-        Node::Lit(zero),
-        Node::Do(Op::Add, 0, 1, 0),
-        Node::Lit(one),
-        Node::Do(Op::Mul, 2, 3, 0),
-        Node::Do(Op::Add, 4, 1, 0),
-    ]?;
-    Ok(Seq::from_vec(nodes))
+    let outputs = vec![in alloc; 3]?;
+    Ok(Seq::from_vec(outputs))
 }
 
-// (input + 0) * 1 + 0
-fn sum(alloc: Global) -> Result<Flat, AllocError>
-    ensures valid { IfOk result IsFlat }
-    ensures few { IfOk result (λ flat. length flat.nodes ≡ 6) }
+fn program(alloc: Global) -> Result<Flat, AllocError>
+    ensures valid { IfOk result (λ flat. IsFlat flat) }
+    ensures sizes { IfOk result (λ flat. (flat.inputs ≡ 1) × (length flat.nodes ≡ 6) × (length flat.outputs ≡ 1)) }
+    ensures labels { IfOk result (λ flat. AllByRecursion (λ check. check.label < 1) flat.checks) }
 {
-    let nodes = sum_nodes(alloc)?;
-    unchecked(alloc, 1, nodes, 5)
-}
-
-fn presence_nodes(alloc: Global) -> Result<Seq<Node>, AllocError>
-    ensures { IfOk result (λ nodes. AreNodes 1 0 nodes × (length nodes ≡ 4)) }
-{
-    let ten = units(10);
-    let five = units(5);
-    let nodes = vec![in alloc;
-        Node::Lit(ten),
-        Node::Do(Op::Present, 0, 0, 0),
-        Node::Lit(five),
-        Node::Do(Op::Mul, 1, 2, 0),
-    ]?;
-    Ok(Seq::from_vec(nodes))
-}
-
-// present(10) * 5
-fn presence(alloc: Global) -> Result<Flat, AllocError>
-    ensures valid { IfOk result IsFlat }
-    ensures few { IfOk result (λ flat. length flat.nodes ≡ 4) }
-{
-    let nodes = presence_nodes(alloc)?;
-    unchecked(alloc, 1, nodes, 3)
-}
-
-fn product_nodes(alloc: Global) -> Result<Seq<Node>, AllocError>
-    ensures { IfOk result (λ nodes. AreNodes 1 0 nodes × (length nodes ≡ 3)) }
-{
-    let zero = units(0);
-    let nodes = vec![in alloc; Node::Input(0), Node::Lit(zero), Node::Do(Op::Mul, 0, 1, 0)]?;
-    Ok(Seq::from_vec(nodes))
-}
-
-// input * 0
-fn product(alloc: Global) -> Result<Flat, AllocError>
-    ensures valid { IfOk result IsFlat }
-    ensures few { IfOk result (λ flat. length flat.nodes ≡ 3) }
-{
-    let nodes = product_nodes(alloc)?;
-    unchecked(alloc, 1, nodes, 2)
-}
-
-fn choice_nodes(alloc: Global) -> Result<Seq<Node>, AllocError>
-    ensures { IfOk result (λ nodes. AreNodes 1 0 nodes × (length nodes ≡ 6)) }
-{
-    let three = units(3);
-    let one = units(1);
-    let other = units(1);
-    let nodes = vec![in alloc;
-        Node::Input(0),
-        Node::Lit(three),
-        Node::Do(Op::Gt, 0, 1, 0),
-        Node::Lit(one),
-        Node::Lit(other),
-        Node::Do(Op::Choose, 2, 3, 4),
-    ]?;
-    Ok(Seq::from_vec(nodes))
-}
-
-// 1 where input > 3, and else 1
-fn choice(alloc: Global) -> Result<Flat, AllocError>
-    ensures valid { IfOk result IsFlat }
-    ensures few { IfOk result (λ flat. length flat.nodes ≡ 6) }
-{
-    let nodes = choice_nodes(alloc)?;
-    unchecked(alloc, 1, nodes, 5)
-}
-
-fn checked_nodes(alloc: Global) -> Result<Seq<Node>, AllocError>
-    ensures { IfOk result (λ nodes. AreNodes 2 0 nodes × (length nodes ≡ 4)) }
-{
-    let one = units(1);
-    let nodes = vec![in alloc;
-        Node::Input(1),
-        Node::Do(Op::Neg, 0, 0, 0),
-        Node::Lit(one),
-        Node::Input(0),
-    ]?;
-    Ok(Seq::from_vec(nodes))
-}
-
-// A program of two inputs whose check reads the second, and its output the first; the opposite of the
-// second is read by nothing.
-fn checked(alloc: Global) -> Result<Flat, AllocError>
-    ensures valid { IfOk result IsFlat }
-    ensures few { IfOk result (λ flat. length flat.nodes ≡ 4) }
-{
-    let nodes = checked_nodes(alloc)?;
+    let nodes = nodes(alloc)?;
     let checks = one_check(alloc)?;
-    let outputs = one_output(alloc, 3)?;
+    let outputs = one_output(alloc)?;
     Ok(Flat {
-        inputs: 2,
+        inputs: 1,
         nodes,
         checks,
         outputs,
     })
 }
 
-// Whether the tidy form of a program has these nodes.
-fn has_nodes(alloc: Global, flat: &Flat, nodes: &[Node]) -> bool
-    requires valid { IsFlat flat.now }
-    requires few { length flat.now.nodes < 100 }
+/// Its tidy form.
+pub fn tidied(alloc: Global) -> Result<Tidy, AllocError>
+    ensures sizes { IfOk result (λ tidy. (tidy.inputs ≡ 1) × (length tidy.nodes ≤ 6) × (length tidy.outputs ≡ 1)) }
+    ensures labels { IfOk result (λ tidy. AllByRecursion (λ check. check.label < 1) tidy.checks) }
 {
-    match tidy(alloc, flat) {
-        Ok(tidy) => tidy.flat().nodes.as_slice() == nodes,
-        Err(_) => false,
+    let flat = program(alloc)?;
+    let form = tidy(alloc, &flat)?;
+    Ok(form)
+}
+
+// Whether the program's own run answers 1500.5 for 2500.5.
+fn is_run(alloc: Global, flat: &Flat) -> bool
+    requires valid { IsFlat flat.now }
+    requires inputs { flat.now.inputs ≡ 1 }
+{
+    match run_flat(alloc, flat, &[number(2_500_500_000)]) {
+        Ok(Answer::Values(values)) => values.as_slice() == [number(1_500_500_000)].as_slice(),
+        _ => false,
     }
 }
 
 #[test]
-fn a_sum_with_zero_stays(rt: HostRuntime) -> Result<(), Fail> {
-    let wanted = [
-        Node::Input(0),
-        Node::Lit(units(0)),
-        Node::Do(Op::Add, 0, 1, 0),
-    ];
-    let flat = sum(rt.alloc())?;
-    assert!(rt; has_nodes(rt.alloc(), &flat, &wanted));
+fn a_program_runs(rt: HostRuntime) -> Result<(), Fail> {
+    let flat = program(rt.alloc())?;
+    assert!(rt; is_run(rt.alloc(), &flat));
     Ok(())
 }
 
-#[test]
-fn a_constant_is_folded(rt: HostRuntime) -> Result<(), Fail> {
-    let wanted = [Node::Lit(units(5))];
-    let flat = presence(rt.alloc())?;
-    assert!(rt; has_nodes(rt.alloc(), &flat, &wanted));
-    Ok(())
-}
-
-#[test]
-fn a_product_with_zero_stays(rt: HostRuntime) -> Result<(), Fail> {
+fn has_nodes(nodes: &[Node]) -> bool {
     let wanted = [
         Node::Input(0),
-        Node::Lit(units(0)),
-        Node::Do(Op::Mul, 0, 1, 0),
-    ];
-    let flat = product(rt.alloc())?;
-    assert!(rt; has_nodes(rt.alloc(), &flat, &wanted));
-    Ok(())
-}
-
-#[test]
-fn a_choice_that_may_be_undefined_stays(rt: HostRuntime) -> Result<(), Fail> {
-    let wanted = [
-        Node::Input(0),
-        Node::Lit(units(3)),
-        Node::Do(Op::Gt, 0, 1, 0),
+        Node::Lit(units(1_000)),
+        Node::Do(Op::Sub, 0, 1, 0),
         Node::Lit(units(1)),
-        Node::Do(Op::Choose, 2, 3, 3),
+        Node::Do(Op::Mul, 0, 0, 0),
     ];
-    let flat = choice(rt.alloc())?;
-    assert!(rt; has_nodes(rt.alloc(), &flat, &wanted));
-    Ok(())
+    nodes == wanted.as_slice()
 }
 
-#[test]
-fn what_nothing_reads_is_removed(rt: HostRuntime) -> Result<(), Fail> {
-    let wanted = [Node::Input(1), Node::Lit(units(1)), Node::Input(0)];
-    let flat = checked(rt.alloc())?;
-    assert!(rt; has_nodes(rt.alloc(), &flat, &wanted));
-    Ok(())
-}
-
-// Whether a program has two inputs, the check of its first node, and its third node as its output.
+// Whether there is one input, and the check and the output are those of the nodes that are left.
 fn is_moved(flat: &Flat) -> bool {
     let check = Check {
-        guard: 1,
-        condition: 0,
-        over_only: false,
-        label: 7,
+        guard: 3,
+        condition: 4,
+        over_only: true,
+        label: 0,
     };
-    flat.inputs == 2
+    flat.inputs == 1
         && flat.checks.as_slice() == [check].as_slice()
         && flat.outputs.as_slice() == [2].as_slice()
 }
 
-fn is_form_moved(alloc: Global, flat: &Flat) -> bool
-    requires valid { IsFlat flat.now }
-    requires few { length flat.now.nodes < 100 }
+#[test]
+fn what_nothing_reads_is_removed(rt: HostRuntime) -> Result<(), Fail> {
+    let tidy = tidied(rt.alloc())?;
+    assert!(rt; has_nodes(tidy.flat().nodes.as_slice()) && is_moved(tidy.flat()));
+    Ok(())
+}
+
+// Whether all labels are below a count.
+fn are_below(checks: &[Check], labels: u32) -> bool
+    ensures { IsTrue result → All (λ check. check.label < labels) checks.now }
 {
-    match tidy(alloc, flat) {
-        Ok(tidy) => is_moved(tidy.flat()),
+    for i in 0..checks.len() {
+        if checks[i].label >= labels {
+            return false;
+        }
+    }
+    true
+}
+
+// The code of the tidy form, in which each value takes the first register that is free.
+fn instr(i: usize) -> Instr {
+    match i {
+        0 => Instr::Take(0, 0),
+        1 => Instr::Lit(1, units(1_000)),
+        2 => Instr::Do(Op::Sub, 1, 0, 1, 0),
+        3 => Instr::Output(0, 1),
+        4 => Instr::Lit(1, units(1)),
+        5 => Instr::Do(Op::Mul, 0, 0, 0, 0),
+        _ => Instr::Check(1, 0, true, 0),
+    }
+}
+
+// Whether code has these seven instructions, no slot and one label.
+fn is_code(code: &Code) -> bool {
+    if code.slots() != 0 || code.labels() != 1 || code.len() != 7 {
+        return false;
+    }
+    for i in 0..7 {
+        if code.instr(i) != instr(i) {
+            return false;
+        }
+    }
+    true
+}
+
+// Whether a tidy form, which is small, has this code.
+fn is_form_code(alloc: Global, tidy: &Tidy) -> bool {
+    let flat = tidy.flat();
+    if flat.nodes.as_slice().len() > 100
+        || flat.checks.as_slice().len() > 100
+        || flat.outputs.as_slice().len() > 100
+        || !are_below(flat.checks.as_slice(), 1)
+    {
+        return false;
+    }
+    match allocate(alloc, tidy, 1) {
+        Ok(code) => is_code(&code),
         Err(_) => false,
     }
 }
 
 #[test]
-fn checks_and_outputs_are_moved(rt: HostRuntime) -> Result<(), Fail> {
-    let flat = checked(rt.alloc())?;
-    assert!(rt; is_form_moved(rt.alloc(), &flat));
+fn a_value_takes_the_first_free_register(rt: HostRuntime) -> Result<(), Fail> {
+    let tidy = tidied(rt.alloc())?;
+    assert!(rt; is_form_code(rt.alloc(), &tidy));
     Ok(())
+}
+
+// Whether code of as many slots and outputs as there may be is refused for the output that it doesn't give.
+fn is_refused(alloc: Global) -> bool {
+    let instrs = [Instr::Take(0, 0), Instr::Output(7, 0)];
+    match make_code(alloc, 1, 4_294_967_295, 2, 4_294_967_295, &instrs) {
+        Ok(_) => false,
+        Err(wrong) => wrong == CodeWrong::NoOutput,
+    }
+}
+
+/// There are 4,294,967,295 slots and as many outputs: neither takes room.
+#[test]
+fn counts_take_no_room(rt: HostRuntime) {
+    assert!(rt; is_refused(rt.alloc()));
 }

@@ -1,10 +1,8 @@
-//! Code files that are read: what is written reads back, and what they show.
+//! Code files that are read: what is read is written as the same.
 use code_file::{Loaded, read_code, write_code};
 use m_places::limits::CODE_FILE_BYTES;
 use m_ports::{MemSink, Sink};
-use observables::{Coded, FaceLabel, FaceOutput, InputType};
 use std::alloc::Global;
-use std::test::Fail;
 
 const EXAMPLE: &[u8] = b"mcode 1
 slots 0
@@ -87,65 +85,4 @@ fn reads_back(alloc: Global, bytes: &[u8]) -> bool {
 fn what_is_read_is_written_as_the_same(rt: HostRuntime) {
     assert!(rt; reads_back(rt.alloc(), example()));
     assert!(rt; reads_back(rt.alloc(), forms()));
-}
-
-// Whether there are three inputs, of which the last is 8ZZ, 0 or 1.
-fn has_inputs(inputs: &[Coded]) -> bool {
-    inputs.len() == 3
-        && inputs[2].code.bytes() == b"8ZZ".as_slice()
-        && inputs[2].kind == InputType::Truth
-}
-
-// Whether there are four labels, of which the second is a verification whose text has these bytes.
-fn has_labels(labels: &[FaceLabel]) -> bool {
-    if labels.len() != 4 {
-        return false;
-    }
-    match &labels[1] {
-        FaceLabel::Verif(label) => label.text.bytes() == b"\x00\xff\n".as_slice(),
-        FaceLabel::DriverLine(_) => false,
-    }
-}
-
-// Whether there are five outputs, of which the first is the note of the label 1.
-fn has_outputs(outputs: &[FaceOutput]) -> bool {
-    if outputs.len() != 5 {
-        return false;
-    }
-    match &outputs[0] {
-        FaceOutput::Noted(number) => *number == 1,
-        FaceOutput::Named(_) => false,
-    }
-}
-
-fn check_face(loaded: &Loaded) -> Result<(), Fail> {
-    if loaded.code.len() != 17 || loaded.code.slots() != 4_294_967_295 {
-        return Err(Fail::from("code"));
-    }
-    if !has_inputs(loaded.face.inputs.as_slice()) {
-        return Err(Fail::from("inputs"));
-    }
-    if !has_labels(loaded.face.labels.as_slice()) {
-        return Err(Fail::from("labels"));
-    }
-    if !has_outputs(loaded.face.outputs.as_slice()) {
-        return Err(Fail::from("outputs"));
-    }
-    Ok(())
-}
-
-// The face of a text that has no fault.
-fn check_read(alloc: Global, bytes: &[u8]) -> Result<(), Fail> {
-    if bytes.len() as u64 > CODE_FILE_BYTES {
-        return Err(Fail::from("a text that is too long"));
-    }
-    match read_code(alloc, bytes) {
-        Ok(loaded) => check_face(&loaded),
-        Err(_) => Err(Fail::from("a fault")),
-    }
-}
-
-#[test]
-fn a_face_is_read(rt: HostRuntime) -> Result<(), Fail> {
-    check_read(rt.alloc(), forms())
 }

@@ -7,7 +7,7 @@ use crate::numbers::number;
 use household::{Household, Pair, Row};
 use m_batch::run_batch;
 use m_fixed::{Amount, Op};
-use m_places::{Gate, Name, Open, Seq};
+use m_places::{Gate, Name, Seq};
 use observables::Answer;
 use reg_machine::{Code, Instr, make_code};
 use std::alloc::{AllocError, Global};
@@ -148,12 +148,5 @@ fn two_workers_meet(rt: HostRuntime) -> Result<(), Fail> {
     let rows = rows(rt.alloc())?;
     assert!(rt; rows.len() == 256 && are_answered(&rt, rt.alloc(), &code, &rows, &gate));
     assert!(rt; have_met(&gate));
-    Ok(())
-}
-
-#[test]
-fn no_rows(rt: HostRuntime) -> Result<(), Fail> {
-    let code = code(rt.alloc())?;
-    assert!(rt; are_answered(&rt, rt.alloc(), &code, &[], &Open));
     Ok(())
 }

@@ -1,5 +1,5 @@
 -- What items declare is placed: its cells are in order.
-use Rattle.std.proofs.Common.{◌≡◌, ◌+◌, ℕ, List, [], ◌∷◌, map, refl, sym, subst, ap}
+use Rattle.std.proofs.Common.{◌≡◌, ◌+◌, ℕ, List, [], ◌∷◌, refl, sym, subst, ap}
 use Rattle.m_ast.specs.declared.item.Item.{Item}
 use Rattle.m_ast.specs.Items.{variables_of, variable_cells}
 use Rattle.m_ast.specs.declared.variable.VariableItem.{VariableItem}
@@ -13,6 +13,3 @@ items_placed first (v ∷ vs) = ap (λ (rest : List Variable). record { item = v
 
 pub declared_placed : (items : List Item) (declared : Declared) → declared ≡ declared_by items → IsPlaced declared
 declared_placed items declared e = subst IsPlaced (sym e) (items_placed 0 (variables_of items))
-
-pub placed : (items : List Item) (declared : Declared) → declared ≡ declared_by items → declared.variables ≡ placed_from 0 (map (λ (v : Variable). v.item) declared.variables)
-placed items declared e = declared_placed items declared e

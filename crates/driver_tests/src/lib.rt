@@ -1,18 +1,9 @@
-//! Tests of the crates that turn names into cells, and drivers with their rules into flat programs, through their public calls. They
-//! stand apart from those crates, so that a crate isn't proved a second time with its tests.
+//! Tests of what files of requests ask for, and of what drivers cost, through the public calls of those crates. They stand apart from
+//! them, so that a crate isn't proved a second time with its tests. What drivers answer and why they are refused, what they do to rules,
+//! their notes and the types of inputs are rows of the program `rows`.
 #![tactic(auto)]
 
 #[cfg(test)]
-mod cores;
-#[cfg(test)]
-mod declared;
-#[cfg(test)]
-mod drivers;
-#[cfg(test)]
-mod notes;
-#[cfg(test)]
 mod requests;
-#[cfg(test)]
-mod shown;
 #[cfg(test)]
 mod weights;

@@ -1,0 +1,14 @@
+REV : saisie revenu avfisc = 1 alias 1AJ : "wages" ;
+DON : saisie charge avfisc = 2 alias 7UF : "gifts" ;
+PAR : saisie famille avfisc = 0 alias 0NB : "parts" ;
+SEUIL : const = 1000 ;
+T : tableau[2] calculee : "" ;
+A : calculee restituee : "" ;
+B : calculee restituee : "" ;
+C : calculee restituee : "" ;
+IRN : calculee restituee : "" ;
+regle 1 : application : iliad ;
+IRN = max(0, REV - SEUIL) - DON ;
+T[X] = X + REV ;
+A01 : anomalie : "A" : "01" : "00" : "wages" ;
+verif 1 : application : iliad ; si REV > 5000 alors erreur A01 ;
