@@ -20,9 +20,9 @@ static TWICE: [(&str, u32, u32); 3] = [
         32,
     ),
     (
-        "A : const = 2 ; E : informative : \"a\" : \"b\" : \"c\" : \"d\" ; A : anomalie : \"a\" : \"b\" : \"c\" : \"d\" ; E : anomalie : \"a\" : \"b\" : \"c\" : \"d\" ;",
+        "A : const = 2 ; E : informative : \"\" : \"\" : \"\" : \"\" ; E : anomalie : \"\" : \"\" : \"\" : \"\" ;",
         16,
-        97,
+        54,
     ),
     (
         "A : saisie alias 1AA : \"a\" ; B : saisie alias 1BB : \"b\" ; C : saisie alias 1BB : \"c\" ;",
