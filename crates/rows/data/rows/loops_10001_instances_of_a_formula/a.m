@@ -1,0 +1,3 @@
+IRN : calculee restituee : "n" ;
+regle 10 : application : iliad ;
+pour i = 1..10001 : IRN = 1 ;

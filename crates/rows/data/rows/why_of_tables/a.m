@@ -1,0 +1,10 @@
+REV : saisie revenu classe = 0 alias 1AJ : "s" ;
+SEUIL : const = 1000 ;
+IRN : calculee restituee : "n" ;
+T : tableau[3] calculee : "t" ;
+U : tableau[3] calculee : "never set" ;
+A : calculee : "a" ;
+B : calculee : "b" ;
+C : calculee : "c" ;
+regle 10 : application : iliad ;
+T[X] = X + 5 ; IRN = T[A] + T[A] ; A = REV - 1 ; B = T[1] ; C = T[3] ;
