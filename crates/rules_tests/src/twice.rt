@@ -36,19 +36,26 @@ fn all_twice() -> &'static [(&'static str, u32, u32)] {
     &TWICE
 }
 
+// The bytes of the places of both, where a fault tells of two.
+fn bytes_of(fault: &DeclareFault) -> (u32, u32) {
+    match fault {
+        DeclareFault::DeclaredTwice(_, earlier, later) => (earlier.byte, later.byte),
+        DeclareFault::AliasTwice(_, earlier, later) => (earlier.byte, later.byte),
+        _ => (0, 0),
+    }
+}
+
 // Whether of these items two are refused that begin at these bytes.
 fn are_refused(alloc: Global, items: &[Item], earlier: u32, later: u32) -> bool {
     if items.len() >= 4_294_967_296 {
         return false;
     }
     match declare(alloc, items) {
-        Err(DeclareFault::DeclaredTwice(_, first, second)) => {
-            first.byte == earlier && second.byte == later
+        Ok(_) => false,
+        Err(fault) => {
+            let (first, second) = bytes_of(&fault);
+            first == earlier && second == later
         }
-        Err(DeclareFault::AliasTwice(_, first, second)) => {
-            first.byte == earlier && second.byte == later
-        }
-        _ => false,
     }
 }
 
