@@ -161,7 +161,7 @@ fn add_requests(alloc: Global, out: &mut Vec<u8>, file: &Option<Seq<u8>>, symbol
         Ok(cells) => add_cells(alloc, out, cells.as_slice()),
         Err(RequestFault::BadRequest(line)) => add_at(alloc, out, b"bad ", line),
         Err(RequestFault::TooManyRequests) => add(out, b"too many"),
-        Err(RequestFault::Memory) => {}
+        Err(RequestFault::Memory) => add(out, b"no memory"),
     }
 }
 
