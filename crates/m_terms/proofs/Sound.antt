@@ -12,7 +12,7 @@ use Rattle.m_lexer.specs.declared.token.Sign.{Sign as ASign}
 use Rattle.m_terms.specs.declared.cursor.Mark.{Mark}
 use Rattle.m_terms.specs.declared.cursor.Mark.TheVariants.{OfKey, OfSign}
 use Rattle.m_terms.specs.Tokens.{at, sign, key, same_sign, same_key, Joined, joined}
-use Rattle.m_lexer.specs.inner.Chains.{choose, ◌>>=◌}
+use Rattle.m_lexer.specs.inner.Chains.{choose}
 use Rattle.m_lexer.proofs.ChainSound.{Each, absent, here, bind_each, each_from, Sound, chain_sound}
 use Rattle.m_terms.specs.inner.Reading.{mark_at, joined_at}
 
