@@ -4,11 +4,10 @@ use Rattle.std.specs.Prelude.{◌≢◌}
 use Rattle.rule_text.specs.declared.Source.{Source}
 use Rattle.observables.specs.declared.inputs.Coded.{Coded}
 use Rattle.household.specs.declared.fault.HouseholdFault.{HouseholdFault}
-use Rattle.m_compile.specs.Faults.{IsBaseFault, IsSourceFault}
+use Rattle.m_compile.specs.Faults.{IsSourceFault}
 use Rattle.m_compile.specs.Lines.{source_line}
 use Rattle.m_compile.specs.declared.fault.SourceFault.{SourceFault}
 use Rattle.m_compile.specs.declared.fault.SourceFault.TheVariants as source
-use Rattle.m_compile.proofs.OneLaws.{base_fault_of_source}
 use Rattle.command_plans.specs.Views.{OutputView}
 use Rattle.command_plans.specs.declared.status.Status.{Status}
 use Rattle.command_answers.specs.Sources.{Refuses, source_is_refused}
@@ -25,11 +24,6 @@ told_by_line s said fault (Some line) old new status h is told =
 pub source_told : (s : Source) {Given : Type 0} (said : List Coded → Result Given HouseholdFault) (fault : SourceFault) (old new : OutputView) (status : Status)
     → (fault ≢ source.Memory → IsSourceFault s fault) → TellsLine (source_line s.texts fault) old new status → TellsRefusal (Refuses s said) old new status
 source_told s said fault old new status h told = told_by_line s said fault (source_line s.texts fault) old new status h refl told
-
--- its rules were refused
-pub rules_told : (s : Source) {Given : Type 0} (said : List Coded → Result Given HouseholdFault) (fault : SourceFault) (old new : OutputView) (status : Status)
-    → (fault ≢ source.Memory → IsBaseFault s.texts s.application fault) → TellsLine (source_line s.texts fault) old new status → TellsRefusal (Refuses s said) old new status
-rules_told s said fault old new status h told = source_told s said fault old new status (λ other. base_fault_of_source s fault (h other)) told
 
 -- a source was refused by a fault
 pub fault_told : (s : Source) (fault : SourceFault) (old new : OutputView) (status : Status) → (fault ≢ source.Memory → IsSourceFault s fault)

@@ -18,6 +18,6 @@ pub use batch::batch_source;
 pub use cases::cases_source;
 pub use compile::compile_source;
 pub use large::run_large;
-pub use program::{Program, prepare, prepare_code};
+pub use program::{Program, prepare_code};
 pub use run::run_source;
 pub use serving::{answer_serve, serve_source};

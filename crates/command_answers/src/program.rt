@@ -3,10 +3,9 @@ ghost use Rattle.std.specs.Prelude.{◌≡◌, IfOk, IsTrue};
 ghost use Rattle.m_places.specs.Refusals.{Outcome};
 ghost use Rattle.rule_text.specs.Limits.{SourceKeepsLimits};
 ghost use Rattle.code_file.specs.Loading.{counts_agree};
-ghost use Rattle.m_compile.specs.Compiled.{IsRunnable};
 ghost use Rattle.m_compile.specs.Faults.{IsSourceFault};
 ghost use Rattle.m_compile.specs.declared.fault.SourceFault.TheVariants.{Memory};
-ghost use Rattle.command_answers.specs.Prepared.{IsPrepared, IsPreparedCode};
+ghost use Rattle.command_answers.specs.Prepared.{IsPreparedCode};
 ghost use Rattle.code_answers.specs.Shown.{IsRunnableCode};
 
 use code_file::Loaded;
@@ -23,22 +22,6 @@ use std::thread::Threads;
 pub struct Program {
     pub face: Face,
     pub tidy: Tidy,
-}
-
-/// Prepares the program of a source for sessions, or tells the source's fault.
-pub fn prepare<R: Threads + Sync>(
-    rt: &R,
-    alloc: Global,
-    source: &Source,
-) -> Result<Program, SourceFault>
-    requires { SourceKeepsLimits source.now }
-    ensures outcome { Outcome Memory result (IsPrepared source.now) (IsSourceFault source.now) }
-    ensures runnable { IfOk result (λ program. IsRunnable program.face program.tidy) }
-{
-    match compile_with(rt, alloc, source) {
-        Ok(compiled) => Ok(program_of(compiled)),
-        Err(fault) => Err(fault),
-    }
 }
 
 /// Prepares the code of a source, or tells the source's fault. The tidy program is dropped.
@@ -58,7 +41,7 @@ pub fn prepare_code<R: Threads + Sync>(
 }
 
 // What sessions hold of what a source is compiled to.
-fn program_of(compiled: Compiled) -> Program
+pub(crate) fn program_of(compiled: Compiled) -> Program
     ensures { result ≡ record { face = compiled.face; tidy = compiled.tidy } }
 {
     let Compiled {

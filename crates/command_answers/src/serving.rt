@@ -12,7 +12,6 @@ ghost use Rattle.micro_m.specs.Bases.{IsValidBase};
 ghost use Rattle.rule_order.specs.Orders.{IsOrder};
 ghost use Rattle.why_session.specs.Joined.{explains_by};
 ghost use Rattle.m_compile.specs.Compiled.{IsRunnable};
-ghost use Rattle.m_compile.specs.Sources.{HasRules};
 ghost use Rattle.command_plans.specs.Views.{input_view, output_view};
 ghost use Rattle.command_answers.specs.Prepared.{IsServedBy};
 ghost use Rattle.code_answers.specs.Shown.{Shows};
@@ -20,13 +19,13 @@ ghost use Rattle.code_answers.specs.Schemes.{Scheme};
 ghost use Rattle.command_answers.specs.Serves.{IsServed};
 ghost use Rattle.command_answers.specs.inner.Answers.{IsBegun, IsExplainerOf};
 
-use crate::program::{Program, prepare};
+use crate::program::{Program, program_of};
 use crate::session::serve_session;
 use code_answers::{read_given, tell_refusal, told_household};
 use command_plans::Status;
 use household::HouseholdFault;
 use household_session::Session;
-use m_compile::{compile_base, told_fault};
+use m_compile::{compile_with_rules, told_fault};
 use m_ports::{Sink, Source as Input};
 use rule_base::RuleBase;
 use rule_text::Source;
@@ -34,9 +33,8 @@ use std::alloc::Global;
 use std::thread::Threads;
 use why_session::Explainer;
 
-/// Makes the base of the rules of a source, prepares its program and reads the household of these bytes, and then does the lines of the
-/// input to its end. Where the source or the household is refused, or there is no memory, nothing is taken from the input, and after that
-/// no memory is taken.
+/// Compiles a source and keeps its rules, reads the household of these bytes, and then does the lines of the input to its end. Where
+/// the source or the household is refused, or there is no memory, nothing is taken from the input, and after that no memory is taken.
 pub fn serve_source<R: Threads + Sync, S: Input, K: Sink>(
     rt: &R,
     alloc: Global,
@@ -49,38 +47,10 @@ pub fn serve_source<R: Threads + Sync, S: Input, K: Sink>(
     ensures { IsServed source.now household.now (input_view S.left S.faults input.old) (input_view S.left S.faults input.new)
         (output_view K.written K.faults out.old) (output_view K.written K.faults out.new) result }
 {
-    match compile_base(
-        rt,
-        alloc,
-        source.texts.as_slice(),
-        source.application.bytes(),
-    ) {
-        Ok(made) => serve_over(rt, alloc, source, made, household, input, out),
-        Err(fault) => tell_refusal(out, told_fault(source.texts.as_slice(), &fault)),
-    }
-}
-
-// The same over the base.
-fn serve_over<R: Threads + Sync, S: Input, K: Sink>(
-    rt: &R,
-    alloc: Global,
-    source: &Source,
-    made: RuleBase,
-    household: &[u8],
-    input: &mut S,
-    out: &mut K,
-) -> Status
-    requires limits { SourceKeepsLimits source.now }
-    requires rules { HasRules source.now made.symbols made.ordered.base }
-    requires valid { IsValidBase made.ordered.base }
-    requires order { IsOrder made.ordered.base made.ordered.sequence }
-    requires placed { IsPlaced made.symbols }
-    requires cells { made.ordered.base.cells ≡ length (owners_from 0 made.symbols.variables) }
-    ensures { IsServed source.now household.now (input_view S.left S.faults input.old) (input_view S.left S.faults input.new)
-        (output_view K.written K.faults out.old) (output_view K.written K.faults out.new) result }
-{
-    match prepare(rt, alloc, source) {
-        Ok(program) => answer_serve(alloc, program, made, household, input, out),
+    match compile_with_rules(rt, alloc, source) {
+        Ok((made, compiled)) => {
+            answer_serve(alloc, program_of(compiled), made, household, input, out)
+        }
         Err(fault) => tell_refusal(out, told_fault(source.texts.as_slice(), &fault)),
     }
 }

@@ -68,6 +68,64 @@ pub fn compile_with<R: Threads + Sync>(
     Ok(Compiled { face, tidy, code })
 }
 
+/// Compiles a source as `compile_with` does, and keeps its rules in their order, for who tells of both.
+pub fn compile_with_rules<R: Threads + Sync>(
+    rt: &R,
+    alloc: Global,
+    source: &Source,
+) -> Result<(RuleBase, Compiled), SourceFault>
+    requires { SourceKeepsLimits source.now }
+    ensures outcome { Outcome Memory result (λ given. IsCompiled source.now given.1) (IsSourceFault source.now) }
+    ensures runnable { IfOk result (λ given. IsRunnable given.1.face given.1.tidy) }
+    ensures rules { IfOk result (λ given. HasRules source.now given.0.symbols given.0.ordered.base) }
+    ensures valid { IfOk result (λ given. IsValidBase given.0.ordered.base) }
+    ensures order { IfOk result (λ given. IsOrder given.0.ordered.base given.0.ordered.sequence) }
+    ensures placed { IfOk result (λ given. IsPlaced given.0.symbols) }
+    ensures cells { IfOk result (λ given. given.0.ordered.base.cells ≡ length (owners_from 0 given.0.symbols.variables)) }
+{
+    let made = rules_of(rt, alloc, source)?;
+    let compiled = compiled_over(alloc, source, &made)?;
+    Ok((made, compiled))
+}
+
+// What a source is compiled to over its rules in an order.
+fn compiled_over(alloc: Global, source: &Source, made: &RuleBase) -> Result<Compiled, SourceFault>
+    requires limits { SourceKeepsLimits source.now }
+    requires rules { HasRules source.now made.now.symbols made.now.ordered.base }
+    requires base { IsValidBase made.now.ordered.base }
+    requires order { IsOrder made.now.ordered.base made.now.ordered.sequence }
+    requires cells { made.now.ordered.base.cells ≡ length (owners_from 0 made.now.symbols.variables) }
+    requires placed { IsPlaced made.now.symbols }
+    ensures outcome { Outcome Memory result (IsCompiled source.now) (IsSourceFault source.now) }
+    ensures runnable { IfOk result (λ compiled. IsRunnable compiled.face compiled.tidy) }
+{
+    let (tidy, face) = program(alloc, source, made)?;
+    let code = coded(alloc, &tidy, &face)?;
+    Ok(Compiled { face, tidy, code })
+}
+
+// The rules of a source in an order.
+fn rules_of<R: Threads + Sync>(
+    rt: &R,
+    alloc: Global,
+    source: &Source,
+) -> Result<RuleBase, SourceFault>
+    requires { SourceKeepsLimits source.now }
+    ensures outcome { Outcome Memory result (λ made. HasRules source.now made.symbols made.ordered.base) (IsSourceFault source.now) }
+    ensures valid { IfOk result (λ made. IsValidBase made.ordered.base) }
+    ensures order { IfOk result (λ made. IsOrder made.ordered.base made.ordered.sequence) }
+    ensures placed { IfOk result (λ made. IsPlaced made.symbols) }
+    ensures cells { IfOk result (λ made. made.ordered.base.cells ≡ length (owners_from 0 made.symbols.variables)) }
+{
+    let made = compile_base(
+        rt,
+        alloc,
+        source.texts.as_slice(),
+        source.application.bytes(),
+    )?;
+    Ok(made)
+}
+
 // The program of a source, with its face.
 fn ready<R: Threads + Sync>(
     rt: &R,
@@ -77,12 +135,7 @@ fn ready<R: Threads + Sync>(
     requires { SourceKeepsLimits source.now }
     ensures { Outcome Memory result (λ given. IsReady source.now given.0 given.1) (IsSourceFault source.now) }
 {
-    let made = compile_base(
-        rt,
-        alloc,
-        source.texts.as_slice(),
-        source.application.bytes(),
-    )?;
+    let made = rules_of(rt, alloc, source)?;
     program(alloc, source, &made)
 }
 

@@ -12,7 +12,7 @@ mod laws;
 mod told;
 
 pub use base::compile_base;
-pub use compiling::{Compiled, compile_with};
+pub use compiling::{Compiled, compile_with, compile_with_rules};
 pub use face::inputs_of;
 pub use fault::SourceFault;
 pub use laws::{

@@ -5,13 +5,13 @@ use Rattle.m_symbols.specs.Declarations.{Declared, inputs_from}
 use Rattle.micro_m.specs.declared.base.Base.{Base}
 use Rattle.observables.specs.declared.face.FaceLabel.TheVariants.{Verif}
 use Rattle.m_compile.specs.Compiled.{IsCompiled}
-use Rattle.m_compile.specs.Faults.{IsBaseFault, IsSourceFault}
+use Rattle.m_compile.specs.Faults.{IsSourceFault}
 use Rattle.m_compile.specs.Lines.{source_line}
 use Rattle.m_compile.specs.Sources.{HasRules}
 use Rattle.m_compile.specs.declared.compiling.Compiled.{Compiled}
 use Rattle.m_compile.specs.declared.fault.SourceFault.{SourceFault}
 use Rattle.m_compile.proofs.Distinct.{many_inputs}
-use Rattle.m_compile.proofs.OneLaws.{base_fault_of_source, one_rules}
+use Rattle.m_compile.proofs.OneLaws.{one_rules}
 use Rattle.command_plans.specs.Printing.{IsAnswered, printed, no_memory}
 use Rattle.command_plans.specs.Views.{OutputView}
 use Rattle.command_plans.specs.declared.status.Status.{Status}
@@ -25,12 +25,6 @@ pub lint_refused : (source : Source) (fault : SourceFault) (old new : OutputView
     → IsAnswered (LintReplies source) old new status
 lint_refused source fault old new status (inl (line, is, shown)) = printed line Refused (is_refused fault is.0 is.1) tt shown
 lint_refused source fault old new status (inr (same, memory)) = no_memory same memory
-
--- by its rules
-pub lint_rules_refused : (source : Source) (fault : SourceFault) (old new : OutputView) (status : Status)
-    → TellsRefusal (λ line. IsBaseFault source.texts source.application fault × (source_line source.texts fault ≡ Some line)) old new status → IsAnswered (LintReplies source) old new status
-lint_rules_refused source fault old new status (inl (line, is, shown)) = printed line Refused (is_refused fault (base_fault_of_source source fault is.0) is.1) tt shown
-lint_rules_refused source fault old new status (inr (same, memory)) = no_memory same memory
 
 linted_as : (source : Source) (declared : Declared) (base : Base) (compiled : Compiled) → HasRules source declared base → IsCompiled source compiled → (text : List ℕ) (own : Status)
     → IsLintOf declared base compiled text own → LintReplies source text own

@@ -5,7 +5,6 @@ ghost use Rattle.m_symbols.specs.Declarations.{inputs_from, owners_from};
 ghost use Rattle.micro_m.specs.Bases.{IsValidBase};
 ghost use Rattle.flat_code.specs.Faces.{IsFaceOf};
 ghost use Rattle.observables.specs.declared.face.FaceLabel.TheVariants.{Verif};
-ghost use Rattle.m_compile.specs.Sources.{HasRules};
 ghost use Rattle.command_plans.specs.Printing.{IsAnswered};
 ghost use Rattle.command_plans.specs.Views.{output_view};
 ghost use Rattle.rule_answers.specs.Lints.{LintReplies};
@@ -14,7 +13,7 @@ ghost use Rattle.rule_answers.specs.inner.Linting.{IsLintOf};
 use crate::findings::give_findings;
 use code_answers::tell_refusal;
 use command_plans::{Status, printed};
-use m_compile::{Compiled, compile_base, compile_with, told_fault};
+use m_compile::{Compiled, compile_with_rules, told_fault};
 use m_lint::lint;
 use m_ports::Sink;
 use rule_base::RuleBase;
@@ -22,8 +21,7 @@ use rule_text::Source;
 use std::alloc::{AllocError, Global};
 use std::thread::Threads;
 
-/// Makes the base of the rules of a source, compiles the source, and prints what is found of the two, or the line by which the source is
-/// refused.
+/// Compiles a source and keeps its rules, and prints what is found of the two, or the line by which the source is refused.
 pub fn lint_source<R: Threads + Sync, K: Sink>(
     rt: &R,
     alloc: Global,
@@ -33,33 +31,8 @@ pub fn lint_source<R: Threads + Sync, K: Sink>(
     requires { SourceKeepsLimits source.now }
     ensures { IsAnswered (LintReplies source.now) (output_view K.written K.faults out.old) (output_view K.written K.faults out.new) result }
 {
-    match compile_base(
-        rt,
-        alloc,
-        source.texts.as_slice(),
-        source.application.bytes(),
-    ) {
-        Ok(made) => lint_over(rt, alloc, source, &made, out),
-        Err(fault) => tell_refusal(out, told_fault(source.texts.as_slice(), &fault)),
-    }
-}
-
-// The same over the base.
-fn lint_over<R: Threads + Sync, K: Sink>(
-    rt: &R,
-    alloc: Global,
-    source: &Source,
-    made: &RuleBase,
-    out: &mut K,
-) -> Status
-    requires limits { SourceKeepsLimits source.now }
-    requires rules { HasRules source.now made.now.symbols made.now.ordered.base }
-    requires valid { IsValidBase made.now.ordered.base }
-    requires cells { made.now.ordered.base.cells ≡ length (owners_from 0 made.now.symbols.variables) }
-    ensures { IsAnswered (LintReplies source.now) (output_view K.written K.faults out.old) (output_view K.written K.faults out.new) result }
-{
-    match compile_with(rt, alloc, source) {
-        Ok(compiled) => answer_lint(alloc, made, &compiled, out),
+    match compile_with_rules(rt, alloc, source) {
+        Ok((made, compiled)) => answer_lint(alloc, &made, &compiled, out),
         Err(fault) => tell_refusal(out, told_fault(source.texts.as_slice(), &fault)),
     }
 }

@@ -1,16 +1,25 @@
 use Rattle.household.specs.Household.{household_of}
-use Rattle.command_answers.proofs.Refusals.{rules_told}
-use Rattle.command_answers.proofs.Ways.{serve_refused}
+use Rattle.why_session.specs.Joined.{explains_by}
+use Rattle.command_answers.specs.Prepared.{IsPrepared}
+use Rattle.command_answers.proofs.ExplainedLemmas.{as_many_inputs, is_explained}
+use Rattle.command_answers.proofs.Refusals.{source_told}
+use Rattle.command_answers.proofs.Ways.{is_prepared, serve_answered, serve_refused}
 use Rattle.command_answers.proofs.serving.serve_source.Goals as goal
 
-pub serve_over-requires-clause-rules : goal.serve_over-requires-clause-rules
-serve_over-requires-clause-rules g c = λ κs held. record { made = rw (c.as_slice.ensures, c.bytes.ensures) at c.in-Ok.ensures.outcome.0; no_cycle = c.in-Ok.ensures.no_cycle }
+pub answer_serve-requires-clause-many : goal.answer_serve-requires-clause-many
+answer_serve-requires-clause-many g c = λ κs held.
+    as_many_inputs c.args.source.now c.program_of.result c.in-Ok.made.symbols c.in-Ok.made.ordered.base
+    (rw c.program_of.ensures (is_prepared c.args.source.now c.in-Ok.compiled c.in-Ok.ensures.outcome)) c.in-Ok.ensures.rules
+
+pub returns-in-Ok : goal.returns-in-Ok
+returns-in-Ok g c =
+    let is : IsPrepared c.args.source.now c.program_of.result = rw c.program_of.ensures (is_prepared c.args.source.now c.in-Ok.compiled c.in-Ok.ensures.outcome) in
+    serve_answered c.args.source.now c.program_of.result c.args.household.now _ _ _ _ _ (explains_by c.in-Ok.made.symbols c.in-Ok.made.ordered) is
+    (is_explained c.args.source.now c.in-Ok.made.symbols c.in-Ok.made.ordered c.in-Ok.ensures.rules c.in-Ok.ensures.valid c.in-Ok.ensures.order)
+    (c.answer_serve.ensures is.scheme is.shows)
 
 pub returns-in-Err : goal.returns-in-Err
 returns-in-Err g c =
     serve_refused c.args.source.now c.args.household.now _ _ _ _
-    (rules_told c.args.source.now (λ inputs. household_of inputs c.args.household.now) c.in-Err.fault _ _ _ (rw (c.as_slice.ensures, c.bytes.ensures) at c.in-Err.ensures.outcome)
-    (rw c.as_slice-in-Err.ensures at (rw c.told_fault.ensures at c.tell_refusal.ensures)))
-
-pub serve_over-requires-clause-order : goal.serve_over-requires-clause-order
-serve_over-requires-clause-order g c = λ κs held. c.in-Ok.ensures.outcome.1
+    (source_told c.args.source.now (λ inputs. household_of inputs c.args.household.now) c.in-Err.fault _ _ _ c.in-Err.ensures.outcome
+    (rw c.as_slice.ensures at (rw c.told_fault.ensures at c.tell_refusal.ensures)))

@@ -1,11 +1,28 @@
-use Rattle.rule_answers.proofs.LintLemmas.{lint_rules_refused}
-use Rattle.rule_answers.proofs.Refusals.{base_told}
+use Rattle.std.proofs.Common.{arith}
+use Rattle.rule_base.proofs.Small.{few-checks}
+use Rattle.rule_answers.proofs.LintLemmas.{inputs_counted, labels_first, lint_answered, lint_refused}
+use Rattle.rule_answers.proofs.Refusals.{fault_told}
 use Rattle.rule_answers.proofs.lint.lint_source.Goals as goal
 
-pub lint_over-requires-clause-rules : goal.lint_over-requires-clause-rules
-lint_over-requires-clause-rules g c = λ κs held. record { made = rw (c.as_slice.ensures, c.bytes.ensures) at c.in-Ok.ensures.outcome.0; no_cycle = c.in-Ok.ensures.no_cycle }
+pub answer_lint-requires-clause-few : goal.answer_lint-requires-clause-few
+answer_lint-requires-clause-few g c = let few = few-checks c.in-Ok.ensures.rules.made in omega (arith, few)
+
+pub answer_lint-requires-clause-shown : goal.answer_lint-requires-clause-shown
+answer_lint-requires-clause-shown g c = c.in-Ok.ensures.runnable.shown
+
+pub answer_lint-requires-clause-first_labels : goal.answer_lint-requires-clause-first_labels
+answer_lint-requires-clause-first_labels g c =
+    labels_first c.args.source.now c.in-Ok.made.symbols c.in-Ok.made.ordered.base c.in-Ok.compiled c.in-Ok.ensures.rules c.in-Ok.ensures.outcome
+
+pub answer_lint-requires-clause-inputs : goal.answer_lint-requires-clause-inputs
+answer_lint-requires-clause-inputs g c =
+    inputs_counted c.args.source.now c.in-Ok.made.symbols c.in-Ok.made.ordered.base c.in-Ok.compiled c.in-Ok.ensures.rules c.in-Ok.ensures.outcome
+
+pub returns-in-Ok : goal.returns-in-Ok
+returns-in-Ok g c =
+    lint_answered c.args.source.now c.in-Ok.made.symbols c.in-Ok.made.ordered.base c.in-Ok.compiled _ _ _ c.in-Ok.ensures.rules c.in-Ok.ensures.outcome c.answer_lint.ensures
 
 pub returns-in-Err : goal.returns-in-Err
 returns-in-Err g c =
-    lint_rules_refused c.args.source.now c.in-Err.fault _ _ _
-    (base_told c.args.source.now c.in-Err.fault _ _ _ (rw (c.as_slice.ensures, c.bytes.ensures) at c.in-Err.ensures.outcome) (rw c.as_slice-in-Err.ensures at (rw c.told_fault.ensures at c.tell_refusal.ensures)))
+    lint_refused c.args.source.now c.in-Err.fault _ _ _
+    (fault_told c.args.source.now c.in-Err.fault _ _ _ c.in-Err.ensures.outcome (rw c.as_slice.ensures at (rw c.told_fault.ensures at c.tell_refusal.ensures)))
