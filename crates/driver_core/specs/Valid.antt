@@ -61,12 +61,10 @@ abbrev mutual
 abbrev mutual
   -- a command calls a function where a call of it stands in it, in any branch
   pub ActionCalls : Action → ℕ → Type 0
-  ActionCalls (assign line c term) f = ⊥
-  ActionCalls (clear line c) f = ⊥
   ActionCalls (branch line condition first second) f = BlockCalls first f ⊎ BlockCalls second f
   ActionCalls (partition line named block) f = BlockCalls block f
   ActionCalls (call line names received function) f = f ≡ function
-  ActionCalls (solve line names received) f = ⊥
+  ActionCalls _ f = ⊥
 
   pub BlockCalls : Block → ℕ → Type 0
   BlockCalls no_actions f = ⊥

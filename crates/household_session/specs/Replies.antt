@@ -32,12 +32,9 @@ command_reply showing values bad = line (codes "refused bad command")
 
 -- the values after a command
 abbrev pub command_values : Showing → List Value → SessionCommand → List Value
-command_values showing values no_words = values
 command_values showing values (sets code amount) = values_edited values (set_of showing.inputs code amount)
 command_values showing values (clears code) = values_edited values (clear_of showing.inputs code)
-command_values showing values shows = values
-command_values showing values too_long = values
-command_values showing values bad = values
+command_values showing values _ = values
 
 -- The number of the input that a command names to set or clear it, if it does and there is one: also where the edit is refused. No other input's value is
 -- another one after it.

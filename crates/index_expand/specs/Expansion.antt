@@ -6,7 +6,7 @@ use Rattle.m_ast.specs.declared.item.Formula.{Formula}
 use Rattle.m_ast.specs.declared.item.CheckItem.{CheckItem}
 use Rattle.m_ast.specs.declared.item.VerifItem.{VerifItem}
 use Rattle.m_ast.specs.declared.item.Item.{Item}
-use Rattle.m_ast.specs.declared.item.Item.TheVariants.{Variable, Rule, Verif, Error, Silent}
+use Rattle.m_ast.specs.declared.item.Item.TheVariants.{Rule, Verif}
 use Rattle.m_ast.specs.declared.item.Slot.{Slot}
 use Rattle.m_ast.specs.declared.item.Slot.TheVariants.{Whole, Cell, Every}
 use Rattle.m_symbols.specs.Declarations.{Declared}
@@ -20,11 +20,9 @@ use Rattle.index_expand.specs.Terms.{expanded}
 
 -- whether an item counts: a verification or a rule of the application, and the rule isn't chained
 abbrev pub counts_in : List ℕ → Item → Bool
-counts_in application (Variable v) = false
 counts_in application (Rule r) = not r.chained && list_any (bytes_eq application) r.applications
 counts_in application (Verif v) = list_any (bytes_eq application) v.applications
-counts_in application (Error e) = false
-counts_in application (Silent p) = false
+counts_in application _ = false
 
 -- ---- instances
 
@@ -57,11 +55,8 @@ formula_definitions declared formula =
     flat_map (definitions_at declared formula formula.slot) (instances (all_indexes formula.loops) no_letters)
 
 abbrev pub item_definitions : Declared → Item → List Definition
-item_definitions declared (Variable v) = []
 item_definitions declared (Rule r) = flat_map (formula_definitions declared) r.formulas
-item_definitions declared (Verif v) = []
-item_definitions declared (Error e) = []
-item_definitions declared (Silent p) = []
+item_definitions declared _ = []
 
 abbrev pub condition_of : VerifItem → CheckItem → Condition
 condition_of verif check = record {
@@ -72,11 +67,8 @@ condition_of verif check = record {
 }
 
 abbrev pub item_conditions : Item → List Condition
-item_conditions (Variable v) = []
-item_conditions (Rule r) = []
 item_conditions (Verif v) = map (condition_of v) v.checks
-item_conditions (Error e) = []
-item_conditions (Silent p) = []
+item_conditions _ = []
 
 -- The rules and verifications of an application without loops, each in the order of the items.
 abbrev pub expansion : List Item → List ℕ → Declared → Plain

@@ -23,11 +23,9 @@ check_parts check = parts check.condition + 1
 
 -- the parts of an item's definitions and conditions, and one for each
 abbrev pub item_parts : Declared → Item → ℕ
-item_parts declared (Variable v) = 0
 item_parts declared (Rule r) = sum_by (formula_parts declared) r.formulas
 item_parts declared (Verif v) = sum_by check_parts v.checks
-item_parts declared (Error e) = 0
-item_parts declared (Silent p) = 0
+item_parts declared _ = 0
 
 -- the place of an item's first token
 abbrev pub item_place : Item → Place

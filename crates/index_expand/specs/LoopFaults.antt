@@ -8,7 +8,7 @@ use Rattle.m_ast.specs.declared.header.Index.{Index}
 use Rattle.m_ast.specs.declared.item.Formula.{Formula}
 use Rattle.m_ast.specs.declared.item.CheckItem.{CheckItem}
 use Rattle.m_ast.specs.declared.item.Item.{Item}
-use Rattle.m_ast.specs.declared.item.Item.TheVariants.{Variable, Rule, Verif, Error, Silent}
+use Rattle.m_ast.specs.declared.item.Item.TheVariants.{Rule, Verif}
 use Rattle.m_ast.specs.Syntax.{Syntax, lit, named, the_x, cell, apply, chain, among, loop, Terms, no_terms, a_term, Links, no_links, a_link, Members, no_members, a_member}
 use Rattle.loop_values.specs.Headers.{instance_count, all_indexes, is_bad_index}
 use Rattle.loop_values.specs.Values.{is_nothing}
@@ -86,11 +86,9 @@ abbrev pub check_faults : CheckItem → List ExpandFault
 check_faults check = term_faults no_scope check.condition
 
 abbrev pub item_faults : Item → List ExpandFault
-item_faults (Variable v) = []
 item_faults (Rule r) = flat_map formula_faults r.formulas
 item_faults (Verif v) = flat_map check_faults v.checks
-item_faults (Error e) = []
-item_faults (Silent p) = []
+item_faults _ = []
 
 -- ---- which fault is told
 

@@ -3,7 +3,7 @@
 use Rattle.std.specs.Prelude.{ℕ, Bool, true, false, List, Option, Some, None}
 use Rattle.std.specs.List.{filter_map}
 use Rattle.m_ast.specs.declared.item.Item.{Item}
-use Rattle.m_ast.specs.declared.item.Item.TheVariants.{Variable, Rule, Verif, Error, Silent}
+use Rattle.m_ast.specs.declared.item.Item.TheVariants.{Variable, Error}
 use Rattle.m_ast.specs.declared.item.ErrorItem.{ErrorItem}
 use Rattle.m_ast.specs.declared.variable.VariableItem.{VariableItem}
 use Rattle.m_ast.specs.declared.variable.Role.{Role}
@@ -11,17 +11,11 @@ use Rattle.m_ast.specs.declared.variable.Role.TheVariants.{Input, Computed, Cons
 
 abbrev pub variable_in : Item → Option VariableItem
 variable_in (Variable v) = Some v
-variable_in (Rule r) = None
-variable_in (Verif v) = None
-variable_in (Error e) = None
-variable_in (Silent p) = None
+variable_in _ = None
 
 abbrev pub error_in : Item → Option ErrorItem
-error_in (Variable v) = None
-error_in (Rule r) = None
-error_in (Verif v) = None
 error_in (Error e) = Some e
-error_in (Silent p) = None
+error_in _ = None
 
 -- the declared variables
 abbrev pub variables_of : List Item → List VariableItem

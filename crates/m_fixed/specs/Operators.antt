@@ -13,19 +13,7 @@ use Rattle.m_fixed.specs.Rounding.{rounded}
 
 -- how many arguments an operator looks at
 abbrev pub arity_of : Op → ℕ
-arity_of Add = 2
-arity_of Sub = 2
-arity_of Mul = 2
-arity_of Div = 2
 arity_of Neg = 1
-arity_of Eq = 2
-arity_of Ne = 2
-arity_of Lt = 2
-arity_of Le = 2
-arity_of Gt = 2
-arity_of Ge = 2
-arity_of And = 2
-arity_of Or = 2
 arity_of Not = 1
 arity_of Present = 1
 arity_of Abs = 1
@@ -34,11 +22,9 @@ arity_of PositiveOrNull = 1
 arity_of Null = 1
 arity_of Arr = 1
 arity_of Inf = 1
-arity_of Max = 2
-arity_of Min = 2
 arity_of Truth = 1
 arity_of Choose = 3
-arity_of At = 2
+arity_of _ = 2
 
 -- Two undefined arguments always give undefined, but for Present. With one of two: where this is true
 -- it counts as 0, and else it makes the result undefined. Of an operator that doesn't have two
@@ -46,30 +32,10 @@ arity_of At = 2
 abbrev pub counts_undefined_as_zero : Op → Bool
 counts_undefined_as_zero Add = true
 counts_undefined_as_zero Sub = true
-counts_undefined_as_zero Mul = false
-counts_undefined_as_zero Div = false
-counts_undefined_as_zero Neg = false
-counts_undefined_as_zero Eq = false
-counts_undefined_as_zero Ne = false
-counts_undefined_as_zero Lt = false
-counts_undefined_as_zero Le = false
-counts_undefined_as_zero Gt = false
-counts_undefined_as_zero Ge = false
-counts_undefined_as_zero And = false
 counts_undefined_as_zero Or = true
-counts_undefined_as_zero Not = false
-counts_undefined_as_zero Present = false
-counts_undefined_as_zero Abs = false
-counts_undefined_as_zero Positive = false
-counts_undefined_as_zero PositiveOrNull = false
-counts_undefined_as_zero Null = false
-counts_undefined_as_zero Arr = false
-counts_undefined_as_zero Inf = false
 counts_undefined_as_zero Max = true
 counts_undefined_as_zero Min = true
-counts_undefined_as_zero Truth = false
-counts_undefined_as_zero Choose = false
-counts_undefined_as_zero At = false
+counts_undefined_as_zero _ = false
 
 -- 1 where the test passes, and 0 where it doesn't, in millionths
 abbrev pub truth : Bool → ℤ

@@ -6,7 +6,7 @@ use Rattle.std.specs.Str.{bytes_eq}
 use Rattle.m_places.specs.declared.place.Place.{Place}
 use Rattle.m_places.specs.declared.limits.TheConstants.{TABLE_CELLS, CELLS}
 use Rattle.m_ast.specs.declared.item.Item.{Item}
-use Rattle.m_ast.specs.declared.item.Item.TheVariants.{Variable, Rule, Verif, Error, Silent}
+use Rattle.m_ast.specs.declared.item.Item.TheVariants.{Variable, Error}
 use Rattle.m_ast.specs.declared.item.ErrorItem.{ErrorItem}
 use Rattle.m_ast.specs.declared.variable.VariableItem.{VariableItem}
 use Rattle.m_ast.specs.Items.{variable_cells, variable_code, variable_size}
@@ -71,9 +71,7 @@ error_fault earlier e = option_map (λ place. DeclaredTwice e.name place e.place
 abbrev pub fault_at : Declared → Item → Option DeclareFault
 fault_at earlier (Variable v) = variable_fault earlier v
 fault_at earlier (Error e) = error_fault earlier e
-fault_at earlier (Rule r) = None
-fault_at earlier (Verif v) = None
-fault_at earlier (Silent p) = None
+fault_at earlier _ = None
 
 -- the fault of the first of these items that has one, where those before them are given
 abbrev pub fault_behind : List Item → List Item → Option DeclareFault

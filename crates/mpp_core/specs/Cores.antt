@@ -13,7 +13,7 @@ use Rattle.driver_core.specs.Valid.{IsRing, HasNoRing}
 use Rattle.mpp_core.specs.Names.{if_said, name_in, names_said, main_said}
 use Rattle.mpp_core.specs.Bodies.{bodies_said}
 use Rattle.mpp_core.specs.declared.fault.CoreFault.{CoreFault}
-use Rattle.mpp_core.specs.declared.fault.CoreFault.TheVariants.{FunctionTwice, NoMain, UnknownInDriver, BadTargetInDriver, DriverRecursion, Memory}
+use Rattle.mpp_core.specs.declared.fault.CoreFault.TheVariants.{DriverRecursion}
 
 -- ---- a driver of a source
 
@@ -49,11 +49,7 @@ pub record ShowsRing (core : Core) (names : List (List ℕ)) : Type 0 where
 -- the ring that a fault shows
 abbrev pub IsRecursion : Core → CoreFault → Type 0
 IsRecursion core (DriverRecursion names) = ShowsRing core names
-IsRecursion core (FunctionTwice name line) = ⊥
-IsRecursion core NoMain = ⊥
-IsRecursion core (UnknownInDriver name line) = ⊥
-IsRecursion core (BadTargetInDriver name line) = ⊥
-IsRecursion core Memory = ⊥
+IsRecursion core _ = ⊥
 
 -- the fault of a driver: the first of its names, or where no name has one a ring of its functions
 abbrev pub IsCoreFault : Driver → Declared → CoreFault → Type 0

@@ -6,7 +6,7 @@ use Rattle.m_fixed.specs.declared.amount.Value.{Value}
 use Rattle.m_fixed.specs.declared.amount.Value.TheVariants.{Num, Undef, Over}
 use Rattle.m_fixed.specs.declared.operator.Op.{Op}
 use Rattle.m_fixed.specs.declared.operator.Op.TheVariants.{Neg}
-use Rattle.m_ast.specs.Syntax.{Syntax, lit, named, the_x, cell, apply, chain, among, loop, Terms, no_terms, a_term}
+use Rattle.m_ast.specs.Syntax.{Syntax, lit, named, apply, Terms, no_terms, a_term}
 
 abbrev pub amount_in : Value → Option ℤ
 amount_in (Num z) = Some z
@@ -16,13 +16,7 @@ amount_in Over = None
 -- the amount of a literal
 abbrev pub amount_of : Syntax → Option ℤ
 amount_of (lit v) = amount_in v
-amount_of (named w p) = None
-amount_of (the_x p) = None
-amount_of (cell w a p) = None
-amount_of (apply op all) = None
-amount_of (chain a all) = None
-amount_of (among negated a all) = None
-amount_of (loop h a) = None
+amount_of _ = None
 
 -- the amount of a literal that stands alone
 abbrev pub only_amount : Terms → Option ℤ
@@ -36,25 +30,13 @@ is_negation _ = false
 
 -- the amount of a literal after a minus
 abbrev pub opposite_of : Syntax → Option ℤ
-opposite_of (lit v) = None
-opposite_of (named w p) = None
-opposite_of (the_x p) = None
-opposite_of (cell w a p) = None
 opposite_of (apply op all) = if is_negation op then only_amount all else None
-opposite_of (chain a all) = None
-opposite_of (among negated a all) = None
-opposite_of (loop h a) = None
+opposite_of _ = None
 
 -- the word that a term is
 abbrev pub word_of : Syntax → Option (List ℕ)
-word_of (lit v) = None
 word_of (named w p) = Some w
-word_of (the_x p) = None
-word_of (cell w a p) = None
-word_of (apply op all) = None
-word_of (chain a all) = None
-word_of (among negated a all) = None
-word_of (loop h a) = None
+word_of _ = None
 
 abbrev pub is_same_amount : Option ℤ → Option ℤ → Bool
 is_same_amount (Some a) (Some b) = int_eq a b

@@ -1,22 +1,18 @@
 -- What is said of an allocation.
-use Rattle.std.specs.Prelude.{◌≡◌, ℕ, ◌≤◌, ◌<◌, Bool, true, false, List, length, count_by, All, Some}
+use Rattle.std.specs.Prelude.{◌≡◌, ℕ, ◌≤◌, ◌<◌, Bool, true, false, length, count_by, All, Some}
 use Rattle.flat_code.specs.declared.program.Flat.{Flat}
 use Rattle.reg_machine.specs.declared.instr.TheConstants.{REGISTERS}
 use Rattle.reg_machine.specs.declared.instr.Instr.{Instr}
-use Rattle.reg_machine.specs.declared.instr.Instr.TheVariants.{Take, Lit, Do, Store, Load, Check as Test, Output}
+use Rattle.reg_machine.specs.declared.instr.Instr.TheVariants.{Store, Load}
 use Rattle.reg_machine.specs.Flow.{Listing, flow_of, stores_of, loads_of}
 use Rattle.register_alloc.specs.declared.moment.TheConstants.{MOST}
 use Rattle.register_alloc.specs.Width.{width_of, reads_of}
 
 -- an instruction on a slot
 abbrev pub is_spill : Instr → Bool
-is_spill (Take r n) = false
-is_spill (Lit r v) = false
-is_spill (Do op r a b c) = false
 is_spill (Store k r) = true
 is_spill (Load r k) = true
-is_spill (Test g r over_only label) = false
-is_spill (Output k r) = false
+is_spill _ = false
 
 -- how many instructions are on slots
 abbrev pub spills_of : Listing → ℕ

@@ -17,10 +17,8 @@ use Rattle.why_report.specs.declared.line.ReportLine.{ReportLine}
 
 -- the name after the word `why`, where these are all words
 abbrev pub why_words : List (List ℕ) → Option (List ℕ)
-why_words [] = None
-why_words (word ∷ []) = None
 why_words (word ∷ name ∷ []) = if bytes_eq word (codes "why") then Some name else None
-why_words (word ∷ name ∷ another ∷ words) = None
+why_words _ = None
 
 -- The name that a line asks about, given without its line feed: `why IRN` asks about `IRN`. A line that is longer than lines may be asks about none.
 abbrev pub name_asked : List ℕ → Option (List ℕ)
