@@ -21,7 +21,7 @@ use Rattle.m_compile.specs.Sources.{HasRules}
 use Rattle.m_compile.proofs.Distinct.{many_inputs}
 use Rattle.m_compile.proofs.OneLaws.{one_rules}
 use Rattle.command_answers.specs.Explained.{IsExplained}
-use Rattle.command_answers.specs.Prepared.{IsPrepared}
+use Rattle.command_answers.specs.inner.Answers.{IsPrepared}
 use Rattle.code_answers.specs.Schemes.{Scheme}
 use Rattle.command_answers.specs.declared.program.Program.{Program}
 

@@ -2,7 +2,6 @@
 use Rattle.std.specs.Prelude.{◌≡◌, ℕ, ℤ, List, Some, Ok, Err}
 use Rattle.rule_text.specs.declared.Source.{Source}
 use Rattle.flat_code.specs.declared.program.Flat.{Flat}
-use Rattle.flat_code.specs.Runs.{flat_run}
 use Rattle.reg_machine.specs.Machine.{machine_run}
 use Rattle.code_file.specs.declared.loaded.Loaded.{Loaded}
 use Rattle.household.specs.Household.{household_of}
@@ -18,14 +17,7 @@ use Rattle.command_answers.specs.Serving.{Served}
 use Rattle.command_answers.specs.Sessions.{ended_replies, session_replies}
 use Rattle.command_answers.specs.Sources.{IsScheme}
 use Rattle.why_session.specs.Explains.{Explaining}
-use Rattle.command_answers.specs.declared.program.Program.{Program}
 use Rattle.code_answers.specs.Shown.{Shows}
-
--- The source is valid, and the tidy program is to households what the source is.
-pub record IsPrepared (source : Source) (program : Program) : Type 0 where
-  pub scheme : Scheme
-  pub valid : IsScheme source scheme
-  pub shows : Shows scheme program.face (flat_run program.tidy)
 
 -- The source is compiled to this code, by way of some tidy program, and the code is to households what the source is.
 pub record IsPreparedCode (source : Source) (loaded : Loaded) : Type 0 where

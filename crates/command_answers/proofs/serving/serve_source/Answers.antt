@@ -1,6 +1,6 @@
 use Rattle.household.specs.Household.{household_of}
 use Rattle.why_session.specs.Joined.{explains_by}
-use Rattle.command_answers.specs.Prepared.{IsPrepared}
+use Rattle.command_answers.specs.inner.Answers.{IsPrepared}
 use Rattle.command_answers.proofs.ExplainedLemmas.{as_many_inputs, is_explained}
 use Rattle.command_answers.proofs.Refusals.{source_told}
 use Rattle.command_answers.proofs.Ways.{is_prepared, serve_answered, serve_refused}
