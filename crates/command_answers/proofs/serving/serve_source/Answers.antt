@@ -7,7 +7,7 @@ use Rattle.command_answers.proofs.Ways.{is_prepared, serve_answered, serve_refus
 use Rattle.command_answers.proofs.serving.serve_source.Goals as goal
 
 pub answer_serve-requires-clause-many : goal.answer_serve-requires-clause-many
-answer_serve-requires-clause-many g c = λ κs held.
+answer_serve-requires-clause-many g c =
     as_many_inputs c.args.source.now c.program_of.result c.in-Ok.made.symbols c.in-Ok.made.ordered.base
     (rw c.program_of.ensures (is_prepared c.args.source.now c.in-Ok.compiled c.in-Ok.ensures.outcome)) c.in-Ok.ensures.rules
 
