@@ -1,5 +1,5 @@
 #!/bin/sh
-# Compares the worked rows of crates/rows with the reference implementation, which stands in tests/second and
+# Compares the worked rows of crates/rows that no mishap befalls with the reference implementation, which stands in tests/second and
 # needs no program. With words it does what tests/second/compare.py does with these: tests/second.sh PROGRAM [COUNT
 # [SEED]] also compares a program with it on so many changed rows. The status is 0 where nothing differs.
 cd "$(dirname "$0")/.." || exit 1

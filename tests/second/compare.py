@@ -1,6 +1,6 @@
 """Compares the reference implementation with the worked rows, and with a program on changed rows.
 
-    python3 compare.py                           the rows of crates/rows/data by the reading alone
+    python3 compare.py                           the rows of crates/rows/data by the reading alone, but those that a mishap befalls
     python3 compare.py PROGRAM [COUNT [SEED]]    these, and so many changed rows by the program and by the reading
 
 A program is the path of one that takes the words of `m_tax`, as `out/m_tax` does. Its text and its status must be those
@@ -67,12 +67,20 @@ def read_folder(path):
     return files
 
 
+def names_of_rows():
+    """The names of the worked rows that nothing befalls, and how many others there are: those whose calls fail or whose files are changed."""
+    names = sorted(os.listdir(os.path.join(DATA, "rows")))
+    plain = [name for name in names if not os.path.exists(os.path.join(DATA, "rows", name, "mishaps"))]
+    return plain, len(names) - len(plain)
+
+
 def read_rows():
-    """Each worked row by its name, with the text and the status that it wants."""
+    """Each worked row that nothing befalls by its name, with the text and the status that it wants."""
     shared = read_folder(os.path.join(DATA, "shared"))
     rows = {}
-    for name in sorted(os.listdir(os.path.join(DATA, "rows"))):
+    for name in names_of_rows()[0]:
         own = read_folder(os.path.join(DATA, "rows", name))
+        own.pop(b"tried", None)
         text = own.pop(b"text", b"")
         status = int(own.pop(b"status", b"0"))
         words = own.pop(b"words", WORDS).split()
@@ -169,7 +177,7 @@ def main():
     """Does what the words of the command line say."""
     rows = read_rows()
     different = compare_rows(rows)
-    print("second: rows: %d passed, %d failed" % (len(rows) - different, different))
+    print("second: rows: %d passed, %d failed, %d left out that a mishap befalls" % (len(rows) - different, different, names_of_rows()[1]))
     if len(sys.argv) > 1:
         program = os.path.abspath(sys.argv[1]) if sys.argv[1] != "-" else None
         count = int(sys.argv[2]) if len(sys.argv) > 2 else 1000

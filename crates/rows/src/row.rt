@@ -1,18 +1,29 @@
+use crate::mishap::Mishap;
 use m_commands::m_tax;
 use m_places::{Name, Word};
-use m_ports::{MemFiles, MemSink, MemSource};
+use m_ports::{Attempt, MemFiles, MemSink, MemSource};
 use std::alloc::{AllocError, Global};
 use std::thread::Threads;
 
 /// The words of a row that has none of its own.
 const WORDS: &[u8] = b"run l.txt - - h.csv";
 
-/// What is done in a row.
+/// The status of a row that has none of its own.
+const STATUS: &[u8] = b"0\n";
+
+/// The status where not all of the text was written.
+const CUT_OFF: &[u8] = b"4\n";
+
+/// What is done in a row, and what is wanted of it.
 #[derive(Drop)]
 pub struct Row {
     words: Vec<Word>,
     files: Vec<(Name, Vec<u8>)>,
     typed: Vec<u8>,
+    mishaps: Option<Vec<u8>>,
+    text: Vec<u8>,
+    status: Option<Vec<u8>>,
+    tried: Option<Vec<u8>>,
 }
 
 /// Takes the bytes of the file of this name out of the files, where there is one.
@@ -31,18 +42,23 @@ fn words_of(alloc: Global, text: &[u8]) -> Result<Vec<Word>, AllocError> {
     Ok(words)
 }
 
-/// What is wanted of a row, whose folder has these files: the text, and after it a line with the status.
-pub fn wanted(alloc: Global, folder: &mut Vec<(Name, Vec<u8>)>) -> Result<Vec<u8>, AllocError> {
-    let mut wanted = take(folder, b"text").unwrap_or(Vec::new(alloc));
-    match take(folder, b"status") {
-        Some(status) => wanted.extend_from_slice(status.as_slice())?,
-        None => wanted.extend_from_slice(b"0\n")?,
+/// Adds the names of files that were fetched, and a `!` after one whose fetch failed, as a line.
+fn add_tried(seen: &mut Vec<u8>, attempts: &[Attempt]) -> Result<(), AllocError> {
+    let mut between: &[u8] = b"";
+    for attempt in attempts {
+        seen.extend_from_slice(between)?;
+        seen.extend_from_slice(attempt.name.bytes())?;
+        if attempt.failed {
+            seen.push(b'!')?;
+        }
+        between = b" ";
     }
-    Ok(wanted)
+    seen.push(b'\n')?;
+    Ok(())
 }
 
 impl Row {
-    /// A row of the files that are left of its folder, and of those that rows share.
+    /// A row of the files of its folder, and of those that rows share.
     pub fn new(
         alloc: Global,
         folder: Vec<(Name, Vec<u8>)>,
@@ -54,6 +70,10 @@ impl Row {
             None => words_of(alloc, WORDS)?,
         };
         let typed = take(&mut files, b"typed").unwrap_or(Vec::new(alloc));
+        let mishaps = take(&mut files, b"mishaps");
+        let text = take(&mut files, b"text").unwrap_or(Vec::new(alloc));
+        let status = take(&mut files, b"status");
+        let tried = take(&mut files, b"tried");
         for file in shared {
             files.push(file)?;
         }
@@ -61,23 +81,90 @@ impl Row {
             words,
             files,
             typed,
+            mishaps,
+            text,
+            status,
+            tried,
         })
+    }
+
+    /// The files, its own first.
+    pub fn files(&self) -> &[(Name, Vec<u8>)] {
+        self.files.as_slice()
+    }
+
+    /// The lines of its mishaps, without the last line feed.
+    pub fn mishaps(&self) -> &str {
+        match &self.mishaps {
+            Some(text) => {
+                let text = str::from_utf8(text.as_slice()).unwrap_or("");
+                text.strip_suffix('\n').unwrap_or(text)
+            }
+            None => "none",
+        }
+    }
+
+    /// What is wanted of a run: the text, a line with the status, and the files that were tried, where the row has them.
+    pub fn wanted(&self, alloc: Global, mishap: &Mishap<'_>) -> Result<Vec<u8>, AllocError> {
+        let written = mishap.written(self.text.as_slice());
+        let mut wanted = Vec::from_slice(alloc, written)?;
+        if written.len() < self.text.len() {
+            wanted.extend_from_slice(CUT_OFF)?;
+        } else {
+            wanted.extend_from_slice(self.status.as_ref().map_or(STATUS, |it| it.as_slice()))?;
+        }
+        if let Some(tried) = &self.tried {
+            wanted.extend_from_slice(tried.as_slice())?;
+        }
+        Ok(wanted)
+    }
+
+    /// The files of a run. The one that the mishap befalls comes first, and so counts.
+    fn files_after(
+        &self,
+        alloc: Global,
+        mishap: &Mishap<'_>,
+    ) -> Result<Vec<(Name, Vec<u8>)>, AllocError> {
+        let mut files = Vec::new(alloc);
+        if let Some(file) = mishap.changed(alloc, self.files())? {
+            files.push(file)?;
+        }
+        for (name, bytes) in self.files() {
+            files.push((name.copy(alloc)?, Vec::from_slice(alloc, bytes.as_slice())?))?;
+        }
+        Ok(files)
+    }
+
+    /// What is seen of a run: what was printed, a line with the status, and the files that were tried, where the row has them.
+    fn seen(
+        &self,
+        alloc: Global,
+        out: &MemSink,
+        status: u8,
+        files: &MemFiles,
+    ) -> Result<Vec<u8>, AllocError> {
+        let mut seen = Vec::from_slice(alloc, out.written())?;
+        seen.push(b'0'.saturating_add(status))?;
+        seen.push(b'\n')?;
+        if self.tried.is_some() {
+            add_tried(&mut seen, files.attempted())?;
+        }
+        Ok(seen)
     }
 }
 
-/// What the program prints for a row, and after it a line with its status.
-pub fn seen<R: Threads + Sync>(rt: &R, alloc: Global, row: Row) -> Result<Vec<u8>, AllocError> {
-    let Row {
-        words,
-        files,
-        typed,
-    } = row;
-    let mut files = MemFiles::new(alloc, files, Vec::new(alloc));
-    let mut input = MemSource::new(typed, 7, Vec::new(alloc));
-    let mut out = MemSink::new(alloc, 7, Vec::new(alloc))?;
-    let status = m_tax(rt, alloc, &words, &mut files, &mut input, &mut out);
-    let mut seen = Vec::from_slice(alloc, out.written())?;
-    seen.push(b'0' + status.number())?;
-    seen.push(b'\n')?;
-    Ok(seen)
+/// Does a row that this befalls. Answers what is seen of it, as it is wanted.
+pub fn run<R: Threads + Sync>(
+    rt: &R,
+    alloc: Global,
+    row: &Row,
+    mishap: &Mishap<'_>,
+) -> Result<Vec<u8>, AllocError> {
+    let files = row.files_after(alloc, mishap)?;
+    let mut files = MemFiles::new(alloc, files, mishap.failing_fetch(alloc));
+    let typed = Vec::from_slice(alloc, row.typed.as_slice())?;
+    let mut input = MemSource::new(typed, mishap.piece(), mishap.failing_read(alloc));
+    let mut out = MemSink::new(alloc, mishap.piece(), mishap.failing_write(alloc))?;
+    let status = m_tax(rt, alloc, &row.words, &mut files, &mut input, &mut out);
+    row.seen(alloc, &out, status.number(), &files)
 }

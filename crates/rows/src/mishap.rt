@@ -1,0 +1,194 @@
+//! What befalls the runs of a row, by its file `mishaps`.
+//!
+//! A line is a word with numbers, `N` or `N..M` (`M` too), and the row is run once for each number of each line:
+//!
+//! | Line | What befalls the run |
+//! |---|---|
+//! | `none` | nothing, as where the row has no such file |
+//! | `fetch N..M` | the fetch of a file fails that has this number, from 1 |
+//! | `read N..M` | the read of the input fails that has this number |
+//! | `write N..M` | the write fails that has this number |
+//! | `cut FILE N..M` | the file has only so many of its first bytes |
+//! | `long FILE` | the file has blanks alone, one more than most files may have bytes |
+//!
+//! Each call moves one byte, and where nothing befalls the run up to 7.
+ghost use Rattle.std.specs.Prelude.{◌≤◌};
+
+use m_places::Name;
+use m_places::limits::FILE_BYTES;
+use std::alloc::{AllocError, Global};
+
+/// What can befall a run.
+#[derive(Clone, Copy)]
+enum Kind {
+    Nothing,
+    Fetch,
+    Read,
+    Write,
+    Cut,
+    Long,
+}
+
+/// The words that lines begin with.
+static KINDS: [(&str, Kind); 6] = [
+    ("none", Kind::Nothing),
+    ("fetch", Kind::Fetch),
+    ("read", Kind::Read),
+    ("write", Kind::Write),
+    ("cut", Kind::Cut),
+    ("long", Kind::Long),
+];
+
+/// What befalls a run: what it is, the file where it befalls one, the number, and the line that says so.
+#[derive(Drop)]
+pub struct Mishap<'a> {
+    pub line: &'a str,
+    kind: Kind,
+    file: &'a str,
+    pub number: u32,
+}
+
+/// What befalls the runs of a line, of which there is one for each number from the first to the last.
+#[derive(Drop)]
+pub struct Mishaps<'a> {
+    line: &'a str,
+    kind: Kind,
+    file: &'a str,
+    pub first: u32,
+    pub last: u32,
+}
+
+/// The bytes of the first file of this name.
+fn file_of<'a>(files: &'a [(Name, Vec<u8>)], name: &str) -> Option<&'a [u8]> {
+    files
+        .iter()
+        .find(|(file, _)| file.bytes() == name.as_bytes())
+        .map(|(_, bytes)| bytes.as_slice())
+}
+
+/// What a line says that begins with this word.
+fn kind_of(word: &str) -> Option<Kind> {
+    KINDS
+        .iter()
+        .find(|(first, _)| *first == word)
+        .map(|(_, kind)| *kind)
+}
+
+/// The numbers of `N` or `N..M`.
+fn numbers_of(text: &str) -> Option<(u32, u32)> {
+    let (first, last) = text.split_once("..").unwrap_or((text, text));
+    Some((first.parse().ok()?, last.parse().ok()?))
+}
+
+/// The number of a call, if it fails.
+fn calls(alloc: Global, fails: bool, number: u32) -> Vec<u64> {
+    let mut calls = Vec::new(alloc);
+    if fails {
+        let _added = calls.push(u64::from(number));
+    }
+    calls
+}
+
+impl<'a> Mishaps<'a> {
+    /// What a line says. None where it can't be read, or befalls no run of a row that has these files.
+    pub fn new(line: &'a str, files: &[(Name, Vec<u8>)]) -> Option<Mishaps<'a>> {
+        let mut words = line.split_whitespace();
+        let kind = kind_of(words.next()?)?;
+        let file = match kind {
+            Kind::Cut | Kind::Long => words.next()?,
+            _ => "",
+        };
+        let (first, last) = match kind {
+            Kind::Nothing | Kind::Long => (1, 1),
+            _ => numbers_of(words.next()?)?,
+        };
+        let mishaps = Mishaps {
+            line,
+            kind,
+            file,
+            first,
+            last,
+        };
+        if words.next().is_none() && mishaps.befall(files) {
+            Some(mishaps)
+        } else {
+            None
+        }
+    }
+
+    /// Whether they befall runs of a row that has these files: calls count from 1, and a file that is cut has the bytes that are left of it.
+    fn befall(&self, files: &[(Name, Vec<u8>)]) -> bool {
+        let can = match self.kind {
+            Kind::Cut => match file_of(files, self.file) {
+                Some(bytes) => self.last as usize <= bytes.len(),
+                None => false,
+            },
+            Kind::Long => file_of(files, self.file).is_some(),
+            _ => self.first > 0,
+        };
+        can && self.first <= self.last
+    }
+
+    /// The one of this number.
+    pub fn at(&self, number: u32) -> Mishap<'a> {
+        Mishap {
+            line: self.line,
+            kind: self.kind,
+            file: self.file,
+            number,
+        }
+    }
+}
+
+impl Mishap<'_> {
+    /// How many bytes a call moves.
+    pub fn piece(&self) -> usize
+        ensures { 1 ≤ result }
+    {
+        match self.kind {
+            Kind::Nothing => 7,
+            _ => 1,
+        }
+    }
+
+    /// The number of the fetch that fails, where one does.
+    pub fn failing_fetch(&self, alloc: Global) -> Vec<u64> {
+        calls(alloc, matches!(self.kind, Kind::Fetch), self.number)
+    }
+
+    /// The number of the read that fails, where one does.
+    pub fn failing_read(&self, alloc: Global) -> Vec<u64> {
+        calls(alloc, matches!(self.kind, Kind::Read), self.number)
+    }
+
+    /// The number of the write that fails, where one does.
+    pub fn failing_write(&self, alloc: Global) -> Vec<u64> {
+        calls(alloc, matches!(self.kind, Kind::Write), self.number)
+    }
+
+    /// The file that it befalls, as it is then, where it befalls one of these.
+    pub fn changed(
+        &self,
+        alloc: Global,
+        files: &[(Name, Vec<u8>)],
+    ) -> Result<Option<(Name, Vec<u8>)>, AllocError> {
+        let bytes = match (self.kind, file_of(files, self.file)) {
+            (Kind::Cut, Some(bytes)) => {
+                Vec::from_slice(alloc, &bytes[..bytes.len().min(self.number as usize)])?
+            }
+            (Kind::Long, _) => vec![in alloc; b' '; FILE_BYTES as usize + 1]?,
+            _ => return Ok(None),
+        };
+        Ok(Some((Name::new(alloc, self.file.as_bytes())?, bytes)))
+    }
+
+    /// What is written of a text: what comes before the byte whose write fails.
+    pub fn written<'t>(&self, text: &'t [u8]) -> &'t [u8] {
+        let before = (self.number as usize).saturating_sub(1);
+        if matches!(self.kind, Kind::Write) && before < text.len() {
+            &text[..before]
+        } else {
+            text
+        }
+    }
+}
