@@ -1,5 +1,5 @@
-//! Tests of the crates that the language stands on and of those at the edges of the program, through their public calls: operators,
-//! facts, names, the files and streams of the outside, and buffers; the records of files, and tables that several workers read. They
+//! Tests of the crates that the language stands on and of those at the edges of the program, through their public calls: facts,
+//! names, the files and streams of the outside, and buffers; the records of files, and tables that several workers read. They
 //! stand apart from those crates, so that a crate isn't proved a second time with its tests; and crates that are tested over the same
 //! libraries are tested by one, since each crate of tests reads its libraries anew. What the program prints for files that it reads is
 //! shown by rows of plain files, which cost no proof.
@@ -18,8 +18,6 @@ mod large;
 #[cfg(test)]
 mod names;
 #[cfg(test)]
-mod operators;
-#[cfg(test)]
 mod pairs;
 #[cfg(test)]
 mod parts;
@@ -35,5 +33,3 @@ mod shared;
 mod system;
 #[cfg(test)]
 mod threads;
-#[cfg(test)]
-mod widths;

@@ -7,8 +7,6 @@
 #[cfg(test)]
 mod edges;
 #[cfg(test)]
-mod faults;
-#[cfg(test)]
 mod numbers;
 #[cfg(test)]
 mod programs;

@@ -53,8 +53,8 @@ out 4 3
 end
 ";
 
-/// The two texts, out of reach of the proofs of what goes over them.
-pub fn example() -> &'static [u8] {
+// The two texts, out of reach of the proofs of what goes over them.
+fn example() -> &'static [u8] {
     EXAMPLE
 }
 

@@ -102,8 +102,8 @@ fn failed_writes(rt: HostRuntime) -> Result<(), Fail> {
     Ok(())
 }
 
-/// Adds bytes so many times. Where there is no memory nothing is added, so the replies aren't what was wanted.
-pub fn add(text: &mut Vec<u8>, bytes: &[u8], times: u32) {
+// Adds bytes so many times. Where there is no memory nothing is added, so the replies aren't what was wanted.
+fn add(text: &mut Vec<u8>, bytes: &[u8], times: u32) {
     for _ in 0..times {
         let _added = text.extend_from_slice(bytes);
     }

@@ -42,8 +42,7 @@ use Rattle.command_answers.specs.Compiles.{CompileReplies}
 use Rattle.command_answers.specs.Compiles as compile
 use Rattle.code_answers.specs.Households.{household_fault_line}
 use Rattle.code_answers.specs.Shown.{HouseholdReplies, IsRunnableCode, Shows, TableReplies}
-use Rattle.command_answers.specs.Prepared.{IsPreparedCode, IsServedBy}
-use Rattle.command_answers.specs.Prepared as prepared
+use Rattle.command_answers.specs.Prepared.{IsPreparedCode}
 use Rattle.command_answers.specs.Runs.{RunReplies}
 use Rattle.command_answers.specs.Runs as run
 use Rattle.command_answers.specs.Explained.{IsExplained}
@@ -54,7 +53,8 @@ use Rattle.command_answers.specs.Serving.{Served, to_its_end, unread, too_long, 
 use Rattle.command_answers.specs.Sessions.{ended_replies, replies_by, scheme_showing, session_replies}
 use Rattle.command_answers.specs.Sources.{IsScheme, Refuses, households_are_refused, scheme_said}
 use Rattle.command_answers.specs.declared.program.Program.{Program}
-use Rattle.command_answers.specs.inner.Answers.{IsBegun, IsExplainerOf, IsFileOf, IsPrepared, is_file}
+use Rattle.command_answers.specs.inner.Answers.{IsBegun, IsExplainerOf, IsFileOf, IsPrepared, IsServedBy, is_file}
+use Rattle.command_answers.specs.inner.Answers as prepared
 use Rattle.code_answers.proofs.CodeLemmas.{spells_whole}
 use Rattle.code_answers.proofs.Refusals.{TellsRefusal}
 use Rattle.command_answers.proofs.SessionLemmas.{replies_are}

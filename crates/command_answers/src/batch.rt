@@ -6,9 +6,9 @@ ghost use Rattle.command_answers.specs.Batches.{BatchReplies};
 ghost use Rattle.code_answers.specs.Parts.{IsWrittenInParts};
 
 use crate::program::prepare_code;
-use code_answers::{answer_batch, tell_refusal};
+use crate::refusal::tell_source;
+use code_answers::answer_batch;
 use command_plans::Status;
-use m_compile::told_fault;
 use m_ports::Sink;
 use rule_text::Source;
 use std::alloc::Global;
@@ -29,6 +29,6 @@ pub fn batch_source<R: Threads + Sync, K: Sink>(
 {
     match prepare_code(rt, alloc, source) {
         Ok(loaded) => answer_batch(rt, alloc, &loaded, table, out),
-        Err(fault) => tell_refusal(out, told_fault(source.texts.as_slice(), &fault)),
+        Err(fault) => tell_source(source, fault, out),
     }
 }

@@ -6,9 +6,9 @@ ghost use Rattle.code_answers.specs.Parts.{IsWrittenInParts};
 ghost use Rattle.command_answers.specs.Cases.{CasesReplies};
 
 use crate::program::prepare_code;
-use code_answers::{answer_cases, tell_refusal};
+use crate::refusal::tell_source;
+use code_answers::answer_cases;
 use command_plans::Status;
-use m_compile::told_fault;
 use m_ports::Sink;
 use rule_text::Source;
 use std::alloc::Global;
@@ -29,6 +29,6 @@ pub fn cases_source<R: Threads + Sync, K: Sink>(
 {
     match prepare_code(rt, alloc, source) {
         Ok(loaded) => answer_cases(rt, alloc, &loaded, table, out),
-        Err(fault) => tell_refusal(out, told_fault(source.texts.as_slice(), &fault)),
+        Err(fault) => tell_source(source, fault, out),
     }
 }

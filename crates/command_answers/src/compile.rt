@@ -6,10 +6,10 @@ ghost use Rattle.command_answers.specs.Compiles.{CompileReplies};
 ghost use Rattle.command_answers.specs.inner.Answers.{IsFileOf};
 
 use crate::program::prepare_code;
-use code_answers::{give_code, tell_refusal};
+use crate::refusal::tell_source;
+use code_answers::give_code;
 use code_file::Loaded;
 use command_plans::{Status, printed};
-use m_compile::told_fault;
 use m_ports::Sink;
 use rule_text::Source;
 use std::alloc::Global;
@@ -26,14 +26,14 @@ pub fn compile_source<R: Threads + Sync, K: Sink>(
     ensures { IsAnswered (CompileReplies source.now) (output_view K.written K.faults out.old) (output_view K.written K.faults out.new) result }
 {
     match prepare_code(rt, alloc, source) {
-        Ok(loaded) => answer_compile(&loaded, out),
-        Err(fault) => tell_refusal(out, told_fault(source.texts.as_slice(), &fault)),
+        Ok(loaded) => answer_compile(loaded, out),
+        Err(fault) => tell_source(source, fault, out),
     }
 }
 
-/// Writes the code file of loaded code.
-fn answer_compile<K: Sink>(loaded: &Loaded, out: &mut K) -> Status
-    ensures { IsAnswered (IsFileOf loaded.now) (output_view K.written K.faults out.old) (output_view K.written K.faults out.new) result }
+// Writes the code file of loaded code, which ends here.
+fn answer_compile<K: Sink>(loaded: Loaded, out: &mut K) -> Status
+    ensures { IsAnswered (IsFileOf loaded) (output_view K.written K.faults out.old) (output_view K.written K.faults out.new) result }
 {
-    printed(give_code(loaded, out), Status::Done)
+    printed(give_code(&loaded, out), Status::Done)
 }

@@ -19,13 +19,13 @@ use std::thread::Threads;
 /// A program that is prepared for sessions: in the tidy form, at whose nodes they keep values, with what it shows of itself. All else is
 /// answered by code, which is `Loaded` of code_file.
 #[derive(Drop)]
-pub struct Program {
+pub(crate) struct Program {
     pub face: Face,
     pub tidy: Tidy,
 }
 
 /// Prepares the code of a source, or tells the source's fault. The tidy program is dropped.
-pub fn prepare_code<R: Threads + Sync>(
+pub(crate) fn prepare_code<R: Threads + Sync>(
     rt: &R,
     alloc: Global,
     source: &Source,

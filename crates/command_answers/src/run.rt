@@ -6,9 +6,9 @@ ghost use Rattle.command_plans.specs.Views.{output_view};
 ghost use Rattle.command_answers.specs.Runs.{RunReplies};
 
 use crate::program::prepare_code;
-use code_answers::{answer_run, tell_refusal};
+use crate::refusal::tell_source;
+use code_answers::answer_run;
 use command_plans::Status;
-use m_compile::told_fault;
 use m_ports::Sink;
 use rule_text::Source;
 use std::alloc::Global;
@@ -28,6 +28,6 @@ pub fn run_source<R: Threads + Sync, K: Sink>(
 {
     match prepare_code(rt, alloc, source) {
         Ok(loaded) => answer_run(alloc, &loaded, household, out),
-        Err(fault) => tell_refusal(out, told_fault(source.texts.as_slice(), &fault)),
+        Err(fault) => tell_source(source, fault, out),
     }
 }

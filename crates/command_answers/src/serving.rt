@@ -10,22 +10,24 @@ ghost use Rattle.m_symbols.specs.Declarations.{inputs_from, owners_from};
 ghost use Rattle.m_requests.specs.Placed.{IsPlaced};
 ghost use Rattle.micro_m.specs.Bases.{IsValidBase};
 ghost use Rattle.rule_order.specs.Orders.{IsOrder};
-ghost use Rattle.why_session.specs.Joined.{explains_by};
+ghost use Rattle.serve_loop.specs.Repliers.{ended_of, whole_of};
+ghost use Rattle.why_session.specs.Joined.{explains_by, joined_replies};
 ghost use Rattle.m_compile.specs.Compiled.{IsRunnable};
 ghost use Rattle.command_plans.specs.Views.{input_view, output_view};
-ghost use Rattle.command_answers.specs.Prepared.{IsServedBy};
 ghost use Rattle.code_answers.specs.Shown.{Shows};
 ghost use Rattle.code_answers.specs.Schemes.{Scheme};
 ghost use Rattle.command_answers.specs.Serves.{IsServed};
-ghost use Rattle.command_answers.specs.inner.Answers.{IsBegun, IsExplainerOf};
+ghost use Rattle.command_answers.specs.Serving.{Served};
+ghost use Rattle.command_answers.specs.inner.Answers.{IsBegun, IsExplainerOf, IsServedBy};
 
 use crate::program::{Program, program_of};
+use crate::refusal::tell_source;
 use crate::session::serve_session;
 use code_answers::{read_given, tell_refusal, told_household};
 use command_plans::Status;
 use household::HouseholdFault;
 use household_session::Session;
-use m_compile::{compile_with_rules, told_fault};
+use m_compile::compile_with_rules;
 use m_ports::{Sink, Source as Input};
 use rule_base::RuleBase;
 use rule_text::Source;
@@ -51,13 +53,13 @@ pub fn serve_source<R: Threads + Sync, S: Input, K: Sink>(
         Ok((made, compiled)) => {
             answer_serve(alloc, program_of(compiled), made, household, input, out)
         }
-        Err(fault) => tell_refusal(out, told_fault(source.texts.as_slice(), &fault)),
+        Err(fault) => tell_source(source, fault, out),
     }
 }
 
-/// Does the lines of the input in a session of a program that begins with the household of these bytes, and that tells reasons by the base
-/// of the program's rules.
-pub fn answer_serve<S: Input, K: Sink>(
+// Does the lines of the input in a session of a program that begins with the household of these bytes, and that tells reasons by the base
+// of the program's rules.
+fn answer_serve<S: Input, K: Sink>(
     alloc: Global,
     program: Program,
     made: RuleBase,
@@ -76,9 +78,19 @@ pub fn answer_serve<S: Input, K: Sink>(
         (output_view K.written K.faults out.old) (output_view K.written K.faults out.new) result }
 {
     match explainer_of(alloc, program, made, household) {
-        Ok(mut explainer) => serve_session(&mut explainer, input, out),
+        Ok(explainer) => serve_explained(explainer, input, out),
         Err(fault) => tell_refusal(out, told_household(fault)),
     }
+}
+
+// Does the lines of the input in a session, which ends here and not in an arm of its caller: the check of the caller's borrows would take a minute.
+fn serve_explained<S: Input, K: Sink>(explainer: Explainer, input: &mut S, out: &mut K) -> Status
+    ensures { Served (whole_of (joined_replies explainer)) (ended_of (joined_replies explainer))
+        (input_view S.left S.faults input.old) (input_view S.left S.faults input.new)
+        (output_view K.written K.faults out.old) (output_view K.written K.faults out.new) result }
+{
+    let mut explainer = explainer;
+    serve_session(&mut explainer, input, out)
 }
 
 // The session of a program that begins with a household, with a reporter of the base, or the household's fault.

@@ -1,5 +1,6 @@
-//! Tests of the crates that read the language and its drivers, through their public calls. They stand apart from those crates, so
-//! that a crate isn't proved a second time with its tests.
+//! Tests of the crates that read the language, its drivers and files of requests, and of what drivers cost, through their public calls. They stand
+//! apart from those crates, so that a crate isn't proved a second time with its tests. What rules come to, and why sources are refused, is shown by the
+//! rows of the program `rows`.
 #![tactic(auto)]
 
 #[cfg(test)]
@@ -15,6 +16,8 @@ mod nests;
 #[cfg(test)]
 mod readings;
 #[cfg(test)]
+mod requests;
+#[cfg(test)]
 mod terms;
 #[cfg(test)]
 mod texts;
@@ -22,3 +25,9 @@ mod texts;
 mod threads;
 #[cfg(test)]
 mod tokens;
+#[cfg(test)]
+mod twice;
+#[cfg(test)]
+mod weights;
+#[cfg(test)]
+mod workers;

@@ -1,7 +1,7 @@
 """Code files: what one says, or its first fault, and what its code tells a household.
 
 A text without a fault is the one spelling of its code, so nothing is written here. Whether a text is the code of a source is
-asked of its words and of what it tells some households.
+asked of its words, of what it puts aside, and of what it tells some households.
 """
 
 import random
@@ -10,12 +10,12 @@ import re
 from .amounts import GREATEST, OVER, UNDEFINED, UNIT, operate
 from .faults import Refused
 from .findings import amount_of_type
+from .moves import REGISTERS, Moves
 from .reports import value_line
 from .texts import decimal, is_word
 from .tokens import RESERVED
 
 HEADER = b"mcode 1"
-REGISTERS = 16
 MOST_COUNTED = 2**32 - 1
 MOST_CELL = 1_023
 
@@ -318,7 +318,7 @@ TRIED = 4
 
 
 def why_not_of(text, compiled):
-    """Why a text isn't a code file of a source, or None. Its words are the source's, and so is what it tells some households."""
+    """Why a text isn't a code file of a source, or None. Its words are the source's, and so is what it tells some households; and it moves few values."""
     try:
         code = read_code(text)
     except Refused as refusal:
@@ -334,6 +334,8 @@ def why_not_of(text, compiled):
         return b"other outputs"
     if any(number >= len(checks) or checks[number][3] == b"anomalie" for number in notes):
         return b"a note of another label"
+    if not Moves(code.instructions).are_few(code.slots):
+        return b"too many slots, stores or loads"
     cells = list(declared.inputs.values())
     draw = random.Random(len(text))
     for number in range(TRIED):

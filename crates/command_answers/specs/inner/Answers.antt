@@ -1,5 +1,5 @@
--- The code file of code, and the session that a tidy program begins.
-use Rattle.std.specs.Prelude.{◌≡◌, ℕ, ℤ, List, Ok}
+-- The code file of code, the session that a tidy program begins, and what is answered with it.
+use Rattle.std.specs.Prelude.{◌≡◌, ℕ, ℤ, List, Some, Ok, Err}
 use Rattle.code_file.specs.Loading.{text_with}
 use Rattle.code_file.specs.Printable.{IsPrintable}
 use Rattle.code_file.specs.Reading.{IsFormOf}
@@ -7,14 +7,21 @@ use Rattle.code_file.specs.declared.loaded.Loaded.{Loaded}
 use Rattle.rule_text.specs.declared.Source.{Source}
 use Rattle.flat_code.specs.Runs.{flat_run}
 use Rattle.household.specs.Household.{household_of}
+use Rattle.household.specs.declared.fault.HouseholdFault.{HouseholdFault}
 use Rattle.household_session.specs.Sessions.{Sitting, begun}
+use Rattle.command_plans.specs.Printing.{Prints}
+use Rattle.command_plans.specs.Views.{InputView, OutputView}
 use Rattle.command_plans.specs.declared.status.Status.{Status}
-use Rattle.command_plans.specs.declared.status.Status.TheVariants.{Done}
+use Rattle.command_plans.specs.declared.status.Status.TheVariants.{Done, Memory, Refused}
 use Rattle.m_symbols.specs.Declarations.{Declared}
 use Rattle.rule_order.specs.declared.ordered.Ordered.{Ordered}
+use Rattle.why_session.specs.Explains.{Explaining}
 use Rattle.why_session.specs.Joined.{Joined}
+use Rattle.code_answers.specs.Households.{household_fault_line}
 use Rattle.code_answers.specs.Schemes.{Scheme}
 use Rattle.code_answers.specs.Shown.{Shows}
+use Rattle.command_answers.specs.Serving.{Served}
+use Rattle.command_answers.specs.Sessions.{ended_replies, session_replies}
 use Rattle.command_answers.specs.Sources.{IsScheme}
 use Rattle.command_answers.specs.declared.program.Program.{Program}
 
@@ -39,3 +46,12 @@ pub record IsExplainerOf (program : Program) (declared : Declared) (ordered : Or
   pub session : IsBegun program rows joined.seated.sitting
   pub declares : joined.declared ≡ declared
   pub orders : joined.reporting.ordered ≡ ordered
+
+-- A session over an input, which tells this of names that it is asked about, ended: with an error of the household or for lack of memory before anything was
+-- taken from the input, or it began and had its lines.
+pub data IsServedBy (scheme : Scheme) (explains : Explaining) (rows : List ℕ) (heard told : InputView) (old new : OutputView) (status : Status) : Type 0 where
+  refused : (line : List ℕ) (fault : HouseholdFault) → household_of scheme.inputs rows ≡ Err fault → household_fault_line fault ≡ Some line → told ≡ heard
+      → Prints line Refused old new status → IsServedBy scheme explains rows heard told old new status
+  no_memory : told ≡ heard → new ≡ old → status ≡ Memory → IsServedBy scheme explains rows heard told old new status
+  served : (pairs : List (ℕ × ℤ)) → household_of scheme.inputs rows ≡ Ok pairs
+      → Served (session_replies scheme explains pairs) (ended_replies scheme explains pairs) heard told old new status → IsServedBy scheme explains rows heard told old new status

@@ -11,5 +11,4 @@ returns-in-Ok g c =
 pub returns-in-Err : goal.returns-in-Err
 returns-in-Err g c =
     batch_refused c.args.source.now c.args.table.now _ _ _
-    (source_told c.args.source.now (λ inputs. table_of inputs c.args.table.now) c.in-Err.fault _ _ _ c.in-Err.ensures.outcome
-    (rw c.as_slice.ensures at (rw c.told_fault.ensures at c.tell_refusal.ensures)))
+    (source_told c.args.source.now (λ inputs. table_of inputs c.args.table.now) c.in-Err.fault _ _ _ c.in-Err.ensures.outcome c.tell_source.ensures)

@@ -8,7 +8,7 @@ use Rattle.command_answers.proofs.serving.answer_serve.Goals as goal
 
 pub returns-in-Ok : goal.returns-in-Ok
 returns-in-Ok g c = λ scheme shown.
-    session_served scheme c.args.program c.args.made.symbols c.args.made.ordered c.args.household.now c.in-Ok.explainer c.requires.runnable shown c.in-Ok.ensures _ _ _ _ _ c.serve_session.ensures
+    session_served scheme c.args.program c.args.made.symbols c.args.made.ordered c.args.household.now c.in-Ok.explainer c.requires.runnable shown c.in-Ok.ensures _ _ _ _ _ c.serve_explained.ensures
 
 pub returns-in-Err : goal.returns-in-Err
 returns-in-Err g c = λ scheme shown.

@@ -1,0 +1,18 @@
+//! What is told of a source that has a fault.
+ghost use Rattle.m_compile.specs.Lines.{source_line};
+ghost use Rattle.command_plans.specs.Views.{output_view};
+ghost use Rattle.code_answers.specs.inner.Refusals.{TellsLine};
+
+use code_answers::tell_refusal;
+use command_plans::Status;
+use m_compile::{SourceFault, told_fault};
+use m_ports::Sink;
+use rule_text::Source;
+
+/// Tells the fault of a source by its line, or that there was no memory. The fault ends here, and not in an arm of each caller, whose check would take ten
+/// seconds more.
+pub(crate) fn tell_source<K: Sink>(source: &Source, fault: SourceFault, out: &mut K) -> Status
+    ensures { TellsLine (source_line source.now.texts fault) (output_view K.written K.faults out.old) (output_view K.written K.faults out.new) result }
+{
+    tell_refusal(out, told_fault(source.texts.as_slice(), &fault))
+}

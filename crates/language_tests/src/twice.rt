@@ -1,0 +1,106 @@
+//! What is declared twice: the places of both declarations. A line of the program tells the later one alone.
+ghost use Rattle.std.specs.Prelude.{◌≤◌, length};
+ghost use Rattle.rule_text.specs.Limits.{TextsAreWithin};
+
+use crate::workers::text_of;
+use m_ast::Item;
+use m_places::Open;
+use m_read_all::read_all;
+use m_symbols::{DeclareFault, declare};
+use rule_text::Text;
+use std::alloc::Global;
+use std::test::Fail;
+use std::thread::Threads;
+
+// Declarations, and the bytes at which the two begin: a variable's name twice, an error's, and an input's code.
+static TWICE: [(&str, u32, u32); 3] = [
+    (
+        "B : const = 1 ; A : const = 2 ; B : calculee : \"b\" ;",
+        0,
+        32,
+    ),
+    (
+        "A : const = 2 ; E : informative : \"\" : \"\" : \"\" : \"\" ; E : anomalie : \"\" : \"\" : \"\" : \"\" ;",
+        16,
+        54,
+    ),
+    (
+        "A : saisie alias 1AA : \"a\" ; B : saisie alias 1BB : \"b\" ; C : saisie alias 1BB : \"c\" ;",
+        29,
+        58,
+    ),
+];
+
+// The table, out of reach of the proof of what goes over it.
+fn all_twice() -> &'static [(&'static str, u32, u32)] {
+    &TWICE
+}
+
+// The bytes of the places of both, where a fault tells of two.
+fn bytes_of(fault: &DeclareFault) -> (u32, u32) {
+    match fault {
+        DeclareFault::DeclaredTwice(_, earlier, later) => (earlier.byte, later.byte),
+        DeclareFault::AliasTwice(_, earlier, later) => (earlier.byte, later.byte),
+        _ => (0, 0),
+    }
+}
+
+// Whether of these items two are refused that begin at these bytes.
+fn are_refused(alloc: Global, items: &[Item], earlier: u32, later: u32) -> bool {
+    if items.len() >= 4_294_967_296 {
+        return false;
+    }
+    match declare(alloc, items) {
+        Ok(_) => false,
+        Err(fault) => {
+            let (first, second) = bytes_of(&fault);
+            first == earlier && second == later
+        }
+    }
+}
+
+// Whether these texts are one whose items are refused so.
+fn are_told<R: Threads + Sync>(
+    rt: &R,
+    alloc: Global,
+    texts: &[Text],
+    earlier: u32,
+    later: u32,
+) -> bool
+    requires { TextsAreWithin texts.now }
+{
+    match read_all(rt, alloc, texts, &Open) {
+        Ok(files) => match files.as_slice() {
+            [items] => are_refused(alloc, items.as_slice(), earlier, later),
+            _ => false,
+        },
+        Err(_) => false,
+    }
+}
+
+// Whether these declarations are refused so.
+fn is_told<R: Threads + Sync>(
+    rt: &R,
+    alloc: Global,
+    rules: &[u8],
+    earlier: u32,
+    later: u32,
+) -> bool {
+    if rules.len() > 4_096 {
+        return false;
+    }
+    match text_of(alloc, rules) {
+        Ok(text) => are_told(rt, alloc, &[text], earlier, later),
+        Err(_) => false,
+    }
+}
+
+#[test]
+fn both_places_are_told(rt: HostRuntime) -> Result<(), Fail> {
+    for (rules, earlier, later) in all_twice() {
+        if !is_told(&rt, rt.alloc(), rules.as_bytes(), *earlier, *later) {
+            return Err(Fail::from(*rules));
+        }
+    }
+    Ok(())
+}
