@@ -26,8 +26,8 @@ awk '/^## /{in_table = /^## The crates/} in_table && /^\| [a-z][a-z0-9_]* \|/{pr
 same "crates.txt and the folders of crates" "$room/index" "$room/folders"
 same "crates.txt and the table of crates in ARCHITECTURE" "$room/index" "$room/table"
 
-# PROVED has a row for each crate that isn't of tests alone, and each call that a row names stands in its crate.
-sed -n 's/^\([a-z][a-z0-9_]*\)[^:#]*:.*/\1/p' crates.txt | grep -v '_tests$' | grep -vx rows | sort >"$room/proved"
+# PROVED has a row for each crate that isn't of tests and rows alone, and each call that a row names stands in its crate.
+sed -n 's/^\([a-z][a-z0-9_]*\)[^:#]*:.*/\1/p' crates.txt | grep -v '_tests$' | grep -vx -e rows -e worked_rows | sort >"$room/proved"
 awk '/^## /{in_table = /^## Crate by crate/} in_table && /^\| [a-z][a-z0-9_]* \|/{print $2}' docs/PROVED.md | sort >"$room/rows"
 same "crates.txt, without tests, and the table of PROVED" "$room/proved" "$room/rows"
 awk -F'|' '

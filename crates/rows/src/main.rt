@@ -1,32 +1,35 @@
 //! The worked rows: what the program prints for these words, files and input.
 //!
-//! A row is a folder of `rows/` in `data/`. `words` has the words, between blanks (`run l.txt - - h.csv` where there is no
-//! such file), `typed` what is typed into the input (nothing), `text` what is printed (nothing) and `status` the
-//! number that the program ends with (0). `tried` has the names of the files that are fetched, in order, with a blank between and a `!`
-//! after one whose fetch fails (where there is no such file, any may be). `mishaps` has what befalls the row's runs, as `mishap.rt` says
-//! (`none`). Every other file of the folder is one of the row, under its own name; those that
-//! it lacks are the ones of `shared/`. Rows that differ are printed, and at the end how many did not.
+//! A row is a folder of `rows/` in `data/`, as worked_rows says; those of the files that it lacks are the ones of `shared/`. Rows that differ are printed, and
+//! at the end how many did not.
 //!
 //! A run has the row's text, status and `tried` whatever befalls it; but where a write fails before the end of the text, what comes before is
 //! written, and the status is 4.
 #![tactic(auto)]
 
-mod folder;
-mod mishap;
-mod row;
-
-use folder::{read_folder, read_names};
-use mishap::{Mishap, Mishaps};
-use row::{Row, run};
+use m_commands::m_tax;
+use m_ports::{MemFiles, MemSink, MemSource};
+use std::alloc::{AllocError, Global};
 use std::io;
 use std::rt::Files;
 use std::thread::Threads;
+use worked_rows::{Mishap, Mishaps, Row, read_row, row_names};
 
-/// The folder of the rows.
-const ROWS: &str = "rows";
-
-/// The folder of the files that rows share.
-const SHARED: &str = "shared";
+/// Does a row that this befalls. Answers what is seen of it, as it is wanted.
+fn run<R: Threads + Sync>(
+    rt: &R,
+    alloc: Global,
+    row: &Row,
+    mishap: &Mishap<'_>,
+) -> Result<Vec<u8>, AllocError> {
+    let files = row.files_after(alloc, mishap)?;
+    let mut files = MemFiles::new(alloc, files, mishap.failing_fetch(alloc));
+    let typed = Vec::from_slice(alloc, row.typed())?;
+    let mut input = MemSource::new(typed, mishap.piece(), mishap.failing_read(alloc));
+    let mut out = MemSink::new(alloc, mishap.piece(), mishap.failing_write(alloc))?;
+    let status = m_tax(rt, alloc, row.words(), &mut files, &mut input, &mut out);
+    row.seen(alloc, &out, status.number(), &files)
+}
 
 /// Does a row once, and prints it where it differs. Answers whether it did not.
 fn run_holds<R: Threads + Sync + Print + AllocGlobal>(
@@ -85,16 +88,14 @@ fn is_done<R: Threads + Sync + Files + Print + AllocGlobal + Clone + Drop>(
     rt: &R,
     name: &str,
 ) -> io::Result<bool> {
-    let folder = format!(in rt.alloc(); "{ROWS}/{name}")?;
-    let files = read_folder(rt, folder.as_str())?;
-    let row = Row::new(rt.alloc(), files, read_folder(rt, SHARED)?)?;
+    let row = read_row(rt, name)?;
     row_holds(rt, name, &row)
 }
 
 fn main(rt: HostRuntime) -> io::Result<()> {
     let mut passed = 0u64;
     let mut failed = 0u64;
-    for name in read_names(&rt, ROWS)? {
+    for name in row_names(&rt)? {
         if is_done(&rt, name.as_str())? {
             passed = passed.saturating_add(1);
         } else {

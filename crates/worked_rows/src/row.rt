@@ -1,9 +1,8 @@
+//! What is done in a row, and what is wanted of it.
 use crate::mishap::Mishap;
-use m_commands::m_tax;
 use m_places::{Name, Word};
-use m_ports::{Attempt, MemFiles, MemSink, MemSource};
+use m_ports::{Attempt, MemFiles, MemSink};
 use std::alloc::{AllocError, Global};
-use std::thread::Threads;
 
 /// The words of a row that has none of its own.
 const WORDS: &[u8] = b"run l.txt - - h.csv";
@@ -88,6 +87,16 @@ impl Row {
         })
     }
 
+    /// The words of the command line.
+    pub fn words(&self) -> &[Word] {
+        self.words.as_slice()
+    }
+
+    /// What is typed into the input.
+    pub fn typed(&self) -> &[u8] {
+        self.typed.as_slice()
+    }
+
     /// The files, its own first.
     pub fn files(&self) -> &[(Name, Vec<u8>)] {
         self.files.as_slice()
@@ -120,7 +129,7 @@ impl Row {
     }
 
     /// The files of a run. The one that the mishap befalls comes first, and so counts.
-    fn files_after(
+    pub fn files_after(
         &self,
         alloc: Global,
         mishap: &Mishap<'_>,
@@ -136,7 +145,7 @@ impl Row {
     }
 
     /// What is seen of a run: what was printed, a line with the status, and the files that were tried, where the row has them.
-    fn seen(
+    pub fn seen(
         &self,
         alloc: Global,
         out: &MemSink,
@@ -151,20 +160,4 @@ impl Row {
         }
         Ok(seen)
     }
-}
-
-/// Does a row that this befalls. Answers what is seen of it, as it is wanted.
-pub fn run<R: Threads + Sync>(
-    rt: &R,
-    alloc: Global,
-    row: &Row,
-    mishap: &Mishap<'_>,
-) -> Result<Vec<u8>, AllocError> {
-    let files = row.files_after(alloc, mishap)?;
-    let mut files = MemFiles::new(alloc, files, mishap.failing_fetch(alloc));
-    let typed = Vec::from_slice(alloc, row.typed.as_slice())?;
-    let mut input = MemSource::new(typed, mishap.piece(), mishap.failing_read(alloc));
-    let mut out = MemSink::new(alloc, mishap.piece(), mishap.failing_write(alloc))?;
-    let status = m_tax(rt, alloc, &row.words, &mut files, &mut input, &mut out);
-    row.seen(alloc, &out, status.number(), &files)
 }
