@@ -1,6 +1,6 @@
-//! Tests of the crates that read the language, its drivers and files of requests, and of what drivers cost, through their public calls. They stand
-//! apart from those crates, so that a crate isn't proved a second time with its tests. What rules come to, and why sources are refused, is shown by the
-//! rows of the program `rows`.
+//! Tests of the crates that read the language and its drivers, and of what drivers cost, through their public calls. They stand apart from those
+//! crates, so that a crate isn't proved a second time with its tests. What rules come to, what requests ask for, and why sources are refused, is
+//! shown by the rows of the program `rows`.
 #![tactic(auto)]
 
 #[cfg(test)]
@@ -15,8 +15,6 @@ mod lines;
 mod nests;
 #[cfg(test)]
 mod readings;
-#[cfg(test)]
-mod requests;
 #[cfg(test)]
 mod terms;
 #[cfg(test)]

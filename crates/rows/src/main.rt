@@ -22,12 +22,20 @@ fn run<R: Threads + Sync>(
     row: &Row,
     mishap: &Mishap<'_>,
 ) -> Result<Vec<u8>, AllocError> {
+    let words = row.words(alloc)?;
     let files = row.files_after(alloc, mishap)?;
     let mut files = MemFiles::new(alloc, files, mishap.failing_fetch(alloc));
     let typed = Vec::from_slice(alloc, row.typed())?;
     let mut input = MemSource::new(typed, mishap.piece(), mishap.failing_read(alloc));
     let mut out = MemSink::new(alloc, mishap.piece(), mishap.failing_write(alloc))?;
-    let status = m_tax(rt, alloc, row.words(), &mut files, &mut input, &mut out);
+    let status = m_tax(
+        rt,
+        alloc,
+        words.as_slice(),
+        &mut files,
+        &mut input,
+        &mut out,
+    );
     row.seen(alloc, &out, status.number(), &files)
 }
 

@@ -14,6 +14,7 @@
 //! Each call moves one byte, and where nothing befalls the run up to 7.
 ghost use Rattle.std.specs.Prelude.{◌≤◌};
 
+use crate::row::{File, file_of};
 use m_places::Name;
 use m_places::limits::FILE_BYTES;
 use std::alloc::{AllocError, Global};
@@ -58,14 +59,6 @@ pub struct Mishaps<'a> {
     pub last: u32,
 }
 
-/// The bytes of the first file of this name.
-fn file_of<'a>(files: &'a [(Name, Vec<u8>)], name: &str) -> Option<&'a [u8]> {
-    files
-        .iter()
-        .find(|(file, _)| file.bytes() == name.as_bytes())
-        .map(|(_, bytes)| bytes.as_slice())
-}
-
 /// What a line says that begins with this word.
 fn kind_of(word: &str) -> Option<Kind> {
     KINDS
@@ -91,7 +84,7 @@ fn calls(alloc: Global, fails: bool, number: u32) -> Vec<u64> {
 
 impl<'a> Mishaps<'a> {
     /// What a line says. None where it can't be read, or befalls no run of a row that has these files.
-    pub fn new(line: &'a str, files: &[(Name, Vec<u8>)]) -> Option<Mishaps<'a>> {
+    pub fn new(line: &'a str, files: &[File]) -> Option<Mishaps<'a>> {
         let mut words = line.split_whitespace();
         let kind = kind_of(words.next()?)?;
         let file = match kind {
@@ -117,7 +110,7 @@ impl<'a> Mishaps<'a> {
     }
 
     /// Whether they befall runs of a row that has these files: calls count from 1, and a file that is cut has the bytes that are left of it.
-    fn befall(&self, files: &[(Name, Vec<u8>)]) -> bool {
+    fn befall(&self, files: &[File]) -> bool {
         let can = match self.kind {
             Kind::Cut => match file_of(files, self.file) {
                 Some(bytes) => self.last as usize <= bytes.len(),
@@ -166,20 +159,22 @@ impl Mishap<'_> {
         calls(alloc, matches!(self.kind, Kind::Write), self.number)
     }
 
-    /// The file that it befalls, as it is then, where it befalls one of these.
-    pub fn changed(
+    /// Adds the file that it befalls, as it is then, where it befalls one of these.
+    pub fn add_changed(
         &self,
         alloc: Global,
-        files: &[(Name, Vec<u8>)],
-    ) -> Result<Option<(Name, Vec<u8>)>, AllocError> {
+        files: &[File],
+        changed: &mut Vec<File>,
+    ) -> Result<(), AllocError> {
         let bytes = match (self.kind, file_of(files, self.file)) {
             (Kind::Cut, Some(bytes)) => {
                 Vec::from_slice(alloc, &bytes[..bytes.len().min(self.number as usize)])?
             }
             (Kind::Long, _) => vec![in alloc; b' '; FILE_BYTES as usize + 1]?,
-            _ => return Ok(None),
+            _ => return Ok(()),
         };
-        Ok(Some((Name::new(alloc, self.file.as_bytes())?, bytes)))
+        changed.push((Name::new(alloc, self.file.as_bytes())?, bytes))?;
+        Ok(())
     }
 
     /// What is written of a text: what comes before the byte whose write fails.

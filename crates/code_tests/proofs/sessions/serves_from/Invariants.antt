@@ -1,4 +1,0 @@
-use Rattle.code_tests.proofs.sessions.serves_from.Given as goal
-
-abbrev pub ghosts-ends : goal.ghosts-ends
-ghosts-ends a = record { name = a.blank.name; parts = a.blank.parts }

@@ -1,0 +1,10 @@
+A : calculee : "a" ;
+T : tableau[3] calculee : "t" ;
+C : const = 0 ;
+REV : saisie base restituee alias 1AJ : "r" ;
+U : tableau[2] calculee restituee : "u" ;
+W : tableau[1024] calculee : "w" ;
+IRN : calculee base restituee : "i" ;
+BASE : calculee restituee = 1 : "b" ;
+regle 1 : application : iliad ;
+A = 5 ; T[X] = X + 10 ; U[X] = X + 20 ; W[X] = X + 3000 ; IRN = 7 ; BASE = 8 ;
