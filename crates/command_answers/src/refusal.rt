@@ -14,5 +14,7 @@ use rule_text::Source;
 pub(crate) fn tell_source<K: Sink>(source: &Source, fault: SourceFault, out: &mut K) -> Status
     ensures { TellsLine (source_line source.now.texts fault) (output_view K.written K.faults out.old) (output_view K.written K.faults out.new) result }
 {
-    tell_refusal(out, told_fault(source.texts.as_slice(), &fault))
+    let status = tell_refusal(out, told_fault(source.texts.as_slice(), &fault));
+    drop(fault);
+    status
 }

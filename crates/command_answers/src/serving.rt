@@ -90,7 +90,9 @@ fn serve_explained<S: Input, K: Sink>(explainer: Explainer, input: &mut S, out: 
         (output_view K.written K.faults out.old) (output_view K.written K.faults out.new) result }
 {
     let mut explainer = explainer;
-    serve_session(&mut explainer, input, out)
+    let status = serve_session(&mut explainer, input, out);
+    drop(explainer);
+    status
 }
 
 // The session of a program that begins with a household, with a reporter of the base, or the household's fault.
@@ -109,9 +111,16 @@ fn explainer_of(
     ensures { Outcome Memory result (IsExplainerOf program made.symbols made.ordered household.now)
         (λ fault. household_of program.face.inputs household.now ≡ Err fault) }
 {
-    let session = session_of(alloc, program, household)?;
-    let RuleBase { symbols, ordered } = made;
-    Ok(Explainer::new(alloc, session, ordered, symbols)?)
+    match session_of(alloc, program, household) {
+        Ok(session) => {
+            let RuleBase { symbols, ordered } = made;
+            Ok(Explainer::new(alloc, session, ordered, symbols)?)
+        }
+        Err(fault) => {
+            drop(made);
+            Err(fault)
+        }
+    }
 }
 
 // The session of a program that begins with a household, or the household's fault.

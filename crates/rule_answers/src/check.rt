@@ -1,16 +1,17 @@
 //! A check: whether a report is a sound derivation over the rules of a source and a household.
-ghost use Rattle.std.specs.Prelude.{◌≡◌, ◌<◌, ◌≤◌, All, Err, IfSome, length};
+ghost use Rattle.std.specs.Prelude.{◌≡◌, ◌<◌, ◌≤◌, All, Err, IfOk, IfSome, length};
 ghost use Rattle.m_names.specs.Names.{AreDistinct};
 ghost use Rattle.m_places.specs.Refusals.{Outcome};
 ghost use Rattle.m_places.specs.declared.limits.TheConstants.{CELLS, CODE_FILE_BYTES};
 ghost use Rattle.rule_text.specs.Limits.{SourceKeepsLimits};
-ghost use Rattle.household.specs.Household.{household_of};
+ghost use Rattle.household.specs.Household.{AreInputs, household_of, values_of};
 ghost use Rattle.household.specs.declared.fault.HouseholdFault.TheVariants.{Memory};
 ghost use Rattle.observables.specs.Inputs.{codes_of};
 ghost use Rattle.m_symbols.specs.Declarations.{owners_from};
 ghost use Rattle.m_requests.specs.Placed.{IsPlaced};
 ghost use Rattle.micro_m.specs.Bases.{IsValidBase};
 ghost use Rattle.micro_m.specs.Values.{environment};
+ghost use Rattle.driver_core.specs.Answers.{start_of};
 ghost use Rattle.driver_core.specs.Inputs.{inputs_said};
 ghost use Rattle.command_plans.specs.Printing.{IsAnswered, Prints};
 ghost use Rattle.command_plans.specs.Views.{output_view};
@@ -18,16 +19,17 @@ ghost use Rattle.rule_answers.specs.Checks.{CheckReplies, ReportReplies};
 ghost use Rattle.rule_answers.specs.inner.Checking.{IsStart, LinesReplies, SaidReplies, found_status, found_text};
 
 use crate::start::first_cells;
-use crate::told::told_report;
+use crate::told::{tell_source, told_report};
 use code_answers::{read_given, tell_refusal, told_household};
 use command_plans::{Status, print_fault, printed};
 use fault_lines::{Fault, ReportFault};
-use household::{HouseholdFault, values};
-use m_compile::{compile_base, inputs_of, told_fault};
+use household::{Household, HouseholdFault, values};
+use m_compile::{compile_base, inputs_of};
 use m_fixed::Value;
 use m_ports::Sink;
 use m_symbols::Symbols;
 use micro_m::Base;
+use observables::Coded;
 use rule_base::RuleBase;
 use rule_text::Source;
 use std::alloc::{AllocError, Global};
@@ -56,8 +58,12 @@ pub fn check_source<R: Threads + Sync, K: Sink>(
         source.texts.as_slice(),
         source.application.bytes(),
     ) {
-        Ok(made) => answer_check(alloc, &made, household, report, out),
-        Err(fault) => tell_refusal(out, told_fault(source.texts.as_slice(), &fault)),
+        Ok(made) => {
+            let status = answer_check(alloc, &made, household, report, out);
+            drop(made);
+            status
+        }
+        Err(fault) => tell_source(source, fault, out),
     }
 }
 
@@ -95,9 +101,37 @@ fn start_cells(
         (λ fault. household_of (inputs_said symbols.now) household.now ≡ Err fault) }
 {
     let said = inputs_of(alloc, symbols)?;
-    let (codes, given) = read_given(alloc, said.as_slice(), symbols.inputs(), household)?;
-    let amounts = values(alloc, &given, codes.len())?;
-    Ok(first_cells(alloc, symbols, &amounts)?)
+    said_cells(alloc, symbols, said.as_slice(), household)
+}
+
+// The same, where these are the inputs.
+fn said_cells(
+    alloc: Global,
+    symbols: &Symbols,
+    said: &[Coded],
+    household: &[u8],
+) -> Result<Vec<Value>, HouseholdFault>
+    requires distinct { AreDistinct (codes_of said.now) }
+    requires said { said.now ≡ inputs_said symbols.now }
+    ensures { Outcome Memory result (λ env. IsStart symbols.now household.now env.items)
+        (λ fault. household_of (inputs_said symbols.now) household.now ≡ Err fault) }
+{
+    let (codes, given) = read_given(alloc, said, symbols.inputs(), household)?;
+    Ok(given_cells(alloc, symbols, &given, codes.len())?)
+}
+
+// What the cells begin with for a household over so many inputs.
+fn given_cells(
+    alloc: Global,
+    symbols: &Symbols,
+    given: &Household,
+    count: u32,
+) -> Result<Vec<Value>, AllocError>
+    requires { AreInputs count given.now.pairs }
+    ensures { IfOk result (λ env. env.items ≡ start_of symbols.now (values_of given.now.pairs count)) }
+{
+    let amounts = values(alloc, given, count)?;
+    first_cells(alloc, symbols, &amounts)
 }
 
 // The same over what the cells begin with.

@@ -11,9 +11,9 @@ ghost use Rattle.rule_answers.specs.Lints.{LintReplies};
 ghost use Rattle.rule_answers.specs.inner.Linting.{IsLintOf};
 
 use crate::findings::give_findings;
-use code_answers::tell_refusal;
+use crate::told::tell_source;
 use command_plans::{Status, printed};
-use m_compile::{Compiled, compile_with_rules, told_fault};
+use m_compile::{Compiled, compile_with_rules};
 use m_lint::lint;
 use m_ports::Sink;
 use rule_base::RuleBase;
@@ -32,8 +32,13 @@ pub fn lint_source<R: Threads + Sync, K: Sink>(
     ensures { IsAnswered (LintReplies source.now) (output_view K.written K.faults out.old) (output_view K.written K.faults out.new) result }
 {
     match compile_with_rules(rt, alloc, source) {
-        Ok((made, compiled)) => answer_lint(alloc, &made, &compiled, out),
-        Err(fault) => tell_refusal(out, told_fault(source.texts.as_slice(), &fault)),
+        Ok((made, compiled)) => {
+            let status = answer_lint(alloc, &made, &compiled, out);
+            drop(made);
+            drop(compiled);
+            status
+        }
+        Err(fault) => tell_source(source, fault, out),
     }
 }
 

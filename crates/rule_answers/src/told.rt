@@ -1,11 +1,29 @@
-//! What a fault of a report is told as.
+//! What is told of a source that has a fault, and what a fault of a report is told as.
 ghost use Rattle.std.specs.Prelude.{◌≡◌};
 ghost use Rattle.std.specs.Option.{option_map};
 ghost use Rattle.fault_lines.specs.Lines.{fault_line};
+ghost use Rattle.m_compile.specs.Lines.{source_line};
+ghost use Rattle.command_plans.specs.Views.{output_view};
+ghost use Rattle.code_answers.specs.inner.Refusals.{TellsLine};
 ghost use Rattle.rule_answers.specs.Checks.{report_fault_line};
 
+use code_answers::tell_refusal;
+use command_plans::Status;
 use fault_lines::{Fault, ReportFault as ReportWords};
+use m_compile::{SourceFault, told_fault};
+use m_ports::Sink;
+use rule_text::Source;
 use why_report::ReportFault;
+
+/// Tells the fault of a source by its line, or that there was no memory. The fault ends here, and not in an arm of each caller, whose borrows would take half
+/// a minute to check.
+pub(crate) fn tell_source<K: Sink>(source: &Source, fault: SourceFault, out: &mut K) -> Status
+    ensures { TellsLine (source_line source.now.texts fault) (output_view K.written K.faults out.old) (output_view K.written K.faults out.new) result }
+{
+    let status = tell_refusal(out, told_fault(source.texts.as_slice(), &fault));
+    drop(fault);
+    status
+}
 
 /// What the fault of a report is told as. Nothing is told of running out of memory.
 pub(crate) fn told_report<'a>(fault: ReportFault) -> Option<Fault<'a>>

@@ -4,25 +4,25 @@ use Rattle.rule_answers.proofs.LintLemmas.{inputs_counted, labels_first, lint_an
 use Rattle.rule_answers.proofs.Refusals.{fault_told}
 use Rattle.rule_answers.proofs.lint.lint_source.Goals as goal
 
-pub answer_lint-requires-clause-few : goal.answer_lint-requires-clause-few
-answer_lint-requires-clause-few g c = let few = few-checks c.in-Ok.ensures.rules.made in omega (arith, few)
+pub answer_lint-status-requires-clause-few : goal.answer_lint-status-requires-clause-few
+answer_lint-status-requires-clause-few g c = let few = few-checks c.in-Ok.ensures.rules.made in omega (arith, few)
 
-pub answer_lint-requires-clause-shown : goal.answer_lint-requires-clause-shown
-answer_lint-requires-clause-shown g c = c.in-Ok.ensures.runnable.shown
+pub answer_lint-status-requires-clause-shown : goal.answer_lint-status-requires-clause-shown
+answer_lint-status-requires-clause-shown g c = c.in-Ok.ensures.runnable.shown
 
-pub answer_lint-requires-clause-first_labels : goal.answer_lint-requires-clause-first_labels
-answer_lint-requires-clause-first_labels g c =
+pub answer_lint-status-requires-clause-first_labels : goal.answer_lint-status-requires-clause-first_labels
+answer_lint-status-requires-clause-first_labels g c =
     labels_first c.args.source.now c.in-Ok.made.symbols c.in-Ok.made.ordered.base c.in-Ok.compiled c.in-Ok.ensures.rules c.in-Ok.ensures.outcome
 
-pub answer_lint-requires-clause-inputs : goal.answer_lint-requires-clause-inputs
-answer_lint-requires-clause-inputs g c =
+pub answer_lint-status-requires-clause-inputs : goal.answer_lint-status-requires-clause-inputs
+answer_lint-status-requires-clause-inputs g c =
     inputs_counted c.args.source.now c.in-Ok.made.symbols c.in-Ok.made.ordered.base c.in-Ok.compiled c.in-Ok.ensures.rules c.in-Ok.ensures.outcome
 
 pub returns-in-Ok : goal.returns-in-Ok
 returns-in-Ok g c =
-    lint_answered c.args.source.now c.in-Ok.made.symbols c.in-Ok.made.ordered.base c.in-Ok.compiled _ _ _ c.in-Ok.ensures.rules c.in-Ok.ensures.outcome c.answer_lint.ensures
+    lint_answered c.args.source.now c.in-Ok.made.symbols c.in-Ok.made.ordered.base c.in-Ok.compiled _ _ _ c.in-Ok.ensures.rules c.in-Ok.ensures.outcome c.answer_lint-status.ensures
 
 pub returns-in-Err : goal.returns-in-Err
 returns-in-Err g c =
     lint_refused c.args.source.now c.in-Err.fault _ _ _
-    (fault_told c.args.source.now c.in-Err.fault _ _ _ c.in-Err.ensures.outcome (rw c.as_slice.ensures at (rw c.told_fault.ensures at c.tell_refusal.ensures)))
+    (fault_told c.args.source.now c.in-Err.fault _ _ _ c.in-Err.ensures.outcome c.tell_source.ensures)
