@@ -34,7 +34,11 @@ fn perform<R: Threads + Sync, F: Files, S: Source, K: Sink>(
         (output_view K.written K.faults out.old) (output_view K.written K.faults out.new) result }
 {
     match command_of(alloc, words) {
-        Ok(Some(command)) => act(rt, alloc, &command, files, input, out),
+        Ok(Some(command)) => {
+            let status = act(rt, alloc, &command, files, input, out);
+            drop(command);
+            status
+        }
         Ok(None) => print_fault(out, Fault::Usage, Status::Usage),
         Err(_) => Status::Memory,
     }
@@ -56,8 +60,16 @@ fn act<R: Threads + Sync, F: Files, S: Source, K: Sink>(
         (output_view K.written K.faults out.old) (output_view K.written K.faults out.new) result }
 {
     match gather(alloc, files, command) {
-        Ok(work) => answer(rt, alloc, &work, input, out),
-        Err(ending) => tell(out, &ending),
+        Ok(work) => {
+            let status = answer(rt, alloc, &work, input, out);
+            drop(work);
+            status
+        }
+        Err(ending) => {
+            let status = tell(out, &ending);
+            drop(ending);
+            status
+        }
     }
 }
 
