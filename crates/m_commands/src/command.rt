@@ -125,11 +125,7 @@ fn compile_command(alloc: Global, words: &[Word]) -> Result<Option<Command>, All
     if !are_names {
         return Ok(None);
     }
-    let names = SourceNames {
-        list: list.copy(alloc)?,
-        driver: driver.copy(alloc)?,
-        requests: requests.copy(alloc)?,
-    };
+    let names = names_of(alloc, list, driver, requests)?;
     Ok(Some(Command::Compile(names)))
 }
 
@@ -168,11 +164,7 @@ fn lint_command(alloc: Global, words: &[Word]) -> Result<Option<Command>, AllocE
     if !are_names {
         return Ok(None);
     }
-    let names = SourceNames {
-        list: list.copy(alloc)?,
-        driver: driver.copy(alloc)?,
-        requests: requests.copy(alloc)?,
-    };
+    let names = names_of(alloc, list, driver, requests)?;
     Ok(Some(Command::Lint(names)))
 }
 
@@ -194,12 +186,25 @@ fn source_command(alloc: Global, words: &[Word]) -> Result<Option<Command>, Allo
     let Some(form) = form_of(word.bytes()) else {
         return Ok(None);
     };
-    let names = SourceNames {
+    let behind = behind.copy(alloc)?;
+    let names = names_of(alloc, list, driver, requests)?;
+    Ok(Some(of_form(form, names, behind)))
+}
+
+// The names of a source. Its only error is running out of memory.
+fn names_of(
+    alloc: Global,
+    list: &Word,
+    driver: &Word,
+    requests: &Word,
+) -> Result<SourceNames, AllocError>
+    ensures { IfOk result (λ names. names ≡ record { list = list.now; driver = driver.now; requests = requests.now }) }
+{
+    Ok(SourceNames {
         list: list.copy(alloc)?,
         driver: driver.copy(alloc)?,
         requests: requests.copy(alloc)?,
-    };
-    Ok(Some(of_form(form, names, behind.copy(alloc)?)))
+    })
 }
 
 // The command of a word over a source and one more file.
