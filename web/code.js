@@ -94,6 +94,13 @@ export class Program {
     });
   }
 
+  // The inputs on which a value depends, in their order.
+  inputsOf(value) {
+    const needed = new Set([value]);
+    for (const step of [...this.steps].reverse()) if (needed.has(step.value)) [step.a, step.b, step.c].forEach((each) => needed.add(each));
+    return [...new Set(this.takes.filter(([taken]) => needed.has(taken)).map(([, input]) => input))].sort((a, b) => a - b);
+  }
+
   // The stop at which a run ends, or null: its label, and whether a condition was over.
   stop(values) {
     for (const { guard, condition, overOnly, label } of this.checks) {
