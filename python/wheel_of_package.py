@@ -17,10 +17,10 @@ def build_wheel(wheel_directory, config_settings=None, metadata_directory=None):
     heads = {"Metadata-Version": "2.1", "Name": name, "Version": version, "Summary": project["description"], "Requires-Python": project["requires-python"]}
     info = f"{name}-{version}.dist-info"
     files = {f"{info}/METADATA": "".join(f"{head}: {text}\n" for head, text in heads.items()).encode(), f"{info}/WHEEL": FORM.encode()}
-    for entry in sorted(os.listdir(os.path.join(HERE, name))):
-        if entry.endswith((".py", ".typed")):
-            with open(os.path.join(HERE, name, entry), "rb") as file:
-                files[f"{name}/{entry}"] = file.read()
+    files[f"{info}/entry_points.txt"] = b"[console_scripts]\nvodmejka = vodmejka.__main__:main\n"
+    for entry in package_files(name):
+        with open(os.path.join(HERE, entry), "rb") as file:
+            files[entry] = file.read()
     lines = [f"{path},sha256={digest(content)},{len(content)}\n" for path, content in files.items()]
     files[f"{info}/RECORD"] = "".join([*lines, f"{info}/RECORD,,\n"]).encode()
     wheel = f"{name}-{version}-py3-none-any.whl"
@@ -28,6 +28,12 @@ def build_wheel(wheel_directory, config_settings=None, metadata_directory=None):
         for path, content in files.items():
             out.writestr(zipfile.ZipInfo(path, (1980, 1, 1, 0, 0, 0)), content)
     return wheel
+
+
+def package_files(name):
+    """The files of the package, by their paths from here."""
+    found = [os.path.join(folder, entry) for folder, _, entries in os.walk(os.path.join(HERE, name)) for entry in entries]
+    return sorted(os.path.relpath(path, HERE) for path in found if path.endswith((".py", ".typed", ".words")))
 
 
 def digest(content):

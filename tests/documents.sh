@@ -63,8 +63,8 @@ same "the reserved words of mpp_parser and those of DRIVER" "$room/driver_keys" 
 
 # The words that editors show: their lists, and the words in the files for each editor.
 editors=tools/editors
-sort -u $editors/m.words >"$room/listed"
-sort -u $editors/mpp.words >"$room/driver_listed"
+sort -u python/vodmejka/words/m.words >"$room/listed"
+sort -u python/vodmejka/words/mpp.words >"$room/driver_listed"
 same "the reserved words of m_lexer and m.words" "$room/keys" "$room/listed"
 same "the reserved words of mpp_parser and mpp.words" "$room/driver_keys" "$room/driver_listed"
 for pair in mtax.vim:listed mpptax.vim:driver_listed; do

@@ -6,11 +6,10 @@ import re
 import sys
 
 ROOT, COUNT, SEED = sys.argv[1], int(sys.argv[2]), int(sys.argv[3])
-sys.path[:0] = [ROOT + "/tools", ROOT + "/tests/second"]
+sys.path[:0] = [ROOT + "/python", ROOT + "/tests/second"]
 sys.setrecursionlimit(50_000)
 
-import m_driver  # noqa: E402
-import m_items  # noqa: E402
+from vodmejka import drivers as driver_grammar, items as rule_grammar  # noqa: E402
 from reading.driver_grammar import functions_of  # noqa: E402
 from reading.driver_lines import driver_lines  # noqa: E402
 from reading.faults import Refused  # noqa: E402
@@ -64,10 +63,10 @@ def main():
         content = changed(chance.choice(drivers if is_driver else rules), chance)
         if is_driver:
             wanted = reference(lambda: functions_of(driver_lines(content)))
-            found = [(fault.line, fault.what) for fault in m_driver.Driver(content).faults]
+            found = [(fault.line, fault.what) for fault in driver_grammar.Driver(content).faults]
         else:
             wanted = reference(lambda: items_of(tokens_of(0, b"a.m", content)))
-            found = [(fault.byte, fault.what) for fault in m_items.read(content)[1]]
+            found = [(fault.byte, fault.what) for fault in rule_grammar.read(content)[1]]
         rejected += wanted is not None
         if not agree(wanted, found):
             differ += 1

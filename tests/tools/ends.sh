@@ -148,7 +148,7 @@ stand_in 'echo "refused a.m line 1 byte 0: syntax"; exit 1'
 echo "status $?"
 "$tools/slips" nowhere.list 2>/dev/full
 echo "status $?"
-python3 -B -c "import sys; sys.argv, sys.path[0] = ['tool'], '$tools'; import m_source; m_source.end(lambda: 1 // 0)"
+python3 -B -c "import sys; sys.path[0] = '$ROOT/python'; from vodmejka import source; source.end('tool', lambda: 1 // 0)"
 echo "status $?"
 echo "-- a folder for temporary files without room is named"
 { cat a.m; head -c 4000 /dev/zero | tr '\0' '#'; } >long.m

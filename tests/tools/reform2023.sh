@@ -9,5 +9,5 @@ grep -E '^(f000001|f000113|f000219),' "$here/part/report/households.csv" | cut -
 sed 's/f000113,358.1,35606,2209,2219,10,/f000113,358.1,35606,2209,2218,9,/' "$here/part/report/households.csv" >"$here/other" &&
     mv "$here/other" "$here/part/report/households.csv"
 python3 examples/reform2023/check.py "$here/part" | tail -n 1
-cp -r examples tools "$here" && cd "$here" && sh examples/reform2023/make.sh >>told; echo "status $?"
+cp -r examples tools python "$here" && cd "$here" && sh examples/reform2023/make.sh >>told; echo "status $?"
 for file in summary.csv report.html; do cmp "out/reform2023/report/$file" "$ROOT/examples/reform2023/$file" && echo "$file is the one that is kept"; done

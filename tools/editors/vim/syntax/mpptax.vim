@@ -1,4 +1,4 @@
-" M++, the language of drivers. The reserved words are those of tools/editors/mpp.words; tests/documents.sh compares them.
+" M++, the language of drivers. The reserved words are those of python/vodmejka/words/mpp.words; tests/documents.sh compares them.
 if exists("b:current_syntax")
   finish
 endif

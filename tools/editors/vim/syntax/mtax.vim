@@ -1,4 +1,4 @@
-" M, the language of the French income tax. The reserved words are those of tools/editors/m.words; tests/documents.sh compares them.
+" M, the language of the French income tax. The reserved words are those of python/vodmejka/words/m.words; tests/documents.sh compares them.
 if exists("b:current_syntax")
   finish
 endif

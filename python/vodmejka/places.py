@@ -2,7 +2,7 @@
 import re
 import unicodedata
 
-import m_source
+from . import source
 
 WIDEST = 120
 
@@ -52,8 +52,8 @@ def text_at(name, texts=None):
     texts = {} if texts is None else texts
     if name not in texts:
         try:
-            texts[name] = m_source.Lines(m_source.fetch(name))
-        except m_source.Refused:
+            texts[name] = source.Lines(source.fetch(name))
+        except source.Refused:
             texts[name] = None
     return texts[name]
 

@@ -8,7 +8,7 @@ import xml.etree.ElementTree as xml
 import zipfile
 import zlib
 
-from m_source import Refused
+from .source import Refused
 
 MOST_BYTES = 1 << 29
 MOST_ROWS = 200_000

@@ -7,8 +7,8 @@ import re
 import sys
 from typing import Any, NamedTuple
 
-import m_source
-from m_grammar import VALUE, Stuck, Terms
+from . import source
+from .grammar import VALUE, Stuck, Terms
 
 DEEPEST = 256
 GREATEST = 10_000_000_000_000
@@ -221,11 +221,11 @@ class RuleReader(Terms):
 def tokens_of(content):
     """The tokens of a file, and the faults of its bytes. Behind a byte that begins none the reading goes on."""
     tokens, faults, byte = [], [], 0
-    if content.startswith(m_source.MARK):
+    if content.startswith(source.MARK):
         faults.append(Fault("bad byte", 0, "a byte order mark", (), "save the file without a byte order mark; a household may have one, a rule file not"))
-        byte = len(m_source.MARK)
+        byte = len(source.MARK)
     while byte < len(content):
-        piece = m_source.GAP_OR_TOKEN.match(content, byte)
+        piece = source.GAP_OR_TOKEN.match(content, byte)
         if piece is None and content[byte : byte + 1] == b'"':
             faults.append(Fault("open string", byte, '"', (), "the text is never closed; all after it is text"))
             return tokens, faults
@@ -237,7 +237,7 @@ def tokens_of(content):
             byte = end
             continue
         if piece.lastgroup != "gap":
-            token = m_source.Token(piece.lastgroup, piece[0].decode("latin-1"), byte)
+            token = source.Token(piece.lastgroup, piece[0].decode("latin-1"), byte)
             if token.kind == "number" and float(token.text) > GREATEST:
                 faults.append(Fault("number too great", byte, token.text, (), f"numbers end at {GREATEST}"))
             tokens.append(token)

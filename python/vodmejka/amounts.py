@@ -3,7 +3,7 @@ import math
 import re
 from fractions import Fraction
 
-from m_runs import Failed
+from .runs import Failed
 
 UNIT = 1_000_000
 HALF = Fraction(1, 2)

@@ -13,10 +13,10 @@ import tempfile
 import threading
 import time
 
-import m_source
+from . import source
+from .program import TOP
 
 PIECE = 1_048_576
-TOP = os.path.dirname(os.path.dirname(os.path.realpath(__file__)))
 
 
 class Failed(Exception):
@@ -97,7 +97,7 @@ class Children:
     def started(self, words, **options):
         child = None
         try:
-            with self.lock, m_source.unbroken():
+            with self.lock, source.unbroken():
                 if self.is_over:
                     raise Failed("stopped")
                 child = subprocess.Popen(words, **options)
@@ -176,7 +176,7 @@ def watch(parent):
 
 def begin_worker(parent):
     """A worker leaves signals to its parent, and ends with it."""
-    for number in (signal.SIGINT, *m_source.ENDING):
+    for number in (signal.SIGINT, *source.ENDING):
         signal.signal(number, signal.SIG_IGN)
     threading.Thread(target=watch, args=(parent,), daemon=True).start()
 
@@ -225,14 +225,14 @@ class Source:
 
     @staticmethod
     def read(words):
-        application, names = m_source.read_list(words[0])
-        rules = list(zip(names, m_source.fetch_rules(names)))
-        return application, rules, *(None if word == "-" else m_source.fetch(word) for word in words[1:])
+        application, names = source.read_list(words[0])
+        rules = list(zip(names, source.fetch_rules(names)))
+        return application, rules, *(None if word == "-" else source.fetch(word) for word in words[1:])
 
     def put(self, name, content):
         if content is None:
             return "-"
-        m_source.put(os.path.join(self.room, name), content)
+        source.put(os.path.join(self.room, name), content)
         return name
 
     def told(self, line):
@@ -260,7 +260,7 @@ def two_sources(lists, drivers, requests, room):
     for name in (*drivers, requests):
         if name not in copies:
             copies[name] = os.path.join(room, f"other-{len(copies)}")
-            m_source.put(copies[name], m_source.fetch(name))
+            source.put(copies[name], source.fetch(name))
     found = []
     for list_name, driver in zip(lists, drivers):
         found.append(Source([list_name, copies[driver], copies[requests]], tempfile.mkdtemp(dir=room)))

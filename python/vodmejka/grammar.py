@@ -3,9 +3,9 @@ stand there."""
 import os
 import re
 
-import m_source
+from . import source
 
-RESERVED = set(m_source.fetch(os.path.join(os.path.dirname(os.path.realpath(__file__)), "editors", "m.words")).decode().split())
+RESERVED = set(source.fetch(os.path.join(os.path.dirname(os.path.realpath(__file__)), "words", "m.words")).decode().split())
 OF_ONE = ("present", "abs", "positif", "positif_ou_nul", "null", "arr", "inf")
 OF_TWO = ("max", "min")
 COMPARISONS = ("=", "!=", "<", "<=", ">", ">=")
@@ -30,7 +30,7 @@ class Reader:
 
     def __init__(self, tokens):
         self.tokens, self.at, self.wanted, self.hint = tokens, 0, [], ""
-        self.end = m_source.Token("end", "", tokens[-1].byte + len(tokens[-1].text) if tokens else 0)
+        self.end = source.Token("end", "", tokens[-1].byte + len(tokens[-1].text) if tokens else 0)
 
     def peek(self, ahead=0):
         return self.tokens[self.at + ahead] if self.at + ahead < len(self.tokens) else self.end

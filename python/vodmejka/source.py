@@ -1,7 +1,7 @@
 """What the tools know of lists and of rule files: names, applications and places. The grammar stands in docs/LANGUAGE.md.
 
 These tools read files that the program accepts, and look at the heads of items alone: what a formula says is passed over. A byte order mark is passed over
-too; `slips` and `explain` tell it. m_grammar.py reads formulas.
+too; `slips` and `explain` tell it. grammar.py reads formulas.
 """
 import bisect
 import contextlib
@@ -38,6 +38,12 @@ MARKED = "; it begins with a byte order mark: save it as UTF-8 without one"
 
 class Refused(Exception):
     """A file that can't be read, or that the program would refuse; the text says where and why."""
+
+
+class Command:
+    """The name of the command that runs, which its messages begin with."""
+
+    name = "vodmejka"
 
 
 class Pipes:
@@ -363,8 +369,8 @@ def unbroken():
 
 
 def say(what):
-    """A line on standard error, behind the name of the tool."""
-    print(f"{os.path.basename(sys.argv[0])}: {what}", file=sys.stderr)
+    """A line on standard error, after the name of the command."""
+    print(f"{Command.name}: {what}", file=sys.stderr)
 
 
 def put(path, content):
@@ -377,9 +383,10 @@ def put(path, content):
         raise
 
 
-def end(main):
-    """Begins and runs the tool, and ends with its status: 4 where the output was closed or is full, 130 where it was interrupted, and 70 where it has a fault
-    of its own or no memory."""
+def end(name, main):
+    """Begins and runs the command of that name, and ends with its status: 4 where the output was closed or is full, 130 where it was interrupted, and 70
+    where it has a fault of its own or no memory."""
+    Command.name = name
     begin()
     try:
         status = main()

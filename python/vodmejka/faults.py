@@ -5,10 +5,8 @@ Names are looked at where all items can be read. Loops, cycles, sizes and weight
 import re
 from typing import NamedTuple
 
-import m_driver
-import m_items
-import m_source
-from m_loops import instances, reads_of, replaced
+from . import drivers, items, source
+from .loops import instances, reads_of, replaced
 
 
 class Found(NamedTuple):
@@ -27,15 +25,15 @@ class Files:
     def __init__(self, application, names):
         self.application, self.found, self.files, self.lines = application, [], [], {}
         names = list(dict.fromkeys(names))
-        for name, content in zip(names, m_source.fetch_rules(names)):
-            reader, faults = m_items.read(content)
+        for name, content in zip(names, source.fetch_rules(names)):
+            reader, faults = items.read(content)
             self.files.append((name, content, reader))
             for fault in faults:
                 self.add(name, content, fault.byte, fault.what, fault)
 
     def add(self, name, content, byte, what, fault=None):
         if name not in self.lines:
-            self.lines[name] = m_source.Lines(content)
+            self.lines[name] = source.Lines(content)
         self.found.append(Found(name, self.lines[name].number(byte), byte, what, fault))
 
 
@@ -44,7 +42,7 @@ class Names:
 
     def __init__(self, files, list_name):
         self.files = files
-        base = m_source.RuleBase(list_name, bounded=False)
+        base = source.RuleBase(list_name, bounded=False)
         self.variables, self.errors, self.done, codes = {}, set(), set(), set()
         for file in base.files:
             for variable in file.variables:
@@ -53,7 +51,7 @@ class Names:
                     files.add(file.name, file.bytes, byte, f"declared twice {variable.name}")
                 elif variable.code is not None and variable.code in codes:
                     files.add(file.name, file.bytes, byte, f"alias twice {variable.code}")
-                elif variable.size is not None and not 1 <= variable.size <= m_source.TABLE_CELLS:
+                elif variable.size is not None and not 1 <= variable.size <= source.TABLE_CELLS:
                     files.add(file.name, file.bytes, byte, "table size")
                 self.variables.setdefault(variable.name, variable)
                 codes.add(variable.code)
@@ -114,7 +112,7 @@ class Names:
 
 def driver_faults(name, variables):
     """The faults of a driver; without variables those of its tokens and lines alone."""
-    driver = m_driver.Driver(m_source.fetch(name))
+    driver = drivers.Driver(source.fetch(name))
     found = [Found(name, fault.line, fault.byte, fault.what, fault) for fault in driver.faults]
     if found or variables is None:
         return found
@@ -141,7 +139,7 @@ def all_faults(list_name, driver, names):
     if list_name is None:
         files = Files(None, names)
     else:
-        application, listed = m_source.read_list_text(list_name, m_source.fetch(list_name).removeprefix(m_source.MARK))
+        application, listed = source.read_list_text(list_name, source.fetch(list_name).removeprefix(source.MARK))
         files = Files(application, listed)
         if not any(fault.what in ("syntax", "open string", "bad byte", "too deep") for fault in files.found):
             declared = Names(files, list_name)

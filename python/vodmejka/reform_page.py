@@ -2,7 +2,7 @@
 import html
 from fractions import Fraction
 
-from m_amounts import UNIT, plain
+from .amounts import UNIT, plain
 
 WIDTH, HEIGHT = 760, 260
 

@@ -2,10 +2,9 @@
 import bisect
 import re
 
-import m_items
-import m_source
-from m_loops import instances, reads_of, replaced, whole
-from m_places import decode
+from . import items, source
+from .loops import instances, reads_of, replaced, whole
+from .places import decode
 
 
 class Written:
@@ -82,14 +81,14 @@ class Rules:
     """The formulas of a list's application by their cells, and the variables with their descriptions."""
 
     def __init__(self, list_name):
-        base = m_source.RuleBase(list_name)
+        base = source.RuleBase(list_name)
         self.application, self.contents = base.application, [(file.name, file.bytes) for file in base.files]
         self.variables = {variable.name: variable for variable in base.variables}
         self.sizes = {name: variable.size for name, variable in self.variables.items() if variable.size is not None}
         self.descriptions, self.formulas = {}, {}
         for file in base.files:
             self.describe(file)
-            reader, _ = m_items.read(file.bytes)
+            reader, _ = items.read(file.bytes)
             written = Written(file, reader.tokens)
             for formula in reader.formulas:
                 if base.application in formula.applications and not formula.is_chained:

@@ -1,4 +1,4 @@
-"""Loops of rule files, for tools: the values of their letters, words with letters replaced, and what a term reads. Terms are those of m_grammar.py."""
+"""Loops of rule files, for tools: the values of their letters, words with letters replaced, and what a term reads. Terms are those of grammar.py."""
 import itertools
 
 MOST = 10_000

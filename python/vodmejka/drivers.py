@@ -8,11 +8,9 @@ import re
 import sys
 from typing import NamedTuple
 
-import m_grammar
-import m_items
-import m_source
+from . import grammar, items, source
 
-RESERVED = set(m_source.fetch(os.path.join(os.path.dirname(os.path.realpath(__file__)), "editors", "mpp.words")).decode().split())
+RESERVED = set(source.fetch(os.path.join(os.path.dirname(os.path.realpath(__file__)), "words", "mpp.words")).decode().split())
 TOKEN = re.compile(rb"(?P<word>[0-9]*[A-Za-z_][A-Za-z0-9_]*)|(?P<number>[0-9]+\.[0-9]+|[0-9]+)|(?P<sign>==|!=|<=|>=|<-|[-()\[\],:=<>+*/])")
 COMPARISONS = ("==", "!=", "<", "<=", ">", ">=")
 MOST_LEVEL = 64
@@ -38,7 +36,7 @@ class Line(NamedTuple):
     tokens: list
 
 
-class LineReader(m_grammar.Reader):
+class LineReader(grammar.Reader):
     """What one line says: (`function`, name), (`if`,), (`else`,), (`partition`,), (`set`, cell), (`del`, cell) or (`call`, cells, name). `cells` and
     `kinds` are those that stand anywhere in it."""
 
@@ -177,7 +175,7 @@ class Driver:
 
     def __init__(self, content):
         self.faults, self.said, self.kinds, self.functions, self.set, self.cells = [], [], [], [], [], []
-        lines = [line for line in (self.line(number, line) for number, line in enumerate(m_source.lines_of(content), 1)) if line]
+        lines = [line for line in (self.line(number, line) for number, line in enumerate(source.lines_of(content), 1)) if line]
         self.look_for_depth(lines)
         sys.setrecursionlimit(max(sys.getrecursionlimit(), 20_000))
         for line in lines:
@@ -192,7 +190,7 @@ class Driver:
     def line(self, number, content):
         """The tokens of a line, or nothing where it has none."""
         tokens, at = [], 0
-        if number == 1 and content.startswith(m_source.MARK):
+        if number == 1 and content.startswith(source.MARK):
             self.fault("bad token", 1, 0, "a byte order mark", (), "save the file without a byte order mark")
             content, at = b"   " + content[3:], 3
         while at < len(content) and content[at : at + 1] != b"#":
@@ -206,9 +204,9 @@ class Driver:
                 other = "accented letters stand in comments only" if shown[0] > 127 else ""
                 self.fault("bad token", number, at, shown.decode("utf-8", "replace"), (), hints.get(shown, other))
                 return Line(number, len(content) - len(content.lstrip(b" ")), [])
-            if piece.lastgroup == "number" and float(piece[0]) > m_items.GREATEST:
-                self.fault("bad token", number, at, piece[0].decode(), (), f"numbers end at {m_items.GREATEST}")
-            tokens.append(m_source.Token(piece.lastgroup, piece[0].decode("latin-1"), at))
+            if piece.lastgroup == "number" and float(piece[0]) > items.GREATEST:
+                self.fault("bad token", number, at, piece[0].decode(), (), f"numbers end at {items.GREATEST}")
+            tokens.append(source.Token(piece.lastgroup, piece[0].decode("latin-1"), at))
             at = piece.end()
         return Line(number, len(content) - len(content.lstrip(b" ")), tokens) if tokens else None
 
@@ -231,7 +229,7 @@ class Driver:
         reader = LineReader(line.tokens)
         try:
             said = reader.line()
-        except m_grammar.Stuck:
+        except grammar.Stuck:
             token, hint = reader.peek(), reader.hint
             if not hint and ":" in reader.wanted and token.kind == "end":
                 hint = "a : is missing at the end"

@@ -1,0 +1,278 @@
+"""Shows where an error points, and says what to mend.
+
+    explain COMMAND WORD..              runs the program with these words, and explains what it rejects
+    m_tax .. | explain [FILES]          explains the errors that the standard input has
+    explain --all LIST [DRIVER]         tells all faults of the rule files of a list, and of a driver, that the tools can tell; runs nothing
+
+Each line goes through as it is. Under an error, an unreadable file or a stop comes the line of the file with a caret under the byte, where
+the line tells a place, and one sentence on what to mend. The place of `syntax` is where the item or block begins that can't be read; below it
+stands the token at which it can't go on, and what could stand there.
+
+    --list FILE, --driver FILE, --requests FILE, --household FILE, --code FILE, --report FILE
+                  the files, for errors that don't name theirs; where the words are given they are known
+    --all         after the first error also the other faults of tokens, grammar, declarations and names, each at its place
+    --places      prints FILE:LINE:COLUMN: error: WHAT in place of all this, for editors; columns count bytes from 1
+
+The status is the program's where it is run, 128 and the number of the signal where one ended it, and 3 where it can't be started.
+Of the standard input, and of --all alone, it is 1 where something was rejected, 0 where nothing was, and 3 where a file can't be read.
+The program is ./m_tax of this repository, or the one that M_TAX names.
+"""
+import contextlib
+import io
+import re
+import subprocess
+import sys
+
+from .. import drivers, faults, items, runs, source
+from ..places import faulty_field, line_at, pointer, records, text_at
+from ..sentences import CODE, DRIVER, HOUSEHOLD, MARKED, OTHERS, RULES
+
+ROLES = ("list", "driver", "requests", "household")
+OTHER_ROLES = {"exec": ("code", "household"), "check": ("list", "household", "report")}
+COMMANDS = ("run", "serve", "batch", "cases", "compile", "lint", "exec", "check", "large")
+
+
+def quoted(what):
+    """A token in quotes; a description as it is."""
+    return what if re.match("(an?|the) ", what) else f"`{what}`"
+
+
+def could_stand(fault):
+    """Says what stands at the farthest token, what could, and what may help."""
+    hint = f": {fault.hint}." if fault.hint else "."
+    if not fault.wanted:
+        return f"  Here stands {quoted(fault.found)}{hint}"
+    wanted = [quoted(what) for what in fault.wanted]
+    return f"  Here stands {quoted(fault.found)}, and could stand {' or '.join([', '.join(wanted[:-1]), wanted[-1]] if len(wanted) > 1 else wanted)}{hint}"
+
+
+class Explainer:
+    def __init__(self, files):
+        self.files, self.told = files, set()
+
+    def content(self, name):
+        try:
+            return source.fetch(name) if name else b""
+        except source.Refused:
+            return b""
+
+    def is_marked(self, role):
+        return self.content(self.files.get(role)).startswith(source.MARK)
+
+    def rule_place(self, name, number, byte, texts=None):
+        text = text_at(name, texts)
+        if text is None:
+            return None, [f"  {name} can't be read now"]
+        if byte > len(text.content) or text.number(byte) != number:
+            return None, [f"  {name} was changed since"]
+        column = byte - text.begin(number)
+        return (name, number, column + 1), pointer(text.line(number), number, column)
+
+    def rule_fault(self, name, number, byte, what):
+        """The place of a fault of a rule file; of `syntax` also the farthest token that can be read up to."""
+        fault = next((fault for fault in RULES if what == fault or what.startswith(fault + " ")), None)
+        self.told.add((name, byte))
+        texts = {}
+        place, lines = self.rule_place(name, number, byte, texts)
+        if place is None or what not in ("syntax", "bad byte"):
+            return place, lines, RULES.get(fault)
+        content = texts[name].content
+        if what == "bad byte":
+            return place, lines, MARKED if byte == 0 and content.startswith(source.MARK) else RULES[fault]
+        farthest = next((other for other in items.read(content)[1] if other.byte >= byte and other.what == "syntax"), None)
+        if farthest is None:
+            return place, lines, RULES[fault]
+        self.told.add((name, farthest.byte))
+        told, more = self.rule_place(name, texts[name].number(farthest.byte), farthest.byte, texts)
+        if farthest.byte != byte:
+            lines = [*lines, "  What begins here can be read as far as this:", *more]
+        return told, lines, could_stand(farthest).strip()
+
+    def line_place(self, role, number, texts=None):
+        name = self.files.get(role)
+        line = line_at(name, number, texts) if name else None
+        if line is None:
+            return None, []
+        return (name, number, 1), pointer(line, number, None)
+
+    def driver_fault(self, number, what):
+        """The place of a fault of a driver: its line, and where the tools can tell it the token."""
+        fault = next((fault for fault in DRIVER if what == fault or what.startswith(fault + " ")), None)
+        texts = {}
+        place, lines = self.line_place("driver", number, texts)
+        self.told.add((self.files.get("driver"), number))
+        if place is None or what not in ("syntax", "bad token"):
+            return place, lines, DRIVER.get(fault)
+        farthest = next((other for other in drivers.Driver(texts[place[0]].content).faults if other.line >= number and other.what == what), None)
+        if farthest is None:
+            return place, lines, DRIVER[fault]
+        self.told.add((place[0], farthest.line))
+        more = pointer(texts[place[0]].line(farthest.line) or b"", farthest.line, farthest.byte)
+        if farthest.line != number:
+            more = [*lines, "  What begins here can be read as far as this:", *more]
+        return (place[0], farthest.line, (farthest.byte or 0) + 1), more, could_stand(farthest).strip()
+
+    def record_place(self, number, what):
+        name = self.files.get("household")
+        content = self.content(name)
+        found = records(content)
+        if number > len(found):
+            return None, []
+        begin, fields = found[number - 1]
+        byte = faulty_field(fields, what, found[0][1])
+        text = source.Lines(content)
+        place, lines = self.rule_place(name, text.number(byte or begin), byte or begin, {name: text})
+        return place, lines if byte else lines[:1]
+
+    def list_fault(self, role, number):
+        if number == 1 and self.is_marked(role):
+            mend = MARKED
+        elif role == "requests":
+            mend = "No variable has this name, or a cell's number is missing or past its table; look for blanks, too."
+        elif number == 1:
+            mend = "The first line is the application, a word of letters, digits and _; look for a blank at its end."
+        else:
+            mend = "The name of a file is UTF-8 and has at most 4,096 bytes: rename the file."
+        if b"\r" in (line_at(self.files[role], number) or b"" if role in self.files else b""):
+            mend = "A carriage return stands in this line, and alone it ends no line: end lines with line feeds."
+        return (*self.line_place(role, number), mend)
+
+    def explain(self, line):
+        """The place of a line of the program, the lines that show it, and what to mend; nothing of a line that is no error."""
+        match = re.fullmatch(r"refused (.*) line ([1-9][0-9]{0,14}) byte ([0-9]{1,15}): (.*)", line)
+        if match:
+            return self.rule_fault(match[1], int(match[2]), int(match[3]), match[4])
+        match = re.fullmatch(r"refused driver line ([1-9][0-9]{0,14}): (.*)", line)
+        if match:
+            return self.driver_fault(int(match[1]), match[2])
+        match = re.fullmatch(r"refused household line ([1-9][0-9]{0,14}): (.*)", line)
+        if match and match[2] in HOUSEHOLD:
+            return (*self.record_place(int(match[1]), match[2]), HOUSEHOLD[match[2]])
+        match = re.fullmatch(r"refused (list|requests) line ([1-9][0-9]{0,14})", line)
+        if match:
+            return self.list_fault(match[1], int(match[2]))
+        match = re.fullmatch(r"refused code line ([1-9][0-9]{0,14}): .*", line)
+        if match:
+            return (*self.line_place("code", int(match[1])), CODE)
+        match = re.fullmatch(r"refused report line ([1-9][0-9]{0,14}): .*", line)
+        if match:
+            return (*self.line_place("report", int(match[1])), self.other(line))
+        match = re.fullmatch(r"over driver line ([1-9][0-9]{0,14})", line)
+        if match:
+            return (*self.line_place("driver", int(match[1])), "The condition passes 10000000000000: look for an amount that is too great.")
+        return None, [], self.other(line)
+
+    def other(self, line):
+        """What to mend, of a line that names no place in rules, a driver or a household."""
+        return next((mend for form, mend in OTHERS if re.fullmatch(form, line)), None)
+
+
+def text(stream):
+    """The lines of a stream, which end at line feeds alone."""
+    return io.TextIOWrapper(stream, encoding="utf-8", errors="surrogateescape", newline="\n")
+
+
+def tell(line, explainer, places):
+    """Prints a line with what it is about; whether it is an error."""
+    place, lines, mend = explainer.explain(line.removesuffix("\r"))
+    if not places:
+        print(line)
+        if mend is not None:
+            print("\n".join([*lines, "  " + mend]))
+    elif mend is not None:
+        print(f"{place[0]}:{place[1]}:{place[2]}: error: {line}" if place else line)
+    sys.stdout.flush()
+    return mend is not None
+
+
+def explain_lines(lines, explainer, places, is_all):
+    """Explains each line; whether one is an error. With `is_all` the other faults of its files come after an error."""
+    refused = False
+    for line in lines:
+        line = line.removesuffix("\n")
+        is_refusal = tell(line, explainer, places)
+        refused = refused or is_refusal
+        named = re.fullmatch(r"refused (.*) line [0-9]+ byte [0-9]+: .*", line)
+        if is_all and is_refusal and line.startswith("refused "):
+            with contextlib.suppress(source.Refused):
+                explain_all(explainer, places, [named[1]] if named else [])
+    return refused
+
+
+def explain_all(explainer, places, names):
+    """All faults of the files that are known, but those that were told already. Whether there is one."""
+    found, texts = faults.all_faults(explainer.files.get("list"), explainer.files.get("driver"), names), {}
+    for fault in found:
+        is_driver = fault.name == explainer.files.get("driver")
+        key = (fault.name, fault.line if is_driver else fault.byte)
+        if key in explainer.told:
+            continue
+        sentences = DRIVER if is_driver else RULES
+        mend = next((sentence for name, sentence in sentences.items() if fault.what == name or fault.what.startswith(name + " ")), "")
+        if fault.fault is not None:
+            mend = could_stand(fault.fault).strip()
+        if is_driver:
+            place = (fault.name, fault.line, (fault.byte or 0) + 1)
+            lines = pointer(line_at(fault.name, fault.line, texts) or b"", fault.line, fault.byte)
+        else:
+            place, lines = explainer.rule_place(fault.name, fault.line, fault.byte, texts)
+        at = f"line {fault.line}" if is_driver else f"line {fault.line} byte {fault.byte}"
+        if places:
+            file, line, column = place or (fault.name, fault.line, 1)
+            print(f"{file}:{line}:{column}: error: {fault.what}")
+        else:
+            print("\n".join([f"fault {fault.name} {at}: {fault.what}", *lines, "  " + mend]))
+    return bool(found)
+
+
+def read_words(words):
+    """The options, the files that they name, and the words after them; nothing where an option is none."""
+    files, options = {}, set()
+    while words and words[0].startswith("--"):
+        word = words.pop(0)
+        if word in ("--places", "--all"):
+            options.add(word)
+        elif word[2:] in (*ROLES, "code", "report") and words:
+            files[word[2:]] = words.pop(0)
+        else:
+            print(f"explain: {word} is no option; see --help", file=sys.stderr)
+            return None
+    return files, options, words
+
+
+def main(words):
+    if "--help" in words:
+        print(__doc__, end="")
+        return 0
+    read = read_words(words)
+    if read is None:
+        return 2
+    files, options, words = read
+    places, is_all = "--places" in options, "--all" in options
+    if not words:
+        try:
+            return 1 if explain_lines(text(source.standard_input()), Explainer(files), places, is_all) else 0
+        except source.Refused as fault:
+            print(f"explain: {fault}", file=sys.stderr)
+            return 3
+    if is_all and words[0] not in COMMANDS:
+        if len(words) > 2:
+            print("explain: words: explain --all LIST [DRIVER]; see --help", file=sys.stderr)
+            return 2
+        try:
+            return 1 if explain_all(Explainer({**dict(zip(("list", "driver"), words)), **files}), places, []) else 0
+        except source.Refused as fault:
+            print(f"explain: {fault}", file=sys.stderr)
+            return 3
+    files = {**dict(zip(OTHER_ROLES.get(words[0], ROLES), words[1:])), **files}
+    try:
+        with runs.CHILDREN.started([runs.program_path(), *words], stdout=subprocess.PIPE, close_fds=False) as run:
+            source.Pipes.are_read = True
+            explain_lines(text(run.stdout), Explainer(files), places, is_all)
+            status = run.wait()
+    except OSError as fault:
+        if fault.filename is None:
+            raise
+        print(f"explain: {runs.program_path()}: {fault.strerror}", file=sys.stderr)
+        return 3
+    return status if status >= 0 else 128 - status

@@ -1,0 +1,56 @@
+"""Lists the variables of a rule base as a request file, so that values in between can be seen.
+
+    requests LIST [PATTERN..] [--inputs] [--computed] [--constants]
+
+In the order of the declarations, a table by all its cells. Each PATTERN is a name in which * stands for any letters and ? for one; the variables that
+one of them matches are listed, all without a pattern. A pattern with [ is compared with cells: 'TMI[*]', 'T[1]'. Put it in quotes.
+
+    --inputs, --computed, --constants     only these kinds; several may be given
+
+The status is 0, 1 where nothing matches or more than 100,000 values would be asked for, and 3 where a file can't be read or has a fault.
+"""
+import fnmatch
+import re
+import sys
+
+from .. import source
+
+MOST = 100_000
+KINDS = {"--inputs": "saisie", "--computed": "calculee", "--constants": "const"}
+
+
+def form(pattern):
+    """The form of a pattern, in which a bracket is no sign. It tries each name but once for each `*`."""
+    return re.compile(fnmatch.translate(pattern.replace("[", "[[]")))
+
+
+def names_of(variable, patterns):
+    """The requests of a variable that some pattern matches; of no patterns, all."""
+    cells = [variable.name] if variable.size is None else [f"{variable.name}[{k}]" for k in range(variable.size)]
+    if not patterns or any(pattern.match(variable.name) for pattern in patterns):
+        return cells
+    return [cell for cell in cells if any(pattern.match(cell) for pattern in patterns)]
+
+
+def main(words):
+    if "--help" in words:
+        print(__doc__, end="")
+        return 0
+    kinds = {KINDS[word] for word in words if word in KINDS}
+    words = [word for word in words if word not in KINDS]
+    if not words or any(word.startswith("--") for word in words):
+        print("requests: words: requests LIST [PATTERN..]; see --help", file=sys.stderr)
+        return 2
+    try:
+        base = source.RuleBase(words[0])
+    except source.Refused as fault:
+        print(f"requests: {fault}", file=sys.stderr)
+        return 3
+    patterns = [form(word) for word in words[1:]]
+    variables = [variable for variable in base.variables if not kinds or variable.kind in kinds]
+    names = [name for variable in variables for name in names_of(variable, patterns)]
+    if not names or len(names) > MOST:
+        print(f"requests: {len(names)} values match, and 1 to {MOST:,} can be asked for", file=sys.stderr)
+        return 1
+    print("\n".join(names))
+    return 0

@@ -1,0 +1,205 @@
+"""Says whether two rule bases give every household the same answer.
+
+    same LIST1 DRIVER1 LIST2 DRIVER2 REQUESTS [--tries COUNT] [--seed SEED]
+
+Both are compiled. Where the two code files have the same bytes it prints `same`, and then the answers are the same for all households: a code file is what
+gives the answers. Else it looks for a household in which they differ, among COUNT (20,000) made-up ones whose amounts are near the numbers that the rules
+have, makes it small, and prints it as a household's file with both answers; or it says that it found none, which proves nothing.
+
+List, rule files, drivers and requests are read once, so that rules that are edited meanwhile have no part in it. `-` is a driver or requests that there are
+none of.
+
+The status is 0 where they are the same, 1 where they differ, 5 where no difference was found, 2 for wrong words, 3 where a file can't be read, and 6 where
+one of the two is refused or the program fails. The program is ./m_tax of this repository, or the one that M_TAX names.
+"""
+import csv
+import io
+import os
+import random
+import re
+import sys
+import tempfile
+
+sys.dont_write_bytecode = True
+from .. import runs, source
+
+AT_ONCE = 2_000
+BYTES = 8_000_000
+MOST = 10_000_000_000_000
+LINE = re.compile(rb"household r([0-9]+)\n")
+
+
+class Wrong(Exception):
+    """What ends the tool, with its status."""
+
+    def __init__(self, text, status=6):
+        super().__init__(text)
+        self.status = status
+
+
+def said(origin, name, command, *more):
+    """What the program prints to a command over a source, whose list has this name."""
+    out = io.BytesIO()
+    status = origin.said(out, command, *more)
+    if status != 0:
+        raise Wrong(f"{name}: {origin.told(runs.fault_of(out.getvalue(), status))}", 3 if status == 3 else 6)
+    return out.getvalue()
+
+
+def compiled(origin, name):
+    """The code file of a source."""
+    code = said(origin, name, "compile")
+    if not code.endswith(b"\nend\n"):
+        raise Wrong(f"{name}: the program prints no whole code file")
+    return code
+
+
+def inputs_of(code):
+    """The codes of the inputs of a code file, each with its type."""
+    words = [line.split() for line in code.split(b"\ncode\n")[0].decode("latin-1").split("\n") if line.startswith("input ")]
+    return {line[1]: line[2] if len(line) > 2 else "" for line in words}
+
+
+def numbers_of(*codes):
+    """The numbers that code files have, in whole units, each with its neighbours."""
+    found = {0, 1, 2, 1000}
+    for code in codes:
+        for text in re.findall(rb"\nlit [0-9]+ (-?[0-9]+)", code):
+            found.add(int(text) // 1_000_000)
+    return sorted(value for value in {value + step for value in found for step in (-1, 0, 1)} if abs(value) < MOST)
+
+
+def drawn(draw, inputs, numbers):
+    """A made-up household: codes with amounts."""
+    household = {}
+    share = draw.choice([0.2, 0.5, 0.9])
+    for code, kind in inputs.items():
+        if draw.random() < share:
+            if kind == "truth":
+                household[code] = str(draw.randrange(2))
+            else:
+                amount = draw.choice(numbers) if draw.random() < 0.6 else draw.randrange(draw.choice([10, 1000, 60_000, 1_000_000]))
+                household[code] = f"{amount}" if kind == "whole" or draw.random() < 0.8 else f"{amount}.{draw.randrange(100):02}"
+    return household
+
+
+def tables_of(households):
+    """The households as tables that are short enough for the program, each with how many it has."""
+    codes = sorted({code for household in households for code in household})
+    out, count = io.StringIO(), 0
+    writer = csv.writer(out, lineterminator="\n")
+    for household in households:
+        if count == 0:
+            writer.writerow(["name", *codes])
+        writer.writerow([f"r{count}", *(household.get(code, "") for code in codes)])
+        count += 1
+        if out.tell() > BYTES or household is households[-1]:
+            yield out.getvalue().encode("latin-1"), count
+            out.seek(0)
+            out.truncate()
+            count = 0
+
+
+def answers(origin, name, households, room):
+    """The answers of a source to the households."""
+    path, found = os.path.join(room, "table.csv"), []
+    for table, count in tables_of(households):
+        source.put(path, table)
+        text = said(origin, name, "batch", path)
+        parts = re.split(rb"(?m)^household r[0-9]+\n", text)[1:]
+        if len(parts) != count or LINE.findall(text) != [b"%d" % k for k in range(count)]:
+            raise Wrong(f"{name}: the program's answer isn't one for each household")
+        found += parts
+    return found
+
+
+def first_difference(sources, households, room):
+    """The first household whose answers differ, with these; or nothing."""
+    one, other = (answers(origin, name, households, room) for origin, name in sources)
+    return next(((household, a, b) for household, a, b in zip(households, one, other) if a != b), None)
+
+
+def smaller(sources, found, room):
+    """A household in which they differ too, of which no code can be left out. Halves of it are left out first, then quarters and so on."""
+    size = max(len(found[0]) // 2, 1)
+    while True:
+        codes = list(found[0])
+        pieces = [set(codes[at : at + size]) for at in range(0, len(codes), size)]
+        less = first_difference(sources, [{code: amount for code, amount in found[0].items() if code not in piece} for piece in pieces], room)
+        if less is not None:
+            found = less
+        elif size == 1:
+            return found
+        else:
+            size //= 2
+
+
+def words_of(words):
+    """The five words, how many tries, and the seed."""
+    said, options = [], {"--tries": 20_000, "--seed": 1}
+    while words:
+        word = words.pop(0)
+        if word in options and words and re.fullmatch("[0-9]{1,7}", words[0]):
+            options[word] = int(words.pop(0))
+        elif word.startswith("--"):
+            return None
+        else:
+            said.append(word)
+    if len(said) != 5:
+        return None
+    return said, options["--tries"], options["--seed"]
+
+
+def compare(words, tries, seed, room):
+    """Prints what there is to say, and answers the status."""
+    sources = list(zip(runs.two_sources(words[0:4:2], words[1:4:2], words[4], room), words[0:4:2]))
+    one, other = (compiled(*origin) for origin in sources)
+    if one == other:
+        print("same")
+        return 0
+    inputs, others = inputs_of(one), inputs_of(other)
+    for code in [*inputs, *others]:
+        if inputs.get(code) != others.get(code):
+            print(f"different: the input {code} isn't of both, or has another type")
+            return 1
+    draw, numbers = random.Random(seed), numbers_of(one, other)
+    for first in range(0, tries, AT_ONCE):
+        households = [drawn(draw, inputs, numbers) for _ in range(min(AT_ONCE, tries - first))]
+        found = first_difference(sources, households, room)
+        if found is not None:
+            household, *texts = smaller(sources, found, room)
+            print("different, as for this household:")
+            print("\n".join(["code,amount", *(f"{code},{amount}" for code, amount in household.items())]))
+            for name, text in zip(words[0:4:2], texts):
+                print(f"by {name}:")
+                print(text.decode("utf-8", "surrogateescape"), end="")
+            return 1
+    print(f"no difference found in {tries} households; the compiled programs differ, which may or may not matter")
+    return 5
+
+
+def main(words):
+    if "--help" in words:
+        print(__doc__, end="")
+        return 0
+    words = words_of(words)
+    if words is None:
+        print("same: words: same LIST1 DRIVER1 LIST2 DRIVER2 REQUESTS [--tries COUNT] [--seed SEED]; see --help", file=sys.stderr)
+        return 2
+    try:
+        with tempfile.TemporaryDirectory() as room:
+            return compare(*words, room)
+    except Wrong as wrong:
+        print(f"same: {wrong}", file=sys.stderr)
+        return wrong.status
+    except runs.Failed as fault:
+        print(f"same: {fault}", file=sys.stderr)
+        return 6
+    except source.Refused as fault:
+        print(f"same: {fault}", file=sys.stderr)
+        return 3 if str(fault).startswith("unreadable ") else 6
+    except OSError as fault:
+        if fault.filename is None:
+            raise
+        print(f"same: {fault.filename}: {fault.strerror}", file=sys.stderr)
+        return 3

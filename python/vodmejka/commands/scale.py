@@ -1,0 +1,393 @@
+"""Computes a table of households of any size, on many processors or machines, part by part.
+
+    scale cut TABLE FOLDER [--rows N] [--once]      cuts the table into parts of at most N rows (100,000), FOLDER/part-000001.csv and so on
+    scale list FOLDER                               names the parts that have no answer yet, a number in each line
+    scale one FOLDER NUMBER LIST DRIVER REQUESTS    one batch: computes a part, unless it has its answer
+    scale run FOLDER LIST DRIVER REQUESTS [--memory MB] [--jobs N]  computes all parts on this machine
+    scale join FOLDER > ANSWERS                     the answers of all parts, as one batch of the whole table would print them
+    scale drop FOLDER                               removes the answers, also those that were begun, and leaves the parts, as for other rules
+    scale pipe HEADER LIST DRIVER REQUESTS [--of DIGEST]  rows on the standard input, without the table's first line, which is HEADER; for Spark's pipe
+    scale source LIST DRIVER REQUESTS               the digest of a source, for --of, which refuses another one
+
+A batch computes its part on all processors, so `run` doesn't count these: it starts as many batches at once as have 256 MB each in the memory that is free
+(or in MB megabytes), four at the most, so that one computes while others are read, written and looked at. N says how many itself.
+
+List, rule files, driver and requests are read once, and every batch of a command runs on a copy of what was read, so rules that are edited meanwhile
+have no part in it. A program that was built anew meanwhile is refused.
+
+A part is written under a name of its own until it is whole and checked, so a run that was stopped or killed is begun again by the same words and goes
+on. `one` and `run` look that an answer has the part's labels, each once and in their order, and for each household one line for each request or a stop.
+`join` looks that every part has its answer as it was checked, that all answers together have the labels of the table in their order, and that all were
+made of one source (program, list, rule files, driver, requests). So no household is lost or doubled. `cut --once` also refuses a label that stands twice.
+
+A table is cut between its records, as the program reads them: at line feeds, carriage returns or both, outside of quotes. The status is 0, 1 where a
+check fails or a batch refuses its part, 2 for wrong words, 3 where a file can't be read or written, and 4 where the output was closed. The program is
+./m_tax of this repository, or the one that M_TAX names.
+"""
+import argparse
+import concurrent.futures
+import contextlib
+import hashlib
+import os
+import re
+import sys
+import tempfile
+
+from .. import records, runs, source
+from ..runs import Failed, digest, file_digest
+
+ROWS = 100_000
+BYTES = 16_777_216
+BATCH_BYTES = 256 << 20  # a batch of the longest table takes half of it, and the look at its answer the rest
+MOST_AT_ONCE = 4
+
+
+# ---- files
+
+
+@contextlib.contextmanager
+def unfinished(path):
+    """A file under a name that no other run has. It gets its own name by `os.replace`, and goes where something fails."""
+    folder, name = os.path.split(path)
+    number, made = tempfile.mkstemp(prefix=name + ".", suffix=".new", dir=folder or ".")
+    try:
+        os.fchmod(number, 0o666 & ~source.MASK)
+        with os.fdopen(number, "wb") as out:
+            yield out, made
+    except OSError as fault:
+        # (a full disk tells no name)
+        fault.filename = fault.filename or path
+        raise
+    finally:
+        with contextlib.suppress(FileNotFoundError):
+            os.unlink(made)
+
+
+def write_whole(path, content):
+    with unfinished(path) as (out, made):
+        out.write(content)
+        out.flush()
+        os.fsync(out.fileno())
+        os.replace(made, path)
+
+
+def part_path(folder, number, kind):
+    return os.path.join(folder, f"part-{number:06}.{kind}")
+
+
+# ---- cutting
+
+
+def looked_at(header):
+    """The header of a table, which begins with `name`."""
+    first = records.unquoted(header.split(b",")[0])
+    if first != b"name" or b"\n" in header or b"\r" in header:
+        shown = header[:60].decode("utf-8", "replace")
+        raise Failed(f"the first record is {shown}, and that of a table is name and codes with commas between; tools/table-in writes it", False)
+    return header + b"\n"
+
+
+def parts_of(header, rows, most):
+    """The rows of each part, so that a part is within the limits of a table, with their labels."""
+    part, labels, size = [], [], len(header)
+    for row, label in rows:
+        if part and (len(part) == most or size + len(row) + 1 > BYTES):
+            yield part, labels
+            part, labels, size = [], [], len(header)
+        part.append(row + b"\n")
+        labels.append(label + b"\n")
+        size += len(row) + 1
+    if part:
+        yield part, labels
+
+
+def new_folder(folder):
+    os.makedirs(folder, exist_ok=True)
+    there = os.listdir(folder)
+    if "table" not in there and any(name.startswith("part-") for name in there):
+        raise Failed(f"{folder} has parts of a table that wasn't cut to its end: remove it, and cut again", False)
+    if there:
+        raise Failed(f"{folder} isn't empty", False)
+
+
+def cut(arguments):
+    new_folder(arguments.folder)
+    total, made, labels = 0, [], hashlib.sha256()
+    with contextlib.ExitStack() as stack:
+        sorter = runs.Sorter(stack) if arguments.once else None
+        compiled = stack.enter_context(open(arguments.table, "rb"))
+        before, rows = records.state(compiled), records.records(compiled, BYTES)
+        header = looked_at(next(rows, (b"", b""))[0])
+        for part, names in parts_of(header, rows, arguments.rows):
+            joined = b"".join(names)
+            labels.update(joined)
+            if sorter:
+                sorter.add(joined)
+            content = header + b"".join(part)
+            write_whole(part_path(arguments.folder, len(made) + 1, "csv"), content)
+            made.append(hashlib.sha256(content).hexdigest())
+            total += len(part)
+        if records.state(compiled) != before:
+            raise Failed(f"{arguments.table} was changed meanwhile: remove {arguments.folder} and cut it again", False)
+        twice = sorter.first() if sorter else ""
+    if twice:
+        raise Failed(f"the label {twice} stands twice", False)
+    if total == 0:
+        raise Failed(f"{arguments.table} has no households", False)
+    write_whole(os.path.join(arguments.folder, "table"), "\n".join([f"{len(made)} {total} {labels.hexdigest()}", *made, ""]).encode())
+    print(f"{total} households in {len(made)} parts")
+
+
+class Plan:
+    """What `cut` wrote of the whole table: the number of households, the digest of their labels, and that of each part."""
+
+    def __init__(self, folder):
+        path = os.path.join(folder, "table")
+        words = source.fetch(path, 1 << 40).decode("latin-1").split()
+        if len(words) < 3 or words[0] != str(len(words) - 3) or not re.fullmatch("[0-9]{1,18}", words[1]):
+            raise Failed(f"{path} isn't whole: cut the table again", False)
+        self.parts, self.total, self.labels, self.digests = len(words) - 3, int(words[1]), words[2], words[3:]
+
+
+@contextlib.contextmanager
+def source_of(arguments):
+    with tempfile.TemporaryDirectory(prefix="scale-") as room:
+        yield runs.Source([arguments.list, arguments.driver, arguments.requests], room)
+
+
+# ---- computing
+
+
+def seen_in(table, answer, names):
+    """The names of the values of an answer, which has the households of the table."""
+    with open(table, "rb") as file:
+        labels = [label for _, label in records.records(file, BYTES)][1:]
+    try:
+        seen, names = records.read_answer(answer, names)
+    except records.Strange as fault:
+        raise Failed(f"the answer to {table}: {fault}") from fault
+    if seen != labels:
+        raise Failed(f"the answer to {table} has not its households: {len(seen)} of {len(labels)}, or others")
+    return names
+
+
+def here(work, *arguments):
+    return work(*arguments)
+
+
+class Rejected(Failed):
+    """A batch that ended with another status than 0; the line of the program."""
+
+
+def answered(compiled, table, out, made, elsewhere=here):
+    """Computes a table into a file, and looks at each line, perhaps in another process. The names of the values come back."""
+    status = compiled.batch(table, out)
+    if status != 0:
+        with open(made, "rb") as told:
+            line = compiled.told(runs.fault_of(told.read(8192), status))
+        raise Rejected(line, not line.startswith("refused household"))
+    return elsewhere(seen_in, table, made, compiled.names)
+
+
+def look_at(table, wanted, what):
+    """Refuses a part that isn't what `cut` wrote."""
+    try:
+        what = None if file_digest(table) == wanted else what
+    except FileNotFoundError:
+        what = "isn't there"
+    if what is not None:
+        raise Failed(f"{table} {what}: cut the table again", False)
+
+
+class Made:
+    """What is noted of an answer: the digest of its source, that of the names of its values (`-` where all households stopped), and its own."""
+
+    def __init__(self, path):
+        words = source.fetch(path).decode("latin-1").split() if os.path.exists(path) else []
+        self.source, self.names, self.answer = words if len(words) == 3 else ("", "", "")
+
+
+def compute(folder, number, plan, compiled, elsewhere=here):
+    """One part, unless it has its answer."""
+    if not 1 <= number <= plan.parts:
+        raise Failed(f"{folder} has no part {number}: it has {plan.parts}", False)
+    done, table = part_path(folder, number, "out"), part_path(folder, number, "csv")
+    if os.path.exists(done):
+        if Made(part_path(folder, number, "of")).source != compiled.digest:
+            raise Failed(f"{done} was made of another source (program, list, rule files, driver or requests): scale drop {folder} removes all answers", False)
+        return
+    look_at(table, plan.digests[number - 1], "isn't what cut wrote")
+    with unfinished(done) as (out, made):
+        try:
+            names = answered(compiled, table, out, made, elsewhere)
+        except Rejected as fault:
+            raise Failed(f"{table}: {fault}" + ("" if fault.goes_on else "; mend the table and cut it again"), fault.goes_on) from fault
+        os.fsync(out.fileno())
+        look_at(table, plan.digests[number - 1], "was changed meanwhile")
+        noted = [compiled.digest, "-" if names is None else digest(*names), file_digest(made)]
+        write_whole(part_path(folder, number, "of"), " ".join(noted).encode() + b"\n")
+        os.replace(made, done)
+
+
+def one(arguments):
+    with source_of(arguments) as compiled:
+        compute(arguments.folder, arguments.number, Plan(arguments.folder), compiled)
+
+
+def missing(folder, plan):
+    return [number for number in range(1, plan.parts + 1) if not os.path.exists(part_path(folder, number, "out"))]
+
+
+def list_parts(arguments):
+    for number in missing(arguments.folder, Plan(arguments.folder)):
+        print(number)
+
+
+def run(arguments):
+    plan = Plan(arguments.folder)
+    memory = runs.free_memory() if arguments.memory is None else arguments.memory << 20
+    jobs = arguments.jobs or min(max(memory // BATCH_BYTES, 1), MOST_AT_ONCE)
+    with source_of(arguments) as compiled, runs.workers() as workers, concurrent.futures.ThreadPoolExecutor(jobs) as pool:
+        elsewhere = lambda work, *words: workers.submit(work, *words).result()
+        try:
+            started = [pool.submit(compute, arguments.folder, number, plan, compiled, elsewhere) for number in range(1, plan.parts + 1)]
+            failed = [fault for fault in (run.exception() for run in started) if fault]
+        except BaseException:
+            runs.CHILDREN.end()
+            pool.shutdown(cancel_futures=True)
+            raise
+    for fault in failed:
+        print(f"scale: {fault}", file=sys.stderr)
+    if failed:
+        goes_on = all(getattr(fault, "goes_on", True) for fault in failed)
+        what_helps = "the same words go on" if goes_on else "what helps stands above"
+        raise Failed(f"{len(failed)} of {plan.parts} parts have no answer of this source; {what_helps}")
+
+
+def drop(arguments):
+    plan, count = Plan(arguments.folder), 0
+    for name in os.listdir(arguments.folder):
+        # (also what a run that was killed had begun)
+        if re.fullmatch(r"part-[0-9]{6,}\.(out|of)(\..*\.new)?", name):
+            with contextlib.suppress(FileNotFoundError):
+                os.unlink(os.path.join(arguments.folder, name))
+                count += name.endswith(".out")
+    print(f"{count} answers removed, {plan.parts} parts left")
+
+
+# ---- joining
+
+
+def looked_through(path, noted):
+    """The labels of an answer, which is as it was when it was checked, each with a line end."""
+    if file_digest(path) != noted:
+        raise Failed(f"{path} was changed since it was checked: remove it, and compute it again")
+    try:
+        return b"".join(label + b"\n" for label in records.read_answer(path)[0])
+    except records.Strange as fault:
+        raise Failed(f"{path}: {fault}") from fault
+
+
+def join(arguments):
+    folder, plan = arguments.folder, Plan(arguments.folder)
+    absent = missing(folder, plan)
+    if absent:
+        raise Failed(f"{len(absent)} of {plan.parts} parts have no answer, the first is {absent[0]}")
+    numbers = range(1, plan.parts + 1)
+    notes = [Made(part_path(folder, number, "of")) for number in numbers]
+    if len({note.source for note in notes}) > 1 or len({note.names for note in notes} - {"-"}) > 1:
+        raise Failed(f"the parts were made of several sources: scale drop {folder} removes all answers", False)
+    seen, count = hashlib.sha256(), 0
+    with runs.workers() as pool:
+        paths = [part_path(folder, number, "out") for number in numbers]
+        for labels in pool.map(looked_through, paths, [note.answer for note in notes]):
+            seen.update(labels)
+            count += labels.count(b"\n")
+    if (count, seen.hexdigest()) != (plan.total, plan.labels):
+        raise Failed(f"the answers have {count} households and not the {plan.total} of the table in their order", False)
+    for number, note in zip(numbers, notes):
+        if file_digest(part_path(folder, number, "out"), sys.stdout.buffer) != note.answer:
+            raise Failed(f"part {number} was changed while it was printed: don't use what was printed", False)
+
+
+def pipe(arguments):
+    header = looked_at(arguments.header.encode("utf-8", "surrogateescape"))
+    with source_of(arguments) as compiled:
+        if arguments.of not in (None, compiled.digest):
+            raise Failed("the source is another one than --of says", False)
+        passed = 0
+        for part, _ in parts_of(header, records.records(source.standard_input(), BYTES, False), ROWS):
+            with tempfile.NamedTemporaryFile(suffix=".csv") as table, tempfile.NamedTemporaryFile() as out:
+                table.write(header + b"".join(part))
+                table.flush()
+                try:
+                    answered(compiled, table.name, out, out.name)
+                except Failed as fault:
+                    place = f"records {passed + 1} to {passed + len(part)} of the input, below the header as line 1"
+                    raise Failed(f"{place}: {str(fault).replace(table.name, 'them')}") from fault
+                file_digest(out.name, sys.stdout.buffer)
+                passed += len(part)
+
+
+def tell_source(arguments):
+    with source_of(arguments) as compiled:
+        print(compiled.digest)
+
+
+# ---- words
+
+
+def number(word):
+    """A number of the command line."""
+    if not re.fullmatch("[0-9]{1,9}", word):
+        raise ValueError
+    return int(word)
+
+
+def reading():
+    parser = argparse.ArgumentParser(prog="scale", usage="see scale --help", add_help=False)
+    commands = parser.add_subparsers(dest="command", required=True)
+    form = {name: commands.add_parser(name, add_help=False) for name in COMMANDS}
+    form["cut"].add_argument("table")
+    for name in ("cut", "list", "one", "run", "join", "drop"):
+        form[name].add_argument("folder")
+    form["cut"].add_argument("--rows", type=number, choices=range(1, ROWS + 1), metavar="N", default=ROWS)
+    form["cut"].add_argument("--once", action="store_true")
+    form["one"].add_argument("number", type=number)
+    form["pipe"].add_argument("header")
+    form["pipe"].add_argument("--of")
+    for name in ("one", "run", "pipe", "source"):
+        for word in ("list", "driver", "requests"):
+            form[name].add_argument(word)
+    form["run"].add_argument("--jobs", type=number, choices=range(1, 1025), metavar="N")
+    form["run"].add_argument("--memory", type=number, choices=range(1, 1 << 30), metavar="MB")
+    return parser
+
+
+COMMANDS = {"cut": cut, "list": list_parts, "one": one, "run": run, "join": join, "drop": drop, "pipe": pipe, "source": tell_source}
+
+
+def main(words):
+    if "--help" in words:
+        print(__doc__, end="")
+        return 0
+    arguments = reading().parse_args(words)
+    try:
+        COMMANDS[arguments.command](arguments)
+    except (Failed, records.Strange) as fault:
+        print(f"scale: {fault}", file=sys.stderr)
+        return 1
+    except concurrent.futures.BrokenExecutor:
+        print("scale: a process that looks at answers was ended, as where memory ends: the same words go on", file=sys.stderr)
+        return 1
+    except source.Refused as fault:
+        print(f"scale: {fault}", file=sys.stderr)
+        return 3
+    except OSError as fault:
+        if fault.filename is None:
+            raise
+        print(f"scale: {fault.filename}: {fault.strerror}", file=sys.stderr)
+        return 3
+    finally:
+        runs.CHILDREN.end()
+    return 0

@@ -1,0 +1,244 @@
+"""Tells what the language permits and an analyst never means.
+
+    slips [--driver FILE] LIST..
+
+A line for each slip, with its place:
+
+    slip LIST: no variable has restituee           nothing is printed where no requests are given
+    slip LIST: no rule is of the application A      so no computed variable has a value
+    slip LIST: its files are FOLDER's               a list that was copied and names the files of another folder: what is changed beside it is ignored
+    slip FILE line L byte B: restituee = .. ..      an attribute with a number returns nothing: write restituee alone
+    slip FILE line L byte B: application A is of no list that is given
+                                                    told once, at the first rule or verification that has it, with their count
+    slip FILE line L byte B: T[4] is past ..        an index that is a number, also one of a loop, and no cell of the table: undefined, or 0 below 0
+    slip FILE line L byte B: nothing sets T[3] ..   cells of a table that no formula sets or reads: undefined, or what a driver sets
+    slip LIST: variables or cells that are read and never set: N; m_tax lint ..
+                                                    computed ones without a formula that counts. `lint` names them, and what else is true for all households
+    slip FILE line L byte B: no input has K         a kind of a driver that is empty, as avfisk = 1
+    slip FILE line 1 byte 0: a byte order mark      refused in rules, lists, drivers and requests; a household may have one
+    slip FILE line 1 byte B: a carriage return ..   alone it ends no line: a comment goes on after it
+
+Give all lists of a rule base at once, so that an application that another list has is no slip, and the driver, so that what it sets is none. A chained
+rule counts as no rule. The status is 0 where there is no slip, 1 where there is one, 2 for wrong words, and 3 where a file can't be read or has a fault
+that the program refuses; tools/explain says more of it.
+"""
+import decimal
+import os
+import re
+import sys
+
+from .. import drivers, items, source
+from ..loops import instances, reads_of, replaced, whole
+from ..source import Refused
+
+MOST = 10_000_000_000_000
+
+
+def words_of(term):
+    """The words of a term that is made of numbers, words, +, - and * alone, as an index of a loop is; None of another one."""
+    found, left = [], [term]
+    while left:
+        kind, *parts = left.pop()
+        if kind == "name":
+            found.append(parts[0])
+        elif kind == "op" and parts[0] in ("+", "-", "*", "neg"):
+            left += parts[1]
+        elif kind != "number":
+            return None
+    return found
+
+
+def number_of(term, letters):
+    """What such a term is worth, or None where a word is no number, or a value is beyond the greatest amount. A sum has any number of terms."""
+    behind = []
+    while term[0] == "op" and len(term[2]) == 2:
+        behind.append((term[1], term[2][1]))
+        term = term[2][0]
+    if term[0] == "op":
+        worth = number_of(term[2][0], letters)
+        worth = None if worth is None else -worth
+    else:
+        word = replaced(term[1], letters)
+        worth = decimal.Decimal(word) if term[0] == "number" or word.isdigit() else None
+    for sign, part in reversed(behind):
+        other = number_of(part, letters)
+        if worth is None or other is None:
+            return None
+        worth = {"+": worth + other, "-": worth - other, "*": worth * other}[sign]
+        worth = worth if abs(worth) <= MOST else None
+    return worth if worth is None or abs(worth) <= MOST else None
+
+
+def cells_read(name, size, index, letters):
+    """The cells that a read comes to, as `lint` counts them: of a table the one of a number, and all of any other index."""
+    if index is None or size is None:
+        return [(name, None)]
+    spelled = replaced(index[1], letters) if index[0] in ("number", "name") else ""
+    return [(name, whole(spelled))] if spelled.isdigit() else [(name, k) for k in range(size)]
+
+
+class Base:
+    """The rule files of a list: what its rules that count set and read."""
+
+    def __init__(self, list_name):
+        self.source, self.list_name = source.RuleBase(list_name), list_name
+        self.sizes = {variable.name: variable.size for variable in self.source.variables}
+        self.set, self.read, self.past = set(), set(), []
+        for file in self.source.files:
+            reader, faults = items.read(file.bytes.removeprefix(source.MARK))
+            if faults:
+                raise Refused(f"{file.place(faults[0].byte)}: {faults[0].what}; tools/explain --all says more")
+            self.shift = len(source.MARK) if file.bytes.startswith(source.MARK) else 0
+            for formula in reader.formulas:
+                if self.source.application in formula.applications and not formula.is_chained:
+                    self.look_at_target(formula)
+                    self.look_at(file, formula.term, formula.loops)
+            for check in reader.checks:
+                if self.source.application in check.applications:
+                    self.look_at(file, check.condition, [])
+
+    def look_at_target(self, formula):
+        for letters in instances(formula.loops, [formula.target]):
+            name = replaced(formula.target, letters)
+            size = self.sizes.get(name)
+            self.set.update((name, k) for k in range(size or 0)) if formula.slot == "X" else self.set.add((name, formula.slot and int(formula.slot)))
+
+    def look_at(self, file, term, headers):
+        for word, index, byte, round_it in reads_of(term, headers):
+            place = file.place(byte + self.shift)
+            words = None if index is None else words_of(index)
+            for letters in instances(round_it, [word, *(words or [])]):
+                name = replaced(word, letters)
+                number = number_of(index, letters) if words is not None else None
+                size = self.sizes.get(name)
+                self.read.update(cells_read(name, size, index, letters))
+                if number is not None and size is not None and not -1 < number < size:
+                    what = "is undefined" if number > 0 else "is 0"
+                    self.past.append(f"{place}: {name}[{int(number)}] is past the table, which has {size} cells, and {what}")
+                    break
+
+
+def slips_of_names(base, set_by_driver, driver):
+    """Indexes past their table, cells that nothing sets or reads, and how many variables and cells are read and never set, which `lint` names."""
+    yield from base.past
+    done, undefined = base.set | set_by_driver, 0
+    for variable in base.source.variables:
+        if variable.kind != "calculee":
+            continue
+        cells = [(variable.name, k) for k in ([None] if variable.size is None else range(variable.size))]
+        bare = [cell for cell in cells if cell not in done]
+        undefined += sum(cell in base.read for cell in bare)
+        idle = [k for name, k in bare if k is not None and (name, k) not in base.read]
+        if idle and (len(bare) < len(cells) or len(idle) < len(bare)):
+            shown = ", ".join(f"{variable.name}[{k}]" for k in idle[:5])
+            yield f"{variable.place}: nothing sets {shown}{' ..' if len(idle) > 5 else ''}, {len(idle)} of {variable.size} cells"
+    if undefined:
+        yield f"{base.list_name}: variables or cells that are read and never set: {undefined}; m_tax lint {base.list_name} {driver} - names them"
+
+
+def slips_of_driver(name, driver, bases):
+    """Kinds that no input has."""
+    inputs = [variable for base in bases for variable in base.source.variables if variable.kind == "saisie"]
+    for attribute, values, line, _ in driver.kinds:
+        numbers = {decimal.Decimal(value) for value in values}
+        if not any(attribute in variable.numbers and decimal.Decimal(variable.numbers[attribute]) in numbers for variable in inputs):
+            yield f"{name} line {line}: no input has {attribute} = {', '.join(values)}"
+
+
+def slips_of_bytes(name, content):
+    """A mark at the front, and carriage returns that end no line."""
+    if content.startswith(source.MARK):
+        yield f"{name} line 1 byte 0: a byte order mark, which the program refuses here: save the file as UTF-8 without one"
+    alone = re.search(rb"\r(?!\n)", content)
+    if alone:
+        number = content.count(b"\n", 0, alone.start()) + 1
+        yield f"{name} line {number} byte {alone.start()}: a carriage return alone, which ends no line: a comment or a name goes on after it"
+
+
+def slips_of_folder(list_name, names):
+    """A list whose files stand in a folder beside its own, or have namesakes beside it."""
+    own = os.path.dirname(os.path.abspath(list_name))
+    told = set()
+    for name in names:
+        folder, base = os.path.split(os.path.abspath(name))
+        beside = os.path.dirname(folder) == os.path.dirname(own) or os.path.exists(os.path.join(own, base))
+        if folder != own and beside and folder not in told and not folder.startswith(own + os.sep):
+            told.add(folder)
+            yield f"{list_name}: its files are those of {os.path.dirname(name) or '.'}, as {name}, and not those beside the list"
+
+
+def read_driver(name, content):
+    """A driver without faults."""
+    driver = drivers.Driver(content.removeprefix(source.MARK))
+    if driver.faults:
+        raise Refused(f"{name} line {driver.faults[0].line}: {driver.faults[0].what}; tools/explain --all says more")
+    return driver
+
+
+def slips(lists, names):
+    contents = {name: source.fetch(name) for name in names}
+    for name in lists:
+        yield from slips_of_bytes(name, source.fetch(name))
+    for name, content in contents.items():
+        yield from slips_of_bytes(name, content)
+    bases = [Base(name) for name in lists]
+    named_drivers = {name: read_driver(name, content) for name, content in contents.items()}
+    set_by_driver = {cell for driver in named_drivers.values() for cell in driver.set}
+    for base in bases:
+        yield from slips_of_folder(base.list_name, [file.name for file in base.source.files])
+        if not any("restituee" in variable.words for variable in base.source.variables):
+            yield f"{base.list_name}: no variable has restituee"
+        application = base.source.application
+        if not any(rule.kind == "regle" and not rule.is_chained and application in dict(rule.applications) for rule in base.source.rules):
+            yield f"{base.list_name}: no rule is of the application {application}"
+    yield from slips_of_files(bases)
+    for base in bases:
+        yield from slips_of_names(base, set_by_driver, names[0] if len(names) == 1 else "-")
+    for name, driver in named_drivers.items():
+        yield from slips_of_driver(name, driver, bases)
+
+
+def slips_of_files(bases):
+    """What the files say by themselves: bytes, attributes, applications."""
+    known = {base.source.application for base in bases}
+    files = {file.name: file for base in bases for file in base.source.files}
+    strange = {}
+    for file in files.values():
+        yield from slips_of_bytes(file.name, file.bytes)
+        for variable in file.variables:
+            for word, place in variable.numbered:
+                if word == "restituee":
+                    yield f"{place}: restituee = .. returns nothing, of {variable.name}"
+        for rule in file.rules:
+            for application, place in rule.applications:
+                if application not in known:
+                    strange.setdefault(application, []).append(place)
+    for application, places in strange.items():
+        yield f"{places[0]}: application {application} is of no list that is given; rules and verifications: {len(places)}"
+
+
+def main(words):
+    lists, named_drivers = [], []
+    if "--help" in words:
+        print(__doc__, end="")
+        return 0
+    while words:
+        word = words.pop(0)
+        if word == "--driver" and words:
+            named_drivers.append(words.pop(0))
+        elif word.startswith("--"):
+            lists = []
+            break
+        else:
+            lists.append(word)
+    if not lists:
+        print("slips: words: slips [--driver FILE] LIST..; see --help", file=sys.stderr)
+        return 2
+    try:
+        found = list(dict.fromkeys(slips(lists, named_drivers)))
+    except Refused as fault:
+        print(f"slips: {fault}", file=sys.stderr)
+        return 3
+    for slip in found:
+        print(f"slip {slip}")
+    return 1 if found else 0

@@ -1,0 +1,118 @@
+"""Turns the output of `batch` into a csv table: a row for each household, a column for each request.
+
+    m_tax batch LIST DRIVER REQUESTS TABLE | table-out [--french] [--bare] [--requests REQUESTS | --list LIST] > FILE
+
+The columns are `name`, the requests in their order, `undefined` and `over` (the requests that are so, with a blank between; their fields
+are empty), `notes` (the verifications that were noted, as `2000 A20`, with `; ` between), `stop` (the line of the verification or condition that stopped
+the run; all other fields are empty) and `text` (the error's text). All is UTF-8; labels and texts that aren't are taken as Latin-1.
+
+    --french             for French Excel and LibreOffice: `;` between fields, decimal commas, carriage returns, and a byte order mark
+    --bare               leaves labels and texts as they are, for programs; else one that begins with = + - @ has a ' before it, since spreadsheets
+                         take it as a formula
+    --requests FILE      the columns are those of this request file; --list LIST: the returned variables of this list. The first answer tells them
+                         too, so this is for outputs in which all households stopped
+
+The status is 0; 1 where the input is no whole output of `batch`, as an error line, one that was cut off or one without households; 2 for wrong words; 3
+where a file can't be read; 4 where the output was closed. Where it isn't 0 don't use what was printed. An output whose status was 4 or 5 may end
+between two households: look at the status of batch, too.
+"""
+import itertools
+import re
+import sys
+
+from .. import records, source
+from ..records import Strange
+
+
+def rows(found, french, names, guarded):
+    """The fields of each household. Where the names aren't given the first answer has them, and what stops before it waits for them."""
+    waiting, is_empty = [], True
+    for label, notes, pairs, stop in found if names is None else ():
+        waiting.append((label, notes, pairs, stop))
+        if stop is None:
+            names = [name for name, _ in pairs]
+            break
+    if names is None:
+        raise Strange("all households stopped, so nothing tells the columns: give --requests REQUESTS or --list LIST" if waiting else "no households")
+    yield [b"name", *names, b"undefined", b"over", b"notes", b"stop", b"text"]
+    empty = [b""] * len(names)
+    for label, notes, pairs, stop in itertools.chain(waiting, found):
+        is_empty, shown = False, guarded(label)
+        if stop is not None:
+            yield [shown, *empty, b"", b"", b"", stop[0], guarded(stop[1])]
+            continue
+        values, marked = [value for _, value in pairs], {b"undefined": [], b"over": []}
+        if b"undefined" in values or b"over" in values:
+            for k, (name, value) in enumerate(pairs):
+                if value in marked:
+                    marked[value].append(name)
+                    values[k] = b""
+        if french:
+            values = [value.replace(b".", b",") for value in values]
+        yield [shown, *values, b" ".join(marked[b"undefined"]), b" ".join(marked[b"over"]), b"; ".join(note for note, _ in notes), b"", b""]
+    if is_empty:
+        raise Strange("no households")
+
+
+def unlike_a_formula(text):
+    """A text with a sign before it that keeps a spreadsheet from computing it."""
+    return b"'" + text if text[:1] in (b"=", b"+", b"-", b"@", b"\t", b"\r") else text
+
+
+def names_of(words):
+    """The columns that the words tell, if any."""
+    option, name = words
+    if option == "--requests":
+        return [line for line in re.split(rb"\r?\n", source.fetch(name)) if line]
+    cells = []
+    for variable in source.RuleBase(name).variables:
+        if "restituee" in variable.words:
+            cells += [variable.name] if variable.size is None else [f"{variable.name}[{k}]" for k in range(variable.size)]
+    return [cell.encode("latin-1") for cell in cells]
+
+
+def quoted(field, delimiter):
+    """A field as csv has it, in UTF-8; what isn't UTF-8 is taken as Latin-1."""
+    if not field.isascii():
+        try:
+            field.decode("utf-8")
+        except UnicodeDecodeError:
+            field = field.decode("latin-1").encode("utf-8")
+    if delimiter in field or b'"' in field or b"\r" in field:
+        return b'"' + field.replace(b'"', b'""') + b'"'
+    return field
+
+
+def main(words):
+    options = set()
+    if "--help" in words:
+        print(__doc__, end="")
+        return 0
+    while words and words[0] in ("--french", "--bare"):
+        options.add(words.pop(0))
+    if words and (len(words) != 2 or words[0] not in ("--requests", "--list")):
+        print("table-out: words: table-out [--french] [--bare] [--requests REQUESTS | --list LIST]; see --help", file=sys.stderr)
+        return 2
+    french = "--french" in options
+    delimiter, end = (b";", b"\r\n") if french else (b",", b"\n")
+    out = sys.stdout.buffer
+    try:
+        names = names_of(words) if words else None
+    except source.Refused as fault:
+        print(f"table-out: {fault}", file=sys.stderr)
+        return 3
+    guarded = (lambda text: text) if "--bare" in options else unlike_a_formula
+    try:
+        for number, fields in enumerate(rows(records.answers(iter(source.standard_input()), names), french, names, guarded)):
+            if number == 0 and french:
+                out.write(b"\xef\xbb\xbf")
+            out.write(delimiter.join([quoted(field, delimiter) for field in fields]) + end)
+    except Strange as fault:
+        out.flush()
+        print(f"table-out: {fault}", file=sys.stderr)
+        return 1
+    except source.Refused as fault:
+        out.flush()
+        print(f"table-out: {fault}", file=sys.stderr)
+        return 3
+    return 0
