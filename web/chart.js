@@ -3,14 +3,13 @@ import { drawn } from './dom.js';
 import { marginalRate, meanRate } from './curve.js';
 import { spellNumber } from './spelling.js';
 
-const WIDTH = 760;
+const NARROWEST = 320;
 const LEFT = 74;
-const RIGHT = 16;
-const TOP = 12;
-const HEIGHT = 210;
-const GAP = 34;
+const RIGHT = 30;
+const TOP = 24;
+const HEIGHT = 200;
+const GAP = 44;
 const BOTTOM = 34;
-const COLUMNS = 670;
 const UNITS = 1e6;
 
 // Round numbers from low to high, some five of them.
@@ -47,22 +46,22 @@ export function pieces(points, columns) {
 }
 
 class Panel {
-  constructor(language, across, top, values, suffix) {
+  constructor({ language, across, right }, top, values, suffix) {
     const known = values.flat().filter((point) => point[1] !== null).map((point) => point[1]);
     const [low, high] = known.reduce(([a, b], each) => [Math.min(a, each), Math.max(b, each)], [0, 0]);
-    Object.assign(this, { language, across, top, low, high: high === low ? low + 1 : high, suffix });
+    Object.assign(this, { language, across, right, top, low, high: high === low ? low + 1 : high, suffix });
     this.down = scale(this.low, this.high, top + HEIGHT, top);
   }
 
   axis() {
     return ticks(this.low, this.high).map((tick) => [
-      drawn('line', { x1: LEFT, x2: WIDTH - RIGHT, y1: this.down(tick), y2: this.down(tick), class: tick === 0 ? 'zero' : 'grid' }),
+      drawn('line', { x1: LEFT, x2: this.right, y1: this.down(tick), y2: this.down(tick), class: tick === 0 ? 'zero' : 'grid' }),
       drawn('text', { x: LEFT - 6, y: this.down(tick) + 4, class: 'tick', 'text-anchor': 'end' }, spellNumber(tick, this.language, 2) + this.suffix),
     ]);
   }
 
   line(points, name) {
-    return pieces(points, COLUMNS).map((piece) =>
+    return pieces(points, this.right - LEFT).map((piece) =>
       drawn('polyline', { class: name, points: piece.map(([x, y]) => `${this.across(x).toFixed(1)},${this.down(y).toFixed(1)}`).join(' ') }),
     );
   }
@@ -79,25 +78,25 @@ function series(found, which, width) {
   };
 }
 
-// The picture. `fallen` has the falls of each case, `at` is a place that is marked.
-export function chart(found, { language, width, fallen, labels }) {
-  const low = Number(found.amounts[0]) / UNITS;
-  const high = Number(found.amounts.at(-1)) / UNITS;
-  const across = scale(low, high, LEFT, WIDTH - RIGHT);
+// The picture, as wide as there is room. `fallen` has the falls of each case.
+export function chart(found, { language, width, fallen, labels, across: room }) {
+  const right = Math.max(NARROWEST, room) - RIGHT;
+  const [low, high] = [found.amounts[0], found.amounts.at(-1)].map((amount) => Number(amount) / UNITS);
+  const across = scale(low, high, LEFT, right);
   const all = found.results.map((_, which) => series(found, which, width));
-  const upper = new Panel(language, across, TOP, all.map((each) => each.value), '');
-  const lower = new Panel(language, across, TOP + HEIGHT + GAP, all.flatMap((each) => [each.mean, each.marginal]), '\u00a0%');
-  const height = TOP + 2 * HEIGHT + GAP + BOTTOM;
-  const bottom = height - BOTTOM;
+  const upper = new Panel({ language, across, right }, TOP, all.map((each) => each.value), '');
+  const lower = new Panel({ language, across, right }, TOP + HEIGHT + GAP, all.flatMap((each) => [each.mean, each.marginal]), '\u00a0%');
+  const bottom = TOP + 2 * HEIGHT + GAP;
+  const labelled = ticks(low, high).filter((_, k, every) => right - LEFT > 400 || k % 2 === 0 || every.length < 4);
   return drawn(
     'svg',
-    { viewBox: `0 0 ${WIDTH} ${height}`, role: 'img', 'aria-label': labels.title, class: 'chart' },
+    { viewBox: `0 0 ${right + RIGHT} ${bottom + BOTTOM}`, role: 'img', 'aria-label': labels.title, class: 'chart', 'data-right': right },
     [upper, lower].map((panel) => panel.axis()),
-    ticks(low, high).map((tick) => drawn('text', { x: across(tick), y: bottom + 18, class: 'tick', 'text-anchor': 'middle' }, spellNumber(tick, language, 2))),
+    labelled.map((tick) => drawn('text', { x: across(tick), y: bottom + 18, class: 'tick', 'text-anchor': 'middle' }, spellNumber(tick, language, 2))),
     fallen.flat().map(({ from, to }) => fallMark(across, upper.top, Number(from) / UNITS, Number(to) / UNITS)),
     all.map((each, k) => [upper.line(each.value, `value case-${k}`), lower.line(each.marginal, `marginal case-${k}`), lower.line(each.mean, `mean case-${k}`)]),
-    drawn('text', { x: LEFT, y: TOP + 4, class: 'panel' }, labels.value),
-    drawn('text', { x: LEFT, y: TOP + HEIGHT + GAP - 8, class: 'panel' }, labels.rates),
+    drawn('text', { x: 0, y: TOP - 10, class: 'panel' }, labels.value),
+    drawn('text', { x: 0, y: TOP + HEIGHT + GAP - 10, class: 'panel' }, labels.rates),
     drawn('line', { class: 'cursor', y1: TOP, y2: bottom, x1: LEFT, x2: LEFT, hidden: true }),
   );
 }
@@ -110,7 +109,7 @@ function fallMark(across, top, from, to) {
 // Moves the line that marks a place.
 export function point(picture, found, at) {
   const cursor = picture.querySelector('.cursor');
-  const x = scale(Number(found.amounts[0]), Number(found.amounts.at(-1)), LEFT, WIDTH - RIGHT)(Number(found.amounts[at]));
+  const x = scale(Number(found.amounts[0]), Number(found.amounts.at(-1)), LEFT, Number(picture.dataset.right))(Number(found.amounts[at]));
   cursor.removeAttribute('hidden');
   cursor.setAttribute('x1', x);
   cursor.setAttribute('x2', x);

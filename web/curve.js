@@ -53,9 +53,9 @@ export function meanRate({ amounts, results }, which, at) {
 }
 
 export function marginalRate({ amounts, results }, which, at, width) {
-  const until = Math.min(at + width, amounts.length - 1);
-  const [first, last] = [results[which][at], results[which][until]];
-  return first === null || last === null || until === at ? null : Number(last - first) / Number(amounts[until] - amounts[at]);
+  const until = at + width;
+  const [first, last] = [results[which][at], results[which][until] ?? null];
+  return first === null || last === null ? null : Number(last - first) / Number(amounts[until] - amounts[at]);
 }
 
 // Where what is kept (the amount less the result) falls from one step to the next: neighbouring falls are one, from an amount to an amount, with what is lost.

@@ -7,7 +7,7 @@ import { readTyped, spell, spellNumber, spellValue, typed } from './spelling.js'
 import { say } from './texts.js';
 
 const MOST_FALLS = 40;
-const WIDTHS = 400;
+const WIDTHS = 100;
 
 export class Curves {
   constructor(page) {
@@ -17,7 +17,7 @@ export class Curves {
     const names = page.law.program.outputs.filter((output) => 'name' in output).map(({ name }) => name);
     this.of = element('select', { id: 'curve-of' }, names.map((name) => element('option', { value: name, selected: name === page.main }, page.describe(name) || name)));
     this.from = element('input', { id: 'curve-from', type: 'text', inputmode: 'decimal', value: typed(0n, page.language) });
-    this.to = element('input', { id: 'curve-to', type: 'text', inputmode: 'decimal', value: typed(100_000n * UNIT, page.language) });
+    this.to = element('input', { id: 'curve-to', type: 'text', inputmode: 'decimal', value: typed(50_000n * UNIT, page.language) });
     this.message = element('p', { role: 'status', class: 'hint' });
     this.picture = element('div', { class: 'picture' });
     this.root = this.section();
@@ -77,11 +77,12 @@ export class Curves {
 
   show(found, cases, code, name) {
     const { language } = this.page;
-    const width = Math.max(1, Math.ceil(found.amounts.length / WIDTHS));
+    const unit = this.page.unit(code);
+    const width = Math.max(1, Math.ceil((found.amounts.length - 1) / WIDTHS));
     const fallen = cases.map((_, which) => falls(found, which));
     const what = this.page.describe(name) || name;
     const labels = { title: say('curve-picture', { what, box: this.page.form.describe(code) }), value: what, rates: say('curve-rates') };
-    const picture = chart(found, { language, width, fallen, labels });
+    const picture = chart(found, { language, width, fallen, labels, across: this.picture.clientWidth });
     const reading = element('p', { class: 'reading', role: 'status' });
     const slide = element('input', { type: 'range', min: 0, max: found.amounts.length - 1, value: 0, id: 'curve-at' });
     const read = () => {
@@ -90,7 +91,7 @@ export class Curves {
       slide.setAttribute('aria-valuetext', reading.textContent);
     };
     slide.addEventListener('input', read);
-    this.message.textContent = say('curve-done', { step: spell(found.step, language), width: spell(found.step * BigInt(width), language) });
+    this.message.textContent = say('curve-done', { step: spellValue(found.step, language, unit), width: spellValue(found.step * BigInt(width), language, unit) });
     refill(
       this.picture,
       this.legend(cases),
@@ -105,13 +106,14 @@ export class Curves {
   }
 
   legend(cases) {
-    const entry = (k, kind, text) => element('li', {}, element('span', { class: `swatch ${kind} case-${k}` }), text);
-    const named = (key, each) => (cases.length > 1 ? `${say(key)} (${each.name})` : say(key));
+    const entry = (kind, text) => element('li', {}, element('span', { class: `swatch ${kind}` }), text);
     return element(
       'ul',
       { class: 'legend' },
-      cases.map((each, k) => [entry(k, 'value', named('legend-value', each)), entry(k, 'marginal', named('legend-marginal', each)), entry(k, 'mean', named('legend-mean', each))]),
-      element('li', {}, element('span', { class: 'swatch fall' }), say('legend-fall')),
+      cases.length > 1 ? cases.map((each, k) => entry(`case-${k}`, each.name)) : null,
+      entry('plain', say('legend-plain')),
+      entry('plain mean', say('legend-mean')),
+      entry('fall', say('legend-fall')),
     );
   }
 

@@ -41,14 +41,21 @@ export class Form {
     this.fields.clear();
     this.count.textContent = '';
     if (wanted.length > 0) this.fillFound(wanted);
-    else refill(this.list, this.page.data.groups.map((group, k) => this.group(group, k)));
+    else refill(this.list, this.heads(), this.page.data.groups.map((group, k) => this.group(group, k)));
     this.mark();
+  }
+
+  // The names of two households, above their columns.
+  heads() {
+    if (this.state.households.length === 1) return null;
+    const names = ['first-household', 'second-household'].map((key) => element('span', { class: 'which' }, say(key)));
+    return element('div', { class: 'row two', 'aria-hidden': 'true' }, element('span', { class: 'described' }), names);
   }
 
   fillFound(wanted) {
     const found = this.law.inputs.map((_, k) => k).filter((k) => wanted.every((word) => this.words[k].includes(word)));
     this.count.textContent = say(found.length > MOST_FOUND ? 'found-many' : 'found', { count: found.length, most: MOST_FOUND });
-    refill(this.list, found.slice(0, MOST_FOUND).map((k) => this.row(k)));
+    refill(this.list, this.heads(), found.slice(0, MOST_FOUND).map((k) => this.row(k)));
   }
 
   // A group: its filled boxes stand open above it where it is closed, so that nothing that counts is hidden.
@@ -75,14 +82,15 @@ export class Form {
     const { code, type } = this.law.inputs[input];
     const pair = this.state.households.map((_, which) => this.field(input, which, type));
     const unit = type === 'truth' ? '' : (this.page.data.units[code] ?? '');
-    const title = [element('span', {}, this.describe(code)), ' ', element('code', {}, code), unit === '' ? null : element('span', { class: 'hint' }, ` (${unit})`)];
-    const described = element('div', { class: 'described' }, title);
+    const tail = element('span', { class: 'tail' }, element('code', {}, code), unit === '' ? null : element('span', { class: 'hint' }, ` ${unit}`));
+    const title = [this.describe(code), ' ', tail];
     if (pair.length === 1) {
       const label = element('label', { for: pair[0].id }, title);
       return element('div', { class: type === 'truth' ? 'row check' : 'row', 'data-code': code }, label, pair[0].root, pair[0].fault);
     }
-    const columns = pair.map((field) => element('div', {}, element('label', { for: field.id, class: 'which' }, field.name), field.root, field.fault));
-    return element('div', { class: 'row two', role: 'group', 'data-code': code, 'aria-label': `${this.describe(code)}, ${code}` }, described, columns);
+    const columns = pair.map((field) => element('div', {}, element('label', { for: field.id, class: 'unseen' }, field.name), field.root, field.fault));
+    const kind = type === 'truth' ? 'row two check' : 'row two';
+    return element('div', { class: kind, role: 'group', 'data-code': code, 'aria-label': `${this.describe(code)}, ${code}` }, element('div', { class: 'described' }, title), columns);
   }
 
   // A field of one household: a checkbox for what is 0 or 1, else a line to type in.
@@ -99,13 +107,19 @@ export class Form {
             inputmode: type === 'whole' ? 'numeric' : 'decimal',
             autocomplete: 'off',
             input: () => this.take(which, input, root.value),
-            change: () => this.state.faults[which].has(input) || (root.value = typed(this.state.households[which][input], this.page.language)),
+            change: () => this.settle(which, input, root),
           });
     const amount = this.state.households[which][input];
     if (type === 'truth') root.checked = amount === UNIT;
     else root.value = this.state.faults[which].get(input)?.text ?? typed(amount, this.page.language);
     this.fields.set(`${which} ${input}`, { root, fault });
     return { id, root, fault, name: say(which === 0 ? 'first-household' : 'second-household') };
+  }
+
+  // What was typed is taken, and spelled as amounts are.
+  settle(which, input, root) {
+    this.take(which, input, root.value);
+    if (!this.state.faults[which].has(input)) root.value = typed(this.state.households[which][input], this.page.language);
   }
 
   take(which, input, text) {

@@ -3,7 +3,7 @@ import { UNDEFINED } from './amounts.js';
 import { element, refill } from './dom.js';
 import { say } from './texts.js';
 
-const MOST_STEPS = 2_000;
+const MOST_PRINTED = 2_000;
 
 export class Paper {
   constructor(page) {
@@ -33,7 +33,7 @@ export class Paper {
     const found = new Set();
     const left = page.law.program.outputs.filter((output) => 'name' in output).map(({ name }) => ({ cell: name, isDone: false })).reverse();
     const seen = new Set();
-    while (left.length > 0 && found.size < MOST_STEPS) {
+    while (left.length > 0 && found.size < MOST_PRINTED) {
       const { cell, isDone } = left.pop();
       if (isDone) found.add(cell);
       if (isDone || seen.has(cell)) continue;

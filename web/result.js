@@ -44,7 +44,10 @@ export class Result {
     const description = this.page.describe(name) || name;
     const told = answers.map((answer) => (answer.stop === null ? this.spell(name, answer) : say('stopped')));
     if (told.length === 1) return answers[0].stop === null ? say('headline', { what: description, value: told[0] }) : say('stopped-long');
-    return this.page.cases.map(({ name: which }, k) => element('span', { class: 'line' }, say('headline-of', { which, what: description, value: told[k] })));
+    const lines = this.page.cases.map(({ name: which }, k) => element('span', { class: 'line' }, say('headline-of', { which, what: description, value: told[k] })));
+    if (answers.some(({ stop }) => stop !== null)) return lines;
+    const values = answers.map((answer) => answer.named.find((each) => each.name === name).value);
+    return [...lines, element('span', { class: 'line mark' }, say('headline-difference', { value: this.page.why.difference(name, values) }))];
   }
 
   spell(name, answer) {
@@ -56,9 +59,10 @@ export class Result {
   messages(answers) {
     return answers.map((answer, k) => {
       const { name, law } = this.page.cases[k];
-      const head = answers.length === 1 ? null : element('strong', {}, `${name}\u00a0: `);
-      if (answer.stop !== null) return element('div', { class: 'message stop', role: 'alert' }, head, this.stop(law, answer), this.boxes(law, answer));
-      return answer.notes.map((label) => element('div', { class: 'message note' }, head, say('noted', this.told(law, label))));
+      const head = () => (answers.length === 1 ? null : element('strong', {}, `${name}\u00a0: `));
+      if (answer.stop !== null) return element('div', { class: 'message stop', role: 'alert' }, head(), this.stop(law, answer), this.boxes(law, answer));
+      const notes = new Set(answer.notes.map((label) => say('noted', this.told(law, label))));
+      return [...notes].map((text) => element('div', { class: 'message note' }, head(), text));
     });
   }
 
@@ -81,7 +85,8 @@ export class Result {
     if (answers.some(({ stop }) => stop !== null)) return null;
     const names = answers[0].named.map(({ name }) => name);
     const all = (name) => answers.map((answer) => answer.named.find((each) => each.name === name)?.value ?? UNDEFINED);
-    const heads = answers.length === 1 ? null : element('div', { class: 'heads' }, element('span', {}), this.page.cases.map(({ name }) => element('span', {}, name)));
-    return [element('p', { class: 'hint' }, say('unfold')), heads, names.map((name) => this.page.why.asked(name, all(name), name))];
+    const heads = answers.length === 1 ? null : element('div', { class: 'heads', 'aria-hidden': 'true' }, element('span', {}), [...this.page.cases.map(({ name }) => name), say('difference')].map((name) => element('span', {}, name)));
+    const opener = answers.length === 1 ? null : button(say('open-differences'), () => this.page.why.openDifferences(this.list), { id: 'open-differences' });
+    return [element('p', { class: 'hint' }, say('unfold')), opener, heads, names.map((name) => this.page.why.asked(name, all(name), name))];
   }
 }

@@ -1,13 +1,15 @@
 // Why a value is what it is: the formula with its figures, what was taken, and below it what the formula reads, down to boxes and constants.
-import { UNDEFINED } from './amounts.js';
+import { OPERATORS, UNDEFINED } from './amounts.js';
 import { element } from './dom.js';
 import { Shown } from './formula.js';
 import { spellValue } from './spelling.js';
 import { say } from './texts.js';
 
+const MOST_OPENED = 200;
+
 export class Why {
   constructor(page) {
-    Object.assign(this, { page, open: new Set() });
+    Object.assign(this, { page, open: new Set(), fills: new WeakMap() });
   }
 
   // The value of a cell in a case, by one call of the rules where some inputs are hidden.
@@ -23,27 +25,39 @@ export class Why {
   // The heading of a step: what it is, its name, and its value in each case.
   heading(cell, values) {
     const description = this.page.describe(cell);
-    const differs = values.length > 1 && values[0] !== values[1];
     return [
       element('span', { class: 'what' }, description, description === '' ? null : ' ', element('code', {}, cell)),
       values.map((value) => element('span', { class: 'amount' }, this.spell(cell, value))),
-      differs ? element('span', { class: 'mark' }, say('differs')) : null,
+      values.length > 1 ? element('span', { class: values[0] === values[1] ? 'amount' : 'amount mark' }, this.difference(cell, values)) : null,
     ];
   }
 
+  // What a second value has more than the first, with its sign; nothing where they are the same.
+  difference(cell, [first, second]) {
+    if (first === second) return '=';
+    if (typeof first !== 'bigint' || typeof second !== 'bigint') return say('differs');
+    const more = OPERATORS.sub(second, first);
+    return `${typeof more === 'bigint' && more > 0n ? '+' : ''}${this.spell(cell, more)}`;
+  }
+
   // What unfolds: its body is made when it is opened, and stays open while figures change.
-  unfolding(heading, path, body, differs) {
-    const details = element('details', { class: differs ? 'step differs' : 'step' }, element('summary', {}, heading));
-    const fill = () => details.childElementCount === 1 && details.append(element('div', { class: 'body' }, body()));
-    if (this.open.has(path)) {
+  unfolding(heading, path, body, differs, cell) {
+    const details = element('details', { class: this.kind(differs), 'data-cell': cell }, element('summary', {}, heading));
+    const fill = () => {
       details.open = true;
-      fill();
-    }
+      if (details.childElementCount === 1) details.append(element('div', { class: 'body' }, body()));
+    };
+    this.fills.set(details, fill);
+    if (this.open.has(path)) fill();
     details.addEventListener('toggle', () => {
       this.open[details.open ? 'add' : 'delete'](path);
       if (details.open) fill();
     });
     return details;
+  }
+
+  kind(differs) {
+    return ['step', ...(this.page.cases.length > 1 ? ['two'] : []), ...(differs ? ['differs'] : [])].join(' ');
   }
 
   // A cell as a step, with all that stands below it.
@@ -52,9 +66,9 @@ export class Why {
     const heading = this.heading(cell, values);
     const differs = values.length > 1 && values[0] !== values[1];
     if (this.page.cases.every(({ law }) => law.formula(cell) === null)) {
-      return element('div', { class: differs ? 'step leaf differs' : 'step leaf' }, heading, element('p', { class: 'place' }, this.role(cell, values, hidden)));
+      return element('div', { class: `${this.kind(differs)} leaf` }, heading, element('p', { class: 'place' }, this.role(cell, values, hidden)));
     }
-    return this.unfolding(heading, path, () => this.body(cell, hidden, path), differs);
+    return this.unfolding(heading, path, () => this.body(cell, hidden, path), differs, [cell, ...hidden].join(' '));
   }
 
   // What sets a cell that has no formula.
@@ -67,41 +81,44 @@ export class Why {
     return `${say(key, { code })} · ${place}`;
   }
 
-  body(cell, hidden, path) {
+  body(cell, hidden, path, more = null) {
     const found = this.page.cases.map((each) => this.reason(each, cell, hidden));
     const below = new Set(found.flatMap((reason) => reason.cells));
     return [
       this.lines(found),
+      more,
       [...below].map((read) => this.step(read, hidden, `${path}/${read}`)),
     ];
   }
 
-  // The lines of each case; where both have the same, once.
+  // The lines of each case. What both have is said once: the formula, its place, and figures that are the same.
   lines(found) {
-    const drawn = ({ lines }) => lines.map(({ kind, text }) => element('p', { class: kind }, text));
+    const drawn = (lines) => lines.map(({ kind, text }) => element('p', { class: kind }, text));
     const [first, second] = found;
-    if (second === undefined || JSON.stringify(first.lines) === JSON.stringify(second.lines)) return drawn(first);
-    const common = first.lines[0].text === second.lines[0].text ? 1 : 0;
-    const rest = (reason, k) => element('div', { class: 'case' }, element('p', { class: 'which' }, this.page.cases[k].name), drawn({ lines: reason.lines.slice(common) }));
-    return [drawn({ lines: first.lines.slice(0, common) }), element('div', { class: 'cases' }, rest(first, 0), rest(second, 1))];
+    if (second === undefined) return drawn([...first.head, ...first.lines, ...first.foot]);
+    const isSame = (part) => JSON.stringify(first[part]) === JSON.stringify(second[part]);
+    if (isSame('head') && isSame('lines') && isSame('foot')) return this.lines([first]);
+    const isOneFormula = isSame('head') && isSame('foot');
+    const own = (reason) => (isOneFormula ? reason.lines : [...reason.head, ...reason.lines, ...reason.foot]);
+    const column = (reason, k) => element('div', { class: 'case' }, element('p', { class: 'which' }, this.page.cases[k].name), drawn(own(reason)));
+    return [isOneFormula ? drawn(first.head) : null, element('div', { class: 'cases' }, found.map(column)), isOneFormula ? drawn(first.foot) : null];
   }
 
   // How a cell has its value in a case: lines, and the names of the cells that it was taken from.
   reason(each, cell, hidden) {
     const formula = each.law.formula(cell);
-    if (formula === null) return { lines: [{ kind: 'place', text: say('no-rule') }], cells: [] };
+    if (formula === null) return { head: [], lines: [], foot: [{ kind: 'place', text: say('no-rule') }], cells: [] };
     const shown = new Shown(each.law, each.law.cells(each.amounts, hidden), this.page.language, each.law.places.get(cell));
     const { choices, reads, terms, cells } = shown.path(formula.tree);
     return {
+      head: [{ kind: 'formula', text: formula.tree[0] === '?' ? formula.text : `${cell} = ${shown.text(formula.tree, false)}` }],
       lines: [
-        { kind: 'formula', text: formula.tree[0] === '?' ? formula.text : `${cell} = ${shown.text(formula.tree, false)}` },
         ...choices.map((choice) => ({ kind: 'taken', text: this.choice(shown, choice) })),
         ...reads.map((read) => ({ kind: 'taken', text: this.read(shown, read) })),
         ...terms.map((term) => ({ kind: 'term', text: this.term(shown, term) })),
         ...this.figures(shown, formula.tree, cell),
-        { kind: 'place', text: say('place-rule', formula) },
-        ...formula.comments.map((text) => ({ kind: 'comment', text })),
       ],
+      foot: [{ kind: 'place', text: say('place-rule', formula) }, ...formula.comments.map((text) => ({ kind: 'comment', text }))],
       cells: cells.map((place) => each.law.data.cells[place][0]),
     };
   }
@@ -109,9 +126,10 @@ export class Why {
   // The formula with figures, and its value.
   figures(shown, tree, cell) {
     if (tree[0] === '?') return [];
-    const result = this.spell(cell, shown.values[shown.cell]);
+    const value = shown.values[shown.cell];
     const text = shown.text(tree, true);
-    return [{ kind: 'figures', text: text === result ? `= ${result}` : `= ${text} = ${result}` }];
+    const result = this.spell(cell, value);
+    return [{ kind: 'figures', text: text === spellValue(value, this.page.language) ? `= ${result}` : `= ${text} = ${result}` }];
   }
 
   choice(shown, { condition, at, value }) {
@@ -133,20 +151,31 @@ export class Why {
     return `${label}\u2002:\u2002${names}${figures === result ? '' : ` = ${figures}`} = ${result}`;
   }
 
+  // Opens what differs between the cases, from the values that are asked for down to what was declared, each cell once.
+  openDifferences(root) {
+    const opened = new Set();
+    for (;;) {
+      const closed = [...root.querySelectorAll('details.differs:not([open])')].find(({ dataset }) => !opened.has(dataset.cell));
+      if (closed === undefined || opened.size >= MOST_OPENED) return;
+      opened.add(closed.dataset.cell);
+      this.fills.get(closed)();
+    }
+  }
+
   // A value that is asked for. Where a driver sets it, by which of its commands.
   asked(cell, values, path) {
     const isKnown = this.page.cases.every((each) => each.law.data.whole !== '');
     const heading = this.heading(cell, values);
     const differs = values.length > 1 && values[0] !== values[1];
-    if (!isKnown) return this.unfolding(heading, path, () => element('p', {}, say('no-steps')), differs);
+    if (!isKnown) return this.unfolding(heading, path, () => element('p', {}, say('no-steps')), differs, cell);
     const isPlain = this.page.cases.every((each, k) => this.isOfOneCall(each, cell, values[k]));
-    const body = () => (isPlain ? [this.received(cell), this.bodyOf(cell, path)] : this.originsOf(cell, path));
-    return this.unfolding(heading, path, body, differs);
+    const body = () => (isPlain ? this.bodyOf(cell, path) : this.originsOf(cell, path));
+    return this.unfolding(heading, path, body, differs, cell);
   }
 
   bodyOf(cell, path) {
     const isLeaf = this.page.cases.every(({ law }) => law.formula(cell) === null);
-    return isLeaf ? this.step(cell, [], `${path}/${cell}`) : this.body(cell, [], path);
+    return isLeaf ? [this.received(cell), this.step(cell, [], `${path}/${cell}`)] : this.body(cell, [], path, this.received(cell));
   }
 
   // Whether the value is that of one call of the rules for the household as it stands.

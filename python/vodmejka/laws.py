@@ -7,7 +7,7 @@ import os
 import re
 import tempfile
 
-from vodmejka import origins, passages, reasons, runs, source, trees
+from . import origins, passages, reasons, runs, source, trees
 
 REQUESTS = 100_000
 
@@ -23,7 +23,7 @@ class Refusal(Exception):
 class Files:
     """The files of a source, copied into a folder, and their names."""
 
-    def __init__(self, words, room):
+    def __init__(self, words, room, asked):
         self.room, self.names, self.contents = room, {}, []
         application, rules = source.read_list(words[0])
         self.application = application
@@ -36,6 +36,8 @@ class Files:
         for name, content in zip(words[1:], (self.driver, self.requests)):
             if content is not None:
                 self.note(name, content)
+        if asked is not None:
+            self.requests = "".join(name + "\n" for name in asked).encode()
         self.list = self.list_of(self.names)
         self.words = [self.list, *("-" if content is None else self.put(name, content) for name, content in (("driver", self.driver), ("requests", self.requests)))]
 
@@ -63,11 +65,11 @@ class Files:
 
 
 class Law:
-    """A rule base with its driver and requests."""
+    """A rule base with its driver and requests, or with the names that are asked for."""
 
-    def __init__(self, words):
+    def __init__(self, words, asked=None):
         with tempfile.TemporaryDirectory(prefix="page-") as room:
-            self.files = Files(words, room)
+            self.files = Files(words, room, asked)
             self.code = self.files.compiled(*self.files.words)
             self.rules = reasons.Rules(self.files.list)
             self.base = source.RuleBase(self.files.list)
@@ -89,11 +91,11 @@ class Law:
                 return
             except (trees.TooMany, Refusal):
                 continue
-        self.places, self.trees, self.parts, self.whole = {}, {}, trees.Parts(self.rules.variables, 0), ""
+        self.places, self.trees, self.read, self.parts, self.whole = {}, {}, set(), trees.Parts(self.rules.variables, 0), ""
 
     def walk(self, with_parts):
         """Gives each cell that is needed a number, in the order in which formulas come on them."""
-        self.places, self.trees, waiting = {}, {}, []
+        self.places, self.trees, self.read, waiting = {}, {}, set(), []
 
         def place(cell):
             if cell not in self.places:
@@ -101,7 +103,11 @@ class Law:
                 waiting.append(cell)
             return self.places[cell]
 
-        maker = trees.Trees(self.rules.sizes, place, self.parts)
+        def read(cell):
+            self.read.add(cell)
+            return place(cell)
+
+        maker = trees.Trees(self.rules.sizes, read, self.parts)
         for cell in [*self.asked, *self.of_driver()]:
             place(cell)
         for cell in waiting:
@@ -111,7 +117,7 @@ class Law:
             if formula is not None and with_parts:
                 self.trees[cell] = maker.of(formula)
             elif formula is not None:
-                self.trees[cell] = ["?", None, *(place(read) for read in formula.reads(self.rules.sizes))]
+                self.trees[cell] = ["?", None, *(read(other) for other in formula.reads(self.rules.sizes))]
 
     def of_driver(self):
         """The cells that the driver takes from calls of the rules."""
@@ -119,6 +125,10 @@ class Law:
             return []
         cells = {cell: True for commands in self.origins.functions.values() for command in commands for cell in command.cells()}
         return [cell for cell in cells if self.exists(cell)]
+
+    def is_pure(self):
+        """Whether the driver changes nothing that rules read, but by partitions: then a call of the rules is one for the household without some inputs."""
+        return not any(cell in self.read and cell not in self.rules.formulas for cell in self.of_driver())
 
     def exists(self, cell):
         name, _, index = cell.partition("[")
@@ -144,6 +154,7 @@ class Law:
             "formulas": [formula for _, formula in formulas.values()],
             "variables": dict(self.variables()),
             "errors": dict(error for passages in self.passages.values() for error in passages.errors()),
+            "pure": self.is_pure(),
             "origins": {name: self.origins.of(name) for name in self.asked} if self.origins else {},
             "files": [[shown(name), digest] for name, digest in self.files.contents],
             "digest": hashlib.sha256(self.code.encode("latin-1")).hexdigest(),

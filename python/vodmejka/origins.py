@@ -1,7 +1,7 @@
 """By which commands a driver sets a variable: for each one that is asked for, the lines that give it its value, and the calls that they go through."""
 from decimal import Decimal
 
-from vodmejka import drivers, source
+from . import drivers, source
 
 MOST = 200
 RULES = "call_m"

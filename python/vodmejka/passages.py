@@ -1,7 +1,7 @@
 """Passages of rule files: what stands at a formula, a rule or a declaration, with the comments there."""
 import bisect
 
-from vodmejka import places, reasons, source
+from . import places, reasons, source
 
 ERRORS = ("anomalie", "discordance", "informative")
 

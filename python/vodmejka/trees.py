@@ -6,7 +6,7 @@ computes its value too: the page itself computes no formula.
 """
 import re
 
-from vodmejka import loops
+from . import loops
 
 DIGITS = 12
 COMPARISONS = ("=", "!=", "<", "<=", ">", ">=")
