@@ -68,7 +68,7 @@ export class Why {
     if (this.page.cases.every(({ law }) => law.formula(cell) === null)) {
       return element('div', { class: `${this.kind(differs)} leaf` }, heading, element('p', { class: 'place' }, this.role(cell, values, hidden)));
     }
-    return this.unfolding(heading, path, () => this.body(cell, hidden, path), differs, [cell, ...hidden].join(' '));
+    return this.unfolding(heading, path, () => this.body(cell, hidden, path), differs, cell);
   }
 
   // What sets a cell that has no formula.

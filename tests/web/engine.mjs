@@ -205,7 +205,7 @@ function changes() {
 try {
   rows();
   operators();
-  EXAMPLES.forEach(([name, driver], k) => example(name, driver, k + 1));
+  if (COUNT > 0) EXAMPLES.forEach(([name, driver], k) => example(name, driver, k + 1));
   changes();
   spellingTests(judge);
 } finally {

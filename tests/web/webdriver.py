@@ -32,6 +32,7 @@ class Browser:
         options = {"args": arguments, "prefs": {"download.default_directory": self.downloads, "download.prompt_for_download": False}}
         wanted = {"browserName": "chrome", "goog:chromeOptions": options, "goog:loggingPrefs": {"browser": "ALL", "performance": "ALL"}}
         self.session = self.call("POST", "/session", {"capabilities": {"alwaysMatch": wanted}}, "")["sessionId"]
+        self.command("Browser.setDownloadBehavior", {"behavior": "allow", "downloadPath": self.downloads})
 
     def __enter__(self):
         return self
