@@ -26,7 +26,6 @@ export class Form {
       this.count,
       this.list,
     );
-    this.words = this.law.inputs.map((input) => plain(`${input.code} ${this.law.codes.get(input.code)} ${this.describe(input.code)}`));
     this.state.listen((what) => (what === 'households' ? this.fill() : this.mark()));
     this.fill();
   }
@@ -53,6 +52,7 @@ export class Form {
   }
 
   fillFound(wanted) {
+    this.words ??= this.law.inputs.map(({ code }) => plain(`${code} ${this.law.codes.get(code)} ${this.describe(code)}`));
     const found = this.law.inputs.map((_, k) => k).filter((k) => wanted.every((word) => this.words[k].includes(word)));
     this.count.textContent = say(found.length > MOST_FOUND ? 'found-many' : 'found', { count: found.length, most: MOST_FOUND });
     refill(this.list, this.heads(), found.slice(0, MOST_FOUND).map((k) => this.row(k)));

@@ -168,8 +168,8 @@ export class Why {
     const heading = this.heading(cell, values);
     const differs = values.length > 1 && values[0] !== values[1];
     if (!isKnown) return this.unfolding(heading, path, () => element('p', {}, say('no-steps')), differs, cell);
-    const isPlain = this.page.cases.every((each, k) => this.isOfOneCall(each, cell, values[k]));
-    const body = () => (isPlain ? this.bodyOf(cell, path) : this.originsOf(cell, path));
+    const isPlain = () => this.page.cases.every((each, k) => this.isOfOneCall(each, cell, values[k]));
+    const body = () => (isPlain() ? this.bodyOf(cell, path) : this.originsOf(cell, path));
     return this.unfolding(heading, path, body, differs, cell);
   }
 

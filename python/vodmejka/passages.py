@@ -7,10 +7,10 @@ ERRORS = ("anomalie", "discordance", "informative")
 
 
 class Comments:
-    """The comments of a file by their lines, and those that have their line to themselves."""
+    """The comments of a file by their lines, those that have their line to themselves, and the last line of those with which the file begins."""
 
     def __init__(self, file):
-        self.texts, self.alone = {}, set()
+        self.texts, self.alone, self.heading = {}, set(), 0
         at, seen = 0, 0
         while at < len(file.bytes):
             piece = source.GAP_OR_TOKEN.match(file.bytes, at)
@@ -25,11 +25,13 @@ class Comments:
             elif piece.lastgroup != "gap":
                 seen = file.lines.number(piece.end() - 1)
             at = piece.end()
+        while self.heading + 1 in self.alone:
+            self.heading += 1
 
     def at(self, first, last):
-        """The comments within the lines of a piece, and those on the lines right above it."""
+        """The comments within the lines of a piece, and those on the lines right above it, but for the heading of the file."""
         above = first - 1
-        while above in self.alone:
+        while above in self.alone and above > self.heading:
             above -= 1
         return [self.texts[line] for line in range(above + 1, last + 1) if self.texts.get(line)]
 

@@ -14,7 +14,7 @@ def put(room, name, text, driver=None):
     return [str(listed), str(room / f"{name}.mpp")]
 
 
-def hostile(room):
+def hostile(room, _count=0):
     """Texts that look like markup, in descriptions, comments, errors, the driver and names of files."""
     text = HOSTILE.replace('"', "''")
     rules = f"""# {text}
@@ -31,18 +31,18 @@ si A > 1 alors erreur E1 ;
     return [*words, "--title", text], [text]
 
 
-def many_inputs(room):
-    """10,000 inputs, of which some are summed."""
-    declared = [f'V{k} : saisie groupe{k % 20:02d} alias C{k} : "La case numéro {k} de la déclaration" ;' for k in range(10_000)]
-    lines = [*declared, 'S : calculee restituee : "Somme" ;', "regle 1 : application : iliad ;", f"S = {' + '.join(f'V{k}' for k in range(10_000))} ;"]
+def many_inputs(room, count=10_000):
+    """Inputs in groups, and their sum."""
+    declared = [f'V{k} : saisie groupe{k % 20:02d} alias C{k} : "La case numéro {k} de la déclaration" ;' for k in range(count)]
+    lines = [*declared, 'S : calculee restituee : "Somme" ;', "regle 1 : application : iliad ;", f"S = {' + '.join(f'V{k}' for k in range(count))} ;"]
     return put(room, "inputs", "\n".join(lines) + "\n"), ["Somme"]
 
 
-def many_rules(room):
-    """20,000 rules in a chain of some width."""
+def many_rules(room, count=20_000):
+    """Rules in a chain of some width."""
     lines = ['A : saisie alias 1AA : "Un montant" ;', 'R0 : calculee : "Le premier" ;', "regle 1 : application : iliad ;", "R0 = A * 0.5 ;"]
-    for k in range(1, 20_000):
-        end = "restituee " if k == 19_999 else ""
+    for k in range(1, count):
+        end = "restituee " if k == count - 1 else ""
         lines += [f'R{k} : calculee {end}: "Le résultat de la règle {k}" ;', f"regle {k + 1} : application : iliad ;  # art. {k} du code",
                   f"R{k} = R{max(0, k - 1)} + min(R{k // 2}, {k}) ;"]
-    return put(room, "rules", "\n".join(lines) + "\n"), ["Le résultat de la règle 19999"]
+    return put(room, "rules", "\n".join(lines) + "\n"), [f"Le résultat de la règle {count - 1}"]
