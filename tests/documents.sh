@@ -45,6 +45,10 @@ awk -F'|' '/^## /{in_table = /^## Limits/} in_table && $3 ~ /`[A-Z_]+`/{gsub(/[`
     sort >"$room/limits"
 same "the limits of m_places and those of FORMATS" "$room/constants" "$room/limits"
 
+# The same in the Python library.
+sed -n 's/^\([A-Z_]*\) = \([0-9_]*\)  # .*/\1 \2/p' python/vodmejka/limits.py | grep -v '^AMOUNT ' | sed 's/_\([0-9]\)/\1/g' | sort >"$room/library"
+same "the limits of m_places and those of the Python library" "$room/constants" "$room/library"
+
 # The usage line: one text wherever it stands.
 git grep -hoE 'usage: m_tax run[^"\\]*TABLE' -- README.md docs crates tests/started.sh | sort -u >"$room/usages"
 head -n 1 "$room/usages" >"$room/usage"

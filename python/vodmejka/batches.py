@@ -17,11 +17,11 @@ from .answers import LABEL_LINE, NEXT_LABEL, Answer, Form, Printed
 from .blocks import Hands, Piece, Told
 from .errors import Broken, Interrupted, NotFound, Refused
 from .guard import Child, memory_file
+from .limits import FILE_BYTES
 from .program import ENCODING, Program, raise_for, started
 from .tables import Household, Tables, by_columns
 
 AHEAD = 1_000
-TABLE_BYTES = 16_777_216
 SLICE = 24_576
 TABLE_NAME = "table.csv"
 ROW = re.compile(r"(refused household line )([0-9]+)(: .*)", re.DOTALL)
@@ -157,7 +157,7 @@ class Part:
         self.files.append(memory_file("table"))
         with open(self.files[0], "wb", closefd=False) as file:
             self._write(file)
-        if self.households and (os.fstat(self.files[0]).st_size <= TABLE_BYTES or len(self.households) == 1):
+        if self.households and (os.fstat(self.files[0]).st_size <= FILE_BYTES or len(self.households) == 1):
             self._start()
 
     def _start(self) -> None:

@@ -7,57 +7,20 @@ import hashlib
 import os
 import re
 import tempfile
-from typing import Any, Iterable, Iterator, NamedTuple
+from typing import Any, Iterable, Iterator, Mapping
 
 from .answers import Answer, Form, answer_of
 from .batches import Batch
 from .errors import Broken, NotFound, Refused
+from .limits import CODE_FILE_BYTES, ROWS
 from .program import ENCODING, Amount, Folder, Program, digest_of, household_bytes, is_trial, run, spelled
 from .session import Session
+from .sources import Sources, fetched, fetched_rules, named
+from .variants import Number, Text, varied
 from .tables import Household
 
-ROWS, MOST_ROWS = 50_000, 100_000
+ROWS_AT_ONCE = 50_000
 VALUES = 4_000_000
-FILE_BYTES, RULE_BYTES, CODE_FILE_BYTES, LIST_FILES = 16_777_216, 67_108_864, 1_073_741_824, 1_024
-
-
-def fetched(name: str, longest: int = FILE_BYTES) -> bytes:
-    """The bytes of a file, of one that is too long so many that the program says so."""
-    try:
-        with open(name, "rb") as file:
-            return file.read(longest + 1)
-    except (OSError, ValueError) as fault:  # (a name with a zero byte is none)
-        raise NotFound(f"unreadable {name}") from fault
-
-
-def fetched_rules(names: list[str]) -> list[tuple[str, bytes]]:
-    """The rule files of a list, each with its bytes; of what the program doesn't read, since there are too many names or bytes before, none."""
-    rules, left = [], RULE_BYTES if len(names) <= LIST_FILES else -1
-    for name in names:
-        content = fetched(name, min(FILE_BYTES, left)) if left >= 0 else b""
-        rules.append((name, content))
-        left -= len(content) if len(content) <= FILE_BYTES else left + 1
-    return rules
-
-
-def named(content: bytes) -> list[str]:
-    """The names of the rule files of a list, whose first line is the application."""
-    lines = content.replace(b"\r\n", b"\n").split(b"\n")[1:]
-    return [os.fsdecode(line) for line in lines if line]
-
-
-class Sources(NamedTuple):
-    """The texts of a source: the list, the rule files with their names, the driver and the requests."""
-
-    listing: bytes
-    rules: list[tuple[str, bytes]]
-    driver: bytes | None
-    requests: bytes | None
-
-    def digest(self) -> str:
-        """The digest of all that an answer depends on, but for the program."""
-        given = (b"none" if text is None else b"some" + text for text in (self.driver, self.requests))
-        return digest_of(self.listing, *(text for _, text in self.rules), *given)
 
 
 class Rules:
@@ -117,6 +80,18 @@ class Rules:
                 code = file.read()
         return unpickled, (self._sources, code, self.program, self._program.digest, self._cache, self.timeout)
 
+    def variant(
+        self, values: Mapping[str, Number] | None = None, *, replace: Mapping[str, Text] | None = None, driver: Text | None = None,
+        outputs: Iterable[str] | None = None,
+    ) -> Rules:
+        """The same rules with other values of constants (or of cells whose only formula is a number), other texts of rule files by their names, another
+        driver, or other requested values. What isn't named stays as it is."""
+        if self._sources is None:
+            raise Broken("a variant needs rules: a code file has no sources")
+        made = Rules.__new__(Rules)
+        made._begin(varied(self._sources, values, replace, driver, outputs), self._program, self._cache, self.timeout)
+        return made
+
     # ---- what is computed
 
     def run(self, household: Household) -> Answer:
@@ -128,7 +103,7 @@ class Rules:
             os.unlink(self._path(name))
         return answer_of(iter(lines_of(text).split("\n")[:-1]))
 
-    def batch(self, rows: Any, rows_at_once: int = ROWS) -> Any:
+    def batch(self, rows: Any, rows_at_once: int = ROWS_AT_ONCE) -> Any:
         """What households are told, in their order, as they are computed: any number of them, of which some thousand are in memory at once.
 
         `rows` is an iterable of households; then this is an iterator of answers. Or it is a frame of pandas, whose columns are codes; then this is a frame with
@@ -151,6 +126,10 @@ class Rules:
         """The codes of the inputs in order, each with its type: `truth`, `whole`, or nothing."""
         words = [line.split(" ") for line in self._lines if line.startswith("input ")]
         return {line[1]: line[2] if len(line) > 2 else "" for line in words}
+
+    def outputs(self) -> list[str]:
+        """The names of the requested values, in order."""
+        return self._outputs()
 
     def write_code(self, path: str | os.PathLike[str]) -> None:
         """Writes the code file, which `Rules.from_code` and the program's `exec` take."""
@@ -218,7 +197,7 @@ class Rules:
             return (self.run(row) for row in rows)
         form = Form(self._outputs())
         notes = sum(line.startswith("note ") for line in self._lines)
-        size = max(1, min(at_once, MOST_ROWS, VALUES // (len(form.names) + notes + 1)))
+        size = max(1, min(at_once, ROWS, VALUES // (len(form.names) + notes + 1)))
         # (an iterator may hand out one mapping again and again, changed each time: a part is read before it is written)
         taken = rows if isinstance(rows, (list, tuple)) else map(dict, rows)
         batch = Batch(self._program, ["batch", *self._words], self._room.name, form, size, self.inputs(), self._told, self.timeout)
