@@ -109,6 +109,14 @@ done | sort -u >"$room/links"
 while read -r page link; do if [ -e "$link" ]; then echo "$page $link"; fi; done <"$room/links" >"$room/there"
 same "the links of the pages and the files" "$room/links" "$room/there"
 
+# The French pages have the commands and answers of the English ones.
+blocks() { awk '/^```/{code = !code; print "--"; next} code' "$1"; }
+for pair in README.md:LISEZMOI.md docs/FIRST_HOUR.md:docs/fr/PREMIERE_HEURE.md; do
+    blocks "${pair%:*}" >"$room/blocks"
+    blocks "${pair#*:}" >"$room/french"
+    same "the commands and answers of ${pair%:*} and of ${pair#*:}" "$room/blocks" "$room/french"
+done
+
 # The front page is short.
 if [ "$(wc -c <README.md)" -lt 10240 ]; then echo short; else echo long; fi >"$room/size"
 echo short >"$room/short"
