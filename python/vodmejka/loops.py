@@ -1,7 +1,8 @@
 """Loops of rule files, for tools: the values of their letters, words with letters replaced, and what a term reads. Terms are those of grammar.py."""
 import itertools
 
-MOST = 10_000
+from .limits import LOOP_INSTANCES
+
 
 
 def whole(digits):
@@ -14,7 +15,7 @@ def values_of(pairs):
     found = []
     for low, high in pairs:
         if low.isdigit() and high.isdigit():
-            found += [f"{k:0{len(low)}}" for k in range(int(low), min(int(high), int(low) + MOST) + 1)]
+            found += [f"{k:0{len(low)}}" for k in range(int(low), min(int(high), int(low) + LOOP_INSTANCES) + 1)]
         elif low == high:
             found.append(low)
         else:
@@ -27,7 +28,7 @@ def instances(headers, words):
     bound = {letter: values for header in headers for letter, values in header}
     letters = [letter for letter in bound if any(letter in word for word in words)]
     products = itertools.product(*(values_of(bound[letter]) for letter in letters))
-    return [dict(zip(letters, values)) for values in itertools.islice(products, MOST)]
+    return [dict(zip(letters, values)) for values in itertools.islice(products, LOOP_INSTANCES)]
 
 
 def replaced(word, letters):
