@@ -54,6 +54,7 @@ class Base:
         self.variables, self.errors, self.codes, self.setters, self.targets = Place(), Place(), Place(), Place(), Place()
         self.readers, self.raisers, self.maybe = Place(), Place(), Place()
         self.counted = self.returned = 0
+        self.is_other = True  # whether what is declared may be other than a driver was looked at with
         self.todo: dict[Piece, None] = {}
         self.found: dict[Piece, Any] = {}
 
@@ -93,6 +94,7 @@ class Base:
             yield self.maybe, name
 
     def add(self, pieces: Iterable[Piece]) -> None:
+        self.is_other = True
         for piece in pieces:
             for place, name in self.entries(piece):
                 place.add(name, piece)
@@ -116,10 +118,11 @@ class Base:
 
     def replace(self, old: list[Piece], new: list[Piece]) -> None:
         """Takes other pieces in the place of some, and notes what has to be looked at again."""
-        before, after = self.facts(old), self.facts(new)
+        before, after, was_other = self.facts(old), self.facts(new), self.is_other
         tables = {name for piece in old for name in names_read(piece) if self.is_table(name)}
         self.remove(old)
         self.add(new)
+        self.is_other = was_other or any(kind in ("variable", "maybe") for kind, *_ in before ^ after)
         again = [piece for kind, name, *_ in before ^ after for piece in self.resting_on(kind, name)]
         tables.update(name for piece in new for name in names_read(piece) if self.is_table(name))
         again += [piece for name in tables for piece in self.variables.of(name)]
@@ -145,7 +148,7 @@ class Base:
             item = piece.item
             if isinstance(item, items.Declaration):
                 is_error = item.kind in items.KINDS_OF_ERRORS
-                found.add(("error" if is_error else "variable", item.name, item.kind, item.size))
+                found.add(("error" if is_error else "variable", item.name, item.kind, item.size, item.attributes))
                 if item.code is not None:
                     found.add(("code", item.code))
             elif isinstance(item, Formula):

@@ -55,22 +55,19 @@ def completion(context: Context, params: dict[str, Any]) -> dict[str, Any]:
 
 def wanted_in_rules(text: RuleText, begin: int) -> list[str]:
     """What the grammar wants behind the tokens of the piece that end before a byte. Within texts and comments it wants nothing."""
-    piece = text.pieces[max(0, text.at(begin - 1))] if text.pieces else None
-    while piece is not None and piece.begin >= begin and piece.begin > 0:
-        piece = text.pieces[text.at(piece.begin - 1)]
-    start, state = (piece.begin, piece.state) if piece is not None else (0, START)
+    number = max(0, text.at(max(0, begin - 1)) - 1)
+    start, state = (text.pieces[number].begin, text.pieces[number].state) if text.pieces else (0, START)
     if is_within(text, start, begin):
         return []
     cut = RuleText(text.path)
     cut.content, cut.is_cut = text.content[:begin], True
     reader = PieceReader(cut, start, state)
-    if not reader.tokens:
-        reader.due = state.due
-    wanted: list[str] = []
     while not reader.is_done:
         reader.next()
-        wanted = list(reader.faults[-1].wanted) if reader.faults and reader.faults[-1].found == "the end of the file" else []
-    return wanted or at_begin(reader)
+        if reader.faults and reader.faults[-1].found == "the end of the file":
+            last = reader.tokens[-1].text if reader.tokens else ""
+            return [*reader.faults[-1].wanted, *(["an attribute"] if last in ("saisie", "calculee") else [])]
+    return at_begin(reader)
 
 
 def at_begin(reader: PieceReader) -> list[str]:
@@ -122,7 +119,8 @@ def items_for(wanted: list[str], base: Base | None, text: Any, prefix: str) -> I
     if "a name, whose formula follows" in wanted:
         yield from targets(base, lowered)
     if "the name of an error" in wanted:
-        yield from (described(piece, ENUM_MEMBER, "1") for pieces in base.errors.pieces.values() for piece in pieces[:1] if starts(piece, lowered))
+        first = [piece for pieces in base.errors.pieces.values() if (piece := base.first(pieces)) is not None]
+        yield from (described(piece, ENUM_MEMBER, "1") for piece in first if starts(piece, lowered))
     if "the name of an application" in wanted or "a word" in wanted and "application" not in words:
         yield from (item(name, MODULE, "", "1") for name in applications(base) if name.lower().startswith(lowered))
     if "an attribute" in wanted:
@@ -136,7 +134,7 @@ def items_for(wanted: list[str], base: Base | None, text: Any, prefix: str) -> I
 def variables(base: Base, text: Any, lowered: str) -> Iterator[Item]:
     """Variables, those of the same file first, and inputs by their codes."""
     for pieces in base.variables.pieces.values():
-        piece = pieces[0]
+        piece = base.first(pieces) or pieces[0]
         if starts(piece, lowered):
             yield described(piece, CONSTANT if piece.item.kind == "const" else VARIABLE, "0" if piece.text is text else "1")
         if piece.item.code is not None and piece.item.code.lower().startswith(lowered):
@@ -147,8 +145,9 @@ def variables(base: Base, text: Any, lowered: str) -> Iterator[Item]:
 def targets(base: Base, lowered: str) -> Iterator[Item]:
     """Computed variables, those first that no formula sets."""
     for name, pieces in base.variables.pieces.items():
-        if pieces[0].item.kind == "calculee" and starts(pieces[0], lowered):
-            yield described(pieces[0], VARIABLE, "1" if name in base.targets else "0")
+        piece = base.first(pieces) or pieces[0]
+        if piece.item.kind == "calculee" and starts(piece, lowered):
+            yield described(piece, VARIABLE, "1" if name in base.targets else "0")
 
 
 def starts(piece: Piece, lowered: str) -> bool:
@@ -167,12 +166,14 @@ def item(label: str, kind: int, detail: str, sort: str) -> Item:
 def applications(base: Base) -> Iterable[str]:
     found = {base.application: None} if base.application else {}
     for pieces in base.setters.pieces.values():
-        found.update(dict.fromkeys(pieces[0].state.applications))
+        for piece in pieces:
+            found.update(dict.fromkeys(piece.state.applications))
     return found
 
 
 def attributes(base: Base) -> Iterable[str]:
     found = {"restituee": None}
     for pieces in base.variables.pieces.values():
-        found.update((word, None) for word, _ in pieces[0].item.attributes)
+        for piece in pieces:
+            found.update((word, None) for word, _ in piece.item.attributes)
     return found

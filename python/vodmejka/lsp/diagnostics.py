@@ -21,13 +21,13 @@ NEAR = 40  # within so many bytes after a bad byte a fault of grammar says nothi
 Diagnostic = dict[str, Any]
 
 
-def diagnostic(text: Text, begin: int, end: int, severity: int, what: str, mend: str = "", **data: Any) -> Diagnostic:
-    """A diagnostic of some bytes: `what` is what the program calls it, `mend` a sentence on what to do, `data` what code actions rest on."""
+def diagnostic(text: Text, begin: int, end: int, severity: int, what: str, mend: str = "", **more: Any) -> Diagnostic:
+    """A diagnostic of some bytes: `what` is what the program calls it, `mend` a sentence on what to do, and `more` is what code actions rest on."""
     code = re.sub(r" [^ ]*[A-Z0-9_][^ ]*$", "", what)
     told = {"range": text.range(begin, max(begin, min(end, len(text.content)))), "severity": severity, "source": "vodmejka", "code": code}
     told["message"] = f"{what}\n{mend}" if mend else what
-    if data:
-        told["data"] = data
+    if more:
+        told["data"] = {"what": what, **more}
     return told
 
 
@@ -57,7 +57,7 @@ def of_rules(workspace: Workspace, text: RuleText) -> Iterator[Diagnostic]:
                     begin, what = piece.begin + finding.begin, finding.what
                     mend = sentence(RULES, what) if finding.severity == ERROR else ""
                     token = text.decoded(text.content[begin : piece.begin + finding.end])
-                    yield diagnostic(text, begin, piece.begin + finding.end, finding.severity, what, mend, what=what, token=token)
+                    yield diagnostic(text, begin, piece.begin + finding.end, finding.severity, what, mend, token=token)
     if bases:
         yield from strange_applications(text, known)
     elif text.content.strip():
@@ -80,13 +80,13 @@ def of_grammar(text: RuleText) -> Iterator[Diagnostic]:
             is_deep = True
         end = byte + (token_length(piece, byte - piece.begin) if fault.what != "bad byte" else len(text.encoded(fault.found)) if fault.found != "a byte order mark" else 3)
         mend = could_stand(fault).strip() if fault.what in ("syntax", "bad byte") else sentence(RULES, fault.what)
-        yield diagnostic(text, byte, end, ERROR, fault.what, mend, what=fault.what, found=fault.found, wanted=list(fault.wanted))
+        yield diagnostic(text, byte, end, ERROR, fault.what, mend, found=fault.found, wanted=list(fault.wanted))
     if text.is_cut:
         byte = next(match.start() for match in QUOTE_OR_COMMENT.finditer(text.content) if match[0] == b'"')
-        yield diagnostic(text, byte, byte + 1, ERROR, "open string", RULES["open string"], what="open string")
+        yield diagnostic(text, byte, byte + 1, ERROR, "open string", RULES["open string"])
         odd = next((piece for piece in text.pieces if piece.is_odd), None)
         if odd is not None and (cut := cut_text(odd)) is not None and cut[0] != byte:
-            yield diagnostic(text, *cut, HINT, "this text isn't closed in its line, and one below is never closed", what="open string")
+            yield diagnostic(text, *cut, HINT, "this text isn't closed in its line, and one below is never closed")
 
 
 def cut_text(piece: Piece) -> tuple[int, int] | None:
@@ -128,7 +128,7 @@ def of_driver(workspace: Workspace, text: DriverText) -> Iterator[Diagnostic]:
         told = fault.fault
         mend = could_stand(told).strip() if told is not None and told.found else sentence(DRIVER, fault.what)
         data = {"found": told.found, "wanted": list(told.wanted)} if told is not None else {}
-        yield diagnostic(text, begin, end, ERROR, fault.what, mend, what=fault.what, token=text.decoded(text.content[begin:end]), **data)
+        yield diagnostic(text, begin, end, ERROR, fault.what, mend, token=text.decoded(text.content[begin:end]), **data)
     for base in bases if not text.driver.faults else []:
         yield from kinds_of_no_input(text, base)
 
@@ -160,7 +160,7 @@ def kinds_of_no_input(text: DriverText, base: Base) -> Iterator[Diagnostic]:
 def of_bytes(text: Text) -> Iterator[Diagnostic]:
     """What is told of the bytes: a byte order mark that the client hides, carriage returns, and letters that the client could not read."""
     if text.on_disk is not None and text.on_disk.startswith(source.MARK) and not text.content.startswith(source.MARK):
-        yield diagnostic(text, 0, 0, ERROR, "bad byte", MARKED, what="byte order mark")
+        yield diagnostic(text, 0, 0, ERROR, "bad byte", MARKED)
     alone = re.search(rb"\r(?!\n)", text.content)
     if alone:
         yield diagnostic(text, alone.start(), alone.end(), WARNING, "a carriage return alone, which ends no line: a comment or a name goes on after it")

@@ -86,14 +86,14 @@ def workspace_symbols(context: Context, params: dict[str, Any]) -> list[Symbol]:
         raise ResponseError(INVALID_PARAMS, "a query is a text")
     context.workspace.finish(None, context.tick)
     wanted = query.lower()
-    ranked: dict[Piece, tuple[int, str]] = {}
+    ranked: dict[Piece, tuple[int, str, str, int]] = {}
     for base in context.workspace.bases.values():
         for place in (base.variables, base.errors):
             for pieces in place.pieces.values():
                 for piece in pieces:
                     rank = rank_of(piece, wanted)
                     if rank is not None:
-                        ranked[piece] = (rank, piece.item.name)
+                        ranked[piece] = (rank, piece.item.name, piece.text.uri, piece.begin)
         context.tick()
     best = sorted(ranked, key=lambda piece: ranked[piece])[:MOST_SYMBOLS]
     return [workspace_symbol(piece) for piece in best]

@@ -58,10 +58,15 @@ class Server:
         """Does a slice of what is left; whether there is more."""
         if not self.is_initialized:
             return False
-        if self.workspace.step():
-            self.publish_early()
-            return True
-        self.publish_all()
+        try:
+            if self.workspace.step():
+                self.publish_early()
+                return True
+            self.publish_all()
+        except OSError:
+            raise
+        except Exception as fault:
+            self.log_fault("diagnostics", fault)
         return False
 
     def tick(self) -> None:

@@ -241,10 +241,10 @@ class Workspace:
             return None
         key = os.path.realpath(path)
         if key not in self.texts:
-            text = DriverText(path)
+            text = self.texts[key] = DriverText(path)
             if not os.path.isfile(path) or not self.load(text):
+                del self.texts[key]
                 return None
-            self.texts[key] = text
         found_text = self.texts[key]
         return found_text if isinstance(found_text, DriverText) else None
 
@@ -287,6 +287,10 @@ class Workspace:
         if base is not None:
             self.look_at(base)
             return True
+        for base in self.bases.values():
+            if base.is_other and (driver := self.driver_of(base)) is not None:
+                self.dirty[driver] = None
+            base.is_other = False
         return False
 
     def by_need(self) -> list[RuleText]:
