@@ -35,7 +35,7 @@ class Client:
         answer = self.answer(self.ask(method, **params))
         return answer["error"] if "error" in answer else answer["result"]
 
-    def answer(self, number, seconds=60):
+    def answer(self, number, seconds=300):
         until = time.monotonic() + seconds
         while True:
             for k, message in enumerate(self.others):

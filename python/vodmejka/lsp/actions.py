@@ -24,6 +24,7 @@ def code_actions(context: Context, params: dict[str, Any]) -> list[dict[str, Any
     """The quick fixes of the diagnostics that touch a range."""
     text = read_text(context, params)
     begin, end = range_of(text, params)
+    context.workspace.look_at_text(text, context.tick)
     found = []
     for told in diagnostics.of_text(context.workspace, text):
         if "data" in told and text.byte(told["range"]["start"]) <= end and text.byte(told["range"]["end"]) >= begin:
@@ -75,6 +76,7 @@ def in_rules(text: RuleText, data: dict[str, Any], begin: int, end: int) -> Iter
     """What mends a fault of grammar, by the tokens round it and by what could stand there."""
     before, after = tokens_round(text, begin)
     wanted, found = data["wanted"], data["found"]
+    yield from third_argument(text, found, before, after, begin)
     last = before[-1] if before else None
     if found == "," and last and last.kind == "number" and after and after[0].kind == "number":
         yield f"write a point: {last.text}.{after[0].text}", [(last.byte + len(last.text), after[0].byte, ".")]
@@ -94,7 +96,6 @@ def in_rules(text: RuleText, data: dict[str, Any], begin: int, end: int) -> Iter
             yield f"did you mean {word}?", [(begin, end, word)]
         if found.upper() != found and any(what.startswith(("a declaration", "a name in capital")) for what in wanted):
             yield f"did you mean {found.upper()}?", [(begin, end, found.upper())]
-    yield from third_argument(text, found, before, after, begin)
 
 
 def tokens_round(text: RuleText, begin: int) -> tuple[list[source.Token], list[source.Token]]:

@@ -41,7 +41,7 @@ class Place:
 
 class Base:
     """A list with its files; `is_alone` is a file that no list names, by itself. `fault` says why the list can't be read, and `missing` are the files that can't; `todo` are the pieces whose faults of names are
-    to be looked for."""
+    to be looked for, and those in `now` come first."""
 
     def __init__(self, path: str, is_alone: bool = False) -> None:
         self.path, self.uri, self.is_alone = path, uri_of(path), is_alone
@@ -56,6 +56,7 @@ class Base:
         self.counted = self.returned = 0
         self.is_other = True  # whether what is declared may be other than a driver was looked at with
         self.todo: dict[Piece, None] = {}
+        self.now: dict[Piece, None] = {}
         self.found: dict[Piece, Any] = {}
 
     def counts(self, piece: Piece) -> bool:
@@ -107,6 +108,7 @@ class Base:
                 place.remove(name, piece)
             self.count(piece, -1)
             self.todo.pop(piece, None)
+            self.now.pop(piece, None)
             self.found.pop(piece, None)
 
     def count(self, piece: Piece, one: int) -> None:
@@ -127,6 +129,14 @@ class Base:
         tables.update(name for piece in new for name in names_read(piece) if self.is_table(name))
         again += [piece for name in tables for piece in self.variables.of(name)]
         self.todo.update(dict.fromkeys(again))
+        self.now.update(dict.fromkeys(new))
+
+    def next(self) -> Piece:
+        """Takes the piece that is to be looked at next."""
+        piece = next(iter(self.now or self.todo))
+        self.now.pop(piece, None)
+        self.todo.pop(piece, None)
+        return piece
 
     def look_at_all(self) -> None:
         self.todo.update((piece, None) for text in self.texts for piece in text.pieces if piece.item is not None)
@@ -139,7 +149,10 @@ class Base:
             return [*self.raisers.of(name), *self.errors.of(name)]
         if kind == "read":
             return self.variables.of(name)
-        return [*self.variables.of(name), *self.targets.of(name), *(self.readers.of(name) if kind != "set" else [])]
+        again = [*self.variables.of(name), *self.targets.of(name)]
+        if kind in ("variable", "maybe"):
+            again += self.readers.of(name)
+        return again + (self.raisers.of(name) if kind == "maybe" else [])
 
     def facts(self, pieces: list[Piece]) -> set[tuple[Any, ...]]:
         """What the faults of other pieces may rest on."""

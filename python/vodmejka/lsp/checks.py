@@ -7,7 +7,7 @@ from typing import Any, NamedTuple
 from .. import faults, items, loops, source
 from ..commands import slips
 from .base import Base, Cell, names_of, slot_of
-from .pieces import Check, Formula, Piece, PieceReader
+from .pieces import Check, Formula, Piece, PieceReader, headers_of
 
 ERROR, WARNING, INFORMATION, HINT = 1, 2, 3, 4
 
@@ -111,9 +111,7 @@ class Checker(faults.Names):
             self.told.append((item.byte, "table size"))
 
     def look_at_loops(self, piece: Piece) -> None:
-        headers = {id(header): header for _, _, _, round_it in piece.reads for header in round_it}
-        headers.update((id(header), header) for header in getattr(piece.item, "loops", ()))
-        if any(loops.header_faults(header) for header in headers.values()):
+        if any(loops.header_faults(header) for header in headers_of(piece)):
             self.told += faults_of_headers(piece)
 
     def look_at_reads(self, piece: Piece) -> None:

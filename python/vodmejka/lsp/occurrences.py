@@ -9,7 +9,7 @@ from .. import items, loops, source
 from ..drivers import RESERVED as DRIVER_RESERVED
 from ..grammar import RESERVED
 from .base import Base, names_of
-from .pieces import Check, Formula, Head, Piece, RuleText
+from .pieces import Check, Formula, Head, Piece, RuleText, headers_of
 from .texts import Text
 from .workspace import DriverText, Workspace
 
@@ -93,7 +93,7 @@ def symbol_of(piece: Piece, tokens: list[source.Token], number: int) -> Symbol |
             letters = {letter for header in headers for letter, _ in header}
             return made(LETTER if word in letters else VARIABLE, [name for name in names_of(word, headers) if not name.isdigit()], headers, index)
     if re.fullmatch("[a-z]", token.text):
-        return made(LETTER, [])
+        return made(LETTER, [], [header for header in headers_of(piece) if token.text in (letter for letter, _ in header)])
     if isinstance(item, Head) and "application" in [other.text for other in tokens[:number]]:
         return made(APPLICATION, [token.text])
     return None if item is not None or not token.text.upper() == token.text else made(VARIABLE, [token.text])

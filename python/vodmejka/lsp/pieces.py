@@ -273,6 +273,13 @@ class RuleText(Text):
         return tail, fresh
 
 
+def headers_of(piece: Piece) -> list[Any]:
+    """The headers of the loops of a piece, each once."""
+    found = {id(header): header for header in getattr(piece.item, "loops", ())}
+    found.update((id(header), header) for _, _, _, round_it in piece.reads for header in round_it)
+    return list(found.values())
+
+
 def plain(term: Any, room: int = 50) -> Any:
     """An index without the places of its names. One that isn't numbers, names and sums and products of some of these is `other`."""
     if term is None or term[0] in ("number", "X"):

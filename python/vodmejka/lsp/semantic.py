@@ -14,7 +14,7 @@ from .pieces import Check, Formula, Head, Piece, RuleText
 from .texts import Text, units
 from .workspace import DriverText
 
-LONGEST = 1_048_576
+LONGEST = 262_144
 TYPES = ["namespace", "enumMember", "parameter", "variable", "property", "function", "keyword", "comment", "string", "number", "operator"]
 MODIFIERS = ["declaration", "readonly", "modification"]
 LEGEND = {"tokenTypes": TYPES, "tokenModifiers": MODIFIERS}
@@ -53,8 +53,9 @@ def colours_of_piece(base: Base | None, piece: Piece) -> Iterator[Coloured]:
     named = False
     for token in [*tokens_in(piece), source.Token("end", "", piece.size)]:
         begin = piece.begin + token.byte
-        for match in re.finditer(rb"#[^\n]*", content[end:begin]):
-            yield end + match.start(), end + match.end(), "comment", 0
+        if begin > end + 1:
+            for match in re.finditer(rb"#[^\n]*", content[end:begin]):
+                yield end + match.start(), end + match.end(), "comment", 0
         end = begin + len(token.text)
         named = named or token.text == "application"
         found = colour_of(base, piece, token, before, named)
@@ -81,7 +82,7 @@ def colour_of(base: Base | None, piece: Piece, token: source.Token, before: str,
         return ("namespace" if named else "property"), 0
     if isinstance(item, Check) and token.byte >= item.error_byte:
         return ("enumMember" if token.byte == item.error_byte else "property"), 0
-    if re.fullmatch("[a-z]", token.text):
+    if len(token.text) == 1 and token.text.islower():
         return "parameter", 0
     if isinstance(item, Formula) and token.byte == item.byte:
         return "variable", MODIFICATION
@@ -108,11 +109,17 @@ def colours_of_driver(text: DriverText) -> Iterator[Coloured]:
 def encoded(text: Text, found: Iterator[Coloured]) -> list[int]:
     """Tokens as the protocol has them: each counts from the one before it, and none goes over the end of a line."""
     data: list[int] = []
-    last_line = last_character = 0
+    last_line = last_character = line = 0
+    start, stop, is_ascii = 0, -1, True  # (of the line at hand)
     for begin, end, kind, modifiers in found:
-        for line, character, length in pieces_of_lines(text, begin, end):
-            data += [line - last_line, character - (last_character if line == last_line else 0), length, NUMBER_OF[kind], modifiers]
-            last_line, last_character = line, character
+        if begin > stop:
+            line = text.line_of(begin)
+            content = text.line(line)
+            start, stop, is_ascii = text.starts[line], text.starts[line] + len(content), content.isascii()
+        places = [(line, begin - start, end - begin)] if is_ascii and end <= stop else pieces_of_lines(text, begin, end)
+        for number, character, length in places:
+            data += (number - last_line, character - (last_character if number == last_line else 0), length, NUMBER_OF[kind], modifiers)
+            last_line, last_character = number, character
     return data
 
 

@@ -12,6 +12,7 @@ from .protocol import (
     INTERNAL_ERROR, INVALID_PARAMS, INVALID_REQUEST, METHOD_NOT_FOUND, NOT_INITIALIZED, REQUEST_CANCELLED, Cancelled, Connection, Malformed, ResponseError,
     params_of,
 )
+from .pieces import RuleText
 from .texts import Text, path_of
 from .workspace import Settings, Workspace
 
@@ -28,6 +29,7 @@ class Server:
         self.at_hand: Any = None
         self.polled = 0.0
         self.published: dict[str, list[Any]] = {}
+        self.is_told_early = False  # whether texts were told of, and not yet their lists
         self.runs = saved.Runs(self.workspace)
         self.workspace.log = self.log
         self.requests = features.REQUESTS
@@ -220,20 +222,32 @@ class Server:
     # ---- diagnostics
 
     def publish_early(self) -> None:
-        """What is told of a text alone, before all files of its base are read."""
-        for text in [text for text in self.workspace.dirty if text.is_open and getattr(text, "is_whole", True) and text.uri not in self.published]:
-            self.publish(text.uri, diagnostics.of_text(self.workspace, text), text.version)
+        """What is told of a text that was opened or edited, as far as it is known, while others are still to be read or looked at."""
+        workspace = self.workspace
+        for text in [text for text in workspace.dirty if text.is_open and (text in workspace.edited or text.uri not in self.published)]:
+            is_due = isinstance(text, RuleText) and any(base.now for base in workspace.bases_of(text) if all(other.is_whole for other in base.texts))
+            if getattr(text, "is_whole", True) and not is_due:
+                del workspace.dirty[text]
+                self.is_told_early = True
+                workspace.edited.pop(text, None)
+                self.publish(text.uri, diagnostics.of_text(workspace, text) + self.runs.told(text), text.version)
 
     def publish_all(self) -> None:
-        dirty, self.workspace.dirty = self.workspace.dirty, {}
+        dirty, self.workspace.dirty, self.workspace.edited = self.workspace.dirty, {}, {}
         for text in dirty:
             if self.workspace.text(text.uri) is text:
                 self.publish(text.uri, diagnostics.of_text(self.workspace, text) + self.runs.told(text), text.version)
-        for base in self.workspace.bases.values() if dirty else []:
+        bases = self.workspace.bases.values() if dirty or self.is_told_early else []
+        self.is_told_early = False
+        for base in bases:
             if not base.is_alone:
                 self.publish(base.uri, diagnostics.of_list(self.workspace, base) + self.runs.told_of_list(base))
+        known = {text.uri for text in self.workspace.texts.values()} | {base.uri for base in self.workspace.bases.values()}
+        for uri in [uri for uri, told in self.published.items() if told and uri not in known]:
+            self.publish(uri, [])
 
     def publish(self, uri: str, told: list[Any], version: int | None = None) -> None:
-        if self.published.get(uri, []) != told or version is not None and uri not in self.published:
+        """Tells what is to be told of an open text, and of another one where that isn't what was told before."""
+        if version is not None or self.published.get(uri, []) != told:
             self.connection.notify("textDocument/publishDiagnostics", {"uri": uri, "diagnostics": told, **({} if version is None else {"version": version})})
         self.published[uri] = told

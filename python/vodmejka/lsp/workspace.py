@@ -49,6 +49,7 @@ class Workspace:
         self.texts: dict[str, Text] = {}
         self.bases: dict[str, Base] = {}
         self.dirty: dict[Text, None] = {}
+        self.edited: dict[Text, None] = {}
         self.looked_at = 0.0
         self.log: Callable[[str], None] = lambda line: None
 
@@ -109,6 +110,7 @@ class Workspace:
                 text.edit(begin, end, content)
         text.version = version
         self.changed(text)
+        self.edited[text] = None
 
     def close(self, text: Text) -> None:
         """The client no longer has a text: the file on the disk counts again, where a list names it."""
@@ -119,6 +121,7 @@ class Workspace:
             self.texts = {key: other for key, other in self.texts.items() if other is not text}
             self.bases = {key: base for key, base in self.bases.items() if not (base.is_alone and text in base.texts)}
             self.dirty.pop(text, None)
+        self.edited.pop(text, None)
 
     def saved(self, text: Text) -> None:
         text.on_disk = on_disk(text.path)
@@ -229,7 +232,7 @@ class Workspace:
 
     def driver_of(self, base: Base) -> DriverText | None:
         """The driver of a base: the one of the setting, or the only one beside the list."""
-        if self.settings.driver == "-":
+        if self.settings.driver == "-" or base.is_alone or base.fault:
             return None
         path = self.path(self.settings.driver) if self.settings.driver else None
         if path is None:
@@ -311,8 +314,7 @@ class Workspace:
         driver = self.driver_of(base)
         checker = Checker(base, set(driver.driver.set) if driver else set())
         while base.todo and time.monotonic() < until:
-            piece = next(iter(base.todo))
-            del base.todo[piece]
+            piece = base.next()
             found = checker.findings(piece)
             if found != base.found.get(piece, []):
                 self.dirty[piece.text] = None
@@ -320,6 +322,15 @@ class Workspace:
                 base.found[piece] = found
             else:
                 base.found.pop(piece, None)
+
+    def look_at_text(self, text: Text, tick: Callable[[], None]) -> None:
+        """Looks for the faults of names of a text that were not looked for yet."""
+        self.finish(None, tick)
+        for base in self.bases_of(text):
+            base.now.update((piece, None) for piece in base.todo if piece.text is text)
+            while base.now:
+                self.look_at(base)
+                tick()
 
     def finish(self, text: Text | None, tick: Callable[[], None]) -> None:
         """Reads a text to its end, or without one all that there is."""
