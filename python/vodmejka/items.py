@@ -9,9 +9,8 @@ from typing import Any, NamedTuple
 
 from . import source
 from .grammar import VALUE, Stuck, Terms
+from .limits import AMOUNT, BRACKET_DEPTH
 
-DEEPEST = 256
-GREATEST = 10_000_000_000_000
 CUT_TEXT = re.compile(rb"(?P<text>\"[^\"\n]*)")
 KINDS_OF_ERRORS = ("anomalie", "discordance", "informative")
 
@@ -275,8 +274,8 @@ def take_tokens(content, byte, tokens, faults, most=sys.maxsize, is_cut=False):
             continue
         if piece.lastgroup != "gap":
             token = source.Token(piece.lastgroup, piece[0].decode("latin-1"), byte)
-            if token.kind == "number" and float(token.text) > GREATEST:
-                faults.append(Fault("number too great", byte, token.text, (), f"numbers end at {GREATEST}"))
+            if token.kind == "number" and float(token.text) > AMOUNT:
+                faults.append(Fault("number too great", byte, token.text, (), f"numbers end at {AMOUNT}"))
             tokens.append(token)
         byte = piece.end()
     return byte
@@ -294,7 +293,7 @@ def too_deep(tokens):
             depth = max(0, depth - 1)
         elif token.text in ("regle", "verif"):
             depth = 0
-        if depth > DEEPEST:
+        if depth > BRACKET_DEPTH:
             return [deep_fault(token)]
     return []
 

@@ -2,7 +2,8 @@
 import itertools
 import math
 
-MOST = 10_000
+from .limits import LOOP_INSTANCES
+
 
 
 def whole(digits):
@@ -15,7 +16,7 @@ def values_of(pairs):
     found = []
     for low, high in pairs:
         if low.isdigit() and high.isdigit():
-            found += [f"{k:0{len(low)}}" for k in range(int(low), min(int(high), int(low) + MOST) + 1)]
+            found += [f"{k:0{len(low)}}" for k in range(int(low), min(int(high), int(low) + LOOP_INSTANCES) + 1)]
         elif low == high:
             found.append(low)
         else:
@@ -39,7 +40,7 @@ def header_faults(header):
     bad = [k for k, letter in enumerate(letters) if letters.count(letter) > 1 or 0 in lengths[k]]
     if bad:
         return [(k, "bad range") for k in bad]
-    return [(0, "loop too large")] if math.prod(map(sum, lengths)) > MOST else []
+    return [(0, "loop too large")] if math.prod(map(sum, lengths)) > LOOP_INSTANCES else []
 
 
 def instances(headers, words):
@@ -47,7 +48,7 @@ def instances(headers, words):
     bound = {letter: values for header in headers for letter, values in header}
     letters = [letter for letter in bound if any(letter in word for word in words)]
     products = itertools.product(*(values_of(bound[letter]) for letter in letters))
-    return [dict(zip(letters, values)) for values in itertools.islice(products, MOST)]
+    return [dict(zip(letters, values)) for values in itertools.islice(products, LOOP_INSTANCES)]
 
 
 def replaced(word, letters):

@@ -28,10 +28,10 @@ import re
 import sys
 
 from .. import drivers, items, source
+from ..limits import AMOUNT
 from ..loops import instances, reads_of, replaced, whole
 from ..source import Refused
 
-MOST = 10_000_000_000_000
 
 
 def words_of(term):
@@ -65,8 +65,8 @@ def number_of(term, letters):
         if worth is None or other is None:
             return None
         worth = {"+": worth + other, "-": worth - other, "*": worth * other}[sign]
-        worth = worth if abs(worth) <= MOST else None
-    return worth if worth is None or abs(worth) <= MOST else None
+        worth = worth if abs(worth) <= AMOUNT else None
+    return worth if worth is None or abs(worth) <= AMOUNT else None
 
 
 def cells_read(name, size, index, letters):

@@ -25,13 +25,13 @@ import re
 import sys
 
 from .. import sheets, source
+from ..limits import ROWS
 from ..source import Refused
 
 BLANK = "[ \u00a0\u202f\u2009]"
 AMOUNT = re.compile(rf"([-\u2212]?)({BLANK}?)([0-9]{{1,3}}(?:{BLANK}[0-9]{{3}})+|[0-9]+)(?:([.,])([0-9]+))?(?:{BLANK}*\u20ac)?")
 CODE = re.compile("(?![0-9]+$)[0-9A-Z_]+")
 LIKE_A_BOX = re.compile("[0-9]+[A-Za-z][0-9A-Za-z]*")
-MOST = 100_000
 FILE_BYTES = 1 << 28
 
 
@@ -251,7 +251,7 @@ def main(words):
     except Refused as fault:
         print(f"table-in: {name} {fault}", file=sys.stderr)
         return 1
-    if count > MOST:
-        print(f"table-in: {count} rows, and a table has at most {MOST:,}: tools/scale cuts it", file=sys.stderr)
+    if count > ROWS:
+        print(f"table-in: {count} rows, and a table has at most {ROWS:,}: tools/scale cuts it", file=sys.stderr)
     sys.stdout.write(text)
     return 0

@@ -6,7 +6,8 @@ from typing import Any, NamedTuple
 
 from .. import faults, items, loops, source
 from ..commands import slips
-from .base import Base, Cell, names_of, slot_of
+from ..limits import TABLE_CELLS
+from .base import Base, Cell, names_of
 from .pieces import Check, Formula, Piece, PieceReader, headers_of
 
 ERROR, WARNING, INFORMATION, HINT = 1, 2, 3, 4
@@ -107,7 +108,7 @@ class Checker(faults.Names):
             self.told.append((item.byte, f"declared twice {item.name}"))
         elif item.code is not None and base.first(base.codes.of(item.code)) is not piece:
             self.told.append((item.byte, f"alias twice {item.code}"))
-        elif item.size is not None and not 1 <= item.size <= source.TABLE_CELLS:
+        elif item.size is not None and not 1 <= item.size <= TABLE_CELLS:
             self.told.append((item.byte, "table size"))
 
     def look_at_loops(self, piece: Piece) -> None:

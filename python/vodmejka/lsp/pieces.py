@@ -11,6 +11,7 @@ from bisect import bisect_right
 from typing import Any, NamedTuple
 
 from .. import items, loops, source
+from ..limits import BRACKET_DEPTH
 from .texts import Text
 
 BLOCK = 1_000  # how many tokens are taken in at once
@@ -115,7 +116,7 @@ class PieceReader(items.RuleReader):
             self.depths.append(depth)
             if token.text in DEEPER:
                 depth = max(0, depth + DEEPER[token.text])
-                token.kind = "deep" if depth > items.DEEPEST else "word" if token.text.isalpha() else "sign"
+                token.kind = "deep" if depth > BRACKET_DEPTH else "word" if token.text.isalpha() else "sign"
             elif token.text in ("regle", "verif"):
                 depth = 0
 

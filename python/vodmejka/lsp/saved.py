@@ -10,6 +10,7 @@ from typing import Any, NamedTuple
 
 from .. import program, source
 from ..errors import Broken
+from ..limits import REQUESTS, TABLE_CELLS
 from ..sentences import DRIVER, OTHERS, RULES
 from .base import Base
 from .checks import ERROR, HINT, INFORMATION
@@ -18,7 +19,6 @@ from .texts import Text
 from .workspace import DriverText, Workspace, signature_of
 
 MOST_OUTPUT = 67_108_864
-MOST_REQUESTS = 100_000
 
 Key = tuple[Any, ...]
 
@@ -99,7 +99,7 @@ class Runs:
         self.output, words, kept = b"", job.words, ()
         if job.kind == "values":
             self.requests = os.memfd_create("requests")
-            names = [name for name in cells_of(job.base)][:MOST_REQUESTS]
+            names = [name for name in cells_of(job.base)][:REQUESTS]
             with open(self.requests, "wb", closefd=False) as out:
                 out.write("".join(name + "\n" for name in names).encode("latin-1"))
             os.lseek(self.requests, 0, os.SEEK_SET)
@@ -181,7 +181,7 @@ def cells_of(base: Base) -> list[str]:
     found = []
     for piece in sorted((piece for pieces in base.variables.pieces.values() for piece in pieces), key=base.order):
         size = piece.item.size
-        found += [piece.item.name] if size is None else [f"{piece.item.name}[{k}]" for k in range(min(size, source.TABLE_CELLS))]
+        found += [piece.item.name] if size is None else [f"{piece.item.name}[{k}]" for k in range(min(size, TABLE_CELLS))]
     return list(dict.fromkeys(found))
 
 
