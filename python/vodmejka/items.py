@@ -10,6 +10,7 @@ from typing import Any, NamedTuple
 from . import source
 from .grammar import VALUE, Stuck, Terms
 from .limits import AMOUNT, BRACKET_DEPTH
+from .loops import whole
 
 CUT_TEXT = re.compile(rb"(?P<text>\"[^\"\n]*)")
 KINDS_OF_ERRORS = ("anomalie", "discordance", "informative")
@@ -40,12 +41,12 @@ class Formula(NamedTuple):
 
 class Declaration(NamedTuple):
     """A declaration of a variable or an error: its kind is the word that says it (`saisie`, `calculee`, `const`, `anomalie` ..). `size` is the number of
-    cells of a table as it is spelled, `attributes` are pairs of a word and a number, as it is spelled, or nothing; `texts` are as they are spelled."""
+    cells of a table; `attributes` are pairs of a word and a number, as it is spelled, or nothing; `texts` are as they are spelled."""
 
     name: str
     kind: str
     byte: int
-    size: str | None = None
+    size: int | None = None
     attributes: tuple = ()
     code: str | None = None
     texts: tuple = ()
@@ -208,7 +209,7 @@ class RuleReader(Terms):
             size = None
             if self.take_if("tableau"):
                 self.take("[")
-                size = self.whole()
+                size = whole(self.whole())
                 self.take("]")
             self.take("calculee")
             attributes = self.attributes()

@@ -1,4 +1,4 @@
-"""Times the answers of the server over a base of COUNT rules in FILES files, after each key, and measures its memory. large.py ROOT COUNT FILES"""
+"""Times the answers of the server over a base of COUNT rules in FILES files, after each of KEYS, and measures its memory. large.py ROOT COUNT FILES [KEYS]"""
 import os
 import random
 import sys
@@ -9,6 +9,7 @@ sys.path.insert(0, os.path.dirname(os.path.abspath(__file__)))
 from client import Client, edit  # noqa: E402
 
 ROOT, COUNT, FILES = sys.argv[1], int(sys.argv[2]), int(sys.argv[3])
+KEYS = sys.argv[4] if len(sys.argv) > 4 else 'V19(; \nV1"x" + '
 
 
 def generate(folder):
@@ -74,7 +75,7 @@ def keys(client, uri, lines):
     """Types a name into a formula letter by letter, and asks what an editor asks."""
     line = next(number for number, text in enumerate(lines) if number > len(lines) * 0.7 and text.startswith("V") and " = si " in text)
     at, version, worst = lines[line].index(" = si ") + 6, 2, {}
-    for letter in "V19(; \nV1" + '"x" + ':
+    for letter in KEYS:
         where = {"line": line, "character": at}
 
         def key():

@@ -40,8 +40,8 @@ class Place:
 
 
 class Base:
-    """A list with its files; `is_alone` is a file that no list names, by itself. `fault` says why the list can't be read, and `missing` are the files that can't; `todo` are the pieces whose faults of names are
-    to be looked for, and those in `now` come first."""
+    """A list with its files; `is_alone` is a file that no list names, by itself. `fault` says why the list can't be read, and `missing` are the files that
+    can't; `todo` are the pieces whose faults of names are to be looked for, and those in `now` come first."""
 
     def __init__(self, path: str, is_alone: bool = False) -> None:
         self.path, self.uri, self.is_alone = path, uri_of(path), is_alone
@@ -67,7 +67,7 @@ class Base:
         return self.texts[piece.text], piece.begin
 
     def first(self, pieces: list[Piece]) -> Piece | None:
-        return min(pieces, key=self.order, default=None)
+        return min(pieces, key=self.order) if pieces else None
 
     def declared(self, name: str) -> items.Declaration | None:
         """The first declaration of a variable."""

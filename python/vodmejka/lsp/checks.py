@@ -69,6 +69,11 @@ class Done:
 class Checker(faults.Names):
     """Looks for the faults of the pieces of a base."""
 
+    variables: Any
+    errors: Any
+    files: Any
+    done: Any
+
     def __init__(self, base: Base, set_by_driver: set[Cell] | None = None) -> None:
         self.base, self.variables, self.errors, self.files = base, Declared(base), base.errors, self
         self.set_by_driver = set_by_driver or set()
@@ -131,7 +136,7 @@ class Checker(faults.Names):
         if item.kind != "calculee":
             return
         end = item.byte + len(item.name)
-        cells = range(item.size) if item.size is not None else [None]
+        cells: Iterable[int | None] = range(item.size) if item.size is not None else [None]
         bare = [cell for cell in cells if not self.is_set(item.name, cell)]
         if not bare:
             return
@@ -146,7 +151,7 @@ class Checker(faults.Names):
             yield Finding(item.byte, end, WARNING, f"nothing sets {shown}{' ..' if len(idle) > 5 else ''}, {len(idle)} of {item.size} cells")
 
     def is_set(self, name: str, cell: int | None) -> bool:
-        places = [(name, cell)] if cell is None else [(name, cell), (name, "X")]
+        places: list[Cell] = [(name, cell)] if cell is None else [(name, cell), (name, "X")]
         return (name, cell) in self.set_by_driver or any(self.base.counts(piece) for place in places for piece in self.base.setters.of(place))
 
     def cells_read(self, item: items.Declaration) -> set[Cell]:
@@ -192,10 +197,11 @@ class HeaderReader(PieceReader):
 
     def letter(self) -> str:
         self.letters.append(self.peek().byte)
-        return super().letter()
+        return str(super().letter())
 
     def header(self) -> Any:
-        self.letters = letters = []
+        letters: list[int] = []
+        self.letters = letters
         found = super().header()
         self.headers.append((found, letters))
         return found

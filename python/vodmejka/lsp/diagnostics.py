@@ -10,12 +10,13 @@ from ..commands import slips
 from ..commands.explain import could_stand
 from ..sentences import DRIVER, MARKED, RULES
 from .base import Base
-from .checks import ERROR, HINT, INFORMATION, WARNING, token_length
+from .checks import ERROR, HINT, INFORMATION, WARNING, Declared, token_length
 from .pieces import QUOTE_OR_COMMENT, Head, Piece, RuleText
 from .texts import Text
 from .workspace import DriverText, Workspace
 
 MOST = 500
+UNREADABLE = "\ufffd".encode()  # what stands for a letter that an editor can't read
 NEAR = 40  # within so many bytes after a bad byte a fault of grammar says nothing new
 
 Diagnostic = dict[str, Any]
@@ -78,7 +79,7 @@ def of_grammar(text: RuleText) -> Iterator[Diagnostic]:
             if is_deep:
                 continue
             is_deep = True
-        end = byte + (token_length(piece, byte - piece.begin) if fault.what != "bad byte" else len(text.encoded(fault.found)) if fault.found != "a byte order mark" else 3)
+        end = byte + fault_length(piece, byte, fault)
         mend = could_stand(fault).strip() if fault.what in ("syntax", "bad byte") else sentence(RULES, fault.what)
         yield diagnostic(text, byte, end, ERROR, fault.what, mend, found=fault.found, wanted=list(fault.wanted))
     if text.is_cut:
@@ -87,6 +88,12 @@ def of_grammar(text: RuleText) -> Iterator[Diagnostic]:
         odd = next((piece for piece in text.pieces if piece.is_odd), None)
         if odd is not None and (cut := cut_text(odd)) is not None and cut[0] != byte:
             yield diagnostic(text, *cut, HINT, "this text isn't closed in its line, and one below is never closed")
+
+
+def fault_length(piece: Piece, byte: int, fault: items.Fault) -> int:
+    if fault.what != "bad byte":
+        return token_length(piece, byte - piece.begin)
+    return len(source.MARK) if fault.found == "a byte order mark" else len(piece.text.encoded(fault.found))
 
 
 def cut_text(piece: Piece) -> tuple[int, int] | None:
@@ -120,8 +127,6 @@ def sentence(sentences: dict[str, str], what: str) -> str:
 
 def of_driver(workspace: Workspace, text: DriverText) -> Iterator[Diagnostic]:
     bases = [base for base in workspace.bases.values() if workspace.driver_of(base) is text]
-    from .checks import Declared  # (the variables of the first base that has this driver)
-
     variables = Declared(bases[0]) if bases and not bases[0].missing and not bases[0].maybe and all(file.is_whole for file in bases[0].texts) else None
     for fault in faults.faults_of_driver(text.path, text.driver, variables):
         begin, end = place_in_driver(text, fault)
@@ -164,9 +169,10 @@ def of_bytes(text: Text) -> Iterator[Diagnostic]:
     alone = re.search(rb"\r(?!\n)", text.content)
     if alone:
         yield diagnostic(text, alone.start(), alone.end(), WARNING, "a carriage return alone, which ends no line: a comment or a name goes on after it")
-    lost = text.content.find("\ufffd".encode())
-    if lost >= 0 and text.on_disk is not None and text.encoding == "latin-1" or lost >= 0 and text.on_disk and "\ufffd".encode() not in text.on_disk:
-        yield diagnostic(text, lost, lost + 3, ERROR, "the editor could not read this letter: open the file as Latin-1 (ISO 8859-1), or it is lost when you save")
+    lost = text.content.find(UNREADABLE)
+    if lost >= 0 and text.on_disk is not None and UNREADABLE not in text.on_disk:
+        what = "the editor could not read this letter: open the file as Latin-1 (ISO 8859-1), or it is lost when you save"
+        yield diagnostic(text, lost, lost + len(UNREADABLE), ERROR, what)
 
 
 def of_list(workspace: Workspace, base: Base) -> list[Diagnostic]:

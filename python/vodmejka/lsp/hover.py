@@ -76,7 +76,7 @@ def formulas(base: Base, name: str) -> list[str]:
     pieces = sorted(base.targets.of(name), key=lambda piece: (not base.counts(piece), base.order(piece)))
     lines = []
     for piece in pieces[:MOST_FORMULAS]:
-        letters = next((letters for letters in all_letters(piece) if loops.replaced(piece.item.target, letters) == name), {})
+        letters: dict[str, str] = next((one for one in all_letters(piece) if loops.replaced(piece.item.target, one) == name), {})
         head = head_of(piece)
         of = "" if base.counts(piece) else ", which isn't of this list's application" if not piece.state.is_chained else ", which is chained and never counts"
         lines.append(f"```m\n{formula_text(piece, letters)}\n```\n*{place(base, piece)}, rule {head.item.number if head else '?'}{of}*")
@@ -87,7 +87,7 @@ def formulas(base: Base, name: str) -> list[str]:
 
 def all_letters(piece: Piece) -> list[dict[str, str]]:
     """The letters of each instance of a formula."""
-    return loops.instances(piece.item.loops, ["".join(letter for header in piece.item.loops for letter, _ in header)])
+    return list(loops.instances(piece.item.loops, ["".join(letter for header in piece.item.loops for letter, _ in header)]))
 
 
 def formula_text(piece: Piece, letters: dict[str, str]) -> str:

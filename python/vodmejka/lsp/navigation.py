@@ -8,7 +8,8 @@ from ..drivers import RESERVED as OF_DRIVERS
 from ..grammar import RESERVED, is_name
 from .context import Context, symbol
 from .occurrences import (
-    CODE, ERROR, FUNCTION, LETTER, VARIABLE, Occurrence, Symbol, bases_at, declarations, everywhere, in_driver, is_function_line, letters_of, settings_of, tokens_in,
+    CODE, ERROR, FUNCTION, LETTER, VARIABLE, Occurrence, Symbol, bases_at, declarations, everywhere, in_driver, is_function_line, letters_of, settings_of,
+    tokens_in,
 )
 from .protocol import INVALID_PARAMS, REQUEST_FAILED, ResponseError
 from .texts import Text
@@ -97,7 +98,8 @@ def renamed(context: Context, params: Params) -> Symbol:
     if found.kind in (VARIABLE, ERROR) and not declared(context, found):
         raise ResponseError(REQUEST_FAILED, f"nothing declares {found.word}")
     if found.kind in (VARIABLE, ERROR) and [found.word] != found.names:
-        raise ResponseError(REQUEST_FAILED, f"{found.word} stands for {', '.join(found.names[:5])}{' ..' if len(found.names) > 5 else ''}: rename each by itself")
+        names = ", ".join(found.names[:5]) + (" .." if len(found.names) > 5 else "")
+        raise ResponseError(REQUEST_FAILED, f"{found.word} stands for {names}: rename each by itself")
     return found
 
 

@@ -5,8 +5,9 @@ import re
 from collections.abc import Iterator
 from typing import Any, NamedTuple
 
-from .. import items, loops, source
+from .. import items, source
 from ..drivers import RESERVED as DRIVER_RESERVED
+from ..drivers import TOKEN as DRIVER_TOKEN
 from ..grammar import RESERVED
 from .base import Base, names_of
 from .pieces import Check, Formula, Head, Piece, RuleText, headers_of
@@ -109,11 +110,9 @@ def symbol_of_driver(text: DriverText, byte: int) -> Symbol | None:
 
 def words_of_driver(text: DriverText, number: int) -> Iterator[tuple[str, int, int, bool]]:
     """The words of a line that are names of cells or functions, each with its bytes and whether brackets follow it."""
-    from ..drivers import TOKEN
-
     line, kinds = text.line(number), {byte for _, _, line, byte in text.driver.kinds if line == number + 1}
     code = line.split(b"#")[0]
-    found = list(TOKEN.finditer(code))
+    found = list(DRIVER_TOKEN.finditer(code))
     for match, after in zip(found, [*found[1:], None]):
         word = match[0].decode("latin-1")
         if match.lastgroup == "word" and word not in DRIVER_RESERVED and match.start() not in kinds:
@@ -152,7 +151,9 @@ def uses(base: Base, kind: str, name: str) -> Iterator[Occurrence]:
 
 def in_driver(text: DriverText | None, name: str, is_called: bool) -> Iterator[Occurrence]:
     """Where a driver has a name."""
-    for number in range(len(text.starts)) if text is not None else []:
+    if text is None:
+        return
+    for number in range(len(text.starts)):
         if name.encode("latin-1", "replace") in text.line(number):
             for word, begin, end, called in words_of_driver(text, number):
                 if word == name and called == is_called:
@@ -197,8 +198,3 @@ def bases_at(workspace: Workspace, text: Text) -> list[Base]:
     if isinstance(text, DriverText):
         return [base for base in workspace.bases.values() if workspace.driver_of(base) is text]
     return workspace.bases_of(text)
-
-
-def instances_of(symbol: Symbol) -> list[dict[str, str]]:
-    """The values of the letters that a word has, in each instance."""
-    return loops.instances(symbol.headers, [symbol.word])

@@ -11,6 +11,7 @@ from bisect import bisect_right
 from typing import Any, NamedTuple
 
 from .. import items, loops, source
+from ..grammar import Stuck
 from ..limits import BRACKET_DEPTH
 from .texts import Text
 
@@ -137,7 +138,7 @@ class PieceReader(items.RuleReader):
             self.wanted, self.hint = [], ""
             try:
                 self.piece()
-            except items.Stuck:
+            except Stuck:
                 self.note()
                 self.recover()
 
@@ -192,8 +193,7 @@ class PieceReader(items.RuleReader):
             piece.reads = self.reads(check.condition, [], begin)
         elif self.declarations:
             declared = self.declarations[0]
-            size = None if declared.size is None else loops.whole(declared.size)
-            piece.item = declared._replace(name=sys.intern(declared.name), byte=declared.byte - begin, size=size)
+            piece.item = declared._replace(name=sys.intern(declared.name), byte=declared.byte - begin)
         elif self.due and tokens and not self.faults:
             number = next(token.text for token in tokens if token.kind == "number")
             piece.item = Head(tokens[0].text, number, tokens[0].byte - begin)

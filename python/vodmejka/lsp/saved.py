@@ -96,7 +96,9 @@ class Runs:
             self.jobs = []
             return
         job = self.at_hand = self.jobs.pop(0)
-        self.output, words, kept = b"", job.words, ()
+        words = job.words
+        kept: tuple[int, ...] = ()
+        self.output = b""
         if job.kind == "values":
             self.requests = os.memfd_create("requests")
             names = [name for name in cells_of(job.base)][:REQUESTS]

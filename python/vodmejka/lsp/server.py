@@ -44,16 +44,18 @@ class Server:
 
     def serve(self) -> int:
         """Answers until the client ends it, or is gone."""
-        while self.status is None:
-            is_busy = not self.connection.waiting and self.work()
-            self.connection.poll(0 if is_busy else None, *self.runs.descriptors())
-            if self.runs.take_in():
-                self.publish_all()
-            if self.connection.waiting:
-                self.handle(self.connection.waiting.popleft())
-            elif self.connection.is_closed:
-                self.status = 1
-        self.runs.end()
+        try:
+            while self.status is None:
+                is_busy = not self.connection.waiting and self.work()
+                self.connection.poll(0 if is_busy or self.connection.is_closed else None, *self.runs.descriptors())
+                if self.runs.take_in():
+                    self.publish_all()
+                if self.connection.waiting:
+                    self.handle(self.connection.waiting.popleft())
+                elif self.connection.is_closed:
+                    self.status = 1
+        finally:
+            self.runs.end()
         return self.status
 
     def work(self) -> bool:
@@ -249,5 +251,6 @@ class Server:
     def publish(self, uri: str, told: list[Any], version: int | None = None) -> None:
         """Tells what is to be told of an open text, and of another one where that isn't what was told before."""
         if version is not None or self.published.get(uri, []) != told:
-            self.connection.notify("textDocument/publishDiagnostics", {"uri": uri, "diagnostics": told, **({} if version is None else {"version": version})})
+            params: Message = {"uri": uri, "diagnostics": told}
+            self.connection.notify("textDocument/publishDiagnostics", params if version is None else {**params, "version": version})
         self.published[uri] = told

@@ -115,7 +115,8 @@ class Workspace:
     def close(self, text: Text) -> None:
         """The client no longer has a text: the file on the disk counts again, where a list names it."""
         text.version = text.on_disk = None
-        if any(not base.is_alone for base in self.bases_of(text)) or isinstance(text, DriverText) and any(self.driver_of(base) is text for base in self.bases.values()):
+        is_driver = any(self.driver_of(base) is text for base in self.bases.values())
+        if is_driver or any(not base.is_alone for base in self.bases_of(text)):
             self.load(text)
         else:
             self.texts = {key: other for key, other in self.texts.items() if other is not text}
@@ -196,7 +197,7 @@ class Workspace:
         for text in fresh:
             base.replace([], text.pieces)
         base.look_at_all()
-        self.dirty.update(dict.fromkeys(base.texts))
+        self.dirty.update(dict.fromkeys([*base.texts, *(text for text in self.texts.values() if isinstance(text, DriverText))]))
 
     def folder_of(self, base: Base, names: list[str]) -> str:
         """The folder from which the names of a list count: the program takes the one in which it is started. It is that of a setting, else of those of the
@@ -212,13 +213,14 @@ class Workspace:
     def rule_file(self, path: str) -> RuleText | None:
         """The text of a file that a list names, or nothing where it can't be read."""
         key = os.path.realpath(path)
-        text = self.texts.get(key)
-        if text is None:
-            text = RuleText(path)
-            if not self.load(text):
-                return None
-            self.texts[key] = text
-        return text if isinstance(text, RuleText) and (text.is_open or os.path.isfile(text.path)) else None
+        known = self.texts.get(key)
+        if known is None:
+            fresh = RuleText(path)
+            if self.load(fresh):
+                self.texts[key] = fresh
+                return fresh
+            return None
+        return known if isinstance(known, RuleText) and (known.is_open or os.path.isfile(known.path)) else None
 
     def load(self, text: Text) -> bool:
         """Takes in the file on the disk; whether it can be read."""
