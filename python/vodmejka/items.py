@@ -10,7 +10,9 @@ from typing import Any, NamedTuple
 from . import source
 from .grammar import VALUE, Stuck, Terms
 from .limits import AMOUNT, BRACKET_DEPTH
+from .loops import whole
 
+CUT_TEXT = re.compile(rb"(?P<text>\"[^\"\n]*)")
 KINDS_OF_ERRORS = ("anomalie", "discordance", "informative")
 
 
@@ -37,6 +39,21 @@ class Formula(NamedTuple):
     byte: int
 
 
+class Declaration(NamedTuple):
+    """A declaration of a variable or an error: its kind is the word that says it (`saisie`, `calculee`, `const`, `anomalie` ..). `size` is the number of
+    cells of a table; `attributes` are pairs of a word and a number, as it is spelled, or nothing; `texts` are as they are spelled."""
+
+    name: str
+    kind: str
+    byte: int
+    size: int | None = None
+    attributes: tuple = ()
+    code: str | None = None
+    texts: tuple = ()
+    type: str | None = None
+    number: str | None = None
+
+
 class Check(NamedTuple):
     """A check: the applications of its verification, its condition, the error with its byte, and the byte of `si`."""
 
@@ -52,7 +69,7 @@ class RuleReader(Terms):
 
     def __init__(self, tokens):
         super().__init__(tokens)
-        self.formulas, self.checks, self.errors, self.faults = [], [], [], []
+        self.formulas, self.checks, self.errors, self.declarations, self.faults = [], [], [], [], []
         self.inside, self.applications, self.is_chained, self.due = None, [], False, False
 
     def read_all(self):
@@ -175,46 +192,58 @@ class RuleReader(Terms):
             self.stuck("a formula stands in a rule: regle 10 : application : iliad ; before it")
         self.take(":")
         if self.take_if("saisie"):
-            self.attributes()
+            attributes = self.attributes()
             self.take("alias")
-            self.word("a code")
-            self.description()
+            code = self.word("a code").text
+            self.declarations.append(Declaration(name, "saisie", byte, None, attributes, code, *self.description()))
         elif self.take_if("const"):
             self.take("=")
-            self.signed()
+            number = self.signed_text()
             self.take(";")
-        elif self.take_if(*KINDS_OF_ERRORS):
-            self.take(":")
-            texts = self.separated(lambda: self.kind("text", 'a text in " "'), ":")
-            if len(texts) < 4:
-                self.stuck("an error has four texts or five")
-            if len(texts) > 5:
-                self.at -= 2
-                self.stuck("an error has four texts or five")
-            self.take(";")
+            self.declarations.append(Declaration(name, "const", byte, number=number))
+        elif kind := self.take_if(*KINDS_OF_ERRORS):
+            texts = self.texts_of_error()
             self.errors.append((name, byte))
+            self.declarations.append(Declaration(name, kind, byte, texts=texts))
         else:
+            size = None
             if self.take_if("tableau"):
                 self.take("[")
-                self.whole()
+                size = whole(self.whole())
                 self.take("]")
             self.take("calculee")
-            self.attributes()
-            self.description()
+            attributes = self.attributes()
+            self.declarations.append(Declaration(name, "calculee", byte, size, attributes, None, *self.description()))
+
+    def texts_of_error(self):
+        self.take(":")
+        texts = self.separated(lambda: self.kind("text", 'a text in " "').text, ":")
+        if len(texts) < 4:
+            self.stuck("an error has four texts or five")
+        if len(texts) > 5:
+            self.at -= 2
+            self.stuck("an error has four texts or five")
+        self.take(";")
+        return tuple(texts)
+
+    def signed_text(self):
+        return ("-" if self.take_if("-") else "") + self.kind("number", "a number").text
 
     def attributes(self):
+        found = []
         while self.is_word():
-            self.step()
-            if self.take_if("="):
-                self.signed()
+            word = self.step().text
+            found.append((word, self.signed_text() if self.take_if("=") else None))
             self.want("an attribute")
+        return tuple(found)
 
     def description(self):
+        """The texts and the type of a declaration."""
         self.take(":")
-        self.kind("text", 'a text in " "')
-        if self.take_if("type"):
-            self.word("a word")
+        text = self.kind("text", 'a text in " "').text
+        word = self.word("a word").text if self.take_if("type") else None
         self.take(";")
+        return (text,), word
 
 
 def tokens_of(content):
@@ -223,11 +252,20 @@ def tokens_of(content):
     if content.startswith(source.MARK):
         faults.append(Fault("bad byte", 0, "a byte order mark", (), "save the file without a byte order mark; a household may have one, a rule file not"))
         byte = len(source.MARK)
-    while byte < len(content):
+    take_tokens(content, byte, tokens, faults)
+    return tokens, faults
+
+
+def take_tokens(content, byte, tokens, faults, most=sys.maxsize, is_cut=False):
+    """Adds the tokens from a byte on, until there are so many, and the faults of the bytes among them. The byte behind them comes back. With `is_cut` a text
+    that isn't closed in its line ends there, so that what stands behind an open text can be read."""
+    while byte < len(content) and len(tokens) < most:
         piece = source.GAP_OR_TOKEN.match(content, byte)
+        if is_cut and content[byte : byte + 1] == b'"' and (piece is None or b"\n" in piece[0]):
+            piece = CUT_TEXT.match(content, byte)
         if piece is None and content[byte : byte + 1] == b'"':
             faults.append(Fault("open string", byte, '"', (), "the text is never closed; all after it is text"))
-            return tokens, faults
+            return len(content)
         if piece is None:
             end = re.compile(rb"[\x80-\xff]+|.", re.DOTALL).match(content, byte).end()
             shown = content[byte:end]
@@ -241,7 +279,7 @@ def tokens_of(content):
                 faults.append(Fault("number too great", byte, token.text, (), f"numbers end at {AMOUNT}"))
             tokens.append(token)
         byte = piece.end()
-    return tokens, faults
+    return byte
 
 
 def too_deep(tokens):
@@ -257,8 +295,12 @@ def too_deep(tokens):
         elif token.text in ("regle", "verif"):
             depth = 0
         if depth > BRACKET_DEPTH:
-            return [Fault("too deep", token.byte, token.text, (), "give a part of the formula a variable of its own")]
+            return [deep_fault(token)]
     return []
+
+
+def deep_fault(token):
+    return Fault("too deep", token.byte, token.text, (), "give a part of the formula a variable of its own")
 
 
 def read(content):
