@@ -80,7 +80,8 @@ class Token:
 @dataclasses.dataclass
 class Variable:
     """A declaration. `size` is the number of cells of a table, and None of another variable; `words` are the attributes without a number, `numbered`
-    those with one, each with the place of its word, and `numbers` the number of each, the last where one stands twice."""
+    those with one, each with the place of its word, and `numbers` the number of each, the last where one stands twice. `told` and `type` are the text
+    and the word that stand behind."""
 
     name: str
     kind: str
@@ -90,6 +91,8 @@ class Variable:
     code: str | None
     place: str
     numbers: dict
+    told: str = ""
+    type: str | None = None
 
 
 @dataclasses.dataclass
@@ -273,7 +276,9 @@ class RuleFile:
             else:
                 words.append(self.text(at))
                 at += 1
-        self.variables.append(Variable(name.text, kind, size, words, numbered, code, self.place(name.byte), numbers))
+        told = self.text(at + 1)[1:-1] if self.text(at) == ":" and at + 1 < len(self.tokens) and self.tokens[at + 1].kind == "text" else ""
+        what = self.text(at + 3) if self.text(at + 2) == "type" else None
+        self.variables.append(Variable(name.text, kind, size, words, numbered, code, self.place(name.byte), numbers, told, what))
         return end
 
 
