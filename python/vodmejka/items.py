@@ -57,7 +57,7 @@ class RuleReader(Terms):
 
     def __init__(self, tokens):
         super().__init__(tokens)
-        self.formulas, self.checks, self.errors, self.faults = [], [], [], []
+        self.formulas, self.checks, self.errors, self.faults, self.kinds_of_errors = [], [], [], [], {}
         self.inside, self.applications, self.is_chained, self.due = None, [], False, False
 
     def read_all(self):
@@ -202,7 +202,8 @@ class RuleReader(Terms):
             self.take("=")
             self.signed()
             self.take(";")
-        elif self.take_if(*KINDS_OF_ERRORS):
+        elif kind := self.take_if(*KINDS_OF_ERRORS):
+            self.kinds_of_errors[name] = kind
             self.take(":")
             texts = self.separated(lambda: self.kind("text", 'a text in " "'), ":")
             if len(texts) < 4:
