@@ -15,56 +15,20 @@ import re
 import subprocess
 import sys
 import tempfile
-from dataclasses import replace
 from fractions import Fraction
 
-from calculation import Household, answer
+from calculation import Household
+from drawn import CODES, mistaken, random_household
+from verifications import answer
 
 HERE = "examples/impot2023"
 PROGRAM = os.environ.get("M_TAX", "out/m_tax")
-CODES = ["0AM", "0BT", "0CF", "1AJ", "1BJ", "1AS", "1BS", "7UD", "7UF"]
-WRONG = {
-    "box_t": lambda chance: True,
-    "children": lambda chance: chance.choice([-1, 31]),
-    "wages": lambda chance: chance.choice([(-1, 0), (100, -50), (100, 5000)]),
-    "pensions": lambda chance: chance.choice([(0, -7), (0, 300)]),
-    "gifts_to_aid": lambda chance: -10,
-    "other_gifts": lambda chance: Fraction(-1, 100),
-}
-
-
-def random_amount(chance):
-    """0 mostly, or an amount of one of several sizes, so that each bracket and bound is met."""
-    if chance.random() < 0.4:
-        return 0
-    return chance.randrange(chance.choice([600, 6000, 25000, 60000, 200000, 1500000]))
-
-
-def random_household(chance):
-    couple = chance.random() < 0.5
-    return Household(
-        couple=couple,
-        box_t=not couple and chance.random() < 0.3,
-        children=chance.choice([0, 0, 0, 1, 1, 2, 2, 3, 4, 6]),
-        wages=(random_amount(chance), random_amount(chance) if couple else 0),
-        pensions=(random_amount(chance), random_amount(chance) if couple else 0),
-        gifts_to_aid=chance.choice([0, 0, 50, 999, 1000, 1001, 4000]),
-        other_gifts=chance.choice([0, 0, 100, 3000, 20000]),
-    )
-
-
-def mistaken(household, chance):
-    """One household in ten has one or two entries that are drawn anew, most of them wrong."""
-    if chance.random() < 0.9:
-        return household
-    return replace(household, **{name: WRONG[name](chance) for name in chance.sample(sorted(WRONG), chance.choice([1, 1, 2]))})
+PART = 50_000  # households of one batch: a table has at most 100,000 rows and 16,777,216 bytes
 
 
 def fields(household):
     """The amount of each code, nothing for 0."""
-    amounts = [int(household.couple), household.box_t + 0, household.children, *household.wages, *household.pensions]
-    amounts += [household.gifts_to_aid, household.other_gifts]
-    return ["" if amount == 0 else f"{float(amount):.6f}" if isinstance(amount, Fraction) else str(amount) for amount in amounts]
+    return ["" if household[code] == 0 else spelled(household[code]) for code in CODES]
 
 
 def started(*words):
@@ -88,13 +52,18 @@ def read_answer(lines):
 
 
 def answers(households, room):
-    """The answers to all households, by one batch."""
+    """The answers to all households, by batches."""
+    return [one for start in range(0, len(households), PART) for one in answers_of_part(households[start : start + PART], room)]
+
+
+def answers_of_part(households, room):
+    """The answers to the households of one table."""
     table = os.path.join(room, "table.csv")
     with open(table, "w") as file:
         file.write("name," + ",".join(CODES) + "\n")
         for number, household in enumerate(households):
             file.write(f"h{number}," + ",".join(fields(household)) + "\n")
-    text, status = started("batch", f"{HERE}/rules.list", f"{HERE}/driver.mpp", "-", table)
+    text, status = started("batch", f"{HERE}/rules.list", f"{HERE}/driver.mpp", f"{HERE}/all.txt", table)
     blocks = re.split("^household h[0-9]+\n", text, flags=re.MULTILINE)[1:]
     if status != 0 or len(blocks) != len(households):
         print(f"check: batch: {text[:200].strip()} (status {status}, {len(blocks)} of {len(households)} households)", file=sys.stderr)
@@ -125,7 +94,7 @@ def draw(file_name, points):
 
 def picture(file_name, room):
     """Wages a thousand apart, so that one step of the taxable income is 900 or 1,000."""
-    households = [Household(wages=(wage, 0)) for wage in range(0, 221000, 1000)]
+    households = [Household({"1AJ": wage}) for wage in range(0, 221000, 1000)]
     results = answers(households, room)
     points = []
     for before, after in zip(results, results[1:]):
