@@ -1,80 +1,12 @@
 """The tax on the incomes of 2023 a second time, from the articles of the code général des impôts, in exact fractions.
 
-It knows nothing of the rule files: the scale is applied to the income for one part, as article 197 words it, and children are counted one by one. `Law` has
-what examples/reform2023 changes. A household is the boxes of its forms. The verifications stand in verifications.py.
+It knows nothing of the rule files: the scale is applied to the income for one part, as article 197 words it, and children are counted one by one. The
+verifications stand in verifications.py.
 """
-from dataclasses import dataclass, field
+from dataclasses import dataclass
 from fractions import Fraction
-from math import floor
 
-
-@dataclass(frozen=True)
-class Law:
-    """What the reforms change."""
-
-    begin_of_30: int = 28797
-    half_part: int = 1759
-    for_each_child: int | None = None  # taken off the tax of each child, in place of the children's parts
-    capital_by_scale: bool = False  # dividends and interest by the scale for all
-
-    def scale(self):
-        """197 I 1: thresholds for one part, each with the rate above it."""
-        return [(11294, per_cent(11)), (self.begin_of_30, per_cent(30)), (82341, per_cent(41)), (177106, per_cent(45))]
-
-
-def per_cent(number):
-    return Fraction(str(number)) / 100
-
-
-OF_2023 = Law()
-REDUCTIONS = ("7UD", "7UF", "7EA", "7EC", "7EF")
-CREDITS = ("7AC", "7AE", "7GA", "7GB", "7GC", "7DB")
-
-
-@dataclass
-class Household:
-    """The boxes that are filled in, each a number; the others are 0."""
-
-    boxes: dict = field(default_factory=dict)
-
-    def __getitem__(self, code):
-        return Fraction(self.boxes.get(code, 0))
-
-    def without(self, codes):
-        return Household({code: amount for code, amount in self.boxes.items() if code not in codes})
-
-
-@dataclass(frozen=True)
-class Person:
-    """The boxes of one person."""
-
-    wages: str
-    unemployment: str
-    expenses: str
-    pensions: str
-    sales: str
-    services: str
-    fees: str
-    savings: str
-    ceiling: str
-    dues: str
-
-
-PERSONS = (
-    Person("1AJ", "1AP", "1AK", "1AS", "5KO", "5KP", "5HQ", "6NS", "6PS", "7AC"),
-    Person("1BJ", "1BP", "1BK", "1BS", "5LO", "5LP", "5IQ", "6NT", "6PT", "7AE"),
-)
-
-
-def nearest(amount):
-    """To the nearest unit, a half up (1657, 1724)."""
-    return floor(amount + Fraction(1, 2))
-
-
-def millionths(amount):
-    """To the nearest millionth, halves away from zero."""
-    return Fraction(nearest(abs(amount) * 1_000_000), 1_000_000) * (-1 if amount < 0 else 1)
-
+from household import CREDITS, OF_2023, PERSONS, REDUCTIONS, millionths, nearest, once, per_cent
 
 # Incomes
 
@@ -142,17 +74,20 @@ def charges(household, law):
     return result
 
 
+@once
 def before_savings(household, law):
     return max(Fraction(0), all_incomes(household, law) - charges(household, law))
 
 
+@once
 def retirement_savings(household, law):
     """What is deducted: for each person the lesser of payment and ceiling (163 quatervicies), no more than there is."""
     payments = sum(min(household[person.savings], household[person.ceiling]) for person in PERSONS)
     return min(payments, before_savings(household, law))
 
 
-def taxable_income(household, law=OF_2023):
+@once
+def taxable_income(household, law):
     return nearest(before_savings(household, law) - retirement_savings(household, law))
 
 
@@ -207,7 +142,8 @@ def parts_beside_children(household):
     return base_parts(household) + disability_halves(household) / 2 + (Fraction(1, 2) if raised_a_child(household) else 0)
 
 
-def parts(household, law=OF_2023):
+@once
+def parts(household, law):
     return parts_beside_children(household) + (child_parts(household) if law.for_each_child is None else 0)
 
 
@@ -241,12 +177,14 @@ def greatest_advantage(household, law):
     return 4149 + law.half_part * (halves - 2)
 
 
+@once
 def capped_tax(household, law):
     """The tax where the cap decides: less 1,753 for each half part of disability (197 I 2, last paragraphs)."""
     without = by_parts(taxable_income(household, law), base_parts(household), law)
     return without - greatest_advantage(household, law) - 1753 * disability_halves(household)
 
 
+@once
 def uncapped_tax(household, law):
     return by_parts(taxable_income(household, law), parts(household, law), law)
 
@@ -343,6 +281,7 @@ class Tax:
     net: int
 
 
+@once
 def tax_of(household, law):
     """Reductions end at 0 and don't reach the flat tax (197 I 5); below 61 nothing is collected (1657 1 bis); credits are paid out."""
     gross = scale_tax(household, law)

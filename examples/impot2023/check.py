@@ -17,7 +17,7 @@ import sys
 import tempfile
 from fractions import Fraction
 
-from calculation import Household
+from household import Household
 from drawn import CODES, mistaken, random_household
 from verifications import answer
 

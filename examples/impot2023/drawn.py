@@ -1,7 +1,5 @@
 """Households that are drawn by chance, so that each rule is met: amounts of many sizes, near the bounds of the law, and some that can't be."""
-from dataclasses import replace
-
-from calculation import Household
+from household import Household
 
 CODES = (
     "0AM 0BT 0CF 0CH 0AP 0AF 0CG 0CI 0AL 1AJ 1BJ 1AP 1BP 1AK 1BK 1AS 1BS 2DC 2TR 2OP 2CK 2BH 4BA 4BE 5KO 5LO 5KP 5LP 5HQ 5IQ "
@@ -119,4 +117,4 @@ def mistaken(household, chance):
     if chance.random() < 0.9:
         return household
     wrong = {code: chance.choice(WRONG[code]) for code in chance.sample(sorted(WRONG), chance.choice([1, 1, 2]))}
-    return replace(household, boxes={**household.boxes, **wrong})
+    return Household({**household.boxes, **wrong})

@@ -2,7 +2,7 @@
 from fractions import Fraction
 
 import calculation
-from calculation import CREDITS, OF_2023, PERSONS, REDUCTIONS, per_cent
+from household import CREDITS, OF_2023, PERSONS, REDUCTIONS, per_cent
 
 SECOND = ("1BJ", "1BP", "1BK", "1BS", "5LO", "5LP", "5IQ", "6NT", "6PT", "7AE", "8IV")
 AMOUNTS = ("1AJ", "1AP", "1AK", "1AS", "2DC", "2TR", "2CK", "2BH", "4BA", "4BE", "5KO", "5KP", "5HQ", "6DE", "6EL", "6EM", "6NS", "6PS") + (
