@@ -17,8 +17,8 @@ import sys
 import tempfile
 from fractions import Fraction
 
-from household import Household
 from drawn import CODES, mistaken, random_household
+from household import Household
 from verifications import answer
 
 HERE = "examples/impot2023"
@@ -47,23 +47,24 @@ def read_answer(lines):
         return int(stop[1])
     notes = [k for k, line in enumerate(lines) if re.fullmatch("noted [0-9]+ .*", line)]
     values = [line for k, line in enumerate(lines) if line and k not in notes and k - 1 not in notes]
-    answer = {line.split(" = ")[0]: Fraction(line.split(" = ")[1]) if " = " in line else line for line in values}
+    answer = {line.split(" ")[0]: Fraction(line.split(" = ")[1]) if " = " in line else line for line in values}
     return {**answer, "noted": [int(lines[k].split(" ")[1]) for k in notes]}
 
 
-def answers(households, room):
+def answers(households, room, driver=f"{HERE}/driver.mpp", requests=f"{HERE}/all.txt"):
     """The answers to all households, by batches."""
-    return [one for start in range(0, len(households), PART) for one in answers_of_part(households[start : start + PART], room)]
+    parts = [households[start : start + PART] for start in range(0, len(households), PART)]
+    return [one for part in parts for one in answers_of_part(part, room, driver, requests)]
 
 
-def answers_of_part(households, room):
+def answers_of_part(households, room, driver, requests):
     """The answers to the households of one table."""
     table = os.path.join(room, "table.csv")
     with open(table, "w") as file:
         file.write("name," + ",".join(CODES) + "\n")
         for number, household in enumerate(households):
             file.write(f"h{number}," + ",".join(fields(household)) + "\n")
-    text, status = started("batch", f"{HERE}/rules.list", f"{HERE}/driver.mpp", f"{HERE}/all.txt", table)
+    text, status = started("batch", f"{HERE}/rules.list", driver, requests, table)
     blocks = re.split("^household h[0-9]+\n", text, flags=re.MULTILINE)[1:]
     if status != 0 or len(blocks) != len(households):
         print(f"check: batch: {text[:200].strip()} (status {status}, {len(blocks)} of {len(households)} households)", file=sys.stderr)
