@@ -13,7 +13,7 @@ verif 101 : application : iliad , batch ;
 si COUPLE = 1 et V_0BT = 1 alors erreur A101 ;
 
 verif 102 : application : iliad , batch ;
-si ENF < 0 ou ENF > 30 ou ALT < 0 ou ALT > 30 alors erreur A102 ;
+si V_0CF < 0 ou V_0CF > ENF_MAX ou V_0CH < 0 ou V_0CH > ENF_MAX alors erreur A102 ;
 
 verif 104 : application : iliad , batch ;
 si somme(i=V,C: TSHALLOi < 0 ou ALLOi < 0 ou FRNi < 0 ou PRBRi < 0 ou PERi < 0 ou PLAFPERi < 0 ou RDSYNDi < 0 ou RASi < 0) > 0 alors erreur A104 ;

@@ -6,7 +6,8 @@ a declaration that a verification stops the verification. The households come fr
 does, and 2 where the program is missing or doesn't answer.
 
 With --picture FILE it also draws the marginal rate over the income of a single person, from a table of its own. With --cases FILE it starts no program, and
-writes the households as a table of cases, with what the second calculation says of each.
+writes the households as a table of cases, with what the second calculation says of each. With --extremes the households are those that have a billion in one
+box or in many, in the place of random ones.
 """
 import argparse
 import os
@@ -17,7 +18,7 @@ import sys
 import tempfile
 from fractions import Fraction
 
-from drawn import CODES, mistaken, random_household
+from drawn import CODES, extremes, mistaken, random_household
 from household import Household
 from verifications import answer
 
@@ -130,9 +131,10 @@ def main():
     parser.add_argument("--count", type=int, default=20000)
     parser.add_argument("--picture")
     parser.add_argument("--cases")
+    parser.add_argument("--extremes", action="store_true")
     told = parser.parse_args()
     chance = random.Random(told.seed)
-    households = [mistaken(random_household(chance), chance) for _ in range(told.count)]
+    households = list(extremes()) if told.extremes else [mistaken(random_household(chance), chance) for _ in range(told.count)]
     if told.cases:
         write_cases(told.cases, households)
         return
@@ -148,8 +150,9 @@ def main():
             if differ <= 5:
                 print(f"{household}: the rules say {result}, the calculation {wanted}")
     stopped = sum(isinstance(result, int) for result in results)
-    print(f"{len(results)} households, seed {told.seed}, of which {stopped} are stopped by a verification: {differ} differ")
-    sys.exit(0 if differ == 0 and len(results) == told.count > 0 else 1)
+    drawn = "of a billion" if told.extremes else f"seed {told.seed}"
+    print(f"{len(results)} households, {drawn}, of which {stopped} are stopped by a verification: {differ} differ")
+    sys.exit(0 if differ == 0 and len(results) == len(households) > 0 else 1)
 
 
 if __name__ == "__main__":

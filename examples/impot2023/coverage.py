@@ -39,6 +39,8 @@ ARITHMETIC = {
     "inf": lambda one: floor(one + Fraction(1, 1_000_000)),
 }
 NEVER_READ = {"SEUIL[0]"}  # the first bracket begins at 0: the cell stands for the reader of the table
+# Bounds that no declaration reaches, since the verifications 102 and 106 stop it, or a condition round it; they keep all values small.
+BOUNDED = {"ENF", "ALT", "INVENF", "INVALT", "TXMOYEN"}
 ONE_MAY_BE_UNDEFINED = ("+", "-", "ou", "max", "min")
 
 
@@ -126,6 +128,8 @@ def not_reached(rules, taken):
         counted["formulas"] += 1
         missing += [] if taken["formula", cell] >= 2 else [f"formula {cell}: in {taken['formula', cell]} households"]
         for number, (kind, term) in enumerate(branches(formula.formula.term), start=1):
+            if cell in BOUNDED and kind != "si":
+                continue
             counted["branches"] += 2
             missing += [f"branch {cell}, {kind} {number}: never {'the first' if way else 'the second'}" for way in (True, False) if not taken[cell, term, way]]
     return missing, counted

@@ -1,5 +1,6 @@
 """Households that are drawn by chance, so that each rule is met: amounts of many sizes, near the bounds of the law, and some that can't be."""
 from household import Household
+from verifications import SECOND
 
 CODES = (
     "0AM 0BT 0CF 0CH 0AP 0AF 0CG 0CI 0AL 1AJ 1BJ 1AP 1BP 1AK 1BK 1AS 1BS 2DC 2TR 2OP 2CK 2BH 4BA 4BE 5KO 5LO 5KP 5LP 5HQ 5IQ "
@@ -44,6 +45,8 @@ WRONG = {
     "7GA": [-3],
     "8IV": [12],
 }
+COUNTS = {"0CF": 30, "0CH": 30, "0CG": 30, "0CI": 30}
+BILLION = 1_000_000_000
 
 
 def size(chance):
@@ -118,3 +121,14 @@ def mistaken(household, chance):
         return household
     wrong = {code: chance.choice(WRONG[code]) for code in chance.sample(sorted(WRONG), chance.choice([1, 1, 2]))}
     return Household({**household.boxes, **wrong})
+
+
+def extremes():
+    """Households with a billion in one box, in all but one, and in all, single and couple, with and without the option, thirty children and boxes of disability."""
+    for couple in (0, 1):
+        amounts = {code: BILLION for code in CODES[9:] if code not in ("2OP", "4BE") and (couple or code not in SECOND)}
+        sets = [{code: BILLION} for code in amounts] + [{other: BILLION for other in amounts if other != code} for code in amounts] + [amounts]
+        for boxes in sets:
+            for option in (0, 1):
+                yield Household({"0AM": couple, "2OP": option, "4BE": 15000, **boxes})
+                yield Household({"0AM": couple, "0BT": 1 - couple, "0AP": 1, "0AF": couple, **COUNTS, "2OP": option, **boxes})

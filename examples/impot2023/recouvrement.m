@@ -31,4 +31,4 @@ CHR = inf(TX_CHR1 * max(0, min(RFR, CHR_2 * PARTS) - CHR_1 * PARTS) + TX_CHR2 * 
 regle 640 : application : iliad , batch ;
 TOTAL = IINET + PS + CHR ;
 SOLDE = TOTAL - (RASV + RASC) ;
-TXMOYEN = TOTAL / RFR ;
+TXMOYEN = si RFR >= 1 alors TOTAL / max(1, RFR) sinon 0 finsi ;
