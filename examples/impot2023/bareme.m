@@ -9,6 +9,8 @@ PLAF_ISOLE : const = 4149 ;        # de la part du premier enfant d'un parent is
 PLAF_SEUL : const = 1050 ;         # de la demi-part de la case L
 RED_INV : const = 1753 ;           # réduction complémentaire de chaque demi-part d'invalidité
 
+NBPT : calculee restituee : "Nombre de parts" ;
+DEMIS : calculee : "Demi-parts qui s'ajoutent" ;
 DROITA : calculee : "Droits avec toutes les parts" ;
 DROITS : calculee : "Droits sans les parts qui s'ajoutent" ;
 PLAFISO : calculee : "Plafond des parts du parent isolé" ;
@@ -28,6 +30,10 @@ TAUX[1] = 0.11 ;   SEUIL[1] = 11294 ;
 TAUX[2] = 0.30 ;   SEUIL[2] = 28797 ;
 TAUX[3] = 0.41 ;   SEUIL[3] = 82341 ;
 TAUX[4] = 0.45 ;   SEUIL[4] = 177106 ;
+
+regle 415 : application : iliad , batch ;
+NBPT = PARTA ;
+DEMIS = 2 * (NBPT - PARTS) ;
 
 regle 420 : application : iliad , batch ;     # ce que chaque taux ajoute à celui d'avant, au-dessus de son seuil
 pour i = A,S : DROITi = somme(k=1..4: (TAUX[k] - TAUX[k - 1]) * max(0, RNI - SEUIL[k] * PARTi)) ;

@@ -189,9 +189,14 @@ def uncapped_tax(household, law):
     return by_parts(taxable_income(household, law), parts(household, law), law)
 
 
-def scale_tax(household, law):
+def quotient_tax(household, law):
     """197 I 1 and 2; the further reduction for disability is no more than what the cap added."""
-    tax = max(uncapped_tax(household, law), capped_tax(household, law))
+    return max(uncapped_tax(household, law), capped_tax(household, law))
+
+
+def scale_tax(household, law):
+    """What a reform takes off for each child ends at 0."""
+    tax = quotient_tax(household, law)
     if law.for_each_child is None:
         return tax
     return max(Fraction(0), tax - law.for_each_child * (household["0CF"] + household["0CH"] / 2))
@@ -292,7 +297,8 @@ def tax_of(household, law):
     rounded = nearest(gross - taken - reductions + flat)
     paid_out = credits(household)
     net = (rounded if rounded >= 61 else 0) - paid_out
-    return Tax(gross, gross - uncapped_tax(household, law), taken, flat, offered, reductions, rounded, paid_out, net)
+    cap = quotient_tax(household, law) - uncapped_tax(household, law)
+    return Tax(gross, cap, taken, flat, offered, reductions, rounded, paid_out, net)
 
 
 def total(household, law=OF_2023):

@@ -15,8 +15,6 @@ PARTISO : calculee : "Parts du parent isolé" ;
 PARTINV : calculee : "Parts d'invalidité" ;
 PARTS : calculee : "Parts des époux, des partenaires ou de la personne seule" ;
 PARTA : calculee : "Parts de tout le foyer" ;
-DEMIS : calculee : "Demi-parts qui s'ajoutent" ;
-NBPT : calculee restituee : "Nombre de parts" ;
 
 regle 310 : application : iliad , batch ;
 COUPLE = V_0AM + 0 ;
@@ -39,5 +37,3 @@ PARTINV = 0.5 * (V_0AP + V_0AF + INVENF) + 0.25 * INVALT ;
 regle 340 : application : iliad , batch ;
 PARTS = 1 + COUPLE ;
 PARTA = PARTS + PARTENF + PARTISO + PARTINV + 0.5 * SEUL ;
-NBPT = PARTA ;
-DEMIS = 2 * (PARTA - PARTS) ;
