@@ -7,4 +7,9 @@ pub mod Meaning
 pub mod Answers
 pub mod Inputs
 pub mod Weights
+pub mod Ascending
+pub mod Groups
+pub mod Kinds
+pub mod Capped
+pub mod WeightTable
 pub mod inner

@@ -3,3 +3,4 @@ pub mod FormulaCoding
 pub mod FormulaFalls
 pub mod ActionCoding
 pub mod ActionFalls
+pub mod Numbers

@@ -3,3 +3,7 @@ pub mod Files
 pub mod MemFiles
 pub mod MemStream
 pub mod Sink
+pub mod Giving
+pub mod Pieces
+pub mod Texts
+pub mod Buffers
