@@ -1,7 +1,7 @@
 //! The lines of a face.
 ghost use Rattle.std.specs.Prelude.{◌≡◌, ◌∷◌, ◌++◌, ◌/◌, ◌%◌, [], codes, decimal};
 ghost use Rattle.m_ports.specs.Giving.{Gives};
-ghost use Rattle.m_ports.specs.Pieces.{joined, new_line};
+ghost use Rattle.m_text.specs.Pieces.{joined, new_line};
 ghost use Rattle.code_file.specs.Text.{lines, slots_line, input_line, label_line, output_line, verif_front, hex_of, hex_digit};
 
 use crate::words::{hex_digit, kind_word, kind_words};

@@ -1,7 +1,7 @@
 //! The lines of instructions.
 ghost use Rattle.std.specs.Prelude.{◌≡◌, ◌≤◌, ◌∷◌, [], codes, decimal};
 ghost use Rattle.m_ports.specs.Giving.{Gives};
-ghost use Rattle.m_ports.specs.Pieces.{joined, new_line};
+ghost use Rattle.m_text.specs.Pieces.{joined, new_line};
 ghost use Rattle.m_fixed.specs.declared.amount.Value.TheVariants.{Num};
 ghost use Rattle.m_fixed.specs.Operators.{arity_of};
 ghost use Rattle.code_file.specs.Text.{lines, instr_line, two_numbers, three_numbers, literal_line, do_line, op_word};

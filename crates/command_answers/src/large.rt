@@ -16,7 +16,8 @@ use itoa::Buffer;
 use m_compile::SourceFault;
 use m_large::large_base;
 use m_places::{Name, Seq, Source};
-use m_ports::{Sink, append_pieces};
+use m_ports::Sink;
+use m_text::append_pieces;
 use std::alloc::{AllocError, Global};
 use std::thread::Threads;
 

@@ -3,7 +3,7 @@ use Rattle.std.proofs.Common.{◌≡◌, ◌≢◌, ℕ, zero, suc, ◌+◌, ◌
 use Rattle.std.specs.List.{AllByRecursion, sum_by}
 use Rattle.std.proofs.lemmas.Bool.{ne_eqb}
 use Rattle.std.proofs.lemmas.List.Sums.{sum_by-cons, sum_by-append}
-use Rattle.m_ports.specs.Pieces.{joined, new_line}
+use Rattle.m_text.specs.Pieces.{joined, new_line}
 use Rattle.m_places.specs.declared.place.Place.{Place}
 use Rattle.m_places.specs.declared.limits.TheConstants.{DRIVER_WEIGHT}
 use Rattle.m_text.specs.Bytes.{IsDigit}

@@ -1,6 +1,6 @@
 -- What `large N` computes, as texts.
 use Rattle.std.specs.Prelude.{ℕ, ◌-◌, List, [], ◌∷◌, codes, decimal, Some, None}
-use Rattle.m_ports.specs.Pieces.{joined, new_line}
+use Rattle.m_text.specs.Pieces.{joined, new_line}
 use Rattle.m_places.specs.declared.source.Source.{Source}
 use Rattle.m_large.specs.Large.{base_name, base_text}
 

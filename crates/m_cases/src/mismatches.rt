@@ -3,7 +3,7 @@ ghost use Rattle.std.specs.Prelude.{◌≡◌, ◌<◌, ◌+◌, ◌∷◌, [], 
 ghost use Rattle.std.specs.Ordering.{int_eq};
 ghost use Rattle.m_fixed.specs.Text.{printed};
 ghost use Rattle.m_ports.specs.Giving.{Gives};
-ghost use Rattle.m_ports.specs.Pieces.{joined, new_line};
+ghost use Rattle.m_text.specs.Pieces.{joined, new_line};
 ghost use Rattle.observables.specs.Outputs.{names_of, notes_of};
 ghost use Rattle.m_cases.specs.Cases.{AreExpected};
 ghost use Rattle.m_cases.specs.Mismatches.{HasOutput, HasValueEach, answer_values, count_line, expected_text, got_of, is_met};

@@ -1,12 +1,12 @@
 ghost use Rattle.std.specs.Prelude.{◌≡◌, ◌∷◌, [], ◌++◌, ◌+◌, ◌-◌, ◌<◌, ◌≤◌, ◌^◌, IfOk, OnOk, codes, decimal};
 ghost use Rattle.m_places.specs.declared.limits.TheConstants.{LARGE};
-ghost use Rattle.m_ports.specs.Pieces.{joined};
-ghost use Rattle.m_ports.specs.Pieces.{new_line};
+ghost use Rattle.m_text.specs.Pieces.{joined};
+ghost use Rattle.m_text.specs.Pieces.{new_line};
 ghost use Rattle.m_large.specs.Large.{base_name, base_text, declarations, rule, rules, first_rule, check};
 
 use itoa::Buffer;
 use m_places::{Name, Seq, Text};
-use m_ports::append_pieces;
+use m_text::append_pieces;
 use std::alloc::{AllocError, Global};
 
 /// The rule file `large.m` of `large N`, for the application `iliad`. Its only error is running out of memory.

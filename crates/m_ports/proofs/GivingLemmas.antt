@@ -6,7 +6,7 @@ use Rattle.m_ports.specs.Counts.{Rose}
 use Rattle.m_ports.specs.Sink.{AppendsPrefix}
 use Rattle.m_ports.proofs.SinkLemmas.{append_known-append}
 use Rattle.m_ports.specs.Giving.{Gives}
-use Rattle.m_ports.specs.Pieces.{text_of}
+use Rattle.m_text.specs.Pieces.{text_of}
 
 -- of the text all but this rest was appended, and no fault was counted
 pub record Given {S : Type 0} (written : S → Option (List ℕ)) (faults : S → ℕ) (old now : S) (text rest : List ℕ) : Type 0 where

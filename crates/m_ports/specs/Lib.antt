@@ -4,6 +4,5 @@ pub mod MemFiles
 pub mod MemStream
 pub mod Sink
 pub mod Giving
-pub mod Pieces
 pub mod Texts
 pub mod Buffers

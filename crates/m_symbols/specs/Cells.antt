@@ -8,7 +8,7 @@ use Rattle.m_names.specs.Names.{has, index_of}
 use Rattle.m_ast.specs.Items.{variable_size}
 use Rattle.m_symbols.specs.declared.variable.Variable.{Variable}
 use Rattle.m_symbols.specs.Declarations.{Declared, names_of, owners_from}
-use Rattle.m_ports.specs.Pieces.{joined}
+use Rattle.m_text.specs.Pieces.{joined}
 
 -- ---- from cells to names
 

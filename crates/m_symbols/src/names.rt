@@ -8,7 +8,7 @@ use crate::{Symbols, Variable};
 use itoa::Buffer;
 use m_ast::Role;
 use m_places::{Name, Seq};
-use m_ports::append_pieces;
+use m_text::append_pieces;
 use std::alloc::{AllocError, Global};
 
 /// The printed name of a cell: of a variable its name, of a table's cell `T[1]`. Its only error is running out of memory.

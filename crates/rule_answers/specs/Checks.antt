@@ -1,6 +1,6 @@
 -- What `check` answers.
 use Rattle.std.specs.Prelude.{◌≡◌, ℕ, ◌+◌, ℤ, List, [], ◌∷◌, length, codes, Option, None, Some, Ok, Err}
-use Rattle.m_ports.specs.Pieces.{joined, new_line}
+use Rattle.m_text.specs.Pieces.{joined, new_line}
 use Rattle.tax_print.specs.FaultLines.{report_line}
 use Rattle.tax_print.specs.declared.fault.ReportFault.TheVariants as words
 use Rattle.m_places.specs.declared.source.Source.{Source}

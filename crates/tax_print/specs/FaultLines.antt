@@ -1,6 +1,6 @@
 -- The line of each fault, with its line feed.
 use Rattle.std.specs.Prelude.{ℕ, List, [], ◌∷◌, ◌++◌, codes, decimal}
-use Rattle.m_ports.specs.Pieces.{new_line, joined}
+use Rattle.m_text.specs.Pieces.{new_line, joined}
 use Rattle.m_places.specs.declared.place.Place.{Place}
 use Rattle.tax_print.specs.declared.fault.Fault.{Fault}
 use Rattle.tax_print.specs.declared.fault.Fault.TheVariants.{Usage, ListLine, TooManyFiles, FileTooLong, AtPlace, AtName, Cycle, DriverLine, DriverName, NoMain, DriverRecursion, DriverTooLarge, RequestLine, TooManyRequests, HouseholdHeader, TooManyRows, HouseholdLine, CodeHeader, CodeLine, ReportLine, InputTooLong, Unreadable, UnreadableInput}

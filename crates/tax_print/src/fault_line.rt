@@ -1,8 +1,8 @@
 //! Faults as lines on an output.
 ghost use Rattle.std.specs.Prelude.{◌∷◌, [], codes, decimal};
 ghost use Rattle.m_ports.specs.Giving.{Gives};
-ghost use Rattle.m_ports.specs.Pieces.{joined};
-ghost use Rattle.m_ports.specs.Pieces.{new_line};
+ghost use Rattle.m_text.specs.Pieces.{joined};
+ghost use Rattle.m_text.specs.Pieces.{new_line};
 ghost use Rattle.tax_print.specs.FaultLines.{fault_line, place_pieces, names_text};
 
 use crate::fault::Fault;

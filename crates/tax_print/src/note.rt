@@ -2,7 +2,7 @@
 ghost use Rattle.std.specs.Prelude.{◌∷◌, [], ◌≡◌, codes, option_copied};
 ghost use Rattle.std.specs.Option.{option_map_or};
 ghost use Rattle.m_ports.specs.Giving.{Gives};
-ghost use Rattle.m_ports.specs.Pieces.{joined, new_line};
+ghost use Rattle.m_text.specs.Pieces.{joined, new_line};
 ghost use Rattle.observables.specs.Answers.{is_told, note_told};
 ghost use Rattle.observables.specs.Outputs.{verif_at};
 ghost use Rattle.tax_print.specs.Lines.{kind_text, label_lines};

@@ -1,8 +1,8 @@
 ghost use Rattle.std.specs.Prelude.{◌∷◌, [], ◌<◌, ◌≡◌, length, codes, decimal};
 ghost use Rattle.m_ports.specs.Giving.{Gives};
-ghost use Rattle.m_ports.specs.Pieces.{joined};
+ghost use Rattle.m_text.specs.Pieces.{joined};
 ghost use Rattle.observables.specs.Answers.{label_number, cause_of, over};
-ghost use Rattle.m_ports.specs.Pieces.{new_line};
+ghost use Rattle.m_text.specs.Pieces.{new_line};
 ghost use Rattle.tax_print.specs.Lines.{cause_lines, stop_lines};
 
 use crate::note::print_label;

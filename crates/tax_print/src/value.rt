@@ -1,8 +1,8 @@
 ghost use Rattle.std.specs.Prelude.{◌∷◌, [], ◌<◌, length, codes};
 ghost use Rattle.m_ports.specs.Giving.{Gives};
-ghost use Rattle.m_ports.specs.Pieces.{joined};
+ghost use Rattle.m_text.specs.Pieces.{joined};
 ghost use Rattle.m_fixed.specs.Text.{printed};
-ghost use Rattle.m_ports.specs.Pieces.{new_line};
+ghost use Rattle.m_text.specs.Pieces.{new_line};
 ghost use Rattle.tax_print.specs.Lines.{output_line, output_lines, value_line};
 
 use crate::note::print_note;

@@ -2,7 +2,7 @@
 
 ghost use Rattle.std.specs.Prelude.{◌∷◌, [], ◌<◌, All, Some, codes, length};
 ghost use Rattle.m_ports.specs.Giving.{Gives};
-ghost use Rattle.m_ports.specs.Pieces.{joined, new_line};
+ghost use Rattle.m_text.specs.Pieces.{joined, new_line};
 ghost use Rattle.m_fixed.specs.Text.{printed};
 ghost use Rattle.m_symbols.specs.Declarations.{owners_from};
 ghost use Rattle.m_symbols.specs.Cells.{cell_name, cell_text, printed_cell};

@@ -1,5 +1,5 @@
 use Rattle.std.proofs.Common.{drop}
-use Rattle.m_ports.specs.Pieces.{text_of}
+use Rattle.m_text.specs.Pieces.{text_of}
 use Rattle.m_ports.proofs.GivingLemmas.{Given}
 use Rattle.m_ports.proofs.pieces.give_pieces.Given as goal
 

@@ -1,7 +1,7 @@
 use Rattle.std.proofs.Common.{drop, [], ◌∷◌, ◌++◌}
-use Rattle.m_ports.specs.Pieces.{joined}
+use Rattle.m_text.specs.Pieces.{joined}
 use Rattle.m_ports.proofs.GivingLemmas.{Given}
-use Rattle.m_ports.specs.Pieces.{new_line}
+use Rattle.m_text.specs.Pieces.{new_line}
 use Rattle.tax_print.specs.FaultLines.{names_text}
 use Rattle.tax_print.proofs.fault_line.give_names.Given as goal
 
