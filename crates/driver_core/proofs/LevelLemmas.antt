@@ -6,8 +6,8 @@ use Rattle.driver_core.specs.Actions.{Action, assign, clear, branch, partition, 
 use Rattle.driver_core.specs.ActionView.{block_of}
 use Rattle.driver_core.specs.Valid.{body_among, body_of}
 use Rattle.driver_core.specs.Weights.{block_weight, base_weight}
-use Rattle.driver_core.specs.Capped.{capped}
-use Rattle.driver_core.specs.WeightTable.{ActionCallsOnly, CallsOnly, weight_in}
+use Rattle.driver_core.specs.inner.Capped.{capped}
+use Rattle.driver_core.specs.inner.WeightTable.{ActionCallsOnly, CallsOnly, weight_in}
 use Rattle.driver_core.proofs.TableLemmas.{capped-all}
 
 mutual

@@ -11,7 +11,7 @@ use Rattle.driver_core.specs.FormulaView.{formulas_of, steps_of}
 use Rattle.driver_core.specs.Actions.{Action, action_nodes, nodes_of_block}
 use Rattle.driver_core.specs.ActionView.{block_of}
 use Rattle.driver_core.specs.Weights.{read_weight}
-use Rattle.driver_core.specs.Capped.{capped}
+use Rattle.driver_core.specs.inner.Capped.{capped}
 
 pub sizes-fall : (all : List CStep) → most size-CStep all ≤ 3 * nodes_of_steps (steps_of all) + 1
 sizes-fall [] = omega arith

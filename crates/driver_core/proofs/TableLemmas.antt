@@ -9,8 +9,8 @@ use Rattle.driver_core.specs.Actions.{Action, assign, clear, branch, partition, 
 use Rattle.driver_core.specs.ActionView.{block_of}
 use Rattle.driver_core.specs.Valid.{block_or_none, body_of}
 use Rattle.driver_core.specs.Weights.{action_weight, block_weight, formula_weight, names_changed_in, base_weight}
-use Rattle.driver_core.specs.Capped.{capped}
-use Rattle.driver_core.specs.WeightTable.{ActionCallsOnly, CallsOnly, IsDone, IsTable, weight_in}
+use Rattle.driver_core.specs.inner.Capped.{capped}
+use Rattle.driver_core.specs.inner.WeightTable.{ActionCallsOnly, CallsOnly, IsDone, IsTable, weight_in}
 use Rattle.driver_core.proofs.SumLemmas.{capped-sum}
 
 -- the same calls, as far as sums tell, give the same weight

@@ -10,6 +10,4 @@ pub mod Weights
 pub mod Ascending
 pub mod Groups
 pub mod Kinds
-pub mod Capped
-pub mod WeightTable
 pub mod inner

@@ -6,7 +6,7 @@ ghost use Rattle.driver_core.specs.Weights.{tree_weight, trees_weight, tree_step
 ghost use Rattle.driver_core.specs.Weights.{definition_weight, check_weight, base_weight, formula_weight, formulas_weight, steps_weight};
 ghost use Rattle.std.specs.List.{sum_by};
 ghost use Rattle.micro_m.specs.Views.{trees_of, steps_of};
-ghost use Rattle.driver_core.specs.Capped.{capped};
+ghost use Rattle.driver_core.specs.inner.Capped.{capped};
 
 use crate::{CNode, CStep, CTerm};
 use micro_m::{Base, MNode, MTerm, Step};

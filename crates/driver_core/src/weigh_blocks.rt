@@ -3,8 +3,8 @@
 ghost use Rattle.std.specs.Prelude.{◌≡◌, true, slice_index_or};
 ghost use Rattle.driver_core.specs.ActionView.{block_of};
 ghost use Rattle.driver_core.specs.Weights.{action_weight, block_weight, names_changed, names_changed_in};
-ghost use Rattle.driver_core.specs.Capped.{capped};
-ghost use Rattle.driver_core.specs.WeightTable.{IsDone, CallsOnly, ActionCallsOnly};
+ghost use Rattle.driver_core.specs.inner.Capped.{capped};
+ghost use Rattle.driver_core.specs.inner.WeightTable.{IsDone, CallsOnly, ActionCallsOnly};
 
 use crate::weigh_base::weigh_formula;
 use crate::{CCommand, CCommandNode};

@@ -3,8 +3,8 @@
 ghost use Rattle.std.specs.Prelude.{◌≡◌, ◌≤◌, min, IfOk, OnOk, length};
 ghost use Rattle.micro_m.specs.declared.base.Base.{Base};
 ghost use Rattle.driver_core.specs.Weights.{base_weight, weight_of};
-ghost use Rattle.driver_core.specs.Capped.{capped};
-ghost use Rattle.driver_core.specs.WeightTable.{IsTable, IsFound};
+ghost use Rattle.driver_core.specs.inner.Capped.{capped};
+ghost use Rattle.driver_core.specs.inner.WeightTable.{IsTable, IsFound};
 
 use crate::Core;
 use crate::weigh_base::weigh_base;

@@ -4,7 +4,7 @@ ghost use Rattle.std.specs.Prelude.{◌≡◌, IfOk, map, slice_index_or};
 ghost use Rattle.micro_m.specs.declared.base.Base.{Base};
 ghost use Rattle.driver_core.specs.ActionView.{block_of};
 ghost use Rattle.driver_core.specs.Weights.{base_weight, block_weight, weight_of};
-ghost use Rattle.driver_core.specs.Capped.{capped};
+ghost use Rattle.driver_core.specs.inner.Capped.{capped};
 
 use crate::weigh_blocks::{entry, weigh_block};
 use crate::{CCommand, Core};

@@ -3,8 +3,8 @@
 ghost use Rattle.std.specs.Prelude.{◌≡◌, ◌≤◌, ℕ, length};
 ghost use Rattle.micro_m.specs.declared.base.Base.{Base};
 ghost use Rattle.driver_core.specs.Weights.{base_weight};
-ghost use Rattle.driver_core.specs.Capped.{capped};
-ghost use Rattle.driver_core.specs.WeightTable.{IsTable};
+ghost use Rattle.driver_core.specs.inner.Capped.{capped};
+ghost use Rattle.driver_core.specs.inner.WeightTable.{IsTable};
 
 use crate::Core;
 use crate::weigh_blocks::{calls_are_done, weigh_block};

@@ -12,7 +12,7 @@ use Rattle.reg_machine.specs.Flow.{Listing}
 use Rattle.reg_machine.specs.Machine.{machine_run}
 use Rattle.reg_machine.specs.inner.Packed.{AreParts}
 use Rattle.m_batch.specs.declared.room.Room.{Room}
-use Rattle.m_batch.specs.Rows.{row_at, row_inputs}
+use Rattle.m_batch.specs.inner.Rows.{row_at, row_inputs}
 use Rattle.m_batch.specs.inner.Ran.{Ran, run_on, ran_from, ran_of, ran_answer, IsStep, AreRun}
 use Rattle.m_batch.proofs.OrderLemmas.{ran_stays, ran_is_run}
 

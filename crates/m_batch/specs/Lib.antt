@@ -1,3 +1,2 @@
 pub mod Batch
-pub mod Rows
 pub mod inner

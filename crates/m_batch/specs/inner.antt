@@ -4,3 +4,4 @@ pub mod Parts
 pub mod Places
 pub mod Ran
 pub mod Rooms
+pub mod Rows

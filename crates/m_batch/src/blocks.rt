@@ -2,7 +2,7 @@
 ghost use Rattle.std.specs.Prelude.{◌≡◌, ◌<◌, ◌≤◌, ◌++◌, ℕ, IfOk, OnOk, OnErr, length, slice_index_or};
 ghost use Rattle.std.specs.List.{AllByRecursion};
 ghost use Rattle.household.specs.declared.table.Row.{Row};
-ghost use Rattle.m_batch.specs.Rows.{answer_in};
+ghost use Rattle.m_batch.specs.inner.Rows.{answer_in};
 ghost use Rattle.m_batch.specs.Batch.{HasInputsBelow, answers_of, row_answer};
 ghost use Rattle.m_batch.specs.inner.Places.{ArePlaced, AreRows};
 

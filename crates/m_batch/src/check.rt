@@ -1,7 +1,7 @@
 //! Checks, row by row: a row's first stop is kept.
 ghost use Rattle.std.specs.Prelude.{◌≡◌, ◌<◌, ◌≤◌, ℕ, length, slice_index_or, None, IsSome, IsTrue};
 ghost use Rattle.reg_machine.specs.inner.Cells.{at};
-ghost use Rattle.m_batch.specs.Rows.{row_of};
+ghost use Rattle.m_batch.specs.inner.Rows.{row_of};
 ghost use Rattle.m_batch.specs.inner.Rooms.{AreWide, check_stop, kept};
 
 use crate::each::front;

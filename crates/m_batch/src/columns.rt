@@ -1,7 +1,7 @@
 //! The machine for blocks of rows.
 ghost use Rattle.std.specs.Prelude.{◌≡◌, ◌<◌, ◌≤◌, ℕ, length, IfOk};
 ghost use Rattle.reg_machine.specs.Machine.{machine_run};
-ghost use Rattle.m_batch.specs.Rows.{answer_in, row_at, row_inputs, row_of};
+ghost use Rattle.m_batch.specs.inner.Rows.{answer_in, row_at, row_inputs, row_of};
 ghost use Rattle.m_batch.specs.inner.Rooms.{AreWide};
 
 use crate::check::clear_stops;
@@ -25,7 +25,7 @@ pub struct Columns<'a> {
 impl<'a> Model for Columns<'a> {
     ghost use Rattle.std.specs.Prelude.{length};
     ghost use Rattle.reg_machine.specs.inner.Packed.{AreParts};
-    ghost use Rattle.m_batch.specs.Rows.{Table};
+    ghost use Rattle.m_batch.specs.inner.Rows.{Table};
     ghost use Rattle.m_batch.specs.inner.Rooms.{IsRoom};
 
     ghost Value = { Table };

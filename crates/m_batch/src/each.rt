@@ -2,7 +2,7 @@
 ghost use Rattle.std.specs.Prelude.{◌≡◌, ◌<◌, ◌≤◌, ℕ, length, take};
 ghost use Rattle.m_fixed.specs.Operators.{op_value};
 ghost use Rattle.reg_machine.specs.inner.Cells.{at};
-ghost use Rattle.m_batch.specs.Rows.{row_at, row_of};
+ghost use Rattle.m_batch.specs.inner.Rows.{row_at, row_of};
 ghost use Rattle.m_batch.specs.inner.Rooms.{AreWide};
 
 use crate::room::BLOCK;

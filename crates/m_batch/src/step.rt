@@ -3,7 +3,7 @@ ghost use Rattle.std.specs.Prelude.{◌≡◌, ◌<◌, ◌≤◌, ℕ, length, 
 ghost use Rattle.std.specs.List.{AllByRecursion};
 ghost use Rattle.reg_machine.specs.inner.Cells.{at};
 ghost use Rattle.reg_machine.specs.inner.Packed.{IsPacked};
-ghost use Rattle.m_batch.specs.Rows.{row_of};
+ghost use Rattle.m_batch.specs.inner.Rows.{row_of};
 ghost use Rattle.m_batch.specs.inner.Rooms.{AreWide, IsRoom};
 ghost use Rattle.m_batch.specs.inner.Ran.{IsStep, AreAnswered};
 

@@ -9,7 +9,7 @@ use Rattle.reg_machine.specs.declared.code.Packed.TheVariants.{Take, Lit, Do, St
 use Rattle.reg_machine.specs.Machine.{answer_of}
 use Rattle.reg_machine.specs.inner.Cells.{at, registers_behind, slots_behind, outputs_behind}
 use Rattle.m_batch.specs.declared.room.Room.{Room}
-use Rattle.m_batch.specs.Rows.{row_at, row_inputs, row_of}
+use Rattle.m_batch.specs.inner.Rows.{row_at, row_inputs, row_of}
 use Rattle.m_batch.specs.inner.Rooms.{kept, check_stop}
 
 -- A run that goes on after a stop: what it holds is no matter then, and the first stop is kept.

@@ -3,7 +3,7 @@ use Rattle.driver_core.specs.declared.term.CStep.{CStep}
 use Rattle.driver_core.specs.Formulas.{Formula, formula_nodes}
 use Rattle.driver_core.specs.FormulaView.{formula_of, formulas_of, steps_of}
 use Rattle.driver_core.specs.Weights.{formula_weight, formulas_weight, steps_weight}
-use Rattle.driver_core.specs.Capped.{capped}
+use Rattle.driver_core.specs.inner.Capped.{capped}
 use Rattle.driver_core.proofs.SumLemmas.{sizes-fall, terms-fall, drop-next, sum-next}
 use Rattle.driver_core.proofs.weigh_base.+formulas.Goals as goal
 

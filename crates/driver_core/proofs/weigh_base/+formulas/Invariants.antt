@@ -1,7 +1,7 @@
 use Rattle.std.proofs.Common.{◌≡◌, ◌+◌, ◌<◌, ◌^◌, drop}
 use Rattle.driver_core.specs.FormulaView.{formulas_of, steps_of}
 use Rattle.driver_core.specs.Weights.{formulas_weight, steps_weight}
-use Rattle.driver_core.specs.Capped.{capped}
+use Rattle.driver_core.specs.inner.Capped.{capped}
 use Rattle.driver_core.proofs.weigh_base.+formulas.Given as goal
 
 abbrev pub invariant-weigh_formulas-loop-argument : goal.invariant-weigh_formulas-loop-argument

@@ -4,7 +4,7 @@ use Rattle.micro_m.specs.Trees.{Tree, nodes}
 use Rattle.micro_m.specs.Views.{tree_of, trees_of, steps_of}
 use Rattle.micro_m.specs.inner.Falls.{sizes_fall, terms_fall}
 use Rattle.driver_core.specs.Weights.{tree_weight, trees_weight, tree_steps_weight}
-use Rattle.driver_core.specs.Capped.{capped}
+use Rattle.driver_core.specs.inner.Capped.{capped}
 use Rattle.driver_core.proofs.SumLemmas.{drop-next, sum-next}
 use Rattle.driver_core.proofs.weigh_base.+trees.Goals as goal
 

@@ -1,7 +1,7 @@
 use Rattle.std.proofs.Common.{◌≡◌, ◌+◌, ◌<◌, ◌^◌, drop}
 use Rattle.micro_m.specs.Views.{trees_of, steps_of}
 use Rattle.driver_core.specs.Weights.{trees_weight, tree_steps_weight}
-use Rattle.driver_core.specs.Capped.{capped}
+use Rattle.driver_core.specs.inner.Capped.{capped}
 use Rattle.driver_core.proofs.weigh_base.+trees.Given as goal
 
 abbrev pub invariant-weigh_trees-loop-argument : goal.invariant-weigh_trees-loop-argument

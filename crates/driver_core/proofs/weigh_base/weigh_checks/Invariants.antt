@@ -1,7 +1,7 @@
 use Rattle.std.proofs.Common.{◌≡◌, ◌+◌, ◌<◌, ◌^◌, drop}
 use Rattle.std.specs.List.{sum_by}
 use Rattle.driver_core.specs.Weights.{check_weight}
-use Rattle.driver_core.specs.Capped.{capped}
+use Rattle.driver_core.specs.inner.Capped.{capped}
 use Rattle.driver_core.proofs.weigh_base.weigh_checks.Given as goal
 
 abbrev pub invariant-loop-condition : goal.invariant-loop-condition

@@ -1,7 +1,7 @@
 use Rattle.std.proofs.Common.{◌+◌, ◌*◌, drop}
 use Rattle.driver_core.specs.Actions.{action_nodes, nodes_of_block}
 use Rattle.driver_core.specs.ActionView.{block_of}
-use Rattle.driver_core.specs.WeightTable.{IsDone, CallsOnly}
+use Rattle.driver_core.specs.inner.WeightTable.{IsDone, CallsOnly}
 use Rattle.driver_core.proofs.weigh_blocks.+done.Given as goal
 
 abbrev pub decreases-calls_are_done : goal.decreases-calls_are_done

@@ -2,7 +2,7 @@ use Rattle.std.proofs.Common.{◌≡◌, ◌+◌, ◌∷◌, ℕ, List, drop, sy
 use Rattle.driver_core.specs.Actions.{Action}
 use Rattle.driver_core.specs.ActionView.{block_of}
 use Rattle.driver_core.specs.Weights.{names_changed, names_changed_in}
-use Rattle.driver_core.specs.Capped.{capped}
+use Rattle.driver_core.specs.inner.Capped.{capped}
 use Rattle.driver_core.proofs.SumLemmas.{block-part, drop-next, sum-next}
 use Rattle.driver_core.proofs.weigh_blocks.+names.Goals as goal
 

@@ -2,7 +2,7 @@ use Rattle.std.proofs.Common.{◌≡◌, ◌+◌, ◌∷◌, ℕ, List, get_or, 
 use Rattle.driver_core.specs.Actions.{Action}
 use Rattle.driver_core.specs.ActionView.{block_of, action_of}
 use Rattle.driver_core.specs.Weights.{formula_weight, action_weight, block_weight, names_changed_in}
-use Rattle.driver_core.specs.Capped.{capped}
+use Rattle.driver_core.specs.inner.Capped.{capped}
 use Rattle.driver_core.proofs.SumLemmas.{block-part, drop-next, sum-next}
 use Rattle.driver_core.proofs.weigh_blocks.+weigh.Goals as goal
 

@@ -2,7 +2,7 @@ use Rattle.std.proofs.Common.{◌≡◌, ◌+◌, ◌*◌, ◌<◌, ◌^◌, dro
 use Rattle.driver_core.specs.Actions.{action_nodes, nodes_of_block}
 use Rattle.driver_core.specs.ActionView.{block_of}
 use Rattle.driver_core.specs.Weights.{block_weight}
-use Rattle.driver_core.specs.Capped.{capped}
+use Rattle.driver_core.specs.inner.Capped.{capped}
 use Rattle.driver_core.proofs.weigh_blocks.+weigh.Given as goal
 
 abbrev pub decreases-weigh_block : goal.decreases-weigh_block

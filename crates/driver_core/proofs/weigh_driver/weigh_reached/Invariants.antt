@@ -1,8 +1,8 @@
 use Rattle.std.proofs.Common.{◌≡◌, ◌≤◌, length}
 use Rattle.micro_m.specs.declared.base.Base.{Base}
 use Rattle.driver_core.specs.Weights.{base_weight}
-use Rattle.driver_core.specs.Capped.{capped}
-use Rattle.driver_core.specs.WeightTable.{IsTable}
+use Rattle.driver_core.specs.inner.Capped.{capped}
+use Rattle.driver_core.specs.inner.WeightTable.{IsTable}
 use Rattle.driver_core.proofs.weigh_driver.weigh_reached.Given as goal
 
 abbrev pub invariant-loop-function : goal.invariant-loop-function

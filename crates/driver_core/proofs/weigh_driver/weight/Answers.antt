@@ -1,5 +1,5 @@
 use Rattle.std.proofs.Common.{refl, ap, ◌∙◌, subst, get_or}
-use Rattle.driver_core.specs.WeightTable.{IsDone}
+use Rattle.driver_core.specs.inner.WeightTable.{IsDone}
 use Rattle.driver_core.proofs.weigh_driver.weight.Goals as goal
 
 pub returns-then-is_done : goal.returns-then-is_done

@@ -2,7 +2,7 @@ use Rattle.std.proofs.Common.{◌≡◌, take, map}
 use Rattle.std.specs.Prelude.{slice_index_or}
 use Rattle.driver_core.specs.ActionView.{block_of}
 use Rattle.driver_core.specs.Weights.{block_weight}
-use Rattle.driver_core.specs.Capped.{capped}
+use Rattle.driver_core.specs.inner.Capped.{capped}
 use Rattle.driver_core.proofs.weigh_levels.next_level.Given as goal
 
 abbrev pub invariant-loop-body : goal.invariant-loop-body

@@ -1,8 +1,8 @@
 use Rattle.std.proofs.Common.{◌≡◌, suc, length, map, get_or, sym, ap, ◌∙◌, arith, add-one}
 use Rattle.driver_core.specs.ActionView.{block_of}
 use Rattle.driver_core.specs.Weights.{block_weight}
-use Rattle.driver_core.specs.Capped.{capped}
-use Rattle.driver_core.specs.WeightTable.{weight_in}
+use Rattle.driver_core.specs.inner.Capped.{capped}
+use Rattle.driver_core.specs.inner.WeightTable.{weight_in}
 use Rattle.driver_core.proofs.LevelLemmas.{level-first, level-next}
 use Rattle.driver_core.proofs.weigh_levels.weigh_by_levels.Goals as goal
 

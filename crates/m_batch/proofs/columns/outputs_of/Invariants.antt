@@ -1,5 +1,5 @@
 use Rattle.std.proofs.Common.{◌≡◌, take}
-use Rattle.m_batch.specs.Rows.{row_of}
+use Rattle.m_batch.specs.inner.Rows.{row_of}
 use Rattle.m_batch.proofs.columns.outputs_of.Given as goal
 
 abbrev pub invariant-loop-k : goal.invariant-loop-k

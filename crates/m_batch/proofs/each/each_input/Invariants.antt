@@ -1,6 +1,6 @@
 use Rattle.std.proofs.Common.{◌≡◌, ℕ, ◌<◌}
 use Rattle.reg_machine.specs.inner.Cells.{at}
-use Rattle.m_batch.specs.Rows.{row_at}
+use Rattle.m_batch.specs.inner.Rows.{row_at}
 use Rattle.m_batch.proofs.each.each_input.Given as goal
 
 abbrev pub invariant-loop-r : goal.invariant-loop-r

@@ -3,7 +3,7 @@ use Rattle.std.specs.declared.alloc.Global.{Global}
 use Rattle.std.proofs.lemmas.List.{map-set}
 use Rattle.m_fixed.specs.declared.amount.Value.{Value}
 use Rattle.reg_machine.specs.inner.Cells.{at}
-use Rattle.m_batch.specs.Rows.{row_of}
+use Rattle.m_batch.specs.inner.Rows.{row_of}
 use Rattle.m_batch.proofs.step.place.Goals as goal
 
 pub returns-clause-rows : goal.returns-clause-rows

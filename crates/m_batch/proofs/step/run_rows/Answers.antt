@@ -1,6 +1,6 @@
 use Rattle.std.proofs.Common.{◌+◌, refl}
 use Rattle.reg_machine.specs.declared.code.Packed.TheVariants.{Take}
-use Rattle.m_batch.specs.Rows.{row_at, row_inputs}
+use Rattle.m_batch.specs.inner.Rows.{row_at, row_inputs}
 use Rattle.m_batch.specs.inner.Ran.{ran_of}
 use Rattle.m_batch.proofs.RunLemmas.{stopped_answer, run_next}
 use Rattle.m_batch.proofs.step.run_rows.Goals as goal

@@ -2,8 +2,8 @@ use Rattle.std.proofs.Common.{◌≡◌, ◌<◌, length, get_or, ap, ◌∙◌,
 use Rattle.driver_core.specs.ActionView.{block_of}
 use Rattle.driver_core.specs.Valid.{body_of}
 use Rattle.driver_core.specs.Weights.{block_weight}
-use Rattle.driver_core.specs.Capped.{capped}
-use Rattle.driver_core.specs.WeightTable.{IsDone, CallsOnly}
+use Rattle.driver_core.specs.inner.Capped.{capped}
+use Rattle.driver_core.specs.inner.WeightTable.{IsDone, CallsOnly}
 use Rattle.driver_core.proofs.TableLemmas.{table-next, found-body}
 use Rattle.driver_core.proofs.weight_table.Table.weigh.Goals as goal
 

@@ -5,7 +5,7 @@ use Rattle.m_fixed.specs.declared.amount.Value.{Value}
 use Rattle.flat_code.specs.Runs.{value_at}
 use Rattle.reg_machine.specs.Flow.{Listing}
 use Rattle.reg_machine.specs.Machine.{machine_run}
-use Rattle.m_batch.specs.Rows.{Table, row_at, row_inputs}
+use Rattle.m_batch.specs.inner.Rows.{Table, row_at, row_inputs}
 use Rattle.m_batch.specs.inner.Ran.{ran_of}
 use Rattle.m_batch.proofs.RunLemmas.{block_answer}
 use Rattle.m_batch.proofs.columns.Columns.run_block.Goals as goal
