@@ -5,6 +5,7 @@
 #![tactic(auto)]
 
 mod counts;
+mod edge;
 mod files;
 mod host;
 mod mem_files;
@@ -13,6 +14,7 @@ mod mem_source;
 mod sink;
 mod source;
 
+pub use edge::{Disk, Opener, Reader, Writer};
 pub use files::{Attempt, FetchFault, Files};
 pub use host::{HostFiles, HostSink, HostSource, read_whole};
 pub use mem_files::MemFiles;
