@@ -5,3 +5,4 @@ pub mod Found
 pub mod Indexed
 pub mod Numbered
 pub mod Turns
+pub mod Values

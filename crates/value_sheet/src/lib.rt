@@ -4,6 +4,7 @@
 #![tactic(auto)]
 
 mod build;
+mod evaluate;
 mod program;
 mod settle;
 mod sheet;
