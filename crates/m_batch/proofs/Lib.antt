@@ -2,3 +2,5 @@ pub mod OutputLemmas
 pub mod PartLemmas
 pub mod PlaceLemmas
 pub mod RowLemmas
+pub mod OrderLemmas
+pub mod RunLemmas

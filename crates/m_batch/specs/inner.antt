@@ -2,3 +2,6 @@
 pub mod Blocks
 pub mod Parts
 pub mod Places
+pub mod Ran
+pub mod Rooms
+pub mod Rows

@@ -2,10 +2,10 @@
 ghost use Rattle.std.specs.Prelude.{◌≡◌, ◌+◌, length};
 ghost use Rattle.flat_code.specs.Runs.{IsNode, entry_of, values_for};
 
+use crate::steps::Steps;
 use flat_code::{Node, value_of};
 use m_fixed::Value;
 use std::sync::ledger::Ledger;
-use steps::Steps;
 
 /// The value of a node, where the nodes before it have these: one step. It takes no memory.
 pub(crate) fn evaluate<L: Ledger>(
