@@ -5,7 +5,7 @@ use Rattle.std.specs.Prelude.{IsSomeAnd}
 use Rattle.m_ports.specs.Files.{Holds, HoldsMoreThan}
 use Rattle.m_ports.specs.declared.files.Attempt.{Attempt}
 use Rattle.command_plans.specs.Attempts.{BeginsWith, names_tried, NoneFailed, LastFailed, allowance}
-use Rattle.command_plans.specs.Plan.{Plan, refuses, asks, and_then, End, gathered, refused, asked, end_of, names_behind, names_fetched}
+use Rattle.command_plans.specs.Plan.{Plan, refuses, asks, asks_file, and_then, End, gathered, refused, asked, end_of, names_behind, names_fetched}
 use Rattle.tax_print.specs.FaultLines.{too_long_line}
 use Rattle.command_plans.specs.Refusals.{refusal_line}
 use Rattle.command_plans.specs.Views.{Disk}
@@ -72,7 +72,7 @@ walks_in_order told disk plan made spent result (finds_too_long h) t = (_, refl)
 walks_in_order told disk plan made spent result (goes_on {name = name} {limit = limit} {behind = behind} {made = rest} {spent = cost} bytes h l walk) t =
     let r = walks_in_order told disk (behind bytes) rest cost result walk t in (
       r.0,
-      ap (λ o. name ∷ names_behind limit (λ b. names_fetched disk (behind b)) o) (held told name bytes h disk (t refl))
+      ap (λ o. name ∷ names_behind limit (λ b. names_fetched disk (behind b)) o) (held told name bytes h disk t)
           ∙ ap (λ b. name ∷ cond b (names_fetched disk (behind bytes)) []) (at_most (length bytes) limit l)
           ∙ ap (λ names. name ∷ names) r.1,
     )

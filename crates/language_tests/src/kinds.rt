@@ -54,7 +54,7 @@ fn check(alloc: Global) -> bool {
         return false;
     };
     match parse(alloc, &tokens) {
-        Ok(items) => check_items(alloc, &items),
+        Ok(items) => check_items(alloc, items.as_slice()),
         Err(_) => false,
     }
 }
