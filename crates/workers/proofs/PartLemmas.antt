@@ -49,3 +49,10 @@ said_of_parts {X} {U} {E} gives size Says none stops goes at items all is =
     walk at items [] h = subst (λ xs. Says at xs (Ok [])) (sym h) (none at)
     walk at items (Err fault ∷ parts) h = stops at items fault h.0 h.1
     walk at items (Ok part ∷ parts) h = goes at items part (joined parts) h.0 h.1 (walk (at + size) (drop size items) parts h.2)
+
+-- what is made of parts, said otherwise
+pub of_parts_then : {X U : Type 0} (gives says : ℕ → List X → U → Type 0) → ((at : ℕ) (part : List X) (u : U) → gives at part u → says at part u)
+    → (size at : ℕ) (items : List X) (made : List U) → AreOfParts gives size at items made → AreOfParts says size at items made
+of_parts_then gives says turn size at items [] h = h
+of_parts_then gives says turn size at items (u ∷ made) h =
+    (h.0, turn at (take size items) u h.1, of_parts_then gives says turn size (at + size) (drop size items) made h.2)

@@ -6,5 +6,5 @@
 mod parts;
 mod results;
 
-pub use parts::{map_parts, part_size};
+pub use parts::{map_parts, part_at, part_size};
 pub use results::join_parts;

@@ -69,8 +69,8 @@ fn part_count(items: usize, size: usize) -> usize
     items.div_ceil(size)
 }
 
-// The part with this number, from 0.
-fn part_at<T>(items: &[T], size: usize, n: usize) -> &[T]
+/// The part with this number, from 0, of parts of one size: some items, and fewer than the size where the list ends before.
+pub fn part_at<T>(items: &[T], size: usize, n: usize) -> &[T]
     requires size { 0 < size }
     requires inside { n * size < length items.now }
     ensures { IsPart items.now size (n * size) result.now }
