@@ -1,4 +1,4 @@
 -- What the contracts of inner functions speak of. Those of public calls need none of it.
 pub mod Blocks
-pub mod Parts
 pub mod Places
+pub mod Texts

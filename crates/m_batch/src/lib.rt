@@ -7,11 +7,16 @@
 mod batch;
 mod blocks;
 mod chunk;
+mod fault;
 mod one;
-mod parts;
 mod places;
+mod print;
+mod printer;
 mod rows;
+mod texts;
 
 pub use batch::run_batch;
-pub use blocks::{Answered, Blocks};
+pub use fault::PrintFault;
 pub use one::run_household;
+pub use print::print_batch;
+pub use printer::RowPrinter;
