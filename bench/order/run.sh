@@ -10,15 +10,15 @@ work=$(mktemp -d "${TMPDIR:-/tmp}/bench_order.XXXXXX")
 trap 'rm -rf "$work"' EXIT
 trap 'exit 1' HUP INT TERM
 mkdir -p "$work/repository/crates"
-for crate in m_places m_fixed m_names m_ports m_text text_pieces rule_text m_lexer m_ast m_terms declaration_items rule_items m_items \
-    m_symbols plain_rules loop_values index_expand m_requests micro_m m_resolve m_read_all rule_order rule_base; do
+for crate in m_places m_fixed m_names m_text m_lexer m_ast m_terms m_items \
+    m_symbols loop_values index_expand micro_m m_resolve rule_order rule_base; do
     mkdir "$work/repository/crates/$crate"
     for part in src specs proofs; do
         if [ -d "$root/crates/$crate/$part" ]; then cp -r "$root/crates/$crate/$part" "$work/repository/crates/$crate/"; fi
     done
     grep "^$crate:" "$root/crates.txt" >>"$work/repository/crates.txt"
 done
-echo "bench_order: m_places m_fixed micro_m rule_order rule_text rule_base anyhow" >>"$work/repository/crates.txt"
+echo "bench_order: m_places m_fixed micro_m rule_order rule_base anyhow" >>"$work/repository/crates.txt"
 cp "$root/HANDLES" "$work/repository/"
 bench=$work/repository/crates/bench_order
 mkdir -p "$bench/src"

@@ -4,7 +4,7 @@ use Rattle.std.specs.Prelude.{IfOk, if◌then◌else◌}
 use Rattle.std.specs.Io.KnownBytes.{append_known}
 use Rattle.m_ports.proofs.SinkLemmas.{append_known-append}
 use Rattle.m_ports.specs.declared.Failed.{Failed as NotGiven}
-use Rattle.text_pieces.specs.Giving.{Gives}
+use Rattle.m_ports.specs.Giving.{Gives}
 use Rattle.std.specs.List.{AllByRecursion}
 use Rattle.std.proofs.lemmas.List.{drop_more, drop_all, drop-drop}
 use Rattle.m_fixed.specs.declared.amount.Value.{Value}

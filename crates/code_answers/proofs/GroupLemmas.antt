@@ -9,8 +9,8 @@ use Rattle.std.proofs.lemmas.List.{drop_more, drop_all, take-append-drop, drop-d
 use Rattle.m_ports.specs.Counts.{Rose}
 use Rattle.m_ports.specs.Sink.{AppendsPrefix}
 use Rattle.m_ports.proofs.SinkLemmas.{AppendsPrefix-after, AppendsPrefix-before}
-use Rattle.text_pieces.specs.Pieces.{joined}
-use Rattle.text_pieces.proofs.GivingLemmas.{Given}
+use Rattle.m_text.specs.Pieces.{joined}
+use Rattle.m_ports.proofs.GivingLemmas.{Given}
 use Rattle.reg_machine.specs.Flow.{Listing}
 use Rattle.reg_machine.specs.Machine.{machine_run}
 use Rattle.code_file.specs.declared.loaded.Loaded.{Loaded}
@@ -20,7 +20,7 @@ use Rattle.household.specs.Household.{values_of}
 use Rattle.household.specs.declared.table.Row.{Row}
 use Rattle.observables.specs.Inputs.{AreValuesOf}
 use Rattle.m_batch.specs.Batch.{row_answer, answers_of}
-use Rattle.text_pieces.specs.Pieces.{new_line}
+use Rattle.m_text.specs.Pieces.{new_line}
 use Rattle.tax_print.specs.Lines.{AnswerIsWithin, answer_lines, household_lines, told_lines}
 use Rattle.code_answers.specs.Schemes.{Scheme}
 use Rattle.code_answers.specs.Tables.{rows_lines}

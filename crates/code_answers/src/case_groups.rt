@@ -1,7 +1,7 @@
 //! The rows of a table of cases, computed, compared and written in groups.
 ghost use Rattle.std.specs.Prelude.{◌≡◌, ◌<◌, ◌≤◌, IfOk, length};
 ghost use Rattle.std.specs.List.{AllByRecursion};
-ghost use Rattle.text_pieces.specs.Giving.{Gives};
+ghost use Rattle.m_ports.specs.Giving.{Gives};
 ghost use Rattle.m_places.specs.declared.limits.TheConstants.{ROWS};
 ghost use Rattle.m_batch.specs.Batch.{HasInputsBelow};
 ghost use Rattle.observables.specs.Outputs.{names_of};
@@ -14,12 +14,11 @@ ghost use Rattle.code_answers.specs.inner.Groups.{WritesGroups};
 use crate::groups::{GroupFault, window_end, window_for};
 use crate::texts::{CASES_ROOM, give_compared};
 use code_file::Loaded;
-use held_text::FixedText;
 use household::Row;
 use m_batch::run_batch;
 use m_cases::{Expected, print_count, print_mismatches};
 use m_places::{Open, Seq};
-use m_ports::{Failed, Sink};
+use m_ports::{Failed, FixedText, Sink};
 use observables::{Answer, Face};
 use std::alloc::Global;
 use std::thread::Threads;

@@ -1,7 +1,7 @@
 //! The rows of a table, computed and printed by several workers some thousand at once.
 ghost use Rattle.std.specs.Prelude.{◌≡◌, ◌<◌, ◌≤◌, length};
 ghost use Rattle.std.specs.List.{AllByRecursion};
-ghost use Rattle.text_pieces.specs.Giving.{Gives};
+ghost use Rattle.m_ports.specs.Giving.{Gives};
 ghost use Rattle.m_batch.specs.Batch.{HasInputsBelow};
 ghost use Rattle.tax_print.specs.Lines.{AnswerIsWithin};
 ghost use Rattle.code_answers.specs.Shown.{IsRunnableCode};

@@ -9,10 +9,9 @@ ghost use Rattle.code_answers.specs.inner.Groups.{AreTexts, WritesGroups, progra
 
 use crate::groups::{GroupFault, print_answers};
 use code_file::Loaded;
-use held_text::FixedText;
 use household::Row;
 use m_batch::Blocks;
-use m_ports::{Sink, give_all};
+use m_ports::{FixedText, Sink, give_all};
 use std::alloc::Global;
 use std::thread;
 use std::thread::Threads;

@@ -2,7 +2,7 @@
 //! output itself. Texts that may be longer go through a buffer.
 ghost use Rattle.std.specs.Prelude.{◌≡◌, ◌<◌, ◌≤◌, ◌++◌, IfOk, length};
 ghost use Rattle.std.specs.List.{AllByRecursion};
-ghost use Rattle.text_pieces.specs.Giving.{Gives};
+ghost use Rattle.m_ports.specs.Giving.{Gives};
 ghost use Rattle.m_places.specs.declared.limits.TheConstants.{ROWS};
 ghost use Rattle.code_file.specs.Loading.{text_with};
 ghost use Rattle.code_file.specs.Printable.{IsPrintable};
@@ -17,11 +17,10 @@ ghost use Rattle.code_answers.specs.inner.CaseGroups.{compared_count, compared_l
 use crate::case_groups::print_all_mismatches;
 use crate::large::print_large;
 use code_file::{Loaded, write_code};
-use held_text::{BufferedSink, FixedText, Origin, Printed};
 use household::Row;
 use m_cases::Expected;
 use m_places::Seq;
-use m_ports::{Failed, Sink, give_all};
+use m_ports::{BufferedSink, Failed, FixedText, Origin, Printed, Sink, give_all};
 use observables::{Answer, Face};
 use std::marker::Brand;
 use tax_print::print_answer;

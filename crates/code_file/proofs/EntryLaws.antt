@@ -10,7 +10,7 @@ use Rattle.observables.specs.declared.face.FaceOutput.TheVariants.{Named, Noted}
 use Rattle.reg_machine.specs.declared.instr.Instr.{Instr}
 use Rattle.reg_machine.specs.declared.instr.Instr.TheVariants.{Take, Lit, Do, Store, Load, Check, Output}
 use Rattle.reg_machine.proofs.TableLemmas.{none≢some, some-is}
-use Rattle.text_pieces.specs.Pieces.{joined, new_line}
+use Rattle.m_text.specs.Pieces.{joined, new_line}
 use Rattle.code_file.specs.declared.fault.CodeFault.{CodeFault}
 use Rattle.code_file.specs.declared.fault.CodeFault.TheVariants.{BadHeader, BadLine, BadOrder, Memory}
 use Rattle.code_file.specs.Text.{lines, slots_line, input_line, label_line, output_line, instr_line, op_word}

@@ -6,7 +6,7 @@ use Rattle.m_ports.specs.Files.{Holds, HoldsMoreThan}
 use Rattle.m_ports.specs.declared.files.Attempt.{Attempt}
 use Rattle.command_plans.specs.Attempts.{BeginsWith, names_tried, NoneFailed, LastFailed, allowance}
 use Rattle.command_plans.specs.Plan.{Plan, refuses, asks, and_then, End, gathered, refused, asked, end_of, names_behind, names_fetched}
-use Rattle.fault_lines.specs.Lines.{too_long_line}
+use Rattle.tax_print.specs.FaultLines.{too_long_line}
 use Rattle.command_plans.specs.Refusals.{refusal_line}
 use Rattle.command_plans.specs.Views.{Disk}
 use Rattle.command_plans.specs.Trips.{Walks, ends, ends_refused, ends_without_memory, fetches_without_memory, fails, finds_too_long, goes_on}

@@ -5,3 +5,7 @@ pub mod Refusals
 pub mod Status
 pub mod Trips
 pub mod Views
+pub mod Files
+pub mod Listing
+pub mod Source
+pub mod inner

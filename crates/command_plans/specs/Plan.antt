@@ -1,7 +1,7 @@
 -- A command as a plan: which files it asks for, one after the other, and where it refuses.
 use Rattle.std.specs.Prelude.{ℕ, List, [], ◌∷◌, length, Option, Some, None, if◌then◌else◌, nat_le}
 use Rattle.command_plans.specs.Views.{Disk}
-use Rattle.fault_lines.specs.Lines.{too_long_line}
+use Rattle.tax_print.specs.FaultLines.{too_long_line}
 
 -- A plan is done with what it gathered, or refuses with a line, or asks for a file by its name, of at most so
 -- many bytes, and goes on with the file's bytes.

@@ -1,11 +1,10 @@
 //! Rule files that one worker can't read: the first waits for the last, and the last for the first.
 ghost use Rattle.std.specs.Prelude.{◌≡◌, ◌≤◌, IfOk, length};
-ghost use Rattle.rule_text.specs.Limits.{TextsAreWithin, EachIsWithin};
+ghost use Rattle.m_places.specs.SourceLimits.{TextsAreWithin, EachIsWithin};
 
 use m_ast::Item;
-use m_places::{Gate, Name, Seq};
-use m_read_all::read_all;
-use rule_text::Text;
+use m_places::{Gate, Name, Seq, Text};
+use rule_base::read_all;
 use std::alloc::{AllocError, Global};
 use std::sync::atomic::{AtomicU64, Ordering};
 use std::test::Fail;

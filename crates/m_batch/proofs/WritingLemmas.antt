@@ -4,7 +4,7 @@ use Rattle.std.specs.Io.KnownBytes.{append_known}
 use Rattle.m_ports.specs.Counts.{Rose}
 use Rattle.m_ports.specs.Sink.{AppendsPrefix}
 use Rattle.m_ports.proofs.SinkLemmas.{AppendsPrefix-after, AppendsPrefix-before}
-use Rattle.text_pieces.proofs.GivingLemmas.{Given}
+use Rattle.m_ports.proofs.GivingLemmas.{Given}
 use Rattle.m_batch.specs.Printing.{Counted, WritesRows}
 use Rattle.m_batch.specs.declared.fault.PrintFault.{PrintFault}
 use Rattle.m_batch.specs.declared.fault.PrintFault.TheVariants.{Memory, Failed}

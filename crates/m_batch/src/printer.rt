@@ -1,6 +1,6 @@
 //! What is printed of a row that was computed.
 ghost use Rattle.std.specs.Prelude.{◌≡◌, ℕ, List, IfOk};
-ghost use Rattle.text_pieces.specs.Giving.{Gives};
+ghost use Rattle.m_ports.specs.Giving.{Gives};
 ghost use Rattle.household.specs.declared.table.Row.{Row};
 ghost use Rattle.observables.specs.declared.answer.Answer.{Answer};
 

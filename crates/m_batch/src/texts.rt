@@ -1,7 +1,7 @@
 //! The rows of one worker, printed.
 ghost use Rattle.std.specs.Prelude.{◌≡◌, ◌+◌, ◌^◌, ◌<◌, ◌≤◌, IfOk, IfSome, length};
 ghost use Rattle.std.specs.List.{AllByRecursion};
-ghost use Rattle.text_pieces.specs.Giving.{Gives};
+ghost use Rattle.m_ports.specs.Giving.{Gives};
 ghost use Rattle.m_batch.specs.Batch.{HasInputsBelow, answers_of};
 ghost use Rattle.m_batch.specs.Printing.{MayPrintEach, WritesRows, printed_count, printed_text};
 ghost use Rattle.m_batch.specs.inner.Texts.{IsTextOf, counted_to_end};
@@ -9,9 +9,9 @@ ghost use Rattle.m_batch.specs.inner.Texts.{IsTextOf, counted_to_end};
 use crate::blocks::Blocks;
 use crate::fault::PrintFault;
 use crate::printer::RowPrinter;
-use held_text::FixedText;
+
 use household::Row;
-use m_ports::{Failed, Sink};
+use m_ports::{Failed, FixedText, Sink};
 use observables::Answer;
 use reg_machine::Code;
 use std::alloc::Global;

@@ -3,7 +3,7 @@ use Rattle.std.proofs.Common.{◌≡◌, ℕ, List, Some, Ok, Err, refl, sym, ap
 use Rattle.std.specs.Prelude.{◌⊎◌}
 use Rattle.std.specs.Io.KnownBytes.{append_known}
 use Rattle.m_ports.specs.Sink.{AppendsPrefix}
-use Rattle.fault_lines.specs.Lines.{usage_line, unreadable_line}
+use Rattle.tax_print.specs.FaultLines.{usage_line, unreadable_line}
 use Rattle.command_plans.specs.Plan.{end_of, gathered}
 use Rattle.command_plans.specs.Printing.{Prints}
 use Rattle.command_plans.specs.Refusals.{refusal_line}

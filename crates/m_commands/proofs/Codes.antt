@@ -1,7 +1,7 @@
 -- A source has one compiling, and a code file one answer.
 use Rattle.std.proofs.Common.{◌≡◌, ◌≢◌, ℕ, ℤ, List, [], length, None, Some, Ok, Err, refl, sym, ap, ◌∙◌, subst}
 use Rattle.m_fixed.specs.declared.amount.Value.{Value}
-use Rattle.rule_text.specs.declared.Source.{Source}
+use Rattle.m_places.specs.declared.source.Source.{Source}
 use Rattle.code_file.specs.Reading.{IsCodeFault, IsFormOf}
 use Rattle.code_file.specs.declared.fault.CodeFault.{CodeFault}
 use Rattle.code_file.specs.declared.fault.CodeFault.TheVariants.{Memory}

@@ -8,7 +8,7 @@ use Rattle.m_ports.specs.declared.files.Attempt.{Attempt}
 use Rattle.command_plans.specs.Attempts.{BeginsWith, names_tried, NoneFailed}
 use Rattle.command_plans.specs.Plan.{names_fetched}
 use Rattle.command_plans.specs.Printing.{Prints}
-use Rattle.fault_lines.specs.Lines.{usage_line, unreadable_line}
+use Rattle.tax_print.specs.FaultLines.{usage_line, unreadable_line}
 use Rattle.command_plans.specs.Refusals.{refusal_line}
 use Rattle.command_plans.specs.Status.{IsOfEnd}
 use Rattle.command_plans.specs.Trips.{GoesAlong}

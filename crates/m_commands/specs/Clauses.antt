@@ -4,20 +4,20 @@ use Rattle.std.specs.Io.KnownBytes.{append_known, prepend_known}
 use Rattle.m_places.specs.declared.limits.TheConstants.{INPUT_BYTES}
 use Rattle.code_file.specs.Reading.{IsFormOf}
 use Rattle.code_file.specs.declared.loaded.Loaded.{Loaded}
-use Rattle.rule_text.specs.declared.Source.{Source}
+use Rattle.m_places.specs.declared.source.Source.{Source}
 use Rattle.m_ports.specs.Counts.{Rose}
 use Rattle.m_ports.specs.Files.{failed_count}
 use Rattle.m_ports.specs.Sink.{AppendsPrefix}
 use Rattle.m_ports.specs.declared.files.Attempt.{Attempt}
 use Rattle.command_plans.specs.Attempts.{BeginsWith, names_tried, NoneFailed, LastFailed}
-use Rattle.fault_lines.specs.Lines.{unreadable_line}
+use Rattle.tax_print.specs.FaultLines.{unreadable_line}
 use Rattle.command_plans.specs.Plan.{end_of, gathered}
 use Rattle.command_plans.specs.Status.{IsFaultless, IsComplete}
 use Rattle.command_plans.specs.Views.{Disk, FilesView, InputView, OutputView}
 use Rattle.command_plans.specs.declared.status.Status.{Status}
 use Rattle.command_plans.specs.declared.status.Status.TheVariants.{Done, Refused, Usage, ReadFault, WriteFault, Memory}
-use Rattle.m_source.specs.Source.{source_plan}
-use Rattle.m_source.specs.declared.source.SourceNames.{SourceNames}
+use Rattle.command_plans.specs.Source.{source_plan}
+use Rattle.command_plans.specs.declared.source.SourceNames.{SourceNames}
 use Rattle.command_answers.specs.Prepared.{IsPreparedCode}
 use Rattle.m_commands.specs.Answer.{CutOff}
 use Rattle.m_commands.specs.Command.{command_of, plan_of, reads_input}

@@ -6,9 +6,9 @@ use Rattle.std.specs.Str.{bytes_eq, is_utf8}
 use Rattle.m_places.specs.declared.limits.TheConstants.{CODE_FILE_BYTES, FILE_BYTES, LARGE}
 use Rattle.m_text.specs.Numbers.{whole_number}
 use Rattle.command_plans.specs.Plan.{Plan, done, file_plan, and_then}
-use Rattle.m_source.specs.Source.{source_plan}
-use Rattle.m_source.specs.declared.source.SourceNames.{SourceNames}
-use Rattle.rule_text.specs.declared.Source.{Source}
+use Rattle.command_plans.specs.Source.{source_plan}
+use Rattle.command_plans.specs.declared.source.SourceNames.{SourceNames}
+use Rattle.m_places.specs.declared.source.Source.{Source}
 use Rattle.m_commands.specs.declared.command.Command.{Command}
 use Rattle.m_commands.specs.declared.command.Command.TheVariants.{Run, Serve, Batch, Large, Compile, Exec, Check, Lint, Cases}
 use Rattle.m_commands.specs.declared.command.Form.{Form}

@@ -14,11 +14,11 @@ use crate::answer::answer;
 use crate::command::{Command, command_of};
 use crate::gather::gather;
 use command_plans::{Status, print_fault, tell};
-use fault_lines::Fault;
 use m_places::Word;
 use m_ports::{Files, Sink, Source};
 use std::alloc::Global;
 use std::thread::Threads;
+use tax_print::Fault;
 
 // Does the command that the words are.
 fn perform<R: Threads + Sync, F: Files, S: Source, K: Sink>(

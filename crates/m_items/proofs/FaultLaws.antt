@@ -7,8 +7,8 @@ use Rattle.m_lexer.specs.declared.token.Token.{Token}
 use Rattle.m_ast.specs.declared.item.Item.{Item}
 use Rattle.m_ast.specs.Whole.{IsWholeItem}
 use Rattle.m_terms.specs.Depth.{first_too_deep}
-use Rattle.declaration_items.specs.Grammar.{SpellsDeclaration, a_variable, an_error, an_application, a_chaining}
-use Rattle.rule_items.proofs.WholeLaws.{rule_whole, verification_whole, many_each}
+use Rattle.m_items.specs.DeclarationGrammar.{SpellsDeclaration, a_variable, an_error, an_application, a_chaining}
+use Rattle.m_items.proofs.WholeLaws.{rule_whole, verification_whole, many_each}
 use Rattle.m_items.specs.declared.fault.ParseFault.{ParseFault}
 use Rattle.m_items.specs.declared.fault.ParseFault.TheVariants.{TooDeep, Syntax, Memory}
 use Rattle.m_items.specs.Grammar.{SpellsItem, a_declaration, a_rule, a_verification, SpellsItems}

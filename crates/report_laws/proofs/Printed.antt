@@ -16,7 +16,7 @@ use Rattle.m_text.specs.Lines.{begins_with_feed, lines_from, onto_first, lines_o
 use Rattle.m_text.proofs.Fronts.{all_weaker, all_both}
 use Rattle.m_symbols.specs.Declarations.{Declared}
 use Rattle.m_text.specs.Parts.{with_first}
-use Rattle.m_requests.specs.Cells.{cell_name}
+use Rattle.m_symbols.specs.Cells.{cell_name}
 use Rattle.tax_print.specs.Lines.{value_line}
 use Rattle.why_report.specs.declared.fault.ReportFault.{ReportFault}
 use Rattle.why_report.specs.declared.fault.ReportFault.TheVariants.{BadLine}

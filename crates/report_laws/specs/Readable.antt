@@ -4,7 +4,7 @@ use Rattle.std.specs.List.{AllByRecursion}
 use Rattle.m_fixed.specs.Laws.{IsValue}
 use Rattle.m_text.specs.Bytes.{space, line_feed, carriage_return}
 use Rattle.m_symbols.specs.Declarations.{Declared}
-use Rattle.m_requests.specs.Cells.{request_cell, cell_name}
+use Rattle.m_symbols.specs.Cells.{request_cell, cell_name}
 use Rattle.why_report.specs.declared.line.ReportLine.{ReportLine}
 
 -- a byte that ends neither a word nor a line

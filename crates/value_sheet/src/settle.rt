@@ -5,12 +5,12 @@ ghost use Rattle.flat_code.specs.Runs.{IsNode, AreNodes, entry_of, values_for, n
 ghost use Rattle.flat_code.specs.Touched.{differs, some_argument, of_put, is_touched};
 ghost use Rattle.value_sheet.specs.inner.Readers.{node_at, has, IsReaders, IsInputRows};
 
+use crate::rows::Rows;
+use crate::steps::Steps;
 use dirty_set::Bits;
-use edge_rows::Rows;
 use flat_code::{Node, value_of};
 use m_fixed::Value;
 use std::sync::ledger::Ledger;
-use steps::Steps;
 
 /// A program with its edges: of each node those that read it, and of each input its nodes.
 #[derive(Drop)]

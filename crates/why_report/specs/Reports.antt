@@ -9,7 +9,7 @@ use Rattle.m_fixed.specs.Text.{text_value, amount_read}
 use Rattle.m_text.specs.Lines.{lines_of}
 use Rattle.m_text.specs.Parts.{split_at}
 use Rattle.m_symbols.specs.Declarations.{Declared}
-use Rattle.m_requests.specs.Cells.{request_cell, cell_name}
+use Rattle.m_symbols.specs.Cells.{request_cell, cell_name}
 use Rattle.tax_print.specs.Lines.{value_line}
 use Rattle.why_report.specs.declared.fault.ReportFault.{ReportFault}
 use Rattle.why_report.specs.declared.fault.ReportFault.TheVariants.{BadLine}

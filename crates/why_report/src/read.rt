@@ -7,15 +7,14 @@ ghost use Rattle.m_places.specs.declared.limits.TheConstants.{CODE_FILE_BYTES};
 ghost use Rattle.m_fixed.specs.Text.{text_value, amount_read};
 ghost use Rattle.m_text.specs.Lines.{lines_of};
 ghost use Rattle.m_symbols.specs.Declarations.{owners_from};
-ghost use Rattle.m_requests.specs.Placed.{IsPlaced};
+ghost use Rattle.m_symbols.specs.Placed.{IsPlaced};
 ghost use Rattle.why_report.specs.declared.fault.ReportFault.TheVariants.{Memory};
 ghost use Rattle.why_report.specs.Reports.{behind_equals, amount_value, value_said, line_said, ends_report, report_said};
 
 use crate::{ReportFault, ReportLine};
 use m_fixed::{Value, read_amount};
 use m_places::Seq;
-use m_requests::find_request;
-use m_symbols::Symbols;
+use m_symbols::{Symbols, find_request};
 use m_text::{first_line, first_of};
 use std::alloc::{AllocError, Global};
 

@@ -2,7 +2,7 @@
 use Rattle.std.specs.Prelude.{◌≡◌, ℕ, ◌<◌, List, [], ◌∷◌, ◌++◌, Option, Result, Ok, Err, IfSome, OnOk, OnErr, length, slice_index_or}
 use Rattle.std.specs.Fork.{slice_chunk}
 use Rattle.std.specs.Io.KnownBytes.{append_known}
-use Rattle.held_text.specs.Texts.{TextIn}
+use Rattle.m_ports.specs.Texts.{TextIn}
 use Rattle.m_ports.specs.Counts.{Rose}
 use Rattle.m_ports.specs.Sink.{AppendsPrefix}
 use Rattle.observables.specs.declared.answer.Answer.{Answer}

@@ -1,7 +1,7 @@
 use Rattle.std.proofs.Common.{◌<◌, ◌∙◌, length, arith}
 use Rattle.std.proofs.lemmas.Result.{err_from_is_err_and}
 use Rattle.observables.specs.Outputs.{names_of}
-use Rattle.text_pieces.proofs.GivingLemmas.{piece_given, piece_failed}
+use Rattle.m_ports.proofs.GivingLemmas.{piece_given, piece_failed}
 use Rattle.code_answers.proofs.CaseLemmas.{compared_at, compared_few, counted_at}
 use Rattle.code_answers.proofs.case_groups.print_all_mismatches.Goals as goal
 

@@ -1,5 +1,5 @@
 use Rattle.std.proofs.Common.{◌≡◌, ◌+◌, drop}
-use Rattle.text_pieces.proofs.GivingLemmas.{Given}
+use Rattle.m_ports.proofs.GivingLemmas.{Given}
 use Rattle.code_answers.specs.inner.CaseGroups.{compared_count, compared_lines}
 use Rattle.code_answers.proofs.case_groups.print_all_mismatches.Given as goal
 

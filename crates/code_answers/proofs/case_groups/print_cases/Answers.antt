@@ -1,6 +1,6 @@
 use Rattle.std.proofs.Common.{refl, sym, append-nil}
 use Rattle.std.proofs.lemmas.Result.{err_from_is_err_and}
-use Rattle.text_pieces.proofs.GivingLemmas.{none_given, piece_given}
+use Rattle.m_ports.proofs.GivingLemmas.{none_given, piece_given}
 use Rattle.code_answers.proofs.CaseLemmas.{two_written}
 use Rattle.code_answers.proofs.GroupLemmas.{part_stopped}
 use Rattle.code_answers.proofs.case_groups.print_cases.Goals as goal

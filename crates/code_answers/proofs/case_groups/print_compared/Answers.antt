@@ -1,7 +1,7 @@
 use Rattle.std.proofs.Common.{arith, length}
 use Rattle.std.proofs.lemmas.Result.{err_from_is_err_and}
 use Rattle.observables.specs.Outputs.{names_of}
-use Rattle.text_pieces.proofs.GivingLemmas.{piece_given}
+use Rattle.m_ports.proofs.GivingLemmas.{piece_given}
 use Rattle.code_answers.proofs.CaseLemmas.{count_at, count_few, lines_at}
 use Rattle.code_answers.proofs.GroupLemmas.{part_stopped}
 use Rattle.code_answers.proofs.case_groups.print_compared.Goals as goal

@@ -1,5 +1,5 @@
 use Rattle.std.proofs.Common.{◌≡◌, ◌≤◌, ◌+◌, ◌-◌, drop, length}
-use Rattle.text_pieces.proofs.GivingLemmas.{Given}
+use Rattle.m_ports.proofs.GivingLemmas.{Given}
 use Rattle.code_answers.specs.inner.CaseGroups.{case_count, case_lines}
 use Rattle.code_answers.proofs.case_groups.print_compared.Given as goal
 

@@ -1,6 +1,6 @@
 use Rattle.std.proofs.Common.{◌<◌, length, arith}
 use Rattle.std.proofs.lemmas.Result.{err_from_is_err_and}
-use Rattle.text_pieces.proofs.GivingLemmas.{piece_given, piece_failed}
+use Rattle.m_ports.proofs.GivingLemmas.{piece_given, piece_failed}
 use Rattle.code_answers.proofs.GroupLemmas.{answered_at}
 use Rattle.code_answers.proofs.groups.print_answers.Goals as goal
 

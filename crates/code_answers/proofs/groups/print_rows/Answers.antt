@@ -1,5 +1,5 @@
 use Rattle.std.proofs.lemmas.Result.{err_from_is_err_and}
-use Rattle.text_pieces.proofs.GivingLemmas.{piece_given}
+use Rattle.m_ports.proofs.GivingLemmas.{piece_given}
 use Rattle.code_answers.proofs.GroupLemmas.{group_at, part_stopped}
 use Rattle.code_answers.proofs.groups.print_rows.Goals as goal
 

@@ -1,6 +1,6 @@
 use Rattle.std.proofs.Common.{ap, sym, subst}
 use Rattle.std.proofs.lemmas.Result.{err_from_is_err_and}
-use Rattle.text_pieces.proofs.GivingLemmas.{Given, none_given, piece_given}
+use Rattle.m_ports.proofs.GivingLemmas.{Given, none_given, piece_given}
 use Rattle.m_batch.specs.Batch.{Left}
 use Rattle.code_answers.specs.inner.Groups.{program_lines}
 use Rattle.code_answers.proofs.GroupLemmas.{block_next, block_within, nothing_written, part_stopped}

@@ -1,5 +1,5 @@
 use Rattle.std.proofs.Common.{◌≡◌, length}
-use Rattle.text_pieces.proofs.GivingLemmas.{Given}
+use Rattle.m_ports.proofs.GivingLemmas.{Given}
 use Rattle.code_answers.specs.inner.Groups.{program_lines}
 use Rattle.code_answers.proofs.parts.print_part.Given as goal
 

@@ -1,6 +1,6 @@
 use Rattle.std.proofs.Common.{ap}
 use Rattle.code_answers.specs.inner.CaseGroups.{compared_lines}
-use Rattle.held_text.specs.Texts.{TextIn}
+use Rattle.m_ports.specs.Texts.{TextIn}
 use Rattle.code_answers.proofs.CaseLemmas.{count_given, counted_given}
 use Rattle.code_answers.proofs.HeldLemmas.{held_whole, gives_whole}
 use Rattle.code_answers.proofs.texts.give_compared.Goals as goal

@@ -1,5 +1,5 @@
 use Rattle.std.proofs.Common.{arith}
-use Rattle.rule_text.proofs.Pushed.{within_push, bytes_push, count_push}
+use Rattle.m_places.proofs.Pushed.{within_push, bytes_push, count_push}
 use Rattle.language_tests.proofs.workers.texts_of.Goals as goal
 
 pub loop-preserved : goal.loop-preserved

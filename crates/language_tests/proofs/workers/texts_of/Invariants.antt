@@ -1,5 +1,5 @@
 use Rattle.std.proofs.Common.{◌≡◌, ◌≤◌, ◌*◌, length}
-use Rattle.rule_text.specs.Limits.{EachIsWithin, all_bytes}
+use Rattle.m_places.specs.SourceLimits.{EachIsWithin, all_bytes}
 use Rattle.language_tests.proofs.workers.texts_of.Given as goal
 
 abbrev pub invariant-loop : goal.invariant-loop

@@ -1,5 +1,5 @@
 use Rattle.std.proofs.Common.{◌+◌, ◌*◌, drop}
-use Rattle.text_pieces.proofs.GivingLemmas.{Given}
+use Rattle.m_ports.proofs.GivingLemmas.{Given}
 use Rattle.workers.specs.Parts.{AreOfParts}
 use Rattle.m_batch.specs.inner.Texts.{MayBeTextOf}
 use Rattle.m_batch.proofs.CountLemmas.{IsCounting}

@@ -1,5 +1,5 @@
 use Rattle.std.proofs.Common.{◌+◌, drop}
-use Rattle.text_pieces.proofs.GivingLemmas.{Given}
+use Rattle.m_ports.proofs.GivingLemmas.{Given}
 use Rattle.m_batch.specs.Printing.{MayPrintEach, printed_count, printed_text}
 use Rattle.m_batch.proofs.CountLemmas.{IsCounting}
 use Rattle.m_batch.proofs.texts.print_block.Given as goal

@@ -1,5 +1,5 @@
 use Rattle.std.proofs.Common.{◌≡◌, ◌+◌, length}
-use Rattle.text_pieces.proofs.GivingLemmas.{Given}
+use Rattle.m_ports.proofs.GivingLemmas.{Given}
 use Rattle.m_batch.proofs.CountLemmas.{IsCounting}
 use Rattle.m_batch.proofs.PrintLemmas.{MayFrom, count_from, text_from}
 use Rattle.m_batch.proofs.texts.print_part.Given as goal
