@@ -1,6 +1,6 @@
 -- Counts that are added up as far as 64 bits go.
 use Rattle.std.proofs.Common.{◌≡◌, ℕ, ◌+◌, ◌-◌, ◌^◌, min, arith}
-use Rattle.m_batch.specs.inner.Texts.{counted_to_end}
+use Rattle.m_batch.specs.Printing.{counted_to_end}
 
 -- so much was counted of the whole that this rest is left
 pub record IsCounting (count rest whole : ℕ) : Type 0 where

@@ -95,3 +95,9 @@ may_at may place rows answers k row d answer e rows_in answers_in is_row is_answ
     (subst (λ (rs : List Row). MayPrintEach may (place + k) rs (drop k answers)) (drop_more rows k d rows_in) all) in
     (subst (λ (r : Row). may (place + k) r answer) (sym is_row) (subst (λ (a : Answer). may (place + k) (get_or rows k d) a) (sym is_answer) both.0),
     subst (λ n. MayPrintEach may n (drop (k + 1) rows) (drop (k + 1) answers)) (there place k) both.1)
+
+-- where each row may be printed with each answer, all may
+pub each_may : (may : ℕ → Row → Answer → Type 0) → ((at : ℕ) (row : Row) (answer : Answer) → may at row answer) → (at : ℕ) (rows : List Row) (answers : List Answer) → MayPrintEach may at rows answers
+each_may may all at [] answers = tt
+each_may may all at (row ∷ rows) [] = tt
+each_may may all at (row ∷ rows) (answer ∷ answers) = (all at row answer, each_may may all (at + 1) rows answers)

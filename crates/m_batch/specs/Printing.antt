@@ -1,5 +1,5 @@
 -- What is printed of rows with their answers, and what is known of a call that prints them.
-use Rattle.std.specs.Prelude.{◌≡◌, ℕ, ◌+◌, List, [], ◌∷◌, ◌++◌, Option, Result, Ok, Err, OnOk, OnErr}
+use Rattle.std.specs.Prelude.{◌≡◌, ℕ, ◌+◌, ◌-◌, ◌^◌, min, List, [], ◌∷◌, ◌++◌, Option, Result, Ok, Err, OnOk, OnErr}
 use Rattle.std.specs.Io.KnownBytes.{append_known}
 use Rattle.m_ports.specs.Counts.{Rose}
 use Rattle.m_ports.specs.Sink.{AppendsPrefix}
@@ -17,6 +17,10 @@ printed_text text at _ _ = []
 abbrev pub printed_count : (ℕ → Row → Answer → ℕ) → ℕ → List Row → List Answer → ℕ
 printed_count count at (row ∷ rows) (answer ∷ answers) = count at row answer + printed_count count (at + 1) rows answers
 printed_count count at _ _ = 0
+
+-- a number as far as 64 bits count
+abbrev pub counted_to_end : ℕ → ℕ
+counted_to_end n = min n (2 ^ 64 - 1)
 
 -- each of them may be printed
 abbrev pub MayPrintEach : (ℕ → Row → Answer → Type 0) → ℕ → List Row → List Answer → Type 0

@@ -4,8 +4,8 @@ ghost use Rattle.std.specs.Prelude.{◌≡◌, ◌+◌, ◌*◌, ◌^◌, ◌<�
 ghost use Rattle.std.specs.List.{AllByRecursion};
 ghost use Rattle.workers.specs.Parts.{AreOfParts};
 ghost use Rattle.m_batch.specs.Batch.{HasInputsBelow, answers_of};
-ghost use Rattle.m_batch.specs.Printing.{MayPrintEach, WritesRows, printed_count, printed_text};
-ghost use Rattle.m_batch.specs.inner.Texts.{IsTextOf, MayBeTextOf, counted_to_end};
+ghost use Rattle.m_batch.specs.Printing.{MayPrintEach, WritesRows, counted_to_end, printed_count, printed_text};
+ghost use Rattle.m_batch.specs.inner.Texts.{MayBeTextOf};
 
 use crate::fault::PrintFault;
 use crate::printer::RowPrinter;

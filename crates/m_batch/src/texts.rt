@@ -3,8 +3,8 @@ ghost use Rattle.std.specs.Prelude.{◌≡◌, ◌+◌, ◌^◌, ◌<◌, ◌≤
 ghost use Rattle.std.specs.List.{AllByRecursion};
 ghost use Rattle.m_ports.specs.Giving.{Gives};
 ghost use Rattle.m_batch.specs.Batch.{HasInputsBelow, answers_of};
-ghost use Rattle.m_batch.specs.Printing.{MayPrintEach, WritesRows, printed_count, printed_text};
-ghost use Rattle.m_batch.specs.inner.Texts.{IsTextOf, counted_to_end};
+ghost use Rattle.m_batch.specs.Printing.{MayPrintEach, WritesRows, counted_to_end, printed_count, printed_text};
+ghost use Rattle.m_batch.specs.inner.Texts.{IsTextOf};
 
 use crate::blocks::Blocks;
 use crate::fault::PrintFault;

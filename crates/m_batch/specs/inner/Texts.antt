@@ -1,15 +1,11 @@
 -- What a worker has printed.
-use Rattle.std.specs.Prelude.{◌≡◌, ℕ, ◌^◌, ◌-◌, min, List, Option, IfSome}
+use Rattle.std.specs.Prelude.{◌≡◌, ℕ, List, Option, IfSome}
 use Rattle.household.specs.declared.table.Row.{Row}
 use Rattle.observables.specs.declared.answer.Answer.{Answer}
 use Rattle.reg_machine.specs.Flow.{Listing}
 use Rattle.m_batch.specs.Batch.{answers_of}
-use Rattle.m_batch.specs.Printing.{printed_count, printed_text}
+use Rattle.m_batch.specs.Printing.{counted_to_end, printed_count, printed_text}
 use Rattle.m_batch.specs.declared.texts.PartText.{PartText}
-
--- a number as far as 64 bits count
-abbrev pub counted_to_end : ℕ → ℕ
-counted_to_end n = min n (2 ^ 64 - 1)
 
 -- a text that holds what is printed of rows with these answers, and how much is counted of them
 pub record IsTextOf (text : ℕ → Row → Answer → List ℕ) (count : ℕ → Row → Answer → ℕ) (at : ℕ) (rows : List Row) (answers : List Answer) (made : PartText) : Type 0 where

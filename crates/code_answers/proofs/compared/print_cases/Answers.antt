@@ -2,8 +2,8 @@ use Rattle.std.proofs.Common.{refl, sym, append-nil}
 use Rattle.std.proofs.lemmas.Result.{err_from_is_err_and}
 use Rattle.m_ports.proofs.GivingLemmas.{none_given, piece_given}
 use Rattle.code_answers.proofs.CaseLemmas.{two_written}
-use Rattle.code_answers.proofs.GroupLemmas.{part_stopped}
-use Rattle.code_answers.proofs.case_groups.print_cases.Goals as goal
+use Rattle.m_batch.proofs.WritingLemmas.{part_stopped}
+use Rattle.code_answers.proofs.compared.print_cases.Goals as goal
 
 pub returns-in_err-count-clause-text : goal.returns-in_err-count-clause-text
 returns-in_err-count-clause-text g c =
