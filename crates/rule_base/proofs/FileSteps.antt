@@ -12,7 +12,7 @@ use Rattle.m_items.specs.declared.fault.ParseFault.TheVariants as parse
 use Rattle.m_items.specs.Faults.{IsParseFault}
 use Rattle.rule_base.specs.declared.read_fault.ReadFault.TheVariants.{Memory}
 use Rattle.rule_base.specs.Files.{IsFileFault, of_tokens, of_items}
-use Rattle.rule_base.specs.inner.FileParts.{lex_step, parse_step}
+use Rattle.rule_base.specs.inner.FileSteps.{lex_step, parse_step}
 
 -- an error that this fault is
 pub told : {T E : Type 0} (memory : E) (good : T → Type 0) (bad : E → Type 0) (result : Result T E) (fault : E) → IsErrAnd result (λ x. x ≡ fault) → (fault ≢ memory → bad fault)

@@ -11,14 +11,13 @@ use crate::read_fault::ReadFault;
 use m_ast::Item;
 use m_items::parse;
 use m_lexer::lex;
-use m_places::{Gate, Seq, Text};
+use m_places::{Seq, Text};
 use std::alloc::Global;
 
 /// The items of each of these files in order, or the fault of the first that has one. The first of them has this number.
 /// The tokens of a file are dropped before the next one is read.
-pub(crate) fn read_files<G: Gate>(
+pub(crate) fn read_files(
     alloc: Global,
-    gate: &G,
     start: usize,
     texts: &[Text],
 ) -> Result<Vec<Seq<Item>>, ReadFault>
@@ -29,7 +28,6 @@ pub(crate) fn read_files<G: Gate>(
     let mut files = Vec::new(alloc);
     let mut number = start as u32;
     for text in texts {
-        gate.pass(number);
         let items = file_items(alloc, text, number)?;
         files.push(items)?;
         number += 1;

@@ -9,7 +9,6 @@ mod each_file;
 mod fault;
 mod files;
 mod laws;
-mod parts;
 mod read;
 mod read_fault;
 mod read_laws;

@@ -2,7 +2,7 @@
 
 ghost use Rattle.std.specs.Prelude.{◌≡◌};
 ghost use Rattle.rule_base.specs.declared.read_fault.ReadFault.TheVariants.{Memory};
-ghost use Rattle.rule_base.specs.inner.FileParts.{lex_step, parse_step};
+ghost use Rattle.rule_base.specs.inner.FileSteps.{lex_step, parse_step};
 
 use m_items::ParseFault;
 use m_lexer::LexFault;
