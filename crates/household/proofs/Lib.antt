@@ -10,4 +10,5 @@ pub mod LeftLemmas
 pub mod LineLemmas
 pub mod PartLemmas
 pub mod ReaderLemmas
+pub mod TableLemmas
 pub mod ValueLemmas

@@ -5,5 +5,6 @@ pub mod Reader
 pub mod Marks
 pub mod Household
 pub mod Table
+pub mod TableRows
 pub mod Refusals
 pub mod inner
