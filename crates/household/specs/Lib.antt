@@ -1,8 +1,10 @@
 pub mod InTurn
 pub mod Records
+pub mod Plain
 pub mod Reader
 pub mod Marks
 pub mod Household
 pub mod Table
+pub mod TableRows
 pub mod Refusals
 pub mod inner

@@ -1,4 +1,4 @@
-ghost use Rattle.std.specs.Prelude.{◌≡◌, ◌+◌, [], drop, length, nat_le, IfOk, Ok, Err};
+ghost use Rattle.std.specs.Prelude.{◌≡◌, ◌+◌, ◌≤◌, [], drop, length, nat_le, IfOk, Ok, Err};
 ghost use Rattle.std.specs.List.{AllByRecursion, list_all};
 ghost use Rattle.csv.specs.Records.{fields_of};
 ghost use Rattle.m_places.specs.Refusals.{Says};
@@ -8,7 +8,6 @@ ghost use Rattle.m_fixed.specs.Text.{text_value, amount_read};
 ghost use Rattle.household.specs.Table.{amount_said, cells_read, column_of, is_label, is_table_header, labelled, pairs_read, table_of};
 ghost use Rattle.household.specs.declared.fault.HouseholdFault.TheVariants.{Memory};
 
-use crate::cuts::Cut;
 use crate::marks::mark;
 use crate::parts::read_rows;
 use crate::records::{field_at, next_record, records_of};
@@ -49,11 +48,7 @@ pub fn read_table<R: Threads + Sync>(
         return Err(HouseholdFault::BadHeader);
     }
     let columns = read_columns(alloc, &row, codes)?;
-    let first = Cut {
-        at: records.at,
-        place: records.place,
-    };
-    let rows = read_rows(rt, alloc, records.bytes, first, &columns, codes)?;
+    let rows = read_rows(rt, alloc, bytes, &mut records, &columns, codes)?;
     Ok(Seq::from_vec(rows))
 }
 
@@ -169,7 +164,9 @@ pub fn read_cell(cell: &[u8], input: u32, line: u32) -> Result<Pair, HouseholdFa
 }
 
 // How many cells of a record aren't empty, so that a row takes no more memory than its pairs.
-fn count_filled(row: &ByteRecord) -> usize {
+fn count_filled(row: &ByteRecord) -> usize
+    ensures { result ≤ length (fields_of row.now) }
+{
     let mut count: usize = 0;
     for place in 1..row.len() {
         if !field_at(row, place).is_empty() {

@@ -1,7 +1,17 @@
-use Rattle.std.proofs.Common.{◌≡◌, ◌-◌, ◌*◌, ◌+◌, ◌∙◌, length, sym, arith}
+use Rattle.std.proofs.Common.{◌≡◌, ◌-◌, ◌*◌, ◌+◌, ◌∙◌, length, Err, ap, sym, arith}
 use Rattle.household.specs.declared.cuts.TheConstants.{BETWEEN}
-use Rattle.household.proofs.PartLemmas.{has_room, next_is, row_fails, row_says, told}
-use Rattle.household.proofs.parts.read_part.Goals as goal
+use Rattle.household.proofs.PartLemmas.{has_room, is_full, next_is, row_fails, row_says, told, too_many}
+use Rattle.household.proofs.parts.read_many.Goals as goal
+
+pub returns-in_err-line : goal.returns-in_err-line
+returns-in_err-line c =
+    let rows = c.loop-records.rows in
+    let next = next_is _ c.loop-records.records c.next_record.new.records _ c.in_ok-next_record.ensures c.if-branch.true in
+    let full = is_full c.args.start c.args.many _ _ rows c.len.ensures c.len-in-loop-records.ensures c.loop-records-test.true c.in_err-line.ensures.0 in
+    told _ _ _ _ _ c.from_residual-in_err-line.ensures.1
+    (λ n. sym c.loop-records.invariant.whole
+    ∙ too_many c.args.codes.now c.args.columns.now (c.args.start * BETWEEN) (c.args.many * BETWEEN - length rows.items) rows.items _ _ _ next (omega (arith, full.0)) full.1
+    ∙ ap Err (sym c.in_err-line.ensures.1))
 
 pub returns-in_err-read_row : goal.returns-in_err-read_row
 returns-in_err-read_row c =
