@@ -84,8 +84,8 @@ pub fn m_tax<R: Threads + Sync, F: Files, S: Source, K: Sink>(
     input: &mut S,
     out: &mut K,
 ) -> Status
-    // Where the files and the input are told, and neither reading, writing nor memory failed, the text
-    // that is appended and the status are an `Output` of the words and the files.
+    // Where the files and the input are told, as far as the command reads them, and neither reading, writing nor memory failed, the
+    // text that is appended and the status are an `Output` of the words and the files.
     ensures text { PrintsOutput words.now (files_view F.told F.attempts F.taken files.old) (input_view S.left S.faults input.old)
         (output_view K.written K.faults out.old) (output_view K.written K.faults out.new) result }
 
