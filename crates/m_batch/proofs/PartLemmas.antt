@@ -1,5 +1,5 @@
 -- What workers answer, part after part, is what code answers the whole.
-use Rattle.std.proofs.Common.{◌≡◌, ℕ, ◌+◌, ◌*◌, ◌<◌, ◌≤◌, length, get_or, take, drop, List, [], ◌++◌, Ok, Err, refl, sym, ◌∙◌, ap, Result, Vec}
+use Rattle.std.proofs.Common.{◌≡◌, ℕ, ◌+◌, ◌*◌, ◌<◌, ◌≤◌, length, get_or, take, drop, List, ◌++◌, Ok, Err, refl, sym, ◌∙◌, ap, Result, Vec}
 use Rattle.std.specs.Prelude.{map, IfOk}
 use Rattle.std.specs.declared.alloc.Global.{Global}
 use Rattle.std.proofs.lemmas.List.{map-append, take-append-drop}

@@ -1,5 +1,5 @@
 -- What is printed of rows, part after part.
-use Rattle.std.proofs.Common.{◌≡◌, ℕ, zero, suc, ◌+◌, ◌*◌, ◌-◌, ◌<◌, ◌≤◌, length, get_or, take, drop, List, [], ◌∷◌, ◌++◌, refl, sym, ◌∙◌, ap, subst, append_assoc, arith, ◌⊎◌, ⊎_elim, inl, inr}
+use Rattle.std.proofs.Common.{◌≡◌, ℕ, suc, ◌+◌, ◌*◌, ◌-◌, ◌<◌, ◌≤◌, length, get_or, take, drop, List, [], ◌∷◌, ◌++◌, refl, sym, ◌∙◌, ap, subst, append_assoc, arith, ◌⊎◌, ⊎_elim, inl, inr}
 use Rattle.std.specs.List.{AllByRecursion}
 use Rattle.std.proofs.lemmas.Bool.{cases_lt}
 use Rattle.std.proofs.lemmas.List.{drop_all, drop_more, drop-drop, length-drop, length-take, take-append-drop}
@@ -121,9 +121,9 @@ part_next rows part size n from is =
     let same = ap length is in (
       sym (take-append-drop size left) ∙ (λ i. sym is i ++ (drop-drop size (n * size) rows ∙ ap (λ k. drop k rows) (sym next)) i),
       ⊎_elim
-      (λ (short : length left < size). inr (drop_all ((n + 1) * size) rows (omega (arith, short, long, next))))
-      (λ (full : size ≤ length left). inl (omega (arith, full, same, taken, next)))
-      (cases_lt (length left) size),
+          (λ (short : length left < size). inr (drop_all ((n + 1) * size) rows (omega (arith, short, long, next))))
+          (λ (full : size ≤ length left). inl (omega (arith, full, same, taken, next)))
+          (cases_lt (length left) size),
     )
 
 -- what was made of a part, and of those after it
@@ -132,10 +132,11 @@ pub made_next : {U : Type 0} (gives : ℕ → List Row → U → Type 0) (size n
     → gives (n * size) (part_at rows size (n * size)) u × AreOfParts gives size ((n + 1) * size) (drop ((n + 1) * size) rows) (drop (n + 1) made)
 made_next {U} gives size n rows made u d inside is all =
     let next : n * size + size ≡ (n + 1) * size = omega (arith, add-mul n 1 size, one-mul size) in
-    let unfolded = subst (λ (left : List U). AreOfParts gives size (n * size) (drop (n * size) rows) left) (drop_more made n d inside) all in
-    (subst (gives (n * size) (part_at rows size (n * size))) (sym is) unfolded.1,
-    subst (λ (left : List Row). AreOfParts gives size ((n + 1) * size) left (drop (n + 1) made)) (drop-drop size (n * size) rows ∙ ap (λ k. drop k rows) next)
-    (subst (λ k. AreOfParts gives size k (drop size (drop (n * size) rows)) (drop (n + 1) made)) next unfolded.2))
+    let unfolded = subst (λ (left : List U). AreOfParts gives size (n * size) (drop (n * size) rows) left) (drop_more made n d inside) all in (
+      subst (gives (n * size) (part_at rows size (n * size))) (sym is) unfolded.1,
+      subst (λ (left : List Row). AreOfParts gives size ((n + 1) * size) left (drop (n + 1) made)) (drop-drop size (n * size) rows ∙ ap (λ k. drop k rows) next)
+          (subst (λ k. AreOfParts gives size k (drop size (drop (n * size) rows)) (drop (n + 1) made)) next unfolded.2),
+    )
 
 -- ---- rows and answers, one after the other
 
@@ -162,9 +163,10 @@ pub may_at : (may : ℕ → Row → Answer → Type 0) (place : ℕ) (rows : Lis
     → may (place + k) row answer × MayPrintEach may (place + (k + 1)) (drop (k + 1) rows) (drop (k + 1) answers)
 may_at may place rows answers k row d answer e rows_in answers_in is_row is_answer all =
     let both = subst (λ (left : List Answer). MayPrintEach may (place + k) (get_or rows k d ∷ drop (k + 1) rows) left) (drop_more answers k e answers_in)
-    (subst (λ (rs : List Row). MayPrintEach may (place + k) rs (drop k answers)) (drop_more rows k d rows_in) all) in
-    (subst (λ (r : Row). may (place + k) r answer) (sym is_row) (subst (λ (a : Answer). may (place + k) (get_or rows k d) a) (sym is_answer) both.0),
-    subst (λ n. MayPrintEach may n (drop (k + 1) rows) (drop (k + 1) answers)) (there place k) both.1)
+    (subst (λ (rs : List Row). MayPrintEach may (place + k) rs (drop k answers)) (drop_more rows k d rows_in) all) in (
+      subst (λ (r : Row). may (place + k) r answer) (sym is_row) (subst (λ (a : Answer). may (place + k) (get_or rows k d) a) (sym is_answer) both.0),
+      subst (λ n. MayPrintEach may n (drop (k + 1) rows) (drop (k + 1) answers)) (there place k) both.1,
+    )
 
 -- where each row may be printed with each answer, all may
 pub each_may : (may : ℕ → Row → Answer → Type 0) → ((at : ℕ) (row : Row) (answer : Answer) → may at row answer) → (at : ℕ) (rows : List Row) (answers : List Answer) → MayPrintEach may at rows answers

@@ -1,4 +1,4 @@
-use Rattle.std.proofs.Common.{◌≡◌, ◌-◌, ◌∙◌, take, drop, arith}
+use Rattle.std.proofs.Common.{◌-◌, take, drop, arith}
 use Rattle.std.proofs.lemmas.Result.{err_from_is_err_and}
 use Rattle.m_ports.proofs.GivingLemmas.{none_given, piece_given}
 use Rattle.m_batch.proofs.CountLemmas.{counting_first, counting_more}

@@ -1,4 +1,4 @@
-use Rattle.std.proofs.Common.{◌≡◌, ◌+◌, ◌*◌, ◌<◌, ◌≤◌, List, get_or, length, sym, subst, arith}
+use Rattle.std.proofs.Common.{◌+◌, ◌*◌, ◌≤◌, List, get_or, length, sym, subst, arith}
 use Rattle.std.specs.List.{AllByRecursion}
 use Rattle.std.proofs.lemmas.Result.{err_from_is_err_and}
 use Rattle.household.specs.declared.table.Row.{Row}
@@ -16,7 +16,7 @@ map_parts-requires-clause-accepts g c κs within = λ at lent part.
     let inside : at ≤ length rows = omega (arith, part.within) in (
       subst (AllByRecursion (HasInputsBelow c.args.code.now.counts.inputs)) (sym part.value) (each_part (HasInputsBelow c.args.code.now.counts.inputs) at size rows c.requires.inputs),
       subst (MayFrom (g.P.RowPrinter.may_print c.args.printer.now) c.args.code.now (c.args.from + at)) (sym part.value)
-      (may_part (g.P.RowPrinter.may_print c.args.printer.now) c.args.code.now c.args.from at size rows inside c.requires.may),
+          (may_part (g.P.RowPrinter.may_print c.args.printer.now) c.args.code.now c.args.from at size rows inside c.requires.may),
       omega (arith, part.within, c.requires.within),
     )
 
