@@ -1,10 +1,11 @@
 -- What is read of a list is what it says, and the other way round.
-use Rattle.std.proofs.Common.{◌≡◌, ◌==◌, ℕ, ◌+◌, ◌≤◌, Bool, true, false, not, ◌&&◌, ◌||◌, List, [], ◌∷◌, ◌++◌, length, Option, Some, None, Ok, Err, MatchOption, MatchResult, nat_le, refl, sym, ap, ◌∙◌, subst, arith, inl, inr}
+use Rattle.std.proofs.Common.{◌≡◌, ◌==◌, ℕ, ◌+◌, ◌≤◌, Bool, true, false, not, ◌&&◌, ◌||◌, List, [], ◌∷◌, ◌++◌, length, Option, Some, None, Result, Ok, Err, MatchOption, MatchResult, nat_le, refl, sym, ap, ◌∙◌, subst, arith, inl, inr}
 use Rattle.std.specs.List.{AllByRecursion, list_all}
 use Rattle.std.specs.Str.{is_utf8}
 use Rattle.std.proofs.lemmas.Bool.{and_from, and_parts, not-true, not_from_false, or_left, or_right, or_cases, le-leb, leb-true, eq-eqb, eqb-true, cases_Bool, cases_lt, false_from_ne_true, lt-leb, both_ways}
 use Rattle.std.proofs.lemmas.Str.{IsUtf8-from_is_utf8, is_utf8-from_IsUtf8}
 use Rattle.m_places.specs.declared.limits.TheConstants.{FILE_NAME_BYTES, LIST_FILES}
+use Rattle.m_places.specs.Refusals.{Outcome, Says}
 use Rattle.m_text.specs.Bytes.{IsDigit, IsWordByte, is_digit}
 use Rattle.m_text.specs.Lines.{lines_of}
 use Rattle.m_text.specs.Words.{IsWord}
@@ -12,7 +13,7 @@ use Rattle.command_plans.specs.declared.listing.Listing.{Listing}
 use Rattle.command_plans.specs.declared.list_fault.ListFault.{ListFault}
 use Rattle.command_plans.specs.declared.list_fault.ListFault.TheVariants.{BadLine, TooManyFiles, Memory}
 use Rattle.command_plans.specs.Files.{files_of}
-use Rattle.command_plans.specs.Listing.{IsFileLine, IsFirstBad, missing, no_word, no_name, IsListing, IsListFault}
+use Rattle.command_plans.specs.Listing.{IsFileLine, IsFirstBad, missing, no_word, no_name, IsListing, IsListFault, ReadsAs}
 use Rattle.command_plans.specs.inner.Reading.{is_word_byte, is_word, is_file_line, first_bad_from, files_read, lines_read, list_of}
 
 -- tests and what they test
@@ -152,6 +153,19 @@ fault_read bytes TooManyFiles h =
     ap lines_read h.good.parts
     ∙ rw (word_test h.application h.good.word, no_bad 2 h.others h.good.names, lt-leb (length (files_of h.others)) LIST_FILES h.many) refl
 fault_read bytes Memory h = absurd h
+
+-- what a list reads as is what is read of it
+reads_this : (bytes : List ℕ) (read : Result Listing ListFault) → ReadsAs bytes read → list_of bytes ≡ read
+reads_this bytes (Ok listing) h = listing_read bytes listing h
+reads_this bytes (Err fault) h = fault_read bytes fault h
+
+pub reads_one : (bytes : List ℕ) (one other : Result Listing ListFault) → ReadsAs bytes one → ReadsAs bytes other → one ≡ other
+reads_one bytes one other h k = sym (reads_this bytes one h) ∙ reads_this bytes other k
+
+-- what the reader of lines answers
+pub read_says : (bytes : List ℕ) (result : Result Listing ListFault) → Says Memory result (λ listing. listing) (list_of bytes) → Outcome Memory result (IsListing bytes) (IsListFault bytes)
+read_says bytes (Ok listing) e = subst (ReadsAs bytes) e (list_says bytes)
+read_says bytes (Err fault) k = λ other. subst (ReadsAs bytes) (k other) (list_says bytes)
 
 -- the test, as a call answers it
 pub test_is : (t : List ℕ) (r : Bool) → (r ≡ true → IsWord t) → (IsWord t → r ≡ true) → r ≡ is_word t

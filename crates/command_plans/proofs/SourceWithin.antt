@@ -1,7 +1,7 @@
 -- The files of a source keep the limit of a file.
 use Rattle.std.proofs.Common.{ℕ, ◌≤◌, ◌-◌, Bool, true, false, List, [], ◌∷◌, length, min, None, Result, Ok, Err, cond, arith}
 use Rattle.m_places.specs.declared.limits.TheConstants.{FILE_BYTES, RULE_BYTES}
-use Rattle.command_plans.specs.Listing.{list_of}
+use Rattle.command_plans.specs.Reads.{reading_of}
 use Rattle.command_plans.specs.declared.listing.Listing.{Listing}
 use Rattle.command_plans.specs.declared.list_fault.ListFault.{ListFault}
 use Rattle.command_plans.specs.Plan.{done}
@@ -31,7 +31,7 @@ optional_within name = chosen (is_none name) name
 pub source_within : (names : SourceNames) → KeepsWithin FILE_BYTES (source_plan names)
 source_within names = (
   omega arith,
-  λ bytes. within_then FILE_BYTES (listed (list_of bytes)) _ (listed_within (list_of bytes))
+  λ bytes. within_then FILE_BYTES (listed (reading_of bytes).0) _ (listed_within (reading_of bytes).0)
       (λ listing. within_then FILE_BYTES (rules_plan RULE_BYTES listing.files) _ (rules_within RULE_BYTES listing.files)
       (λ texts. within_then FILE_BYTES (optional_plan names.driver) _ (optional_within names.driver)
       (λ driver. within_then FILE_BYTES (optional_plan names.requests) _ (optional_within names.requests) (λ requests. tt)))),

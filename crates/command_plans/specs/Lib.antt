@@ -7,5 +7,6 @@ pub mod Trips
 pub mod Views
 pub mod Files
 pub mod Listing
+pub mod Reads
 pub mod Source
 pub mod inner

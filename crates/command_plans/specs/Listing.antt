@@ -1,5 +1,5 @@
 -- What a list file says, and why one is refused.
-use Rattle.std.specs.Prelude.{◌≡◌, ◌+◌, ◌<◌, ◌≤◌, ℕ, List, [], ◌∷◌, ◌++◌, length}
+use Rattle.std.specs.Prelude.{◌≡◌, ◌+◌, ◌<◌, ◌≤◌, ℕ, List, [], ◌∷◌, ◌++◌, length, Result, MatchResult}
 use Rattle.std.specs.List.{AllByRecursion}
 use Rattle.std.specs.Str.{IsUtf8}
 use Rattle.m_places.specs.declared.limits.TheConstants.{FILE_NAME_BYTES, LIST_FILES}
@@ -9,9 +9,6 @@ use Rattle.command_plans.specs.declared.listing.Listing.{Listing}
 use Rattle.command_plans.specs.declared.list_fault.ListFault.{ListFault}
 use Rattle.command_plans.specs.declared.list_fault.ListFault.TheVariants.{BadLine, TooManyFiles, Memory}
 use Rattle.command_plans.specs.Files.{files_of}
--- What a list file says, or the fault for which it is refused, as a function of its bytes. The relations below say what it
--- means, and the laws `list_says` and `one_reading` that they and it are one.
-pub use Rattle.command_plans.specs.inner.Reading.{list_of}
 
 -- a line after the first: the name of a file, or nothing
 abbrev pub IsFileLine : List ℕ → Type 0
@@ -51,3 +48,7 @@ abbrev pub IsListFault : List ℕ → ListFault → Type 0
 IsListFault bytes (BadLine number) = IsFirstBad (lines_of bytes) number
 IsListFault bytes TooManyFiles = AreTooMany (lines_of bytes)
 IsListFault bytes Memory = ⊥
+
+-- a list file says this, or has this fault
+abbrev pub ReadsAs : List ℕ → Result Listing ListFault → Type 0
+ReadsAs bytes read = MatchResult read (IsListing bytes) (IsListFault bytes)

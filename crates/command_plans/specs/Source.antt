@@ -2,7 +2,7 @@
 use Rattle.std.specs.Prelude.{ℕ, ◌-◌, ◌≤◌, Bool, List, [], ◌∷◌, length, min, Option, Some, None, Result, Ok, Err, if◌then◌else◌, codes}
 use Rattle.std.specs.Str.{bytes_eq}
 use Rattle.m_places.specs.declared.limits.TheConstants.{FILE_BYTES, RULE_BYTES}
-use Rattle.command_plans.specs.Listing.{list_of}
+use Rattle.command_plans.specs.Reads.{reading_of}
 use Rattle.command_plans.specs.declared.listing.Listing.{Listing}
 use Rattle.command_plans.specs.declared.list_fault.ListFault.{ListFault}
 use Rattle.command_plans.specs.declared.list_fault.ListFault.TheVariants.{BadLine, TooManyFiles, Memory}
@@ -29,7 +29,7 @@ listed (Err fault) = refuses (list_fault_line fault)
 
 -- the list is fetched, and read
 abbrev pub list_plan : List ℕ → Plan Listing
-list_plan name = and_then (file_plan name FILE_BYTES) (λ bytes. listed (list_of bytes))
+list_plan name = and_then (file_plan name FILE_BYTES) (λ bytes. listed (reading_of bytes).0)
 
 -- The rule files are fetched in order. Each may have as many bytes as any file, and no more than those before it
 -- have left over for all together.

@@ -1,18 +1,16 @@
 //! What the reading of a list means, as functions whose contracts say it and whose bodies are empty.
 
-ghost use Rattle.std.specs.Prelude.{◌≡◌, ℕ, List, Ok, Err, MatchResult};
+ghost use Rattle.std.specs.Prelude.{◌≡◌, ℕ, List, Result};
 ghost use Rattle.command_plans.specs.declared.list_fault.ListFault.{ListFault};
 ghost use Rattle.command_plans.specs.declared.listing.Listing.{Listing};
-ghost use Rattle.command_plans.specs.Listing.{IsListing, IsListFault, list_of};
+ghost use Rattle.command_plans.specs.Listing.{ReadsAs};
 
-/// What is read of a list is what the list says, or the fault that it has.
+/// Each list says something, or has a fault.
 pub fn list_says()
-    ensures { (bytes : List ℕ) → MatchResult (list_of bytes) (IsListing bytes) (IsListFault bytes) }
+    ensures { (bytes : List ℕ) → (read : Result Listing ListFault) × ReadsAs bytes read }
 {}
 
-/// What a list says, or the fault that it has, is what is read of it. So it says one thing or has one
-/// fault, and never both.
+/// A list says one thing or has one fault, and never both.
 pub fn one_reading()
-    ensures listing { (bytes : List ℕ) (listing : Listing) → IsListing bytes listing → list_of bytes ≡ Ok listing }
-    ensures fault { (bytes : List ℕ) (fault : ListFault) → IsListFault bytes fault → list_of bytes ≡ Err fault }
+    ensures { (bytes : List ℕ) (one other : Result Listing ListFault) → ReadsAs bytes one → ReadsAs bytes other → one ≡ other }
 {}

@@ -4,8 +4,8 @@ ghost use Rattle.m_places.specs.Refusals.{Outcome, Says};
 ghost use Rattle.m_text.specs.Lines.{lines_of};
 ghost use Rattle.command_plans.specs.declared.list_fault.ListFault.TheVariants.{Memory, TooManyFiles};
 ghost use Rattle.command_plans.specs.Files.{files_of};
-ghost use Rattle.command_plans.specs.Listing.{list_of};
-ghost use Rattle.command_plans.specs.inner.Reading.{is_word, is_file_line, first_bad_from};
+ghost use Rattle.command_plans.specs.Listing.{IsListing, IsListFault};
+ghost use Rattle.command_plans.specs.inner.Reading.{is_word, is_file_line, first_bad_from, list_of};
 
 use crate::list_fault::ListFault;
 use crate::listing::Listing;
@@ -19,6 +19,14 @@ use std::alloc::Global;
 ///
 /// `iliad\na.m\n` lists the application `iliad` and the file `a.m`.
 pub fn read_list(alloc: Global, bytes: &[u8]) -> Result<Listing, ListFault>
+    requires { length bytes.now ≤ FILE_BYTES }
+    ensures outcome { Outcome Memory result (IsListing bytes.now) (IsListFault bytes.now) }
+{
+    read_lines(alloc, bytes)
+}
+
+// Reads the lines of a list file, one after another.
+fn read_lines(alloc: Global, bytes: &[u8]) -> Result<Listing, ListFault>
     requires { length bytes.now ≤ FILE_BYTES }
     ensures outcome { Says Memory result (λ listing. listing) (list_of bytes.now) }
 {

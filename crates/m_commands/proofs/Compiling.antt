@@ -66,6 +66,6 @@ code_output words disk names text status c d (answers command gathers e g r) =
 pub writes_of : (words : List (List ℕ)) (before after : FilesView) (heard told : InputView) (old new : OutputView) (status : Status) → Course words before after heard told old new status → WritesCode words before old new status
 writes_of words before after heard told old new status course disk names t c d =
     let r : reads_input words ≡ false = ap (λ o. option_map_or takes_input o false) c in
-    let o = text_of words before after heard told old new status course disk [] t (λ s. cc (r, s)) (rw d tt) in
+    let o = text_of words before after heard told old new status course disk [] (λ _. t) (λ s. cc (r, s)) (rw d tt) in
     let w = code_output words disk names o.0 status c d o.2 in
     (w.0, w.1, o.0, w.2, w.3, w.4, o.1)

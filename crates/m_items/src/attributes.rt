@@ -41,7 +41,7 @@ fn negated(amount: Amount) -> Amount
 }
 
 /// [ "-" ] NUMBER
-#[tactic(auto, unfolding(crate::specs::inner::Reading::amount_at))]
+#[tactic(auto, unfolding(crate::specs::inner::DeclarationReading::amount_at))]
 pub fn take_signed(cursor: &mut Cursor<'_>) -> Option<Amount>
     ensures reads { MatchOption result (amount_at cursor.old ≡ None) (λ z. amount_at cursor.old ≡ Some (z, cursor.new)) }
     ensures shorter { OnSome result (length cursor.new < length cursor.old) }
@@ -54,7 +54,7 @@ pub fn take_signed(cursor: &mut Cursor<'_>) -> Option<Amount>
 }
 
 // [ "=" [ "-" ] NUMBER ]
-#[tactic(auto, unfolding(crate::specs::inner::Reading::number_at))]
+#[tactic(auto, unfolding(crate::specs::inner::DeclarationReading::number_at))]
 fn take_number(cursor: &mut Cursor<'_>) -> Option<Option<Amount>>
     ensures reads { MatchOption result (number_at cursor.old ≡ None) (λ z. number_at cursor.old ≡ Some (z, cursor.new)) }
     ensures no_longer { OnSome result (length cursor.new ≤ length cursor.old) }

@@ -13,7 +13,7 @@ use m_places::{Name, Place};
 use std::alloc::Global;
 
 // WORD ";"
-#[tactic(auto, unfolding(crate::specs::inner::Reading::application_at))]
+#[tactic(auto, unfolding(crate::specs::inner::DeclarationReading::application_at))]
 fn read_application(cursor: &mut Cursor<'_>, place: Place) -> Result<Item, ItemFault>
     ensures reads { Gives result (application_at place cursor.old) cursor.new }
     ensures shorter { OnOk result (length cursor.new < length cursor.old) }
@@ -28,7 +28,7 @@ fn read_application(cursor: &mut Cursor<'_>, place: Place) -> Result<Item, ItemF
 }
 
 // WORD apps ";"
-#[tactic(auto, unfolding(crate::specs::inner::Reading::chaining_at))]
+#[tactic(auto, unfolding(crate::specs::inner::DeclarationReading::chaining_at))]
 fn read_chaining(alloc: Global, cursor: &mut Cursor<'_>, place: Place) -> Result<Item, ItemFault>
     ensures reads { Gives result (chaining_at place cursor.old) cursor.new }
     ensures shorter { OnOk result (length cursor.new < length cursor.old) }
@@ -44,7 +44,7 @@ fn read_chaining(alloc: Global, cursor: &mut Cursor<'_>, place: Place) -> Result
 }
 
 // What stands after a name and its colon.
-#[tactic(auto, unfolding(crate::specs::inner::Reading::named_at))]
+#[tactic(auto, unfolding(crate::specs::inner::DeclarationReading::named_at))]
 fn read_named(
     alloc: Global,
     cursor: &mut Cursor<'_>,
@@ -67,7 +67,7 @@ fn read_named(
 }
 
 // A variable or an error.
-#[tactic(auto, unfolding(crate::specs::inner::Reading::declared_at))]
+#[tactic(auto, unfolding(crate::specs::inner::DeclarationReading::declared_at))]
 fn read_declared(alloc: Global, cursor: &mut Cursor<'_>) -> Result<Item, ItemFault>
     ensures reads { Gives result (declared_at cursor.old) cursor.new }
     ensures shorter { OnOk result (length cursor.new < length cursor.old) }
@@ -82,7 +82,7 @@ fn read_declared(alloc: Global, cursor: &mut Cursor<'_>) -> Result<Item, ItemFau
 }
 
 /// A variable, an error, or an `application` or `enchaineur` item. Where none can be read, the cursor is anywhere.
-#[tactic(auto, unfolding(crate::specs::inner::Reading::declaration_at))]
+#[tactic(auto, unfolding(crate::specs::inner::DeclarationReading::declaration_at))]
 pub fn declaration(alloc: Global, cursor: &mut Cursor<'_>) -> Result<Item, ItemFault>
     ensures reads { Gives result (declaration_at cursor.old) cursor.new }
     ensures shorter { OnOk result (length cursor.new < length cursor.old) }

@@ -17,7 +17,7 @@ fn is_four_or_five(count: usize) -> bool
 }
 
 /// ":" TEXT ":" TEXT ":" TEXT ":" TEXT [ ":" TEXT ] ";"
-#[tactic(auto, unfolding(crate::specs::inner::Reading::error_at))]
+#[tactic(auto, unfolding(crate::specs::inner::DeclarationReading::error_at))]
 pub fn read_error(
     alloc: Global,
     cursor: &mut Cursor<'_>,

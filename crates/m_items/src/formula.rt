@@ -13,7 +13,7 @@ use m_places::Seq;
 use std::alloc::{AllocError, Global};
 
 // header ":"
-#[tactic(auto, unfolding(crate::specs::inner::Reading::loop_at))]
+#[tactic(auto, unfolding(crate::specs::inner::RuleReading::loop_at))]
 fn read_loop(alloc: Global, cursor: &mut Cursor<'_>) -> Result<Header, ItemFault>
     ensures reads { Gives result (loop_at cursor.old) cursor.new }
     ensures shorter { OnOk result (length cursor.new < length cursor.old) }
@@ -39,7 +39,7 @@ fn read_loops(alloc: Global, cursor: &mut Cursor<'_>) -> Result<Vec<Header>, Ite
 }
 
 // "X" | WHOLE
-#[tactic(auto, unfolding(crate::specs::inner::Reading::index_at))]
+#[tactic(auto, unfolding(crate::specs::inner::RuleReading::index_at))]
 fn take_index(cursor: &mut Cursor<'_>) -> Result<Slot, ItemFault>
     ensures reads { Gives result (index_at cursor.old) cursor.new }
     ensures shorter { OnOk result (length cursor.new < length cursor.old) }
@@ -54,7 +54,7 @@ fn take_index(cursor: &mut Cursor<'_>) -> Result<Slot, ItemFault>
 }
 
 // [ "[" ( "X" | WHOLE ) "]" ]
-#[tactic(auto, unfolding(crate::specs::inner::Reading::slot_at))]
+#[tactic(auto, unfolding(crate::specs::inner::RuleReading::slot_at))]
 fn take_slot(cursor: &mut Cursor<'_>) -> Result<Slot, ItemFault>
     ensures reads { Gives result (slot_at cursor.old) cursor.new }
     ensures shorter { OnOk result (length cursor.new ≤ length cursor.old) }
@@ -70,7 +70,7 @@ fn take_slot(cursor: &mut Cursor<'_>) -> Result<Slot, ItemFault>
 }
 
 // "=" expr ";"
-#[tactic(auto, unfolding(crate::specs::inner::Reading::set_at))]
+#[tactic(auto, unfolding(crate::specs::inner::RuleReading::set_at))]
 fn read_set(alloc: Global, cursor: &mut Cursor<'_>) -> Result<Term, ItemFault>
     ensures reads { Gives result (set_at cursor.old) cursor.new }
     ensures shorter { OnOk result (length cursor.new < length cursor.old) }
@@ -86,7 +86,7 @@ fn read_set(alloc: Global, cursor: &mut Cursor<'_>) -> Result<Term, ItemFault>
 }
 
 // { "pour" header ":" } target "=" expr ";"
-#[tactic(auto, unfolding(crate::specs::inner::Reading::formula_at))]
+#[tactic(auto, unfolding(crate::specs::inner::RuleReading::formula_at))]
 fn read_formula(alloc: Global, cursor: &mut Cursor<'_>) -> Result<Formula, ItemFault>
     ensures reads { Gives result (formula_at cursor.old) cursor.new }
     ensures shorter { OnOk result (length cursor.new < length cursor.old) }
@@ -124,7 +124,7 @@ fn try_formula(alloc: Global, cursor: &mut Cursor<'_>) -> Result<Option<Formula>
 }
 
 /// A formula, and as many further ones as stand there.
-#[tactic(auto, unfolding(crate::specs::inner::Reading::one_or_more_at))]
+#[tactic(auto, unfolding(crate::specs::inner::RuleReading::one_or_more_at))]
 pub fn read_formulas(alloc: Global, cursor: &mut Cursor<'_>) -> Result<Vec<Formula>, ItemFault>
     ensures reads { GivesBy (λ v. v.items) result (one_or_more_at formula_at cursor.old) cursor.new }
     ensures shorter { OnOk result (length cursor.new < length cursor.old) }

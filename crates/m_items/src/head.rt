@@ -29,7 +29,7 @@ pub fn skip_words(cursor: &mut Cursor<'_>)
 }
 
 /// KEY { WORD } WHOLE ":" apps ";"
-#[tactic(auto, unfolding(crate::specs::inner::Reading::head_at))]
+#[tactic(auto, unfolding(crate::specs::inner::RuleReading::head_at))]
 pub fn read_head(alloc: Global, cursor: &mut Cursor<'_>, key: Key) -> Result<Head, ItemFault>
     ensures reads { Gives result (head_at key cursor.old) cursor.new }
     ensures shorter { OnOk result (length cursor.new < length cursor.old) }

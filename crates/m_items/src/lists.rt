@@ -65,7 +65,7 @@ pub fn read_list(
 
 /// "application" ":" WORD { "," WORD }: as many applications as stand there. Where none can be read, the cursor is
 /// anywhere.
-#[tactic(auto, unfolding(crate::specs::inner::Reading::applications_at))]
+#[tactic(auto, unfolding(crate::specs::inner::DeclarationReading::applications_at))]
 pub fn applications(alloc: Global, cursor: &mut Cursor<'_>) -> Result<Seq<Name>, ItemFault>
     ensures reads { Gives result (applications_at cursor.old) cursor.new }
     ensures shorter { OnOk result (length cursor.new < length cursor.old) }

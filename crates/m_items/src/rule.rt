@@ -13,7 +13,7 @@ use m_places::Seq;
 use std::alloc::Global;
 
 // [ "enchaineur" ":" WORD ";" ]
-#[tactic(auto, unfolding(crate::specs::inner::Reading::chaining_at))]
+#[tactic(auto, unfolding(crate::specs::inner::RuleReading::chaining_at))]
 fn take_chaining(cursor: &mut Cursor<'_>) -> Result<bool, ItemFault>
     ensures reads { Gives result (chaining_at cursor.old) cursor.new }
     ensures shorter { OnOk result (length cursor.new ≤ length cursor.old) }
@@ -34,7 +34,7 @@ fn take_chaining(cursor: &mut Cursor<'_>) -> Result<bool, ItemFault>
 }
 
 /// A rule, with as many formulas as stand there. Where none can be read, the cursor is anywhere.
-#[tactic(auto, unfolding(crate::specs::inner::Reading::rule_at))]
+#[tactic(auto, unfolding(crate::specs::inner::RuleReading::rule_at))]
 pub fn read_rule(alloc: Global, cursor: &mut Cursor<'_>) -> Result<RuleItem, ItemFault>
     ensures reads { Gives result (rule_at cursor.old) cursor.new }
     ensures shorter { OnOk result (length cursor.new < length cursor.old) }

@@ -14,7 +14,7 @@ use m_places::{Name, Place, Seq};
 use std::alloc::{AllocError, Global};
 
 // [ "type" WORD ]
-#[tactic(auto, unfolding(crate::specs::inner::Reading::type_at))]
+#[tactic(auto, unfolding(crate::specs::inner::DeclarationReading::type_at))]
 fn read_type(alloc: Global, cursor: &mut Cursor<'_>) -> Result<Option<Name>, ItemFault>
     ensures reads { Gives result (type_at cursor.old) cursor.new }
     ensures no_longer { OnOk result (length cursor.new ≤ length cursor.old) }
@@ -29,7 +29,7 @@ fn read_type(alloc: Global, cursor: &mut Cursor<'_>) -> Result<Option<Name>, Ite
 }
 
 // ":" TEXT [ "type" WORD ] ";"
-#[tactic(auto, unfolding(crate::specs::inner::Reading::end_at))]
+#[tactic(auto, unfolding(crate::specs::inner::DeclarationReading::end_at))]
 fn read_end(alloc: Global, cursor: &mut Cursor<'_>) -> Result<Option<Name>, ItemFault>
     ensures reads { Gives result (end_at cursor.old) cursor.new }
     ensures shorter { OnOk result (length cursor.new < length cursor.old) }
@@ -48,7 +48,7 @@ fn read_end(alloc: Global, cursor: &mut Cursor<'_>) -> Result<Option<Name>, Item
 }
 
 // "[" WHOLE "]"
-#[tactic(auto, unfolding(crate::specs::inner::Reading::cells_at))]
+#[tactic(auto, unfolding(crate::specs::inner::DeclarationReading::cells_at))]
 fn take_cells(cursor: &mut Cursor<'_>) -> Option<Option<u32>>
     ensures reads { MatchOption result (cells_at cursor.old ≡ None) (λ n. cells_at cursor.old ≡ Some (n, cursor.new)) }
     ensures shorter { OnSome result (length cursor.new < length cursor.old) }
@@ -64,7 +64,7 @@ fn take_cells(cursor: &mut Cursor<'_>) -> Option<Option<u32>>
 }
 
 // [ "tableau" "[" WHOLE "]" ]
-#[tactic(auto, unfolding(crate::specs::inner::Reading::size_at))]
+#[tactic(auto, unfolding(crate::specs::inner::DeclarationReading::size_at))]
 fn take_size(cursor: &mut Cursor<'_>) -> Option<Option<u32>>
     ensures reads { MatchOption result (size_at cursor.old ≡ None) (λ n. size_at cursor.old ≡ Some (n, cursor.new)) }
     ensures no_longer { OnSome result (length cursor.new ≤ length cursor.old) }
@@ -98,7 +98,7 @@ fn variable(
 }
 
 /// { attribute } "alias" WORD ":" TEXT [ "type" WORD ] ";"
-#[tactic(auto, unfolding(crate::specs::inner::Reading::input_at))]
+#[tactic(auto, unfolding(crate::specs::inner::DeclarationReading::input_at))]
 pub fn read_input(
     alloc: Global,
     cursor: &mut Cursor<'_>,
@@ -121,7 +121,7 @@ pub fn read_input(
 }
 
 /// [ "tableau" "[" WHOLE "]" ] "calculee" { attribute } ":" TEXT [ "type" WORD ] ";"
-#[tactic(auto, unfolding(crate::specs::inner::Reading::computed_at))]
+#[tactic(auto, unfolding(crate::specs::inner::DeclarationReading::computed_at))]
 pub fn read_computed(
     alloc: Global,
     cursor: &mut Cursor<'_>,
@@ -143,7 +143,7 @@ pub fn read_computed(
 }
 
 /// "=" [ "-" ] NUMBER ";"
-#[tactic(auto, unfolding(crate::specs::inner::Reading::constant_at))]
+#[tactic(auto, unfolding(crate::specs::inner::DeclarationReading::constant_at))]
 pub fn read_constant(
     alloc: Global,
     cursor: &mut Cursor<'_>,

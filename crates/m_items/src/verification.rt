@@ -13,7 +13,7 @@ use m_places::{Name, Seq};
 use std::alloc::{AllocError, Global};
 
 // "alors" "erreur" WORD { WORD } ";"
-#[tactic(auto, unfolding(crate::specs::inner::Reading::error_at))]
+#[tactic(auto, unfolding(crate::specs::inner::RuleReading::error_at))]
 fn read_error(alloc: Global, cursor: &mut Cursor<'_>) -> Result<Name, ItemFault>
     ensures reads { Gives result (error_at cursor.old) cursor.new }
     ensures shorter { OnOk result (length cursor.new < length cursor.old) }
@@ -35,7 +35,7 @@ fn read_error(alloc: Global, cursor: &mut Cursor<'_>) -> Result<Name, ItemFault>
 }
 
 // "si" expr "alors" "erreur" WORD { WORD } ";"
-#[tactic(auto, unfolding(crate::specs::inner::Reading::check_at))]
+#[tactic(auto, unfolding(crate::specs::inner::RuleReading::check_at))]
 fn read_check(alloc: Global, cursor: &mut Cursor<'_>) -> Result<CheckItem, ItemFault>
     ensures reads { Gives result (check_at cursor.old) cursor.new }
     ensures shorter { OnOk result (length cursor.new < length cursor.old) }
@@ -69,7 +69,7 @@ fn try_check(alloc: Global, cursor: &mut Cursor<'_>) -> Result<Option<CheckItem>
 }
 
 // A check, and as many further ones as stand there.
-#[tactic(auto, unfolding(crate::specs::inner::Reading::one_or_more_at))]
+#[tactic(auto, unfolding(crate::specs::inner::RuleReading::one_or_more_at))]
 fn read_checks(alloc: Global, cursor: &mut Cursor<'_>) -> Result<Vec<CheckItem>, ItemFault>
     ensures reads { GivesBy (λ v. v.items) result (one_or_more_at check_at cursor.old) cursor.new }
     ensures shorter { OnOk result (length cursor.new < length cursor.old) }
@@ -84,7 +84,7 @@ fn read_checks(alloc: Global, cursor: &mut Cursor<'_>) -> Result<Vec<CheckItem>,
 }
 
 /// A verification, with as many checks as stand there. Where none can be read, the cursor is anywhere.
-#[tactic(auto, unfolding(crate::specs::inner::Reading::verification_at))]
+#[tactic(auto, unfolding(crate::specs::inner::RuleReading::verification_at))]
 pub fn read_verification(alloc: Global, cursor: &mut Cursor<'_>) -> Result<VerifItem, ItemFault>
     ensures reads { Gives result (verification_at cursor.old) cursor.new }
     ensures shorter { OnOk result (length cursor.new < length cursor.old) }

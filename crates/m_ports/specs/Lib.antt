@@ -1,4 +1,5 @@
 pub mod Counts
+pub mod Edge
 pub mod Files
 pub mod MemFiles
 pub mod MemStream

@@ -6,6 +6,7 @@
 
 mod buffered;
 mod counts;
+mod edge;
 mod files;
 mod fixed;
 mod host;
@@ -17,6 +18,7 @@ mod sink;
 mod source;
 
 pub use buffered::{BufferedSink, Origin, Printed};
+pub use edge::{Disk, Opener, Reader, Writer};
 pub use files::{Attempt, FetchFault, Files};
 pub use fixed::FixedText;
 pub use host::{HostFiles, HostSink, HostSource, read_whole};

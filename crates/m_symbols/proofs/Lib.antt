@@ -9,3 +9,4 @@ pub mod Closing
 pub mod Placing
 pub mod Outcomes
 pub mod Filters
+pub mod Values

@@ -11,7 +11,7 @@ mod pieces;
 mod runs;
 mod words;
 
-pub use lines::{first_line, is_text, without_return};
+pub use lines::{first_exact_line, first_line, is_text, without_return};
 pub use numbers::whole_number;
 pub use parts::first_of;
 pub use pieces::append_pieces;

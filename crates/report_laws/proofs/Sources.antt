@@ -42,7 +42,7 @@ byte_within b (inr (inl h)) = let l = h.0 in let u = h.1 in (omega (arith, l), o
 byte_within b (inr (inr e)) = (omega (arith, e), omega (arith, e), λ f. absurd (omega (arith, e, f)))
 
 above_inside : (b : ℕ) → 48 ≤ b → IsInside b
-above_inside b l = (λ e. absurd (omega (arith, e, l)), λ e. absurd (omega (arith, e, l)), λ e. absurd (omega (arith, e, l)))
+above_inside b l = (λ e. absurd (omega (arith, e, l)), λ e. absurd (omega (arith, e, l)))
 
 word_inside : (name : List ℕ) → IsPlainName name → AllByRecursion IsInside name
 word_inside name h = all_weaker IsWordByte IsInside (λ b k. above_inside b (byte_within b k).0) name h.0.0.0

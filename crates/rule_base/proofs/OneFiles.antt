@@ -22,17 +22,17 @@ says_one number text xs ys a b =
 
 says_or_fails : (number : ℕ) (text : Text) (xs : List Item) (fault : ReadFault) → SaysItems number text xs → IsFileFault number text fault → ⊥
 says_or_fails number text xs _ s (of_tokens {fault = f} h) = no_tokens_and_fault (start_of number) text.bytes s.tokens f s.lexed h
-says_or_fails number text xs _ s (of_items {fault = f} tokens l n h) =
+says_or_fails number text xs _ s (of_items {fault = f} tokens l h) =
     let e = one_list (start_of number) text.bytes tokens s.tokens l s.lexed in
-    no_list_and_fault xs s.tokens f s.shallow s.spelled n (subst (λ ts. IsParseFault ts f) e h)
+    no_list_and_fault xs s.tokens f s.shallow s.spelled (subst (λ ts. IsParseFault ts f) e h)
 
 fails_once : (number : ℕ) (text : Text) (fault other : ReadFault) → IsFileFault number text fault → IsFileFault number text other → fault ≡ other
 fails_once number text _ _ (of_tokens {fault = f} h) (of_tokens {fault = g} k) = ap Lex (one_first_fault (start_of number) text.bytes f g h k)
-fails_once number text _ _ (of_tokens {fault = f} h) (of_items tokens l n k) = absurd (no_tokens_and_fault (start_of number) text.bytes tokens f l h)
-fails_once number text _ _ (of_items tokens l n k) (of_tokens {fault = f} h) = absurd (no_tokens_and_fault (start_of number) text.bytes tokens f l h)
-fails_once number text _ _ (of_items {fault = f} tokens l n h) (of_items {fault = g} others m o k) =
+fails_once number text _ _ (of_tokens {fault = f} h) (of_items tokens l k) = absurd (no_tokens_and_fault (start_of number) text.bytes tokens f l h)
+fails_once number text _ _ (of_items tokens l k) (of_tokens {fault = f} h) = absurd (no_tokens_and_fault (start_of number) text.bytes tokens f l h)
+fails_once number text _ _ (of_items {fault = f} tokens l h) (of_items {fault = g} others m k) =
     let e = one_list (start_of number) text.bytes tokens others l m in
-    ap Parse (one_fault others f g n o (subst (λ ts. IsParseFault ts f) e h) k)
+    ap Parse (one_fault others f g (subst (λ ts. IsParseFault ts f) e h) k)
 
 -- Files in their order.
 pub say_one : (number : ℕ) (texts : List Text) (xs ys : List Item) → SayAll number texts xs → SayAll number texts ys → xs ≡ ys

@@ -1,12 +1,11 @@
 -- What the texts of rule files say: their items, or the fault of the first file that has one.
-use Rattle.std.specs.Prelude.{◌≢◌, ℕ, ◌+◌, List, [], ◌∷◌, ◌++◌}
+use Rattle.std.specs.Prelude.{ℕ, ◌+◌, List, [], ◌∷◌, ◌++◌}
 use Rattle.m_places.specs.declared.source.Text.{Text}
 use Rattle.m_lexer.specs.declared.token.Token.{Token}
 use Rattle.m_lexer.specs.declared.fault.LexFault.{LexFault}
 use Rattle.m_lexer.specs.Tokens.{start_of, Lexes, FirstFault}
 use Rattle.m_ast.specs.declared.item.Item.{Item}
 use Rattle.m_items.specs.declared.fault.ParseFault.{ParseFault}
-use Rattle.m_items.specs.declared.fault.ParseFault.TheVariants.{Memory}
 use Rattle.m_items.specs.Grammar.{SpellsItems}
 use Rattle.m_items.specs.Faults.{IsShallow, IsParseFault}
 use Rattle.rule_base.specs.declared.read_fault.ReadFault.{ReadFault}
@@ -23,8 +22,7 @@ pub record SaysItems (number : ℕ) (text : Text) (items : List Item) : Type 0 w
 -- told as the fault of a file.
 pub data IsFileFault (number : ℕ) (text : Text) : ReadFault → Type 0 where
   of_tokens : {fault : LexFault} → FirstFault (start_of number) text.bytes fault → IsFileFault number text (Lex fault)
-  of_items : {fault : ParseFault} (tokens : List Token) → Lexes (start_of number) text.bytes tokens → fault ≢ Memory → IsParseFault tokens fault
-      → IsFileFault number text (Parse fault)
+  of_items : {fault : ParseFault} (tokens : List Token) → Lexes (start_of number) text.bytes tokens → IsParseFault tokens fault → IsFileFault number text (Parse fault)
 
 -- Each of these files, of which the first has this number, says the items at its place. Of two files the second of which is empty, for
 -- example, the second list has no item.

@@ -6,6 +6,7 @@
 
 mod build;
 mod chain;
+mod evaluate;
 mod program;
 mod rows;
 mod settle;
