@@ -19,6 +19,13 @@ counting_more count some new piece rest left whole is counting of_piece added =
     let sum = counting.sum in
     record { done = counting.done + piece; is = omega (arith, before, of_piece, added); sum = omega (arith, sum, is) }
 
+-- one more, of which all is known
+pub counting_one : (count some new piece rest left whole : ℕ) → left ≡ piece + rest → IsCounting count left whole → some ≡ piece → new ≡ min (count + some) (2 ^ 64 - 1) → IsCounting new rest whole
+counting_one count some new piece rest left whole is counting of_piece added =
+    let before = counting.is in
+    let sum = counting.sum in
+    record { done = counting.done + piece; is = omega (arith, before, of_piece, added); sum = omega (arith, sum, is) }
+
 -- nothing is left
 pub counting_last : (count rest whole : ℕ) → rest ≡ 0 → IsCounting count rest whole → count ≡ counted_to_end whole
 counting_last count rest whole none counting = let is = counting.is in let sum = counting.sum in omega (arith, is, sum, none)

@@ -131,7 +131,16 @@ fn print_window<R: Threads + Sync, G: Gate + Sync, P: RowPrinter + Sync, K: Sink
             ensures { MayBeTextOf (P.text printer.entry.now) (P.count printer.entry.now) code.entry.now (from + start) part.entry.now result }
         { text_of(alloc, room, code, from + start, part, printer) },
     )?;
-    give_parts(alloc, code, from, rows, size, texts.as_slice(), printer, out)
+    give_parts(
+        alloc,
+        code,
+        from,
+        rows,
+        size,
+        texts.as_slice(),
+        printer,
+        out,
+    )
 }
 
 // Gives what was printed of each part, in order, where the first row has this place.

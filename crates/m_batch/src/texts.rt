@@ -9,7 +9,6 @@ ghost use Rattle.m_batch.specs.inner.Texts.{IsTextOf};
 use crate::blocks::Blocks;
 use crate::fault::PrintFault;
 use crate::printer::RowPrinter;
-
 use household::Row;
 use m_ports::{Failed, FixedText, Sink};
 use observables::Answer;

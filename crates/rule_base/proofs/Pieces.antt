@@ -1,11 +1,11 @@
 -- What the workers give, each of its files, is what is said of all.
-use Rattle.std.proofs.Common.{◌≡◌, ◌≢◌, ℕ, ◌+◌, ◌<◌, take, drop, List, length, Result, Ok, Err, Vec}
+use Rattle.std.proofs.Common.{◌≡◌, ◌≢◌, ℕ, ◌+◌, ◌*◌, ◌<◌, ◌≤◌, get_or, take, drop, List, length, Result, Ok, Err, Vec}
 use Rattle.std.specs.declared.alloc.Global.{Global}
 use Rattle.m_places.specs.Refusals.{Outcome}
 use Rattle.m_places.specs.declared.source.Text.{Text}
 use Rattle.m_ast.specs.declared.item.Item.{Item}
-use Rattle.workers.specs.Parts.{IsJoined, behind}
-use Rattle.workers.proofs.PartLemmas.{said_of_parts}
+use Rattle.workers.specs.Parts.{behind, joined, part_at}
+use Rattle.workers.proofs.PartLemmas.{of_parts, said_of_parts}
 use Rattle.rule_base.specs.declared.read_fault.ReadFault.{ReadFault}
 use Rattle.rule_base.specs.declared.read_fault.ReadFault.TheVariants.{Memory}
 use Rattle.rule_base.specs.Files.{SayEach, none_each, IsFirstFileFault}
@@ -20,15 +20,18 @@ abbrev pub SaysFiles : ℕ → List Text → Result (List (List Item)) ReadFault
 SaysFiles number texts (Ok files) = SayEach number texts files
 SaysFiles number texts (Err fault) = fault ≢ Memory → IsFirstFileFault number texts fault
 
-module _ (gives : ℕ → List Text → Given → Type 0)
-    (each : (at : ℕ) (part : List Text) (given : Given) → gives at part given → Outcome Memory given (λ said. SayEach at part said.items) (IsFirstFileFault at part)) where
-  goes : (size number : ℕ) (texts : List Text) (part : Vec (List Item) Global) (rest : Result (List (List Item)) ReadFault) → 0 < length texts → gives number (take size texts) (Ok part)
-      → SaysFiles (number + size) (drop size texts) rest → SaysFiles number texts (behind part.items rest)
-  goes size number texts part (Ok rest) some gave is = both_each size number texts part.items rest (each number (take size texts) (Ok part) gave) is
-  goes size number texts part (Err fault) some gave is = λ n. behind_fault size number texts part.items fault (each number (take size texts) (Ok part) gave) (is n)
+goes : (size number : ℕ) (texts : List Text) (part : Vec (List Item) Global) (rest : Result (List (List Item)) ReadFault) → SayEach number (take size texts) part.items
+    → SaysFiles (number + size) (drop size texts) rest → SaysFiles number texts (behind part.items rest)
+goes size number texts part (Ok rest) gave is = both_each size number texts part.items rest gave is
+goes size number texts part (Err fault) gave is = λ n. behind_fault size number texts part.items fault gave (is n)
 
-  pub files_said : (size number : ℕ) (texts : List Text) (all : Result (List (List Item)) ReadFault) → IsJoined gives size number texts all → SaysFiles number texts all
-  files_said size number texts all is =
-      said_of_parts gives size SaysFiles (λ at. none_each)
-      (λ at items fault some gave. λ n. front_fault size at items fault (each at (take size items) (Err fault) gave n))
-      (goes size) number texts all is
+-- what is given of a worker's files, of which the first has this number
+abbrev pub IsGiven : ℕ → List Text → Given → Type 0
+IsGiven number texts given = Outcome Memory given (λ said. SayEach number texts said.items) (IsFirstFileFault number texts)
+
+pub files_said : (size : ℕ) (texts : List Text) (parts : List Given) → ((n : ℕ) (d : Given) → n < length parts → IsGiven (n * size) (part_at texts size (n * size)) (get_or parts n d))
+    → ((n : ℕ) → n < length parts → n * size < length texts) → length texts ≤ length parts * size → SaysFiles 0 texts (joined parts)
+files_said size texts parts each inside reach =
+    said_of_parts IsGiven size SaysFiles (λ at. none_each)
+    (λ at items fault some gave. λ n. front_fault size at items fault (gave n))
+    (λ at items part rest some gave is. goes size at items part rest gave is) 0 texts parts (of_parts IsGiven size texts parts each inside reach)

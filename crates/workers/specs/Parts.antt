@@ -1,5 +1,5 @@
 -- The parts of a list, and what workers make of them.
-use Rattle.std.specs.Prelude.{◌≡◌, ℕ, ◌+◌, ◌<◌, ◌≤◌, List, [], ◌∷◌, ◌++◌, length, take, drop, Result, Ok, Err, Vec}
+use Rattle.std.specs.Prelude.{◌≡◌, ℕ, ◌+◌, ◌*◌, ◌<◌, ◌≤◌, List, [], ◌∷◌, ◌++◌, length, take, drop, Result, Ok, Err, Vec, slice_index_or}
 use Rattle.std.specs.declared.alloc.Global.{Global}
 use denote.Ref.{Bor}
 use denote.Param.Members.{Shared}
@@ -23,8 +23,14 @@ module _ {F X R : Type 0} (g : Shared F (ℕ × (Bor (List X) × Unit {0})) R) (
   abbrev pub MayGive : ℕ → List X → R → Type 0
   MayGive at part result = (lent : Bor (List X)) × (lent.now ≡ part) × g.post f (at, (lent, tt)) result
 
--- What is made of the parts of a list whose first item has this place, in the order of the parts: each has `size` items, and the last one perhaps
--- fewer. `gives` is between the place at which a part begins, the part and what is made of it.
+-- What is made of the parts of a list, in the order of the parts: each has `size` items, and the last one perhaps fewer. `gives` is between the
+-- place at which a part begins, the part and what is made of it.
+pub record MadeOfParts {X U : Type 0} (gives : ℕ → List X → U → Type 0) (size : ℕ) (items : List X) (made : List U) : Type 0 where
+  pub each : (n : ℕ) (d : U) → n < length made → gives (n * size) (part_at items size (n * size)) (slice_index_or made n d)
+  pub inside : (n : ℕ) → n < length made → n * size < length items
+  pub reach : length items ≤ length made * size
+
+-- the same part after part, where the first item of the list has this place
 abbrev pub AreOfParts : {X U : Type 0} → (ℕ → List X → U → Type 0) → ℕ → ℕ → List X → List U → Type 0
 AreOfParts gives size at items [] = items ≡ []
 AreOfParts gives size at items (u ∷ made) = (0 < length items) × gives at (take size items) u × AreOfParts gives size (at + size) (drop size items) made
@@ -46,5 +52,7 @@ all_items (Ok all) = Ok all.items
 all_items (Err fault) = Err fault
 
 -- what is made of the parts of a list is this, joined
-abbrev pub IsJoined : {X U E : Type 0} → (ℕ → List X → Result (Vec U Global) E → Type 0) → ℕ → ℕ → List X → Result (List U) E → Type 0
-IsJoined {U = U} {E} gives size at items all = (parts : List (Result (Vec U Global) E)) × AreOfParts gives size at items parts × (all ≡ joined parts)
+pub record IsJoined {X U E : Type 0} (gives : ℕ → List X → Result (Vec U Global) E → Type 0) (size : ℕ) (items : List X) (all : Result (List U) E) : Type 0 where
+  pub parts : List (Result (Vec U Global) E)
+  pub made : MadeOfParts gives size items parts
+  pub all_is : all ≡ joined parts

@@ -1,6 +1,6 @@
 //! The parts of a list, each handed to a worker.
 ghost use Rattle.std.specs.Prelude.{◌*◌, ◌<◌, ◌≤◌, ℕ, length, IfOk};
-ghost use Rattle.workers.specs.Parts.{AcceptsParts, AreOfParts, IsPart, MayGive, part_at};
+ghost use Rattle.workers.specs.Parts.{AcceptsParts, IsPart, MadeOfParts, MayGive, part_at};
 
 use m_places::Gate;
 use rayon::prelude::*;
@@ -42,7 +42,7 @@ pub fn map_parts<
 >(rt: &R, alloc: Global, gate: &G, items: &[T], size: usize, f: &F) -> Result<Vec<U>, AllocError>
     requires size { 0 < size }
     requires accepts { AcceptsParts F.Fn f.now size items.now }
-    ensures { IfOk result (λ made. AreOfParts (MayGive F.Fn f.now) size 0 items.now made.items) }
+    ensures { IfOk result (λ made. MadeOfParts (MayGive F.Fn f.now) size items.now made.items) }
 {
     (0..part_count(items.len(), size))
         .into_par_iter()

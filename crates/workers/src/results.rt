@@ -28,7 +28,7 @@ pub fn join_parts<
 ) -> Result<Result<Vec<U>, E>, AllocError>
     requires size { 0 < size }
     requires accepts { AcceptsParts F.Fn f.now size items.now }
-    ensures { IfOk result (λ all. IsJoined (MayGive F.Fn f.now) size 0 items.now (all_items all)) }
+    ensures { IfOk result (λ all. IsJoined (MayGive F.Fn f.now) size items.now (all_items all)) }
 {
     let parts = map_parts(rt, alloc, gate, items, size, f)?;
     joined(alloc, parts)
