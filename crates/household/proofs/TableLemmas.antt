@@ -24,7 +24,7 @@ use Rattle.household.proofs.LawLemmas.{no_room, room, turns_each, twice}
 
 -- ---- cells
 
-not_empty : (byte : ℕ) (bytes : List ℕ) → eqb (length (byte ∷ bytes)) 0 ≡ false
+pub not_empty : (byte : ℕ) (bytes : List ℕ) → eqb (length (byte ∷ bytes)) 0 ≡ false
 not_empty byte bytes = ne_eqb (length (byte ∷ bytes)) 0 (λ e. absurd (omega (arith, e)))
 
 amount_parts : (line input : ℕ) (r : Result ℤ AmountFault) (pair : ℕ × ℤ) → amount_said line input r ≡ Ok pair → (pair.0 ≡ input) × (r ≡ Ok pair.1)
@@ -49,7 +49,7 @@ cells_sound line before (input ∷ columns) ((byte ∷ bytes) ∷ cells) pairs n
     let more = cells_sound line (before ++ r.0 ∷ []) columns cells pairs (omega (arith, n)) r.2 in
     (r.0 ∷ more.0, more.1 ∙ append_assoc before (r.0 ∷ []) more.0, (parts.0, parts.1, more.2))
 
-cells_whole : (line : ℕ) (before : List (ℕ × ℤ)) (columns : List ℕ) (cells : List (List ℕ)) (more : List (ℕ × ℤ)) → AreCells columns cells more
+pub cells_whole : (line : ℕ) (before : List (ℕ × ℤ)) (columns : List ℕ) (cells : List (List ℕ)) (more : List (ℕ × ℤ)) → AreCells columns cells more
     → (length cells ≡ length columns) × (cells_read line before columns cells ≡ Ok (before ++ more))
 cells_whole line before [] [] [] are = (refl, ap Ok (sym (append-nil before)))
 cells_whole line before [] [] (pair ∷ more) are = absurd are
@@ -71,7 +71,7 @@ made label pairs = record { label = label; household = record { pairs = pairs } 
 abbrev row_made : List ℕ → List (ℕ × ℤ) → Result Row HouseholdFault
 row_made label pairs = Ok (made label pairs)
 
-pairs_sound : (inputs : List Coded) (line : ℕ) (columns : List ℕ) (cells : List (List ℕ)) (pairs : List (ℕ × ℤ)) → length cells ≡ length columns → pairs_read inputs line columns cells ≡ Ok pairs
+pub pairs_sound : (inputs : List Coded) (line : ℕ) (columns : List ℕ) (cells : List (List ℕ)) (pairs : List (ℕ × ℤ)) → length cells ≡ length columns → pairs_read inputs line columns cells ≡ Ok pairs
     → AreCells columns cells pairs × (are_fitting inputs pairs ≡ true)
 pairs_sound inputs line columns cells pairs n h =
     let c = read_before (fitting_pairs inputs line) (cells_read line [] columns cells) pairs h in
