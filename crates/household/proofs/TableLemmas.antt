@@ -1,5 +1,5 @@
 -- A table reads to the rows that its records are.
-use Rattle.std.proofs.Common.{◌≡◌, ℕ, ℤ, ◌<◌, ◌≤◌, List, [], ◌∷◌, ◌++◌, drop, length, Option, Some, None, Result, Ok, Err, Bool, true, false, cond, eqb, leb, refl, sym, subst, ap, ◌∙◌, append_assoc, length-append, arith}
+use Rattle.std.proofs.Common.{◌≡◌, ℕ, ℤ, ◌≤◌, List, [], ◌∷◌, ◌++◌, drop, length, Option, Some, None, Result, Ok, Err, true, false, eqb, leb, refl, sym, subst, ap, ◌∙◌, append_assoc, length-append, arith}
 use mathlib.Core.Bool.{◌&&◌}
 use Rattle.std.specs.List.{AllZip}
 use Rattle.std.proofs.lemmas.Bool.{and_parts, cond-false, cond-true, false_from_ne_true, ne_eqb, eqb-true, eq-eqb}
@@ -59,9 +59,10 @@ cells_whole line before (input ∷ columns) ([] ∷ cells) more are = let rest =
 cells_whole line before (input ∷ columns) ((byte ∷ bytes) ∷ cells) [] are = absurd are
 cells_whole line before (input ∷ columns) ((byte ∷ bytes) ∷ cells) (pair ∷ more) are =
     let rest = cells_whole line (before ++ pair ∷ []) columns cells more are.2 in
-    let this : amount_said line input (amount_read (text_value (byte ∷ bytes))) ≡ Ok pair = ap (amount_said line input) are.1 ∙ ap (λ i. Ok (i, pair.1)) (sym are.0) in
-    (omega (arith, rest.0),
-    read_filled line before columns cells input byte bytes ∙ ap (if_read (λ p. cells_read line (before ++ p ∷ []) columns cells)) this ∙ rest.1 ∙ ap Ok (append_assoc before (pair ∷ []) more))
+    let this : amount_said line input (amount_read (text_value (byte ∷ bytes))) ≡ Ok pair = ap (amount_said line input) are.1 ∙ ap (λ i. Ok (i, pair.1)) (sym are.0) in (
+      omega (arith, rest.0),
+      read_filled line before columns cells input byte bytes ∙ ap (if_read (λ p. cells_read line (before ++ p ∷ []) columns cells)) this ∙ rest.1 ∙ ap Ok (append_assoc before (pair ∷ []) more),
+    )
 
 -- ---- a row
 
