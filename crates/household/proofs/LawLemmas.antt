@@ -108,7 +108,7 @@ pub read_household_is : (inputs : List Coded) (bytes : List ℕ) (pairs : List (
 read_household_is inputs bytes pairs h = household_sound inputs bytes (records_of bytes) pairs refl h
 
 -- a number that stands again is not different
-inside : {X : Type 0} (P : X → Type 0) (xs ys : List X) (x : X) → AllByRecursion P (xs ++ x ∷ ys) → P x
+pub inside : {X : Type 0} (P : X → Type 0) (xs ys : List X) (x : X) → AllByRecursion P (xs ++ x ∷ ys) → P x
 inside P [] ys x h = h.0
 inside P (y ∷ xs) ys x h = inside P xs ys x h.1
 

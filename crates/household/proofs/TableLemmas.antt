@@ -1,5 +1,5 @@
 -- A table reads to the rows that its records are.
-use Rattle.std.proofs.Common.{◌≡◌, ℕ, ℤ, ◌<◌, ◌≤◌, List, [], ◌∷◌, ◌++◌, drop, length, Option, Some, None, Result, Ok, Err, Bool, true, false, cond, eqb, leb, refl, sym, subst, ap, ◌∙◌, append_assoc, length-append, arith}
+use Rattle.std.proofs.Common.{◌≡◌, ℕ, ℤ, ◌≤◌, List, [], ◌∷◌, ◌++◌, drop, length, Option, Some, None, Result, Ok, Err, true, false, eqb, leb, refl, sym, subst, ap, ◌∙◌, append_assoc, length-append, arith}
 use mathlib.Core.Bool.{◌&&◌}
 use Rattle.std.specs.List.{AllZip}
 use Rattle.std.proofs.lemmas.Bool.{and_parts, cond-false, cond-true, false_from_ne_true, ne_eqb, eqb-true, eq-eqb}
@@ -24,7 +24,7 @@ use Rattle.household.proofs.LawLemmas.{no_room, room, turns_each, twice}
 
 -- ---- cells
 
-not_empty : (byte : ℕ) (bytes : List ℕ) → eqb (length (byte ∷ bytes)) 0 ≡ false
+pub not_empty : (byte : ℕ) (bytes : List ℕ) → eqb (length (byte ∷ bytes)) 0 ≡ false
 not_empty byte bytes = ne_eqb (length (byte ∷ bytes)) 0 (λ e. absurd (omega (arith, e)))
 
 amount_parts : (line input : ℕ) (r : Result ℤ AmountFault) (pair : ℕ × ℤ) → amount_said line input r ≡ Ok pair → (pair.0 ≡ input) × (r ≡ Ok pair.1)
@@ -49,7 +49,7 @@ cells_sound line before (input ∷ columns) ((byte ∷ bytes) ∷ cells) pairs n
     let more = cells_sound line (before ++ r.0 ∷ []) columns cells pairs (omega (arith, n)) r.2 in
     (r.0 ∷ more.0, more.1 ∙ append_assoc before (r.0 ∷ []) more.0, (parts.0, parts.1, more.2))
 
-cells_whole : (line : ℕ) (before : List (ℕ × ℤ)) (columns : List ℕ) (cells : List (List ℕ)) (more : List (ℕ × ℤ)) → AreCells columns cells more
+pub cells_whole : (line : ℕ) (before : List (ℕ × ℤ)) (columns : List ℕ) (cells : List (List ℕ)) (more : List (ℕ × ℤ)) → AreCells columns cells more
     → (length cells ≡ length columns) × (cells_read line before columns cells ≡ Ok (before ++ more))
 cells_whole line before [] [] [] are = (refl, ap Ok (sym (append-nil before)))
 cells_whole line before [] [] (pair ∷ more) are = absurd are
@@ -59,9 +59,10 @@ cells_whole line before (input ∷ columns) ([] ∷ cells) more are = let rest =
 cells_whole line before (input ∷ columns) ((byte ∷ bytes) ∷ cells) [] are = absurd are
 cells_whole line before (input ∷ columns) ((byte ∷ bytes) ∷ cells) (pair ∷ more) are =
     let rest = cells_whole line (before ++ pair ∷ []) columns cells more are.2 in
-    let this : amount_said line input (amount_read (text_value (byte ∷ bytes))) ≡ Ok pair = ap (amount_said line input) are.1 ∙ ap (λ i. Ok (i, pair.1)) (sym are.0) in
-    (omega (arith, rest.0),
-    read_filled line before columns cells input byte bytes ∙ ap (if_read (λ p. cells_read line (before ++ p ∷ []) columns cells)) this ∙ rest.1 ∙ ap Ok (append_assoc before (pair ∷ []) more))
+    let this : amount_said line input (amount_read (text_value (byte ∷ bytes))) ≡ Ok pair = ap (amount_said line input) are.1 ∙ ap (λ i. Ok (i, pair.1)) (sym are.0) in (
+      omega (arith, rest.0),
+      read_filled line before columns cells input byte bytes ∙ ap (if_read (λ p. cells_read line (before ++ p ∷ []) columns cells)) this ∙ rest.1 ∙ ap Ok (append_assoc before (pair ∷ []) more),
+    )
 
 -- ---- a row
 
@@ -71,7 +72,7 @@ made label pairs = record { label = label; household = record { pairs = pairs } 
 abbrev row_made : List ℕ → List (ℕ × ℤ) → Result Row HouseholdFault
 row_made label pairs = Ok (made label pairs)
 
-pairs_sound : (inputs : List Coded) (line : ℕ) (columns : List ℕ) (cells : List (List ℕ)) (pairs : List (ℕ × ℤ)) → length cells ≡ length columns → pairs_read inputs line columns cells ≡ Ok pairs
+pub pairs_sound : (inputs : List Coded) (line : ℕ) (columns : List ℕ) (cells : List (List ℕ)) (pairs : List (ℕ × ℤ)) → length cells ≡ length columns → pairs_read inputs line columns cells ≡ Ok pairs
     → AreCells columns cells pairs × (are_fitting inputs pairs ≡ true)
 pairs_sound inputs line columns cells pairs n h =
     let c = read_before (fitting_pairs inputs line) (cells_read line [] columns cells) pairs h in
