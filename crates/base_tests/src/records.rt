@@ -1,5 +1,5 @@
 //! No text in memory makes an error of its reader. The crate `csv` leaves open that the reader under it fails, which household tells as
-//! want of memory: these texts, and each text that is the beginning of one of them, are read to their end.
+//! out of memory: these texts, and each text that is the beginning of one of them, are read to their end.
 use crate::rows::check;
 use csv::ByteRecord;
 use household::records::{next_record, records_of};
