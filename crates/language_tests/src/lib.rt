@@ -14,6 +14,8 @@ mod kinds;
 #[cfg(test)]
 mod lines;
 #[cfg(test)]
+mod meeting;
+#[cfg(test)]
 mod nests;
 #[cfg(test)]
 mod readings;
@@ -31,5 +33,3 @@ mod turns;
 mod twice;
 #[cfg(test)]
 mod weights;
-#[cfg(test)]
-mod workers;

@@ -1,6 +1,6 @@
 use Rattle.std.proofs.Common.{arith}
 use Rattle.m_places.proofs.Pushed.{within_push, bytes_push, count_push}
-use Rattle.language_tests.proofs.workers.texts_of.Goals as goal
+use Rattle.language_tests.proofs.meeting.texts_of.Goals as goal
 
 pub loop-preserved : goal.loop-preserved
 loop-preserved c = let short = c.in_ok-text_of.ensures in record {
