@@ -1,5 +1,5 @@
 -- The lines of expectations that aren't met, and their count, from one of them on.
-use Rattle.std.proofs.Common.{◌≡◌, ℕ, zero, suc, ◌+◌, ◌<◌, ◌≤◌, Bool, true, false, cond, arith, get_or, drop, List, [], ◌∷◌, ◌++◌, length, Option, sym, ap, ◌∙◌, subst}
+use Rattle.std.proofs.Common.{◌≡◌, ℕ, zero, suc, ◌+◌, ◌<◌, ◌≤◌, Bool, true, false, cond, arith, get_or, drop, List, [], ◌∷◌, ◌++◌, length, Option, Some, None, refl, sym, ap, ◌∙◌, subst}
 use Rattle.std.proofs.lemmas.List.{drop_more, drop_all}
 use Rattle.m_fixed.specs.declared.amount.Value.{Value}
 use Rattle.observables.specs.declared.answer.Answer.{Answer}

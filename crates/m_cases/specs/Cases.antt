@@ -1,5 +1,5 @@
 -- What a table of cases says: households, and what is expected of their answers.
-use Rattle.std.specs.Prelude.{ℕ, ℤ, ◌<◌, ◌^◌, ◌==◌, nat_le, ◌&&◌, List, [], ◌∷◌, ◌++◌, drop, length, map, Result, Ok, Err, codes, if◌then◌else◌}
+use Rattle.std.specs.Prelude.{ℕ, ℤ, ◌+◌, ◌<◌, ◌^◌, ◌==◌, nat_le, ◌&&◌, List, [], ◌∷◌, ◌++◌, drop, length, map, Result, Ok, Err, codes, if◌then◌else◌}
 use Rattle.std.specs.Str.{bytes_eq}
 use Rattle.std.specs.List.{AllByRecursion}
 use Rattle.m_places.specs.declared.limits.TheConstants.{ROWS}

@@ -1,4 +1,4 @@
-use Rattle.std.proofs.Common.{arith, drop, length, List, ◌<◌, ◌^◌}
+use Rattle.std.proofs.Common.{arith, drop, length, List, ◌<◌, ◌^◌, ◌≤◌}
 use Rattle.csv.specs.Records.{fields_of}
 use Rattle.observables.specs.declared.face.FaceOutput.{FaceOutput}
 use Rattle.observables.specs.Outputs.{names_of}

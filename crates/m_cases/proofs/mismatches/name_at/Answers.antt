@@ -1,4 +1,4 @@
-use Rattle.std.proofs.Common.{◌∙◌, sym}
+use Rattle.std.proofs.Common.{◌≡◌, ◌∙◌, sym}
 use Rattle.m_cases.proofs.Named.{name_there, is_name, no_note}
 use Rattle.m_cases.proofs.mismatches.name_at.Goals as goal
 

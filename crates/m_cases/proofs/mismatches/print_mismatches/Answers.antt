@@ -1,9 +1,10 @@
-use Rattle.std.proofs.Common.{arith, length}
+use Rattle.std.proofs.Common.{arith, refl, ◌∙◌, ◌≡◌, length, sym, subst, Option, List, drop}
 use Rattle.std.proofs.lemmas.Result.{err_from_is_err_and}
-use Rattle.text_pieces.proofs.GivingLemmas.{piece_given, piece_failed}
+use Rattle.text_pieces.proofs.GivingLemmas.{piece_given, piece_failed, all_given}
+use Rattle.m_fixed.specs.declared.amount.Value.{Value}
 use Rattle.observables.specs.Outputs.{names_of, notes_of}
-use Rattle.m_cases.specs.Mismatches.{answer_values, named_values}
-use Rattle.m_cases.proofs.Shown.{lines_at, count_met, count_unmet}
+use Rattle.m_cases.specs.Mismatches.{answer_values, named_values, one_line, is_met, got_of}
+use Rattle.m_cases.proofs.Shown.{lines_at, lines_end, count_met, count_unmet, count_end, known_at}
 use Rattle.m_cases.proofs.mismatches.print_mismatches.Goals as goal
 use Rattle.m_cases.proofs.mismatches.print_mismatches.Goals.{then-not-branch, else-not-branch}
 
