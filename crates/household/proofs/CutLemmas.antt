@@ -6,7 +6,8 @@ use Rattle.csv.specs.declared.parser.State.TheVariants as st
 use Rattle.household.specs.Reader.{records_from_state}
 use Rattle.household.specs.Records.{records_of}
 use Rattle.household.specs.declared.cuts.TheConstants.{BETWEEN}
-use Rattle.household.specs.inner.Cuts.{AreCuts, HasNoQuote, IsCut, IsCutAfter, IsLine, IsLineEnd, left_at}
+use Rattle.household.specs.Lines.{HasNoQuote, IsLineEnd}
+use Rattle.household.specs.inner.Cuts.{AreCuts, IsCut, IsCutAfter, IsLine, left_at}
 use Rattle.household.proofs.LeftLemmas.{records_are_left}
 use Rattle.household.proofs.LineLemmas.{drop_byte, line_ends, no_mark_there, no_quote_drop, record_over, skips_end}
 

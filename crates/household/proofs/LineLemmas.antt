@@ -1,19 +1,21 @@
 -- The records of bytes without quotation marks end where their lines do.
 use Rattle.std.proofs.Common.{◌≡◌, ◌⊎◌, ℕ, ◌+◌, ◌-◌, ◌<◌, ◌≤◌, ◌==◌, zero, suc, List, [], ◌∷◌, ◌++◌, length, get_or, drop, take, take_all, length-drop, Bool, true, false, cond, refl, sym, ap, subst, ◌∙◌, arith, inl, inr}
-use Rattle.std.specs.Prelude.{◌||◌, Option, Some, None, is_some}
+use Rattle.std.specs.Prelude.{◌&&◌, ◌||◌, Option, Some, None, is_some}
 use Rattle.std.specs.List.{list_any}
 use Rattle.std.proofs.lemmas.Bool.{cases_Bool, cond-true, cond-false, eqb-true}
 use Rattle.memchr.specs.Find.{IsFirstByte, NoneBefore, Passes, Nowhere, is_byte, is_byte2}
 use Rattle.csv.specs.Machine.{step, in_field, start_field, start_record, is_end, ends_with, ends_at_end, fields_after, field_after}
-use Rattle.csv.specs.Reading.{default_config, strip_bom}
+use Rattle.csv.specs.Reading.{default_config, is_bom, strip_bom}
 use Rattle.csv.specs.declared.parser.Action.{Action}
 use Rattle.csv.specs.declared.parser.Action.TheVariants as act
 use Rattle.csv.specs.declared.parser.State.{State}
 use Rattle.csv.specs.declared.parser.State.TheVariants as st
 use Rattle.csv.specs.declared.parser.Terminator.TheVariants as term
 use Rattle.household.specs.Reader.{records_from_state}
-use Rattle.household.specs.inner.Cuts.{HasNoQuote, IsLine, IsLineEnd}
-use Rattle.household.proofs.LeftLemmas.{byte_ends, byte_joins, last_ends}
+use Rattle.household.specs.Lines.{HasNoQuote, IsLineEnd}
+use Rattle.household.specs.inner.Cuts.{IsLine}
+use Rattle.household.specs.Records.{records_of}
+use Rattle.household.proofs.LeftLemmas.{byte_ends, byte_joins, last_ends, records_are_left}
 
 not_true : (b : Bool) → (b ≡ true → ⊥) → b ≡ false
 not_true true n = absurd (n refl)
@@ -199,3 +201,116 @@ record_over n [] q l = absurd l
 record_over n (c ∷ rest) q l =
     let more = line_over st.StartField at_field [] [] (suc n) (c ∷ rest) q l in
     (more.0, same_step st.StartRecord st.StartField [] [] c rest (cond-false (ends_with term.CRLF c) (st.StartRecord, act.Skip) (start_field default_config c) l.0) ∙ more.1)
+
+-- ---- records in parts
+
+-- a state in which no quotation mark is open: in a line that was begun, or where a record begins
+abbrev Stands : State → List (List ℕ) → List ℕ → Type 0
+Stands s fields field = InLine s ⊎ ((s ≡ st.StartRecord) × (fields ≡ []) × (field ≡ []))
+
+stands_step : (s : State) (fields : List (List ℕ)) (field : List ℕ) (c : ℕ) → Stands s fields field → ends_with term.CRLF c ≡ false → (c == 34) ≡ false → step default_config s c ≡ in_field default_config c
+stands_step s fields field c (inl line) e q = line.steps c q
+stands_step s fields field c (inr start) e q =
+    subst (λ (z : State). step default_config z c ≡ in_field default_config c) (sym start.0)
+    (cond-false (ends_with term.CRLF c) (st.StartRecord, act.Skip) (start_field default_config c) e ∙ at_field.steps c q)
+
+-- at the end of a line
+stands_end : (s : State) (fields : List (List ℕ)) (field : List ℕ) (c : ℕ) (rest back : List ℕ) → Stands s fields field → ends_with term.CRLF c ≡ true
+    → (records_from_state st.StartRecord [] [] (rest ++ back) ≡ records_from_state st.StartRecord [] [] rest ++ records_from_state st.StartRecord [] [] back)
+    → records_from_state s fields field (c ∷ rest ++ back) ≡ records_from_state s fields field (c ∷ rest) ++ records_from_state st.StartRecord [] [] back
+stands_end s fields field c rest back (inl line) e more =
+    ends_here s line fields field c (rest ++ back) e
+    ∙ ap (λ l. (fields ++ field ∷ []) ∷ l) (skips_end c (rest ++ back) e ∙ more ∙ ap (λ l. l ++ records_from_state st.StartRecord [] [] back) (sym (skips_end c rest e)))
+    ∙ ap (λ l. l ++ records_from_state st.StartRecord [] [] back) (sym (ends_here s line fields field c rest e))
+stands_end s fields field c rest back (inr start) e more =
+    (λ i. records_from_state (start.0 i) (start.1 i) (start.2 i) (c ∷ rest ++ back))
+    ∙ skips_end c (rest ++ back) e ∙ more ∙ ap (λ l. l ++ records_from_state st.StartRecord [] [] back) (sym (skips_end c rest e))
+    ∙ (λ i. records_from_state (sym start.0 i) (sym start.1 i) (sym start.2 i) (c ∷ rest) ++ records_from_state st.StartRecord [] [] back)
+
+-- where the first part ends
+stands_last : (s : State) (fields : List (List ℕ)) (field back : List ℕ) → Stands s fields field → IsLineEnd back
+    → records_from_state s fields field back ≡ records_from_state s fields field [] ++ records_from_state st.StartRecord [] [] back
+stands_last s fields field [] (inl line) l = last_ends s fields field line.ends ∙ ap (λ rs. rs ++ []) (sym (last_ends s fields field line.ends))
+stands_last s fields field (c ∷ rest) (inl line) l =
+    ends_here s line fields field c rest l ∙ ap (λ rs. rs ++ records_from_state st.StartRecord [] [] (c ∷ rest)) (sym (last_ends s fields field line.ends))
+stands_last s fields field back (inr start) l =
+    (λ i. records_from_state (start.0 i) (start.1 i) (start.2 i) back)
+    ∙ (λ i. records_from_state (sym start.0 i) (sym start.1 i) (sym start.2 i) [] ++ records_from_state st.StartRecord [] [] back)
+
+parts_join : (s : State) (fields : List (List ℕ)) (field front back : List ℕ) → Stands s fields field → HasNoQuote front → IsLineEnd back
+    → records_from_state s fields field (front ++ back) ≡ records_from_state s fields field front ++ records_from_state st.StartRecord [] [] back
+parts_join s fields field [] back here q l = stands_last s fields field back here l
+parts_join s fields field (c ∷ rest) back here q l =
+    let first = neither_left (c == 34) (list_any (λ byte. byte == 34) rest) q in
+    let none = neither_right (c == 34) (list_any (λ byte. byte == 34) rest) q in
+    let joins : State × Action = cond (ends_with term.CRLF c) (cond (c == 13) st.AfterCr st.StartRecord, act.EndRecord) (st.InField, act.Copy) in
+    elim (cases_Bool (ends_with term.CRLF c)) [
+      | inl ends ↦ stands_end s fields field c rest back here ends (parts_join st.StartRecord [] [] rest back (inr (refl, refl, refl)) none l)
+      | inr inner ↦ elim (cases_Bool (c == 44)) [
+        | inl comma ↦
+            let over : step default_config s c ≡ (st.StartField, act.EndField) = stands_step s fields field c here inner first ∙ cond-true (c == 44) (st.StartField, act.EndField) joins comma in
+            byte_joins s st.StartField act.EndField fields (fields ++ field ∷ []) field [] c (rest ++ back) (sym (ap (λ p. p.0) over)) (sym (ap (λ p. p.1) over)) refl refl refl
+            ∙ parts_join st.StartField (fields ++ field ∷ []) [] rest back (inl at_field) none l
+            ∙ ap (λ rs. rs ++ records_from_state st.StartRecord [] [] back)
+            (sym (byte_joins s st.StartField act.EndField fields (fields ++ field ∷ []) field [] c rest (sym (ap (λ p. p.0) over)) (sym (ap (λ p. p.1) over)) refl refl refl))
+        | inr other ↦
+            let over : step default_config s c ≡ (st.InField, act.Copy) =
+            stands_step s fields field c here inner first ∙ cond-false (c == 44) (st.StartField, act.EndField) joins other
+            ∙ cond-false (ends_with term.CRLF c) (cond (c == 13) st.AfterCr st.StartRecord, act.EndRecord) (st.InField, act.Copy) inner in
+            byte_joins s st.InField act.Copy fields fields field (field ++ c ∷ []) c (rest ++ back) (sym (ap (λ p. p.0) over)) (sym (ap (λ p. p.1) over)) refl refl refl
+            ∙ parts_join st.InField fields (field ++ c ∷ []) rest back (inl in_line) none l
+            ∙ ap (λ rs. rs ++ records_from_state st.StartRecord [] [] back)
+            (sym (byte_joins s st.InField act.Copy fields fields field (field ++ c ∷ []) c rest (sym (ap (λ p. p.0) over)) (sym (ap (λ p. p.1) over)) refl refl refl))
+      ]
+    ]
+
+-- a line end is no byte of a byte order mark
+no_second : (a b c : ℕ) → ends_with term.CRLF b ≡ true → is_bom a b c ≡ false
+no_second a b c e = elim (cases_Bool (a == 239)) [
+  | inl begun ↦ rw begun (elim (end_byte b e) [
+    | inl same ↦ subst (λ (z : ℕ). (true && (z == 187) && (c == 191)) ≡ false) (sym same) refl
+    | inr same ↦ subst (λ (z : ℕ). (true && (z == 187) && (c == 191)) ≡ false) (sym same) refl
+  ])
+  | inr other ↦ rw other refl
+]
+
+no_third : (a b c : ℕ) → ends_with term.CRLF c ≡ true → is_bom a b c ≡ false
+no_third a b c e = elim (cases_Bool (a == 239)) [
+  | inl begun ↦ elim (cases_Bool (b == 187)) [
+    | inl second ↦ rw (begun, second) (elim (end_byte c e) [
+      | inl same ↦ subst (λ (z : ℕ). (true && true && (z == 191)) ≡ false) (sym same) refl
+      | inr same ↦ subst (λ (z : ℕ). (true && true && (z == 191)) ≡ false) (sym same) refl
+    ])
+    | inr another ↦ rw (begun, another) refl
+  ]
+  | inr other ↦ rw other refl
+]
+
+-- the byte order mark of the whole is that of its first part
+strip_joins : (front back : List ℕ) → IsLineEnd back → strip_bom (front ++ back) ≡ strip_bom front ++ back
+unfolding strip_bom
+strip_joins [] back l = no_mark_there back l
+strip_joins (a ∷ []) [] l = refl
+strip_joins (a ∷ []) (b ∷ []) l = refl
+strip_joins (a ∷ []) (b ∷ c ∷ back) l = cond-false (is_bom a b c) back (a ∷ b ∷ c ∷ back) (no_second a b c l)
+strip_joins (a ∷ b ∷ []) [] l = refl
+strip_joins (a ∷ b ∷ []) (c ∷ back) l = cond-false (is_bom a b c) back (a ∷ b ∷ c ∷ back) (no_third a b c l)
+strip_joins (a ∷ b ∷ c ∷ front) back l =
+    elim (is_bom a b c) as (λ t. cond t (front ++ back) (a ∷ b ∷ c ∷ front ++ back) ≡ cond t front (a ∷ b ∷ c ∷ front) ++ back) [ true ↦ refl | false ↦ refl ]
+
+no_quote_strip : (bytes : List ℕ) → HasNoQuote bytes → HasNoQuote (strip_bom bytes)
+unfolding strip_bom
+no_quote_strip [] q = q
+no_quote_strip (a ∷ []) q = q
+no_quote_strip (a ∷ b ∷ []) q = q
+no_quote_strip (a ∷ b ∷ c ∷ rest) q =
+    elim (is_bom a b c) as (λ t. HasNoQuote (cond t rest (a ∷ b ∷ c ∷ rest))) [ true ↦ no_quote_drop 3 (a ∷ b ∷ c ∷ rest) q | false ↦ q ]
+
+-- the records of two parts are those of the whole
+pub records_join : (front back : List ℕ) → HasNoQuote front → IsLineEnd back → records_of (front ++ back) ≡ records_of front ++ records_of back
+records_join front back q l =
+    sym (records_are_left (front ++ back))
+    ∙ ap (records_from_state st.StartRecord [] []) (strip_joins front back l)
+    ∙ parts_join st.StartRecord [] [] (strip_bom front) back (inr (refl, refl, refl)) (no_quote_strip front q) l
+    ∙ (λ i. records_are_left front i ++ records_from_state st.StartRecord [] [] (sym (no_mark_there back l) i))
+    ∙ ap (λ rs. records_of front ++ rs) (records_are_left back)

@@ -1,5 +1,6 @@
 pub mod InTurn
 pub mod Records
+pub mod Lines
 pub mod Plain
 pub mod Reader
 pub mod Marks

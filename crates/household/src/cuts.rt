@@ -4,7 +4,8 @@ ghost use Rattle.std.specs.List.{list_any};
 ghost use Rattle.csv.specs.Reading.{is_bom, strip_bom};
 ghost use Rattle.std.specs.Prelude.{◌<◌, get_or};
 ghost use Rattle.household.specs.Records.{records_of};
-ghost use Rattle.household.specs.inner.Cuts.{AreCuts, GoesOver, GoesOverAll, HasNoQuote, IsCut, IsLine, left_at};
+ghost use Rattle.household.specs.Lines.{HasNoQuote};
+ghost use Rattle.household.specs.inner.Cuts.{AreCuts, GoesOver, GoesOverAll, IsCut, IsLine, left_at};
 
 use memchr::{memchr, memchr2};
 use std::alloc::{AllocError, Global};

@@ -1,14 +1,14 @@
 -- A table of cases reads to the cases that its records are.
-use Rattle.std.proofs.Common.{◌≡◌, ◌≢◌, ℕ, ℤ, ◌<◌, ◌≤◌, List, [], ◌∷◌, ◌++◌, drop, length, Option, Some, None, Result, Ok, Err, Bool, true, false, cond, eqb, leb, refl, sym, subst, ap, ◌∙◌, append_assoc, length-append, arith, codes}
+use Rattle.std.proofs.Common.{◌≡◌, ◌≢◌, ℕ, ℤ, ◌≤◌, List, [], ◌∷◌, ◌++◌, drop, length, Result, Ok, Err, Bool, true, false, cond, eqb, leb, refl, sym, subst, ap, ◌∙◌, append_assoc, length-append, arith, codes}
 use mathlib.Core.Bool.{◌&&◌}
 use Rattle.std.specs.Prelude.{◌||◌}
 use Rattle.std.specs.Str.{bytes_eq}
-use Rattle.std.specs.List.{AllByRecursion, AllZip, list_any}
-use Rattle.std.proofs.lemmas.Bool.{and_parts, cond-false, cond-true, false_from_ne_true, ne_eqb, eqb-true, eq-eqb, or_parts}
+use Rattle.std.specs.List.{AllZip, list_any}
+use Rattle.std.proofs.lemmas.Bool.{and_parts, cond-false, cond-true, false_from_ne_true, eqb-true, eq-eqb, or_parts}
 use Rattle.std.proofs.lemmas.List.{append-nil, length_push}
 use Rattle.m_places.specs.declared.limits.TheConstants.{ROWS}
 use Rattle.m_fixed.specs.declared.read.AmountFault.{AmountFault}
-use Rattle.m_fixed.specs.declared.amount.Value.TheVariants.{Undef, Num, Over}
+use Rattle.m_fixed.specs.declared.amount.Value.TheVariants.{Undef, Over}
 use Rattle.m_fixed.specs.Text.{text_value, amount_read}
 use Rattle.observables.specs.declared.inputs.Coded.{Coded}
 use Rattle.household.specs.declared.fault.HouseholdFault.{HouseholdFault}
@@ -16,8 +16,7 @@ use Rattle.household.specs.declared.fault.HouseholdFault.TheVariants as househol
 use Rattle.household.specs.InTurn.{if_read, in_turn}
 use Rattle.household.specs.Records.{records_of}
 use Rattle.household.specs.Household.{line_behind}
-use Rattle.household.specs.Table.{are_fitting, cells_read, fitting_pairs, is_label, is_table_header, pairs_read}
-use Rattle.household.specs.TableRows.{AreCells}
+use Rattle.household.specs.Table.{are_fitting, fitting_pairs, is_label, is_table_header, pairs_read}
 use Rattle.household.proofs.InputLemmas.{AllByRecursion-push, if_ok, other_than_error, read_before, turns_keep}
 use Rattle.household.proofs.LawLemmas.{inside, no_room, room, turns_each}
 use Rattle.household.proofs.TableLemmas.{cells_whole, not_empty, pairs_sound}
@@ -28,7 +27,7 @@ use Rattle.m_cases.specs.declared.columns.Column.TheVariants.{Input, Output}
 use Rattle.m_cases.specs.declared.expected.Expected.{Expected}
 use Rattle.m_cases.specs.declared.expected.Expected.TheVariants.{Is, Stop}
 use Rattle.m_cases.specs.declared.fault.CasesFault.{CasesFault}
-use Rattle.m_cases.specs.declared.fault.CasesFault.TheVariants.{BadHeader, BadRow, BadExpected, CodeTwice, TooManyRows}
+use Rattle.m_cases.specs.declared.fault.CasesFault.TheVariants.{BadHeader, BadRow, CodeTwice, TooManyRows}
 use Rattle.m_cases.specs.CaseRows.{AreApart, AreExpectations, Expects, IsCase, IsCaseTable}
 use Rattle.m_cases.specs.Cases.{amount_expected, case_of, case_said, case_with, cases_made, cases_of, cases_read, expected_read, expected_said, of_household}
 use Rattle.m_cases.specs.Columns.{column_inputs, column_of, field_said, input_cells, is_same_column, new_column}

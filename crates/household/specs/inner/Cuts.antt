@@ -1,20 +1,11 @@
 -- Places between the records of bytes without quotation marks.
-use Rattle.std.specs.Prelude.{◌≡◌, ℕ, zero, suc, ◌*◌, ◌<◌, ◌≤◌, ◌==◌, List, [], ◌∷◌, drop, length, get_or, Option, Some, None, true, false}
-use Rattle.std.specs.List.{list_any}
+use Rattle.std.specs.Prelude.{◌≡◌, ℕ, zero, suc, ◌*◌, ◌<◌, ◌≤◌, List, [], ◌∷◌, drop, length, get_or, Option, Some, None, false}
 use Rattle.csv.specs.Machine.{ends_with}
 use Rattle.csv.specs.declared.parser.State.TheVariants as st
 use Rattle.csv.specs.declared.parser.Terminator.TheVariants as term
+use Rattle.household.specs.Lines.{IsLineEnd}
 use Rattle.household.specs.Reader.{records_from_state}
 use Rattle.household.specs.declared.cuts.TheConstants.{BETWEEN}
-
--- no byte is a quotation mark
-abbrev pub HasNoQuote : List ℕ → Type 0
-HasNoQuote bytes = list_any (λ byte. byte == 34) bytes ≡ false
-
--- bytes that begin with the end of a line, or are none
-abbrev pub IsLineEnd : List ℕ → Type 0
-IsLineEnd [] = Unit {0}
-IsLineEnd (byte ∷ bytes) = ends_with term.CRLF byte ≡ true
 
 -- So many bytes stand before the first end of a line, or before the end of the bytes.
 abbrev pub IsLine : ℕ → List ℕ → Type 0
