@@ -20,7 +20,7 @@ pub fn one_household()
     ensures whole { (inputs : List Coded) (bytes : List ℕ) (pairs : List (ℕ × ℤ)) → IsHousehold inputs bytes pairs → household_of inputs bytes ≡ Ok pairs }
 {}
 
-/// Where a part of bytes has no quotation mark, and behind it a line ends, the records of all are those of the part and then those of the
+/// Where a part of bytes has no quotation mark, and after it a line ends, the records of all are those of the part and then those of the
 /// rest. So several workers may read parts that begin there.
 pub fn records_in_parts()
     ensures { (front back : List ℕ) → HasNoQuote front → IsLineEnd back → records_of (front ++ back) ≡ records_of front ++ records_of back }
