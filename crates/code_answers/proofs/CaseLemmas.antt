@@ -35,7 +35,7 @@ use Rattle.code_answers.specs.Parts as parts
 use Rattle.code_answers.specs.Cases.{ComparedReplies, cases_count, cases_fault_line, cases_lines, cases_text, count_status, table_is_refused}
 use Rattle.code_answers.specs.Shown.{Shows}
 use Rattle.code_answers.specs.Schemes.{Scheme, told_to}
-use Rattle.code_answers.specs.inner.Printers.{MayBeCompared, case_count, case_text, compared_status, expected_at, mismatches_by, misses_by, named_of}
+use Rattle.code_answers.specs.inner.Printers.{MayBeCompared, case_count, case_text, compared_status, mismatches_by, misses_by}
 use Rattle.code_answers.proofs.CodeLemmas.{agrees, code_each}
 use Rattle.code_answers.proofs.Refusals.{TellsRefusal}
 
@@ -65,11 +65,10 @@ pub misses_few : (face : Face) (all : List (List (ℕ × Expected))) (at : ℕ) 
 misses_few face all at [] answers may = omega arith
 misses_few face all at (row ∷ rows) [] may = omega arith
 misses_few face all at (row ∷ rows) (answer ∷ answers) may =
-    let one : misses_by face all at row answer ≤ length (expected_at all at) = mismatches_few (named_of face answer) (expected_at all at) in
-    let few : length (expected_at all at) < 4_294_967_296 = may.0.expected_is.few in
+    let one = mismatches_few (named_values (length (notes_of face.outputs)) (answer_values answer)) (get_or all at []) in
+    let few = may.0.expected_is.few in
     let more = misses_few face all (at + 1) rows answers may.1 in
-    let sum : printed_count (misses_by face all) at (row ∷ rows) (answer ∷ answers) ≡ misses_by face all at row answer + printed_count (misses_by face all) (at + 1) rows answers = refl in
-    omega (arith, one, few, more, sum)
+    omega (arith, one, few, more)
 
 -- rows by code may be compared
 pub cases_may : (loaded : Loaded) (all : List (List (ℕ × Expected))) (at : ℕ) (rows : List Row) (expected : List (List (ℕ × Expected))) → drop at all ≡ expected

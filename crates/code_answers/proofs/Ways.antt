@@ -28,7 +28,7 @@ use Rattle.code_answers.specs.Shown as households
 use Rattle.code_answers.specs.Schemes.{Scheme, told_to}
 use Rattle.m_batch.specs.Printing.{WritesRows}
 use Rattle.m_batch.specs.declared.fault.PrintFault.{PrintFault}
-use Rattle.m_batch.specs.declared.fault.PrintFault.TheVariants as printing
+use Rattle.m_batch.specs.declared.fault.PrintFault.TheVariants as rows
 use Rattle.code_answers.specs.inner.Answers.{IsAnswerOf}
 use Rattle.code_answers.specs.inner.Printers.{rows_status}
 use Rattle.code_answers.proofs.Refusals.{TellsRefusal}
@@ -84,8 +84,8 @@ pub batch_written : {S T : Type 0} (written : S → Option (List ℕ)) (faults :
     → Replies text Done → status ≡ rows_status result → WritesRows written faults old new result text
     → IsWrittenInParts Replies (output_view written faults old) (output_view written faults new) status
 batch_written written faults old new (Ok value) text Replies status replied is wrote = parts.printed text Done replied tt (inl ((wrote.all, wrote.counted), is))
-batch_written written faults old new (Err printing.Memory) text Replies status replied is wrote = broke_off text Done replied wrote.prefix wrote.counted is
-batch_written written faults old new (Err printing.Failed) text Replies status replied is wrote = parts.printed text Done replied tt (inr ((wrote.prefix, wrote.counted), is))
+batch_written written faults old new (Err rows.Memory) text Replies status replied is wrote = broke_off text Done replied wrote.prefix wrote.counted is
+batch_written written faults old new (Err rows.Failed) text Replies status replied is wrote = parts.printed text Done replied tt (inr ((wrote.prefix, wrote.counted), is))
 
 -- ---- code files that are read
 

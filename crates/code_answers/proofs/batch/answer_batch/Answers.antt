@@ -1,12 +1,9 @@
-use Rattle.std.proofs.Common.{◌≡◌, ℕ, List, length, Ok, Err, subst}
+use Rattle.std.proofs.Common.{◌≡◌, length, Ok, Err, subst}
 use Rattle.household.specs.Table.{table_of}
 use Rattle.household.proofs.GivenLemmas.{table_gives}
 use Rattle.reg_machine.specs.Machine.{machine_run}
-use Rattle.m_batch.specs.Batch.{answers_of}
-use Rattle.m_batch.specs.Printing.{WritesRows, printed_text}
 use Rattle.m_batch.proofs.RowLemmas.{rows_below}
 use Rattle.code_answers.specs.Shown.{TableReplies, rows_are_told}
-use Rattle.code_answers.specs.inner.Printers.{lines_by}
 use Rattle.code_answers.proofs.BatchLemmas.{lines_may, rows_told}
 use Rattle.code_answers.proofs.Refusals.{household_refused}
 use Rattle.code_answers.proofs.Shown.{code_many, many_inputs}
@@ -24,12 +21,9 @@ print_batch-requires-clause-may g c = λ κs held. rw c.as_slice.ensures (lines_
 pub returns-in-Ok : goal.returns-in-Ok
 returns-in-Ok g c = λ scheme shown.
     let given = subst (λ inputs. table_of inputs c.args.table.now ≡ Ok c.in-Ok.rows) shown.inputs c.in-Ok.ensures.outcome in
-    let wrote : WritesRows g.K.Sink.written g.K.Sink.faults c.args.out.now c.print_batch.new.out c.print_batch.result
-    (printed_text (lines_by c.args.loaded.now.face) 0 c.in-Ok.rows (answers_of c.args.loaded.now.code c.in-Ok.rows)) = rw c.as_slice.ensures at c.print_batch.ensures.text in
     batch_written _ _ _ _ _ _ (TableReplies scheme c.args.table.now) _ (rows_are_told c.in-Ok.rows given)
     c.status_of_rows.ensures
-    (subst (λ (text : List ℕ). WritesRows g.K.Sink.written g.K.Sink.faults c.args.out.now c.print_batch.new.out c.print_batch.result text)
-    (rows_told scheme c.args.loaded.now 0 c.in-Ok.rows shown (code_many scheme c.args.loaded.now shown) (table_gives scheme.inputs c.args.table.now c.in-Ok.rows given)) wrote)
+    (rw (rows_told scheme c.args.loaded.now 0 c.in-Ok.rows shown (code_many scheme c.args.loaded.now shown) (table_gives scheme.inputs c.args.table.now c.in-Ok.rows given)) at (rw c.as_slice.ensures at c.print_batch.ensures.text))
 
 pub returns-in-Err : goal.returns-in-Err
 returns-in-Err g c = λ scheme shown.

@@ -1,5 +1,4 @@
-use Rattle.std.proofs.Common.{◌≡◌, ◌≤◌, ◌<◌, ◌*◌, ◌^◌, ◌∙◌, length, refl, arith}
-use Rattle.code_answers.specs.inner.Printers.{case_count}
+use Rattle.std.proofs.Common.{◌≡◌, ◌≤◌, ◌<◌, ◌∙◌, refl, arith}
 use Rattle.code_answers.proofs.CaseLemmas.{cases_may, counted_whole, misses_few}
 use Rattle.code_answers.proofs.compared.print_compared.Goals as goal
 
@@ -8,9 +7,8 @@ print_batch-requires-clause-may g c = λ κs held. cases_may c.args.loaded.now c
 
 pub returns-clause-count : goal.returns-clause-count
 returns-clause-count g c =
-    let count = case_count c.args.loaded.now c.args.rows.now c.args.expected.now in
-    let few : case_count c.args.loaded.now c.args.rows.now c.args.expected.now ≤ length c.args.rows.now * 4_294_967_296 =
-    misses_few c.args.loaded.now.face c.args.expected.now 0 c.args.rows.now _
+    counted_whole c.print_batch.result _
+    (let few = misses_few c.args.loaded.now.face c.args.expected.now 0 c.args.rows.now _
     (cases_may c.args.loaded.now c.args.expected.now 0 c.args.rows.now c.args.expected.now refl c.requires.many c.requires.expected) in
-    let rows = c.requires.few in
-    counted_whole c.print_batch.result count (omega (arith, few, rows)) c.print_batch.ensures.count
+    let rows = c.requires.few in omega (arith, few, rows))
+    c.print_batch.ensures.count
