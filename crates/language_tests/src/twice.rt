@@ -2,7 +2,7 @@
 ghost use Rattle.std.specs.Prelude.{◌≤◌, length};
 ghost use Rattle.m_places.specs.SourceLimits.{TextsAreWithin};
 
-use crate::workers::text_of;
+use crate::meeting::text_of;
 use m_ast::Item;
 use m_places::{Open, Text};
 use m_symbols::{DeclareFault, declare};
