@@ -9,7 +9,7 @@ import tempfile
 import urllib.request
 
 ELEMENT = "element-6066-11e4-a52e-4f735466cecf"
-SECONDS = 60
+SECONDS = 300
 
 
 class Browser:
