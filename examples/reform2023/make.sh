@@ -11,4 +11,4 @@ mkdir -p "$folder"
 tools/variant examples/impot2023/rules.list 'SEUIL[2]=29797' PLAF_DEMI=1559 "$folder/rules"
 python3 -B examples/reform2023/households.py "${2-100000}" >"$folder/table.csv"
 tools/reform examples/impot2023/rules.list "$folder/rules/rules.list" examples/impot2023/driver.mpp - "$folder/table.csv" \
-    --of TOTAL --weight weight --by RNI --step 1AJ=1000 --into "$folder/report"
+    --of TOTAL --weight weight --by RNI --step 1AJ=1000 --less-is-gain --into "$folder/report"

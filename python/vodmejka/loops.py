@@ -1,5 +1,6 @@
 """Loops of rule files, for tools: the values of their letters, words with letters replaced, and what a term reads. Terms are those of grammar.py."""
 import itertools
+import math
 
 from .limits import LOOP_INSTANCES
 
@@ -21,6 +22,25 @@ def values_of(pairs):
         else:
             found += [chr(k) for k in range(ord(low[0]), ord(high[0]) + 1)]
     return found
+
+
+def length_of(low, high):
+    """How many values stand from a point to a point; none where the range is bad."""
+    if low == high:
+        return 1
+    if low.isdigit() and high.isdigit():
+        return max(0, int(high) - int(low) + 1)
+    return max(0, ord(high) - ord(low) + 1) if len(low) == len(high) == 1 and low.isalpha() and high.isalpha() else 0
+
+
+def header_faults(header):
+    """The faults of a header as the program tells them, each with the number of the index at whose letter it stands."""
+    letters = [letter for letter, _ in header]
+    lengths = [[length_of(low, high) for low, high in values] for _, values in header]
+    bad = [k for k, letter in enumerate(letters) if letters.count(letter) > 1 or 0 in lengths[k]]
+    if bad:
+        return [(k, "bad range") for k in bad]
+    return [(0, "loop too large")] if math.prod(map(sum, lengths)) > LOOP_INSTANCES else []
 
 
 def instances(headers, words):
