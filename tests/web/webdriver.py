@@ -91,6 +91,12 @@ class Browser:
         """A command of the browser's own protocol."""
         return self.call("POST", "/goog/cdp/execute", {"cmd": name, "params": words})
 
+    def busy(self):
+        """The seconds of the processor that the page's thread has taken."""
+        self.command("Performance.enable", {"timeDomain": "threadTicks"})
+        metrics = {metric["name"]: metric["value"] for metric in self.command("Performance.getMetrics", {})["metrics"]}
+        return metrics["TaskDuration"]
+
     def picture(self, path, whole=False, clip=None):
         """A picture of the window or of the whole page, in a file."""
         words = {"format": "png", "captureBeyondViewport": whole}
