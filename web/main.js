@@ -17,7 +17,7 @@ class Page {
     this.laws = data.laws.map((law, k) => new Law(law, say(k === 0 ? 'rules' : 'reform')));
     [this.law] = this.laws;
     this.state = new State(this.law.inputs);
-    this.unreadable = element('p', { class: 'message stop', role: 'alert', hidden: this.readAddress() }, say('address-unreadable'));
+    this.unreadable = element('p', { class: 'message stop', id: 'unreadable', role: 'alert', hidden: this.readAddress() }, say('address-unreadable'));
     this.cases = casesOf(this.state, this.laws);
     this.form = new Form(this);
     this.why = new Why(this);
