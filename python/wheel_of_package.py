@@ -18,8 +18,8 @@ def build_wheel(wheel_directory, config_settings=None, metadata_directory=None):
     info = f"{name}-{version}.dist-info"
     files = {f"{info}/METADATA": "".join(f"{head}: {text}\n" for head, text in heads.items()).encode(), f"{info}/WHEEL": FORM.encode()}
     files[f"{info}/entry_points.txt"] = b"[console_scripts]\nvodmejka = vodmejka.__main__:main\n"
-    for entry in package_files(name):
-        with open(os.path.join(HERE, entry), "rb") as file:
+    for entry, path in package_files(name):
+        with open(path, "rb") as file:
             files[entry] = file.read()
     lines = [f"{path},sha256={digest(content)},{len(content)}\n" for path, content in files.items()]
     files[f"{info}/RECORD"] = "".join([*lines, f"{info}/RECORD,,\n"]).encode()
@@ -31,9 +31,11 @@ def build_wheel(wheel_directory, config_settings=None, metadata_directory=None):
 
 
 def package_files(name):
-    """The files of the package, by their paths from here."""
-    found = [os.path.join(folder, entry) for folder, _, entries in os.walk(os.path.join(HERE, name)) for entry in entries]
-    return sorted(os.path.relpath(path, HERE) for path in found if path.endswith((".py", ".typed", ".words")))
+    """The files of the package, each with its path within the wheel; the sources of pages stand beside it in the repository."""
+    web = os.path.join(os.path.dirname(HERE), "web")
+    for top, place, kinds in ((os.path.join(HERE, name), name, (".py", ".typed", ".words")), (web, f"{name}/web", (".js", ".json", ".css", ".html"))):
+        found = sorted(os.path.join(folder, entry) for folder, _, entries in os.walk(top) for entry in entries if entry.endswith(kinds))
+        yield from ((os.path.join(place, os.path.relpath(path, top)), path) for path in found)
 
 
 def digest(content):

@@ -6,7 +6,10 @@ export class Compare {
   constructor(page) {
     this.page = page;
     const choices = ['none', 'household', ...(page.laws.length > 1 ? ['reform'] : [])];
-    this.radios = choices.map((choice) => element('input', { type: 'radio', name: 'compare', id: `compare-${choice}`, value: choice, change: () => page.state.compare(choice) }));
+    this.radios = choices.map((choice) => {
+      const change = () => page.state.compare(choice);
+      return element('input', { type: 'radio', name: 'compare', id: `compare-${choice}`, value: choice, change });
+    });
     this.root = element(
       'fieldset',
       { class: 'compare' },

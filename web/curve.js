@@ -1,4 +1,5 @@
-// The curve of one value along one box: the value, its mean and its marginal rate, and where what is kept falls. Computed in slices, so that the page stays alive.
+// The curve of one value along one box: the value, its mean and its marginal rate, and where what is kept falls. It is computed in slices, so that the page
+// still answers.
 import { OVER, UNDEFINED, UNIT } from './amounts.js';
 
 export const MOST_STEPS = 50_000;

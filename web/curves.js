@@ -15,7 +15,8 @@ export class Curves {
     const boxes = page.law.inputs.filter(({ type }) => type !== 'truth');
     this.box = element('select', { id: 'curve-box' }, boxes.map(({ code }) => element('option', { value: code }, `${code} · ${page.form.describe(code)}`)));
     const names = page.law.program.outputs.filter((output) => 'name' in output).map(({ name }) => name);
-    this.of = element('select', { id: 'curve-of' }, names.map((name) => element('option', { value: name, selected: name === page.main }, page.describe(name) || name)));
+    const option = (name) => element('option', { value: name, selected: name === page.main }, page.describe(name) || name);
+    this.of = element('select', { id: 'curve-of' }, names.map(option));
     this.from = element('input', { id: 'curve-from', type: 'text', inputmode: 'decimal', value: typed(0n, page.language) });
     this.to = element('input', { id: 'curve-to', type: 'text', inputmode: 'decimal', value: typed(50_000n * UNIT, page.language) });
     this.message = element('p', { role: 'status', class: 'hint' });
@@ -70,7 +71,8 @@ export class Curves {
     const cases = this.page.cases.slice();
     const walks = cases.map(({ law, amounts }) => new Walk(law, amounts, law.numbers.get(code), name));
     const count = Number((range.to - range.from) / range.step) + 1;
-    const tell = (done) => (this.message.textContent = say('curve-computing', { done: spellNumber(done, this.page.language, 0), count: spellNumber(count, this.page.language, 0) }));
+    const whole = (number) => spellNumber(number, this.page.language, 0);
+    const tell = (done) => (this.message.textContent = say('curve-computing', { done: whole(done), count: whole(count) }));
     const found = await walk(walks, range, tell, () => turn !== this.turn);
     if (found !== null) this.show(found, cases, code, name);
   }
@@ -91,7 +93,8 @@ export class Curves {
       slide.setAttribute('aria-valuetext', reading.textContent);
     };
     slide.addEventListener('input', read);
-    this.message.textContent = say('curve-done', { step: spellValue(found.step, language, unit), width: spellValue(found.step * BigInt(width), language, unit) });
+    const spelled = (amount) => spellValue(amount, language, unit);
+    this.message.textContent = say('curve-done', { step: spelled(found.step), width: spelled(found.step * BigInt(width)) });
     refill(
       this.picture,
       this.legend(cases),
@@ -137,7 +140,8 @@ export class Curves {
     const { language } = this.page;
     const head = element('h3', {}, name === '' ? say('falls') : say('falls-of', { name }));
     if (found.length === 0) return [head, element('p', {}, say('falls-none'))];
-    const lines = found.slice(0, MOST_FALLS).map(({ from, to, lost }) => say('fall', { from: spell(from, language), to: spell(to, language), lost: spell(lost, language, 2) }));
+    const line = ({ from, to, lost }) => say('fall', { from: spell(from, language), to: spell(to, language), lost: spell(lost, language, 2) });
+    const lines = found.slice(0, MOST_FALLS).map(line);
     const more = found.length > MOST_FALLS ? element('p', {}, say('falls-more', { count: found.length - MOST_FALLS })) : null;
     return [head, element('ul', { class: 'falls' }, lines.map((line) => element('li', {}, line))), more];
   }

@@ -66,7 +66,8 @@ export class Form {
     const isFilled = (input) => this.state.households.some((amounts) => amounts[input] !== UNDEFINED) || this.state.faults.some((faults) => faults.has(input));
     const show = (isOpen) => refill(inner, (isOpen ? inputs : inputs.filter(isFilled)).map((input) => this.row(input)));
     const isOpen = this.openGroups.has(k);
-    const head = element('button', { type: 'button', class: 'group-head', 'aria-expanded': String(isOpen) }, title, element('span', { class: 'hint' }, ` ${inputs.length}`));
+    const count = element('span', { class: 'hint' }, ` ${inputs.length}`);
+    const head = element('button', { type: 'button', class: 'group-head', 'aria-expanded': String(isOpen) }, title, count);
     head.addEventListener('click', () => {
       const opens = head.getAttribute('aria-expanded') === 'false';
       head.setAttribute('aria-expanded', String(opens));
@@ -90,7 +91,8 @@ export class Form {
     }
     const columns = pair.map((field) => element('div', {}, element('label', { for: field.id, class: 'unseen' }, field.name), field.root, field.fault));
     const kind = type === 'truth' ? 'row two check' : 'row two';
-    return element('div', { class: kind, role: 'group', 'data-code': code, 'aria-label': `${this.describe(code)}, ${code}` }, element('div', { class: 'described' }, title), columns);
+    const group = { class: kind, role: 'group', 'data-code': code, 'aria-label': `${this.describe(code)}, ${code}` };
+    return element('div', group, element('div', { class: 'described' }, title), columns);
   }
 
   // A field of one household: a checkbox for what is 0 or 1, else a line to type in.

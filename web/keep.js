@@ -52,9 +52,10 @@ export class Keep {
 
   ofLaw(law, k) {
     const name = `${this.page.data.name}${k === 0 ? '' : '-reform'}.code`;
+    const digest = element('span', { class: 'digest' }, 'SHA-256 ', element('code', {}, law.data.digest));
     return [
       this.page.laws.length === 1 ? null : element('h4', {}, law.name),
-      element('p', {}, button(say('check-code', { name }), () => save(name, law.data.code)), ' ', element('span', { class: 'digest' }, 'SHA-256 ', element('code', {}, law.data.digest))),
+      element('p', {}, button(say('check-code', { name }), () => save(name, law.data.code)), ' ', digest),
       element(
         'details',
         {},
@@ -90,7 +91,9 @@ export class Keep {
       this.message.textContent = say('mend-first');
       return;
     }
-    this.page.state.households.forEach((amounts, k) => save(k === 0 ? 'household.csv' : 'household-2.csv', writeHousehold(amounts, this.page.law.inputs), 'text/csv'));
+    this.page.state.households.forEach((amounts, k) => {
+      save(k === 0 ? 'household.csv' : 'household-2.csv', writeHousehold(amounts, this.page.law.inputs), 'text/csv');
+    });
   }
 
   // Takes a household from a file; what the program rejects is rejected with its line.

@@ -17,7 +17,7 @@ class Page {
     this.laws = data.laws.map((law, k) => new Law(law, say(k === 0 ? 'rules' : 'reform')));
     [this.law] = this.laws;
     this.state = new State(this.law.inputs);
-    this.isUnreadable = !this.state.read(decodeURIComponent(location.hash.slice(1)));
+    this.unreadable = element('p', { class: 'message stop', id: 'unreadable', role: 'alert', hidden: this.readAddress() }, say('address-unreadable'));
     this.cases = casesOf(this.state, this.laws);
     this.form = new Form(this);
     this.why = new Why(this);
@@ -27,6 +27,23 @@ class Page {
     this.keep = new Keep(this);
     this.paper = new Paper(this);
     this.state.listen(() => this.follow());
+    window.addEventListener('hashchange', () => this.takeAddress());
+  }
+
+  // Takes the households that stand in the address; says whether they can be read.
+  readAddress() {
+    try {
+      return this.state.read(decodeURIComponent(location.hash.slice(1)));
+    } catch (error) {
+      if (error instanceof URIError) return false;
+      throw error;
+    }
+  }
+
+  // Another address of the same page was opened.
+  takeAddress() {
+    this.unreadable.hidden = this.readAddress();
+    this.state.tell('households');
   }
 
   unit(cell) {
@@ -43,10 +60,9 @@ class Page {
   }
 
   draw(root) {
-    const fault = this.isUnreadable ? element('p', { class: 'message stop', role: 'alert' }, say('address-unreadable')) : null;
     refill(
       root,
-      fault,
+      this.unreadable,
       element('div', { class: 'columns' }, element('div', {}, this.compare.root, this.form.root), this.result.root),
       this.curves.root,
       this.keep.root,

@@ -23,8 +23,10 @@ export class Paper {
     const { law, cases, form } = this.page;
     const filled = law.inputs.map((_, k) => k).filter((k) => cases.some(({ amounts }) => amounts[k] !== UNDEFINED));
     if (filled.length === 0) return element('p', {}, say('paper-nothing'));
-    const spelled = (k) => cases.map(({ amounts }) => element('td', {}, amounts[k] === UNDEFINED ? '–' : this.page.why.spell(law.inputs[k].code, amounts[k])));
-    return element('table', {}, filled.map((k) => element('tr', {}, element('th', { scope: 'row' }, form.describe(law.inputs[k].code), ' ', element('code', {}, law.inputs[k].code)), spelled(k))));
+    const amount = (each, k) => (each === UNDEFINED ? '–' : this.page.why.spell(law.inputs[k].code, each));
+    const spelled = (k) => cases.map(({ amounts }) => element('td', {}, amount(amounts[k], k)));
+    const head = ({ code }) => element('th', { scope: 'row' }, form.describe(code), ' ', element('code', {}, code));
+    return element('table', {}, filled.map((k) => element('tr', {}, head(law.inputs[k]), spelled(k))));
   }
 
   // The cells that the values that are asked for were taken from, by one call of the rules.

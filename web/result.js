@@ -44,7 +44,8 @@ export class Result {
     const description = this.page.describe(name) || name;
     const told = answers.map((answer) => (answer.stop === null ? this.spell(name, answer) : say('stopped')));
     if (told.length === 1) return answers[0].stop === null ? say('headline', { what: description, value: told[0] }) : say('stopped-long');
-    const lines = this.page.cases.map(({ name: which }, k) => element('span', { class: 'line' }, say('headline-of', { which, what: description, value: told[k] })));
+    const line = ({ name: which }, k) => element('span', { class: 'line' }, say('headline-of', { which, what: description, value: told[k] }));
+    const lines = this.page.cases.map(line);
     if (answers.some(({ stop }) => stop !== null)) return lines;
     const values = answers.map((answer) => answer.named.find((each) => each.name === name).value);
     return [...lines, element('span', { class: 'line mark' }, say('headline-difference', { value: this.page.why.difference(name, values) }))];
@@ -78,15 +79,19 @@ export class Result {
   boxes(law, { values, stop }) {
     const codes = law.boxesOf(values, stop);
     if (codes.length === 0 || codes.length > MOST_BOXES) return null;
-    return element('p', {}, say('boxes'), codes.map((code) => button(code, () => this.page.form.goTo(code), { class: 'link', title: this.page.form.describe(code) })));
+    const { form } = this.page;
+    return element('p', {}, say('boxes'), codes.map((code) => button(code, () => form.goTo(code), { class: 'link', title: form.describe(code) })));
   }
 
   values(answers) {
     if (answers.some(({ stop }) => stop !== null)) return null;
     const names = answers[0].named.map(({ name }) => name);
     const all = (name) => answers.map((answer) => answer.named.find((each) => each.name === name)?.value ?? UNDEFINED);
-    const heads = answers.length === 1 ? null : element('div', { class: 'heads', 'aria-hidden': 'true' }, element('span', {}), [...this.page.cases.map(({ name }) => name), say('difference')].map((name) => element('span', {}, name)));
-    const opener = answers.length === 1 ? null : button(say('open-differences'), () => this.page.why.openDifferences(this.list), { id: 'open-differences' });
+    const isOne = answers.length === 1;
+    const columns = [...this.page.cases.map(({ name }) => name), say('difference')].map((name) => element('span', {}, name));
+    const heads = isOne ? null : element('div', { class: 'heads', 'aria-hidden': 'true' }, element('span', {}), columns);
+    const open = () => this.page.why.openDifferences(this.list);
+    const opener = isOne ? null : button(say('open-differences'), open, { id: 'open-differences' });
     return [element('p', { class: 'hint' }, say('unfold')), opener, heads, names.map((name) => this.page.why.asked(name, all(name), name))];
   }
 }

@@ -58,13 +58,14 @@ export class State {
     return this.households.map(one).join('/');
   }
 
-  // Takes households from an address; says whether they can be read.
+  // Takes households from an address; says whether they can be read. Where they can't, nothing changes.
   read(text) {
     const parts = text.split('/');
     const read = parts.map((part) => this.readOne(part));
     if (parts.length > 2 || read.includes(null)) return false;
     this.compared = read.length === 2 ? 'household' : 'none';
     this.households = read;
+    this.faults.forEach((faults) => faults.clear());
     return true;
   }
 

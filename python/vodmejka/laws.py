@@ -39,7 +39,8 @@ class Files:
         if asked is not None:
             self.requests = "".join(name + "\n" for name in asked).encode()
         self.list = self.list_of(self.names)
-        self.words = [self.list, *("-" if content is None else self.put(name, content) for name, content in (("driver", self.driver), ("requests", self.requests)))]
+        more = (("driver", self.driver), ("requests", self.requests))
+        self.words = [self.list, *("-" if content is None else self.put(name, content) for name, content in more)]
 
     def note(self, name, content):
         self.contents.append((name, hashlib.sha256(content).hexdigest()))

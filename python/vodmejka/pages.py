@@ -12,7 +12,10 @@ HERE = os.path.dirname(os.path.realpath(__file__))
 FOLDERS = (os.path.join(HERE, "web"), os.path.join(os.path.dirname(os.path.dirname(HERE)), "web"))
 IMPORT = re.compile(r"import \{ ([A-Za-z_, ]+) \} from '\./([a-z]+)\.js';")
 DECLARED = re.compile(r"^(?:export )?(?:async )?(?:function|class|const|let) ([A-Za-z_$][A-Za-z0-9_$]*)", re.MULTILINE)
-POLICY = "default-src 'none'; script-src 'sha256-{script}'; style-src 'sha256-{style}'; img-src data:; base-uri 'none'; form-action 'none'; require-trusted-types-for 'script'"
+POLICY = (
+    "default-src 'none'; script-src 'sha256-{script}'; style-src 'sha256-{style}'; img-src data:; base-uri 'none'; form-action 'none'; "
+    "require-trusted-types-for 'script'"
+)
 MAIN = "main"
 
 

@@ -1,8 +1,8 @@
 """Formulas as trees, for a page that shows them with their figures.
 
 A tree has the letters of loops filled in and sums written out. A cell is the number of its place among the cells that are asked for, a number its text, and an
-operator a list: its sign, its part, and what it works on; a chain as `a - b + c` is one list, with the signs between. A **part** is a variable that is added to the rules for such an inner term, so that the program
-computes its value too: the page itself computes no formula.
+operator a list: its sign, its part, and what it works on; a chain as `a - b + c` is one list, with the signs between. A **part** is a variable that is added to
+the rules for such an inner term, so that the program computes its value too: the page itself computes no formula.
 """
 import re
 

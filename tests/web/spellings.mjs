@@ -50,8 +50,9 @@ const SPELLED = [
 function curves(judge) {
   const amounts = [0n, 1n, 2n, 3n, 4n].map((units) => units * UNIT);
   const found = { amounts, step: UNIT, results: [[0n, 0n, 61n * UNIT, 62n * UNIT, null], [0n, 2n * UNIT, 4n * UNIT, 4n * UNIT, 5n * UNIT]] };
-  judge('falls of one jump', JSON.stringify(falls(found, 0), (_, value) => (typeof value === 'bigint' ? String(value) : value)), '[{"from":"1000000","to":"2000000","lost":"60000000"}]');
-  judge('neighbouring falls', falls(found, 1).map(({ from, to, lost }) => `${from} ${to} ${lost}`).join(), '0 2000000 2000000');
+  const fallen = (which) => falls(found, which).map(({ from, to, lost }) => `${from} ${to} ${lost}`).join();
+  judge('falls of one jump', fallen(0), '1000000 2000000 60000000');
+  judge('neighbouring falls', fallen(1), '0 2000000 2000000');
   judge('mean rate', meanRate(found, 1, 2), 2);
   judge('mean rate at 0', meanRate(found, 1, 0), null);
   judge('marginal rate over two', marginalRate(found, 1, 0, 2), 2);

@@ -9,7 +9,7 @@ import tempfile
 import urllib.request
 
 ELEMENT = "element-6066-11e4-a52e-4f735466cecf"
-SECONDS = 60
+SECONDS = 300
 
 
 class Browser:
@@ -90,6 +90,12 @@ class Browser:
     def command(self, name, words):
         """A command of the browser's own protocol."""
         return self.call("POST", "/goog/cdp/execute", {"cmd": name, "params": words})
+
+    def busy(self):
+        """The seconds of the processor that the page's thread has taken."""
+        self.command("Performance.enable", {"timeDomain": "threadTicks"})
+        metrics = {metric["name"]: metric["value"] for metric in self.command("Performance.getMetrics", {})["metrics"]}
+        return metrics["TaskDuration"]
 
     def picture(self, path, whole=False, clip=None):
         """A picture of the window or of the whole page, in a file."""
