@@ -9,6 +9,9 @@ from . import drivers, items, source
 from .loops import instances, is_number, is_repeated, reads_of, replaced
 
 
+UNREADABLE = ("syntax", "open string", "bad byte", "too deep")
+
+
 class Found(NamedTuple):
     """A fault: the file, the line, the byte of the file (of a driver within the line, or nothing), what the program calls it, and what may help."""
 
@@ -146,7 +149,7 @@ def all_faults(list_name, driver, names):
     else:
         application, listed = source.read_list_text(list_name, source.fetch(list_name).removeprefix(source.MARK))
         files = Files(application, listed)
-        if not any(fault.what in ("syntax", "open string", "bad byte", "too deep") for fault in files.found):
+        if not any(fault.what in UNREADABLE for fault in files.found):
             declared = Names(files, list_name)
             declared.look_at_all()
             variables = declared.variables

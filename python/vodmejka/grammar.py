@@ -10,6 +10,9 @@ OF_ONE = ("present", "abs", "positif", "positif_ou_nul", "null", "arr", "inf")
 OF_TWO = ("max", "min")
 COMPARISONS = ("=", "!=", "<", "<=", ">", ">=")
 OPERATORS = "an operator (+ - * / = < et ou ..)"
+TURNED = {"=>": ">=", "=<": "<=", "<>": "!=", "><": "!="}
+OTHER_WORDS = {"arrondi": "arr", "round": "arr", "entier": "inf", "tronque": "inf", "floor": "inf", "sum": "somme", "and": "et", "or": "ou", "not": "non",
+               "if": "si", "then": "alors", "else": "sinon", "endif": "finsi"}
 VALUE = "a value (a name, a number, ( or a function)"
 
 
@@ -23,6 +26,22 @@ class Stuck(Exception):
 
 def is_name(word):
     return word.upper() == word
+
+
+def meant(word):
+    """The reserved word that is meant by a word that is none: in other letters, or of another language."""
+    small = word.lower()
+    found = small if small in RESERVED else OTHER_WORDS.get(small)
+    return found if found != word else None
+
+
+def no_function(word):
+    """What to write for a call of what is no function."""
+    if meant(word) in (*OF_ONE, *OF_TWO, "somme"):
+        return f"M writes {meant(word)} for {word}, in small letters"
+    if is_name(word):
+        return f"{word} is no function; a cell of a table is written {word}[..]"
+    return f"{word} is no function of this M: docs/LANGUAGE.md says what to write in its place"
 
 
 class Reader:
@@ -161,18 +180,22 @@ class Terms(Reader):
         left = self.sum()
         if self.next_is(*COMPARISONS):
             sign = self.step().text
+            turned = TURNED.get(sign + self.peek().text) if self.peek().kind == "sign" else None
+            if turned:
+                self.want(VALUE)
+                self.stuck(f"M writes {turned} for {sign}{self.peek().text}")
             if self.next_is("="):
                 self.want(VALUE)
                 self.stuck(f"M writes {'=' if sign == '=' else sign} for a comparison, and no second =")
             return ("op", sign, [left, self.sum()])
         if self.next_is("non") or self.next_is("dans"):
-            if self.next_is("non"):
-                self.step()
+            isnt = self.take_if("non") is not None
             self.take("dans")
             self.take("(")
             members = self.separated(self.member, ",")
             self.take(")")
-            return ("op", "dans", [left, *members])
+            found = ("op", "dans", [left, *members])
+            return ("op", "non", [found]) if isnt else found
         return left
 
     def member(self):
@@ -183,8 +206,8 @@ class Terms(Reader):
         return ("op", "..", [low, self.signed()]) if self.take_if("..") else low
 
     def signed(self):
-        self.take_if("-")
-        return ("number", self.kind("number", "a number").text)
+        sign = self.take_if("-") or ""
+        return ("number", sign + self.kind("number", "a number").text)
 
     def sum(self):
         return self.chain(self.product, "+", "-")
@@ -221,7 +244,7 @@ class Terms(Reader):
         token = self.step()
         self.want("[")
         if self.next_is("("):
-            self.stuck(f"{token.text} is no function of this M: docs/LANGUAGE.md says what to write in its place")
+            self.stuck(no_function(token.text))
         if not self.next_is("["):
             return ("name", token.text, token.byte)
         self.step()

@@ -5,14 +5,18 @@ stand there, and then goes on after the next `;`, so that it finds the faults af
 """
 import re
 import sys
+import unicodedata
 from typing import Any, NamedTuple
 
 from . import source
-from .grammar import VALUE, Stuck, Terms
+from .grammar import RESERVED, VALUE, Stuck, Terms, meant
 from .limits import AMOUNT, BRACKET_DEPTH
 from .loops import whole
+from .places import decode
 
 CUT_TEXT = re.compile(rb"(?P<text>\"[^\"\n]*)")
+SIGNS = {"\u2264": "<=", "\u2265": ">=", "\u2260": "!=", "\u00d7": "*", "\u00f7": "/", "\u2212": "-", "\u2013": "-", "\u2014": "-"}
+BLANKS = "\u00a0\u202f\u2009\u2007\ufeff\u200b"
 KINDS_OF_ERRORS = ("anomalie", "discordance", "informative")
 
 
@@ -69,7 +73,7 @@ class RuleReader(Terms):
 
     def __init__(self, tokens):
         super().__init__(tokens)
-        self.formulas, self.checks, self.errors, self.declarations, self.faults = [], [], [], [], []
+        self.formulas, self.checks, self.errors, self.declarations, self.faults, self.kinds_of_errors = [], [], [], [], [], {}
         self.inside, self.applications, self.is_chained, self.due = None, [], False, False
 
     def read_all(self):
@@ -92,7 +96,15 @@ class RuleReader(Terms):
         token, before, behind = self.peek(), self.peek(-1) if self.at else self.end, self.peek(1)
         if token.text == "," and before.kind == "number" and behind.kind == "number":
             return f"a decimal sign is a point: {before.text}.{behind.text}"
+        if token.text == "/" and behind.text in ("/", "*"):
+            return "a comment begins with #"
+        for one in (token, before):
+            word = meant(one.text) if one.kind == "word" and one.text not in RESERVED else None
+            if word and (one is token or word in ("si", "non", "somme")):
+                return f"M writes {word} for {one.text}"
         begins = token.kind == "end" or token.text in ("regle", "verif", "si", "pour") or self.is_word() and behind.text in ("=", ":", "[")
+        if ":" in self.wanted and begins:
+            return "a : is missing before it"
         if ";" in self.wanted and begins:
             return "a ; is missing before it"
         if ")" in self.wanted and token.text in (";", "alors", "sinon", "finsi"):
@@ -165,6 +177,9 @@ class RuleReader(Terms):
             self.want("X")
             slot = self.step().text if self.next_is("X") else self.whole()
             self.take("]")
+            if self.next_is(":"):
+                self.want("=")
+                self.stuck(f"the size of a table stands after tableau: {target} : tableau[{slot}] calculee")
         self.take("=")
         if self.next_is("="):
             self.want(VALUE)
@@ -187,6 +202,9 @@ class RuleReader(Terms):
 
     def declaration(self):
         byte, name = self.peek().byte, self.name("a declaration (NAME :)")
+        if self.next_is("[") and self.peek(2).text == "]" and self.peek(3).text == ":":
+            self.want(":")
+            self.stuck(f"the size of a table stands after tableau: {name} : tableau[{self.peek(1).text}] calculee")
         if self.next_is("=", "["):
             self.want(":")
             self.stuck("a formula stands in a rule: regle 10 : application : iliad ; before it")
@@ -202,6 +220,7 @@ class RuleReader(Terms):
             self.take(";")
             self.declarations.append(Declaration(name, "const", byte, number=number))
         elif kind := self.take_if(*KINDS_OF_ERRORS):
+            self.kinds_of_errors[name] = kind
             texts = self.texts_of_error()
             self.errors.append((name, byte))
             self.declarations.append(Declaration(name, kind, byte, texts=texts))
@@ -246,9 +265,31 @@ class RuleReader(Terms):
         return (text,), word
 
 
+def of_byte(content, byte, shown):
+    """What may help with characters that begin no token."""
+    if shown[0] in SIGNS:
+        return f"M writes {SIGNS[shown[0]]} for {shown[0]}"
+    if shown[0] in BLANKS:
+        return "a hard blank or another that isn't plain: write a plain one"
+    if shown[0] in "'\u2018\u2019\u201c\u201d\u00ab\u00bb`":
+        return 'texts stand in " ", and a comment begins with #'
+    if shown[0] == "%":
+        return "a rate is a number, as 0.1 for ten per cent"
+    if shown[0] == ".":
+        return "a point stands between digits"
+    if ord(shown[0]) < 128:
+        return ""
+    begun = re.compile(rb"[A-Za-z0-9_\x80-\xff]*\Z").search(content[max(0, byte - 60) : byte])[0]
+    word = begun + re.compile(rb"[A-Za-z0-9_\x80-\xff]*").match(content, byte)[0]
+    bare = "".join(letter for letter in unicodedata.normalize("NFD", decode(word)) if letter.isascii())
+    return f"reserved words have no accents: {bare}" if bare in RESERVED else "accented letters stand in texts and comments only"
+
+
 def tokens_of(content):
     """The tokens of a file, and the faults of its bytes. Behind a byte that begins none the reading goes on."""
     tokens, faults, byte = [], [], 0
+    if content[:2] in (b"\xff\xfe", b"\xfe\xff"):
+        return [], [Fault("bad byte", 0, "the mark of UTF-16", (), "the file is UTF-16: save it as UTF-8")]
     if content.startswith(source.MARK):
         faults.append(Fault("bad byte", 0, "a byte order mark", (), "save the file without a byte order mark; a household may have one, a rule file not"))
         byte = len(source.MARK)
@@ -268,9 +309,8 @@ def take_tokens(content, byte, tokens, faults, most=sys.maxsize, is_cut=False):
             return len(content)
         if piece is None:
             end = re.compile(rb"[\x80-\xff]+|.", re.DOTALL).match(content, byte).end()
-            shown = content[byte:end]
-            what = "accented letters stand in texts and comments only" if shown[0] > 127 else "a point stands between digits" if shown == b"." else ""
-            faults.append(Fault("bad byte", byte, shown.decode("utf-8", "replace"), (), what))
+            shown = decode(content[byte:end])
+            faults.append(Fault("bad byte", byte, shown, (), of_byte(content, byte, shown)))
             byte = end
             continue
         if piece.lastgroup != "gap":

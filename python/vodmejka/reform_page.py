@@ -78,7 +78,9 @@ def page(words, rows, found, step, sign, heads):
     """The report: of the rows, and of the groups that were found, whose table has these heads."""
     whole = found[0][1]
     total = whole.weight
-    cells = "\n".join("<tr>" + "".join(f"<td>{html.escape(str(field))}</td>" for field in group.line(name)) + "</tr>" for name, group in found)
+    cells = "\n".join("<tr>" + "".join(f"<td>{html.escape(str(field))}</td>" for field in group.line(name, sign)) + "</tr>" for name, group in found)
+    of, is_told = html.escape(words.of), words.more_is_gain or words.less_is_gain
+    said = f"{'More' if sign < 0 else 'Less'} of it is a gain" + ("." if is_told else ": neither --less-is-gain nor --more-is-gain was given.")
     parts = [
         "<!doctype html><html lang=en><meta charset=utf-8><title>What the reform does</title>",
         "<style>body{font:15px/1.5 sans-serif;max-width:60em;margin:2em auto;padding:0 1em}table{border-collapse:collapse;font-size:13px}",
@@ -88,8 +90,9 @@ def page(words, rows, found, step, sign, heads):
         f" {whole.households} households of the weight {plain(whole.weight)}; {whole.stopped} of them stop.</p>",
         f"<p>{html.escape(words.of)} is <b id=before>{plain(Fraction(whole.before, UNIT))}</b> before"
         f" and <b id=after>{plain(Fraction(whole.after, UNIT))}</b> after,"
-        f" a difference of <b id=difference>{plain(Fraction(whole.after - whole.before, UNIT))}</b>. {'More' if sign < 0 else 'Less'} of it is a gain.</p>",
-        "<h2>Who gains and who loses</h2><p>The share of households, by the gain of each.</p>",
+        f" a difference of <b id=difference>{plain(Fraction(whole.after - whole.before, UNIT))}</b>. {said}</p>",
+        f"<h2>Who gains and who loses</h2><p>The share of households, by the gain of each. Above 0 a household gains: it has so much {'more' if sign < 0 else 'less'} "
+        f"of {of} after the reform. Below 0 it loses. The gain is the difference{'' if sign < 0 else ' with the other sign'}, which is after less before.</p>",
         changes_picture(rows, total, sign),
     ]
     if len(found) > 1:

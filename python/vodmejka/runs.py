@@ -124,9 +124,9 @@ class Children:
 CHILDREN = Children()
 
 
-def printed(*words):
-    """What the program prints to these words, and its status."""
-    with CHILDREN.started([program_path(), *words], stdin=subprocess.DEVNULL, stdout=subprocess.PIPE) as child:
+def printed(*words, stdin=subprocess.DEVNULL, folder=None):
+    """What the program prints to these words, perhaps in a folder, and its status."""
+    with CHILDREN.started([program_path(), *words], stdin=stdin, stdout=subprocess.PIPE, cwd=folder) as child:
         return child.stdout.read(), child.wait()
 
 

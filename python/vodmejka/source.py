@@ -77,7 +77,8 @@ class Token:
 @dataclasses.dataclass
 class Variable:
     """A declaration. `size` is the number of cells of a table, and None of another variable; `words` are the attributes without a number, `numbered`
-    those with one, each with the place of its word, and `numbers` the number of each, the last where one stands twice."""
+    those with one, each with the place of its word, and `numbers` the number of each, the last where one stands twice. `told` and `type` are the text
+    and the word that stand behind; of a constant `told` is its number."""
 
     name: str
     kind: str
@@ -87,6 +88,8 @@ class Variable:
     code: str | None
     place: str
     numbers: dict
+    told: str = ""
+    type: str | None = None
 
 
 @dataclasses.dataclass
@@ -97,6 +100,7 @@ class Rule:
     applications: list
     is_chained: bool
     place: str
+    number: str = ""
 
 
 def fetch(name, longest=FILE_BYTES):
@@ -245,7 +249,9 @@ class RuleFile:
                 named = True
             elif named and token.kind == "word":
                 applications.append((token.text, self.place(token.byte)))
-        self.rules.append(Rule(begin.text, applications, self.text(end) == "enchaineur" and self.text(end + 1) == ":", self.place(begin.byte)))
+        number = next((token.text for token in self.tokens[at:end] if token.kind == "number" or token.text == ":"), "")
+        is_chained = self.text(end) == "enchaineur" and self.text(end + 1) == ":"
+        self.rules.append(Rule(begin.text, applications, is_chained, self.place(begin.byte), number if number.isdigit() else ""))
         return end
 
     def read_declaration(self, at):
@@ -270,7 +276,11 @@ class RuleFile:
             else:
                 words.append(self.text(at))
                 at += 1
-        self.variables.append(Variable(name.text, kind, size, words, numbered, code, self.place(name.byte), numbers))
+        told = self.text(at + 1)[1:-1] if self.text(at) == ":" and at + 1 < len(self.tokens) and self.tokens[at + 1].kind == "text" else ""
+        what = self.text(at + 3) if self.text(at + 2) == "type" else None
+        if kind == "const":
+            told = "".join(self.text(k) for k in range(at + 1, end - 1))
+        self.variables.append(Variable(name.text, kind, size, words, numbered, code, self.place(name.byte), numbers, told, what))
         return end
 
 

@@ -11,11 +11,11 @@ printf 'Foyer;1AJ\r\nDupr\351;1\240000,25\r\n' | "$in" -
 # LibreOffice: commas between fields, decimal commas in quotes; points; tabs and UTF-16; a line that names the sign.
 printf 'name,1AJ,1BJ\nd,"1,5",2\n' | "$in" -
 printf 'name,1AJ\nd,1.5\n' | "$in" -
-printf '\377\376N\0\t\0001\0A\0J\0\r\0\n\0\351\0\t\0001\0,\0005\0\r\0\n\0' | "$in" -
+printf '\377\376n\0\t\0001\0A\0J\0\r\0\n\0\351\0\t\0001\0,\0005\0\r\0\n\0' | "$in" -
 printf 'sep=;\r\nn;1AJ\r\nd;2\r\n' | "$in" -
 # Households.
 printf '\357\273\277Code;Montant\r\n1AJ;1 000,5\r\n1BJ;\r\n\r\n1CJ;-3\r\n' | "$in" -
-printf 'Code;1AJ\r\n75;3\r\n' | "$in" --table -
+printf 'Code;1AJ\r\n75;3\r\n' | "$in" --table --labels Code -
 printf 'case;montant;\r\n1AJ;3;\r\n' | "$in" --household -
 printf '1AJ;5\n1BJ;6\n' | "$in" --household -
 echo "status $?"

@@ -77,7 +77,7 @@ xlsx("brackets.xlsx", [GOOD], form="[" * 200000)
 open("cut.xlsx", "wb").write(open("good.xlsx", "rb").read()[:400])
 open("old.xls", "wb").write(b"\xd0\xcf\x11\xe0\xa1\xb1\x1a\xe1" + bytes(100))
 xlsx("hours.xlsx", [HEADS + "<row r='2'><c r='A2'><v>1</v></c><c r='B2' s='1'><v>1.5</v></c></row>"], form="[hh]")
-xlsx("colour.xlsx", [HEADS + "<row r='2'><c r='A2'><v>1</v></c><c r='B2' s='1'><v>1.5</v></c></row>"], form="[Red]0.00")
+xlsx("colour.xlsx", [HEADS + "<row r='2'><c r='A2' t='str'><v>d</v></c><c r='B2' s='1'><v>1.5</v></c></row>"], form="[Red]0.00")
 # Numbers that no spreadsheet writes: of a text, of a column, of a format, of a value, of rows and cells.
 odd = {"shared": "<c r='A2' t='s'><v>-1</v></c>", "column": "<c r='a2'><v>1</v></c>", "style": "<c r='A2' s='-1'><v>1</v></c>",
        "digits": "<c r='A2'><v>1</v></c><c r='B2'><v>1_0</v></c>"}

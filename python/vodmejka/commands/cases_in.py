@@ -5,6 +5,7 @@
                                               of a spreadsheet, .xlsx or .ods: a sheet of households as tools/table-in reads it, and a sheet of the same
                                               households with what is expected, below the names of variables
     --only NAME                               the values of this name alone; may be given several times
+    --labels HEAD                             as of tools/table-in: the labels of the sheet of households stand below this head, though they look like amounts
 
 Of ANSWERS each value is expected as it was printed: an amount, `undefined` or `over`; of a household whose run stopped each value is `stop`. Of a sheet an
 empty field expects nothing. Both parts must have the same households in the same order. Nothing is printed where a part is refused. The status is 0, 1 where
@@ -65,9 +66,12 @@ def expected_of_answers(content, name):
 
 def expected_of_sheet(content, path, sheet):
     """The same of a sheet of a file: labels in the first column, names of variables as heads."""
-    rows = sheets.rows_of_sheet(content, sheet)
-    if rows is None:
+    read = sheets.sheet_of(content, sheet)
+    if read is None:
         raise Refused(f"{path} is no spreadsheet")
+    rows = read.rows
+    if read.hidden.told():
+        source.say(f"{path}: hidden, and read as what is shown: {read.hidden.told()}")
     if not rows:
         raise Refused(f"{sheet}: the sheet is empty")
     names = [head.strip().removeprefix("=") for head in rows[0][1][1:]]
@@ -78,7 +82,7 @@ def expected_of_sheet(content, path, sheet):
             raise Refused(f"{sheet}: the head {name or 'of a column'} is no name of a variable")
     found = []
     for number, fields in rows[1:]:
-        fields = [field.strip() for field in fields]
+        fields = [sheets.label_of(fields[0], f"{sheet} row {number}").strip(), *(field.strip() for field in fields[1:])]
         values = (fields[1:] + [""] * len(names))[: len(names)]
         for name, value in zip(names, values):
             if not EXPECTED.fullmatch(value):
@@ -89,11 +93,15 @@ def expected_of_sheet(content, path, sheet):
     return names, found
 
 
-def table_of_sheet(content, path, sheet):
+def table_of_sheet(content, path, sheet, labels):
     """The records of a sheet of households, as tools/table-in writes them."""
-    done = subprocess.run([*started("table-in"), "--table", "--sheet", sheet, "-"], input=content, capture_output=True, check=False)
+    words = ["--table", "--sheet", sheet, *(["--labels", labels] if labels is not None else []), "-"]
+    done = subprocess.run([*started("table-in"), *words], input=content, capture_output=True, check=False)
+    told = text_of(done.stderr).strip()
     if done.returncode != 0:
-        raise Refused(path + text_of(done.stderr).strip().removeprefix("table-in: -"))
+        raise Refused(path + told.split("\n")[-1].removeprefix("table-in: -"))
+    if told:
+        source.say(path + told.removeprefix("table-in: -"))
     return table_of(text_of(done.stdout), sheet)
 
 
@@ -117,7 +125,7 @@ def joined(table, names, expected, only):
 
 def read_words(words):
     """The options and the files; None where the words are wrong."""
-    options, files = {"--only": [], "--book": None, "--households": None, "--expected": None}, []
+    options, files = {"--only": [], "--book": None, "--households": None, "--expected": None, "--labels": None}, []
     while words:
         word = words.pop(0)
         if word in options and words:
@@ -152,7 +160,7 @@ def main(words):
             table = table_of(text_of(contents[0].removeprefix(source.MARK)), files[0])
             names, expected = expected_of_answers(contents[1], files[1])
         else:
-            table = table_of_sheet(contents[0], options["--book"], options["--households"])
+            table = table_of_sheet(contents[0], options["--book"], options["--households"], options["--labels"])
             names, expected = expected_of_sheet(contents[0], options["--book"], options["--expected"])
         rows = joined(table, names, expected, options["--only"])
     except (Refused, csv.Error) as fault:

@@ -14,7 +14,8 @@ stands the token at which it can't go on, and what could stand there.
     --places      prints FILE:LINE:COLUMN: error: WHAT in place of all this, for editors; columns count bytes from 1
 
 The status is the program's where it is run, 128 and the number of the signal where one ended it, and 3 where it can't be started.
-Of the standard input, and of --all alone, it is 1 where something was rejected, 0 where nothing was, and 3 where a file can't be read.
+Of the standard input it is 1 where something was rejected and 0 where nothing was. Of --all alone it is 1 where there is a fault, and 5 where none was found,
+which doesn't say that there is none: what isn't looked at is said on standard error. It is 3 where a file can't be read.
 The program is ./m_tax of this repository, or the one that M_TAX names.
 """
 import contextlib
@@ -24,11 +25,13 @@ import subprocess
 import sys
 
 from .. import drivers, faults, items, runs, source
+from ..hints import Hints
 from ..places import faulty_field, line_at, pointer, records, text_at
 from ..sentences import CODE, DRIVER, HOUSEHOLD, MARKED, OTHERS, RULES
 
 ROLES = ("list", "driver", "requests", "household")
 OTHER_ROLES = {"exec": ("code", "household"), "check": ("list", "household", "report")}
+NONE_FOUND = 5
 COMMANDS = ("run", "serve", "batch", "cases", "compile", "lint", "exec", "check", "large")
 
 
@@ -46,9 +49,15 @@ def could_stand(fault):
     return f"  Here stands {quoted(fault.found)}, and could stand {' or '.join([', '.join(wanted[:-1]), wanted[-1]] if len(wanted) > 1 else wanted)}{hint}"
 
 
+def joined(*sentences):
+    """Sentences one after the other; nothing where the first one is missing."""
+    return " ".join(filter(None, sentences)) if sentences[0] else None
+
+
 class Explainer:
     def __init__(self, files):
         self.files, self.told = files, set()
+        self.hints = Hints(files.get("list"), files.get("driver"))
 
     def content(self, name):
         try:
@@ -75,10 +84,12 @@ class Explainer:
         texts = {}
         place, lines = self.rule_place(name, number, byte, texts)
         if place is None or what not in ("syntax", "bad byte"):
-            return place, lines, RULES.get(fault)
+            return place, lines, joined(RULES.get(fault), self.hints.more(what, name, byte))
         content = texts[name].content
         if what == "bad byte":
-            return place, lines, MARKED if byte == 0 and content.startswith(source.MARK) else RULES[fault]
+            bad = next((other for other in items.tokens_of(content)[1] if other.byte == byte and other.hint), None)
+            marked = byte == 0 and content.startswith(source.MARK)
+            return place, lines, MARKED if marked else could_stand(bad).strip() if bad else RULES[fault]
         farthest = next((other for other in items.read(content)[1] if other.byte >= byte and other.what == "syntax"), None)
         if farthest is None:
             return place, lines, RULES[fault]
@@ -102,7 +113,7 @@ class Explainer:
         place, lines = self.line_place("driver", number, texts)
         self.told.add((self.files.get("driver"), number))
         if place is None or what not in ("syntax", "bad token"):
-            return place, lines, DRIVER.get(fault)
+            return place, lines, joined(DRIVER.get(fault), self.hints.more(what) if fault != "bad target" else "")
         farthest = next((other for other in drivers.Driver(texts[place[0]].content).faults if other.line >= number and other.what == what), None)
         if farthest is None:
             return place, lines, DRIVER[fault]
@@ -147,7 +158,11 @@ class Explainer:
             return self.driver_fault(int(match[1]), match[2])
         match = re.fullmatch(r"refused household line ([1-9][0-9]{0,14}): (.*)", line)
         if match and match[2] in HOUSEHOLD:
-            return (*self.record_place(int(match[1]), match[2]), HOUSEHOLD[match[2]])
+            return (*self.record_place(int(match[1]), match[2]), joined(HOUSEHOLD[match[2]], self.code_meant(int(match[1]), match[2])))
+        match = re.fullmatch(r"refused cycle (.*)", line)
+        if match:
+            places = self.hints.cycle(match[1].split(" "))
+            return None, [f"  {places}"] if places else [], self.other(line)
         match = re.fullmatch(r"refused (list|requests) line ([1-9][0-9]{0,14})", line)
         if match:
             return self.list_fault(match[1], int(match[2]))
@@ -161,6 +176,15 @@ class Explainer:
         if match:
             return (*self.line_place("driver", int(match[1])), "The condition passes 10000000000000: look for an amount that is too great.")
         return None, [], self.other(line)
+
+    def code_meant(self, number, what):
+        """The code that was meant in a record of the household."""
+        found = records(self.content(self.files.get("household")))
+        if what != "unknown code" or number > len(found) or "list" not in self.files:
+            return ""
+        fields = found[number - 1][1]
+        words = [field.strip(b'"').decode("latin-1") for _, field in (fields[:1] if len(fields) == 2 else fields[1:])]
+        return next(filter(None, map(self.hints.code_meant, words)), "") if len(fields) == 2 else ""
 
     def other(self, line):
         """What to mend, of a line that names no place in rules, a driver or a household."""
@@ -211,6 +235,8 @@ def explain_all(explainer, places, names):
         mend = next((sentence for name, sentence in sentences.items() if fault.what == name or fault.what.startswith(name + " ")), "")
         if fault.fault is not None:
             mend = could_stand(fault.fault).strip()
+        elif not (is_driver and fault.what.startswith("bad target")):
+            mend = joined(mend, explainer.hints.more(fault.what, fault.name, fault.byte)) or ""
         if is_driver:
             place = (fault.name, fault.line, (fault.byte or 0) + 1)
             lines = pointer(line_at(fault.name, fault.line, texts) or b"", fault.line, fault.byte)
@@ -222,7 +248,17 @@ def explain_all(explainer, places, names):
             print(f"{file}:{line}:{column}: error: {fault.what}")
         else:
             print("\n".join([f"fault {fault.name} {at}: {fault.what}", *lines, "  " + mend]))
-    return bool(found)
+    return found
+
+
+def explain_files(explainer, places):
+    """All faults of a list and a driver. The status is 1 where there is one, and 5 where none was found, which isn't that there is none."""
+    found = explain_all(explainer, places, [])
+    sys.stdout.flush()
+    if any(fault.what in faults.UNREADABLE for fault in found):
+        source.say("not looked at, since items can't be read: declarations, names, and the driver beyond its lines")
+    source.say("not looked at, m_tax compile tells these: ranges and sizes of loops, cycles, numbers of cells and parts, costs, requests")
+    return 1 if found else NONE_FOUND
 
 
 def read_words(words):
@@ -260,7 +296,7 @@ def main(words):
             print("explain: words: explain --all LIST [DRIVER]; see --help", file=sys.stderr)
             return 2
         try:
-            return 1 if explain_all(Explainer({**dict(zip(("list", "driver"), words)), **files}), places, []) else 0
+            return explain_files(Explainer({**dict(zip(("list", "driver"), words)), **files}), places)
         except source.Refused as fault:
             print(f"explain: {fault}", file=sys.stderr)
             return 3

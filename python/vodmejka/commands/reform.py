@@ -1,11 +1,13 @@
 """Tells what a change of rules does to the households of a table: who gains, who loses, how much.
 
-    reform BEFORE AFTER DRIVER REQUESTS TABLE --of NAME [--weight COLUMN] [--by COLUMN] [--step CODE=AMOUNT] [--more-is-gain] --into FOLDER
+    reform BEFORE AFTER DRIVER REQUESTS TABLE --of NAME [--weight COLUMN] [--by COLUMN] [--step CODE=AMOUNT]
+           [--less-is-gain | --more-is-gain] --into FOLDER
 
 BEFORE and AFTER are lists of rule files (tools/variant makes one of the other), DRIVER and REQUESTS as the program takes them, and TABLE a table of
 households of any length, which may have two columns that are no codes: a weight for each household, and what they are ordered by. NAME is one of the
 requests. --by takes a column of the table, or a request, whose value before the change counts. --step computes each household once
-more with so much more of one code, for marginal rates. Less of NAME is a gain, as of a tax; with --more-is-gain more of it is.
+more with so much more of one code, for marginal rates. --less-is-gain says that less of NAME is a gain, as of a tax,
+and --more-is-gain that more of it is, as of a benefit. Without either less of it is taken for a gain, and the page, summary.csv and the last line say so.
 
 FOLDER, which must not be there, gets
     households.csv   name, weight, by, before, after, difference, and with --step marginal before and marginal after; a row for each household
@@ -235,15 +237,15 @@ class Group:
         else:
             self.unchanged += weight
 
-    def line(self, name):
+    def line(self, name, sign):
         computed_weight = self.weight - self.stopped_weight
         mean = Fraction(self.after - self.before, computed_weight) if computed_weight else Fraction(0)
         sums = [plain(Fraction(sum_, UNIT)) for sum_ in (self.before, self.after, self.after - self.before)]
         weights = [plain(weight) for weight in (self.winners, self.losers, self.unchanged, self.stopped_weight)]
-        return [name, self.households, plain(self.weight), *sums, plain(mean), *weights]
+        return [name, self.households, plain(self.weight), *sums, plain(mean), *weights, "less" if sign > 0 else "more"]
 
 
-SUMMARY = ["group", "households", "weight", "before", "after", "difference", "mean difference", "winners", "losers", "unchanged", "stopped"]
+SUMMARY = ["group", "households", "weight", "before", "after", "difference", "mean difference", "winners", "losers", "unchanged", "stopped", "a gain is"]
 
 
 def groups(rows, sign, has_order):
@@ -270,7 +272,7 @@ def write_folder(words, rows, found, step, sign):
     parent = os.path.dirname(os.path.abspath(words.into))
     room = tempfile.mkdtemp(prefix=".reform-", dir=parent)
     try:
-        for name, lines in (("households.csv", told_rows(rows, step)), ("summary.csv", [SUMMARY, *(group.line(name) for name, group in found)])):
+        for name, lines in (("households.csv", told_rows(rows, step)), ("summary.csv", [SUMMARY, *(group.line(name, sign) for name, group in found)])):
             with open(os.path.join(room, name), "w", encoding="latin-1", newline="") as out:
                 csv.writer(out, lineterminator="\n").writerows(lines)
         with open(os.path.join(room, "report.html"), "w", encoding="utf-8", errors="replace") as out:
@@ -343,7 +345,9 @@ def main(words):
     for name in ("--weight", "--by"):
         reader.add_argument(name, metavar="COLUMN")
     reader.add_argument("--step", metavar="CODE=AMOUNT")
-    reader.add_argument("--more-is-gain", action="store_true")
+    signs = reader.add_mutually_exclusive_group()
+    signs.add_argument("--less-is-gain", action="store_true")
+    signs.add_argument("--more-is-gain", action="store_true")
     words = reader.parse_args(words)
     try:
         whole = work(words)
@@ -359,4 +363,6 @@ def main(words):
     print(f"{whole.households} households, {whole.stopped} stopped; {words.of}: {plain(Fraction(whole.before, UNIT))} before, "
           f"{plain(Fraction(whole.after, UNIT))} after")
     print(f"winners {plain(whole.winners)}, losers {plain(whole.losers)}, unchanged {plain(whole.unchanged)}; see {words.into}/report.html")
+    if not words.more_is_gain and not words.less_is_gain:
+        print(f"less of {words.of} is taken for a gain, since neither --less-is-gain nor --more-is-gain is given")
     return 0

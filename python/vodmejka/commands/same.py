@@ -1,10 +1,12 @@
 """Says whether two rule bases give every household the same answer.
 
     same LIST1 DRIVER1 LIST2 DRIVER2 REQUESTS [--tries COUNT] [--seed SEED]
+    same --code CODE1 LIST2 DRIVER2 REQUESTS      `--code FILE` in the place of a list and a driver: a code file, which has its requests in it
+    same --code CODE1 --code CODE2
 
 Both are compiled. Where the two code files have the same bytes it prints `same`, and then the answers are the same for all households: a code file is what
-gives the answers. Else it looks for a household in which they differ, among COUNT (20,000) made-up ones whose amounts are near the numbers that the rules
-have, makes it small, and prints it as a household's file with both answers; or it says that it found none, which proves nothing.
+gives the answers. Else it looks for a household in which they differ, among COUNT made-up ones (20,000, and 500 where a side is a code file, which computes
+one household at a time) whose amounts are near the numbers that the rules have, makes it small, and prints it as a household's file with both answers; or it says that it found none, which proves nothing.
 
 List, rule files, drivers and requests are read once, so that rules that are edited meanwhile have no part in it. `-` is a driver or requests that there are
 none of.
@@ -25,6 +27,7 @@ from .. import runs, source
 from ..limits import AMOUNT
 
 AT_ONCE = 2_000
+TRIES, TRIES_OF_CODE = 20_000, 500
 BYTES = 8_000_000
 LINE = re.compile(rb"household r([0-9]+)\n")
 
@@ -37,6 +40,27 @@ class Wrong(Exception):
         self.status = status
 
 
+class Compiled:
+    """A side that is a code file, read once."""
+
+    def __init__(self, path, room):
+        self.code, self.room = source.fetch(path, 1 << 30), room
+        self.path = os.path.join(room, "code")
+        source.put(self.path, self.code)
+
+    def answers(self, households):
+        """What `exec` prints for each household."""
+        found = []
+        for household in households:
+            path = os.path.join(self.room, "household.csv")
+            source.put(path, "\n".join(["code,amount", *(f"{code},{amount}" for code, amount in household.items()), ""]).encode("latin-1"))
+            text, status = runs.printed("exec", self.path, path)
+            if status not in (0, 6):
+                raise Wrong(runs.fault_of(text, status), 3 if status == 3 else 6)
+            found.append(text)
+        return found
+
+
 def said(origin, name, command, *more):
     """What the program prints to a command over a source, whose list has this name."""
     out = io.BytesIO()
@@ -47,7 +71,13 @@ def said(origin, name, command, *more):
 
 
 def compiled(origin, name):
-    """The code file of a source."""
+    """The code file of a source. One that was compiled already is taken once the program has read it."""
+    if isinstance(origin, Compiled):
+        try:
+            origin.answers([{}])
+        except Wrong as wrong:
+            raise Wrong(f"{name}: {wrong}", wrong.status) from wrong
+        return origin.code
     code = said(origin, name, "compile")
     if not code.endswith(b"\nend\n"):
         raise Wrong(f"{name}: the program prints no whole code file")
@@ -102,6 +132,8 @@ def tables_of(households):
 
 def answers(origin, name, households, room):
     """The answers of a source to the households."""
+    if isinstance(origin, Compiled):
+        return origin.answers(households)
     path, found = os.path.join(room, "table.csv"), []
     for table, count in tables_of(households):
         source.put(path, table)
@@ -135,24 +167,37 @@ def smaller(sources, found, room):
 
 
 def words_of(words):
-    """The five words, how many tries, and the seed."""
-    said, options = [], {"--tries": 20_000, "--seed": 1}
+    """The two sides, each a list with its driver or a code file alone, the requests if there are any, how many tries, and the seed."""
+    said, options = [], {"--tries": None, "--seed": 1}
     while words:
         word = words.pop(0)
+        if word == "--code" and words and len(said) < 4:
+            said += [words.pop(0), None]
+            continue
         if word in options and words and re.fullmatch("[0-9]{1,7}", words[0]):
             options[word] = int(words.pop(0))
         elif word.startswith("--"):
             return None
         else:
             said.append(word)
-    if len(said) != 5:
+    codes = [said[at] for at in (0, 2) if said[at + 1 : at + 2] == [None]]
+    if len(said) != (4 if len(codes) == 2 else 5):
         return None
-    return said, options["--tries"], options["--seed"]
+    tries = options["--tries"] if options["--tries"] is not None else TRIES_OF_CODE if codes else TRIES
+    return [*said, *([None] if len(codes) == 2 else [])], tries, options["--seed"]
+
+
+def sides_of(words, room):
+    """The two sides, each with its name."""
+    names, folder = words[0:4:2], lambda: tempfile.mkdtemp(dir=room)
+    if None not in words:
+        return list(zip(runs.two_sources(names, words[1:4:2], words[4], room), names))
+    return [(Compiled(name, folder()) if driver is None else runs.Source([name, driver, words[4]], folder()), name) for name, driver in zip(names, words[1:4:2])]
 
 
 def compare(words, tries, seed, room):
     """Prints what there is to say, and answers the status."""
-    sources = list(zip(runs.two_sources(words[0:4:2], words[1:4:2], words[4], room), words[0:4:2]))
+    sources = sides_of(words, room)
     one, other = (compiled(*origin) for origin in sources)
     if one == other:
         print("same")
@@ -184,7 +229,7 @@ def main(words):
         return 0
     words = words_of(words)
     if words is None:
-        print("same: words: same LIST1 DRIVER1 LIST2 DRIVER2 REQUESTS [--tries COUNT] [--seed SEED]; see --help", file=sys.stderr)
+        print("same: words: same LIST1 DRIVER1 LIST2 DRIVER2 REQUESTS [--tries COUNT] [--seed SEED]; --code FILE for a list and a driver; see --help", file=sys.stderr)
         return 2
     try:
         with tempfile.TemporaryDirectory() as room:

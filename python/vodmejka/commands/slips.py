@@ -15,10 +15,18 @@ A line for each slip, with its place:
     slip LIST: variables or cells that are read and never set: N; m_tax lint ..
                                                     computed ones without a formula that counts. `lint` names them, and what else is true for all households
     slip FILE line L byte B: no input has K         a kind of a driver that is empty, as avfisk = 1
+    slip FILE line L byte B: the type T ..          none of the types of the language: it says nothing
+    slip FILE line L byte B: the attribute W ..     nearly restituee: it returns nothing
+    slip FILE line L byte B: the rule N stands twice, also a verification
+    slip FILE line L byte B: the letter i is bound again within its own loop
+    slip FILE line L byte B: the condition holds for every household, so E always stops
+    slip FILE line L byte B: V is returned, and nothing sets it, or the driver never receives it
+    slip constants that nothing reads: N, ..        also computed variables that nothing reads or returns, and errors that no verification has
     slip FILE line 1 byte 0: a byte order mark      refused in rules, lists, drivers and requests; a household may have one
     slip FILE line 1 byte B: a carriage return ..   alone it ends no line: a comment goes on after it
 
-Give all lists of a rule base at once, so that an application that another list has is no slip, and the driver, so that what it sets is none. A chained
+Give all lists of a rule base at once, so that an application that another list has is no slip, and the driver, so that what it sets is none; `-` is no
+driver. A chained
 rule counts as no rule. The status is 0 where there is no slip, 1 where there is one, 2 for wrong words, and 3 where a file can't be read or has a fault
 that the program refuses; tools/explain says more of it.
 """
@@ -26,8 +34,9 @@ import decimal
 import os
 import re
 import sys
+from fractions import Fraction
 
-from .. import drivers, items, source
+from .. import drivers, items, slips_of_use, source
 from ..limits import AMOUNT
 from ..loops import instances, reads_of, replaced, whole
 from ..source import Refused
@@ -83,9 +92,10 @@ class Base:
     def __init__(self, list_name):
         self.source, self.list_name = source.RuleBase(list_name), list_name
         self.sizes = {variable.name: variable.size for variable in self.source.variables}
-        self.set, self.read, self.past = set(), set(), []
+        self.set, self.read, self.past, self.readers = set(), set(), [], []
         for file in self.source.files:
             reader, faults = items.read(file.bytes.removeprefix(source.MARK))
+            self.readers.append((file, reader))
             if faults:
                 raise Refused(f"{file.place(faults[0].byte)}: {faults[0].what}; tools/explain --all says more")
             self.shift = len(source.MARK) if file.bytes.startswith(source.MARK) else 0
@@ -194,8 +204,35 @@ def slips(lists, names):
     yield from slips_of_files(bases)
     for base in bases:
         yield from slips_of_names(base, set_by_driver, names[0] if len(names) == 1 else "-")
+    yield from slips_of_uses(bases, named_drivers)
     for name, driver in named_drivers.items():
         yield from slips_of_driver(name, driver, bases)
+
+
+def slips_of_uses(bases, named_drivers):
+    """What is declared and not used, or used otherwise than was meant."""
+    files = {file.name: file for base in bases for file in base.source.files}.values()
+    readers = {file.name: (file, reader) for base in bases for file, reader in base.readers}.values()
+    applications = {base.source.application for base in bases}
+    yield from slips_of_use.slips_of_words(files)
+    yield from slips_of_use.slips_of_numbers(files, applications)
+    for file, reader in readers:
+        yield from slips_of_use.slips_of_letters(file, reader)
+    constants = {variable.name: Fraction(variable.told) for file in files for variable in file.variables if variable.kind == "const" and variable.told}
+    kinds = {name: kind for _, reader in readers for name, kind in reader.kinds_of_errors.items()}
+    for application in sorted(applications):
+        for file, reader in readers:
+            yield from slips_of_use.slips_of_checks(file, reader, application, constants, kinds)
+    for file, reader in readers:
+        file.errors = reader.errors
+    read = {name for base in bases for name, _ in base.read}
+    used = {check.error for _, reader in readers for check in reader.checks}
+    received = {name for driver in named_drivers.values() for _, said in driver.said if said and said[0] in ("call", "set")
+                for name, _ in (said[1] if said[0] == "call" else [said[1]])}
+    in_drivers = {name for driver in named_drivers.values() for name, _, _ in driver.cells}
+    yield from slips_of_use.slips_of_idle(files, read, used, in_drivers)
+    done = {cell for base in bases for cell in base.set} | {cell for driver in named_drivers.values() for cell in driver.set}
+    yield from slips_of_use.slips_of_outputs(files, done, next(iter(named_drivers), None), received)
 
 
 def slips_of_files(bases):
@@ -225,7 +262,7 @@ def main(words):
     while words:
         word = words.pop(0)
         if word == "--driver" and words:
-            named_drivers.append(words.pop(0))
+            named_drivers += [name for name in [words.pop(0)] if name != "-"]
         elif word.startswith("--"):
             lists = []
             break

@@ -1,20 +1,21 @@
 """Turns the output of `batch` into a csv table: a row for each household, a column for each request.
 
-    m_tax batch LIST DRIVER REQUESTS TABLE | table-out [--french] [--bare] [--requests REQUESTS | --list LIST] > FILE
+    m_tax batch LIST DRIVER REQUESTS TABLE | table-out --of TABLE [--french] [--bare] [--requests REQUESTS | --list LIST] > FILE
 
 The columns are `name`, the requests in their order, `undefined` and `over` (the requests that are so, with a blank between; their fields
 are empty), `notes` (the verifications that were noted, as `2000 A20`, with `; ` between), `stop` (the line of the verification or condition that stopped
 the run; all other fields are empty) and `text` (the error's text). All is UTF-8; labels and texts that aren't are taken as Latin-1.
 
+    --of TABLE           looks that the output has the households of the table, each once and in their order: else one that was cut off between two households
+                         can't be told from a whole one
     --french             for French Excel and LibreOffice: `;` between fields, decimal commas, carriage returns, and a byte order mark
     --bare               leaves labels and texts as they are, for programs; else one that begins with = + - @ has a ' before it, since spreadsheets
                          take it as a formula
     --requests FILE      the columns are those of this request file; --list LIST: the returned variables of this list. The first answer tells them
                          too, so this is for outputs in which all households stopped
 
-The status is 0; 1 where the input is no whole output of `batch`, as an error line, one that was cut off or one without households; 2 for wrong words; 3
-where a file can't be read; 4 where the output was closed. Where it isn't 0 don't use what was printed. An output whose status was 4 or 5 may end
-between two households: look at the status of batch, too.
+The status is 0; 1 where the input is no whole output of `batch`, as an error line, one that was cut off, one without households or one of another table; 2
+for wrong words; 3 where a file can't be read; 4 where the output was closed. Where it isn't 0 don't use what was printed.
 """
 import itertools
 import re
@@ -23,6 +24,7 @@ import sys
 from .. import records, source
 from ..records import Strange
 
+BYTES = 16_777_216  # the longest record of a table
 
 def rows(found, french, names, guarded):
     """The fields of each household. Where the names aren't given the first answer has them, and what stops before it waits for them."""
@@ -54,6 +56,33 @@ def rows(found, french, names, guarded):
         raise Strange("no households")
 
 
+def labels_of(path):
+    """The labels of a table, one after the other."""
+    try:
+        with open(path, "rb") as file:
+            yield from itertools.islice((label for _, label in records.records(file, BYTES)), 1, None)
+    except OSError as fault:
+        raise source.Refused(f"unreadable {path}") from fault
+    except Strange as fault:
+        raise Strange(f"{path}: {fault}") from fault
+
+
+def held_to(found, path):
+    """The answers, which are those of the households of a table, in their order."""
+    labels, shown = labels_of(path), lambda label: label.decode("utf-8", "replace")
+    number = 0
+    for number, answer in enumerate(found, 1):
+        wanted = next(labels, None)
+        if wanted is None:
+            raise Strange(f"{path} has {number - 1} households, and the output goes on with {shown(answer[0])}")
+        if answer[0] != wanted:
+            raise Strange(f"the household {number} of {path} is {shown(wanted)}, and the output has {shown(answer[0])} there")
+        yield answer
+    wanted = next(labels, None)
+    if wanted is not None:
+        raise Strange(f"the output is cut off: it has {number} households, and {path} goes on with {shown(wanted)}")
+
+
 def unlike_a_formula(text):
     """A text with a sign before it that keeps a spreadsheet from computing it."""
     return b"'" + text if text[:1] in (b"=", b"+", b"-", b"@", b"\t", b"\r") else text
@@ -61,11 +90,12 @@ def unlike_a_formula(text):
 
 def names_of(words):
     """The columns that the words tell, if any."""
-    option, name = words
-    if option == "--requests":
-        return [line for line in re.split(rb"\r?\n", source.fetch(name)) if line]
+    if "--requests" in words:
+        return [line for line in re.split(rb"\r?\n", source.fetch(words["--requests"])) if line]
+    if "--list" not in words:
+        return None
     cells = []
-    for variable in source.RuleBase(name).variables:
+    for variable in source.RuleBase(words["--list"]).variables:
         if "restituee" in variable.words:
             cells += [variable.name] if variable.size is None else [f"{variable.name}[{k}]" for k in range(variable.size)]
     return [cell.encode("latin-1") for cell in cells]
@@ -83,36 +113,39 @@ def quoted(field, delimiter):
     return field
 
 
+def read_words(words):
+    """The options, each with its file; None where the words are wrong."""
+    options = {}
+    while words:
+        word = words.pop(0)
+        if word in options or word not in ("--french", "--bare") and (word not in ("--of", "--requests", "--list") or not words):
+            return None
+        options[word] = True if word in ("--french", "--bare") else words.pop(0)
+    return None if {"--requests", "--list"} <= set(options) else options
+
+
 def main(words):
-    options = set()
     if "--help" in words:
         print(__doc__, end="")
         return 0
-    while words and words[0] in ("--french", "--bare"):
-        options.add(words.pop(0))
-    if words and (len(words) != 2 or words[0] not in ("--requests", "--list")):
-        print("table-out: words: table-out [--french] [--bare] [--requests REQUESTS | --list LIST]; see --help", file=sys.stderr)
+    options = read_words(words)
+    if options is None:
+        print("table-out: words: table-out [--of TABLE] [--french] [--bare] [--requests REQUESTS | --list LIST]; see --help", file=sys.stderr)
         return 2
-    french = "--french" in options
+    french, out = "--french" in options, sys.stdout.buffer
     delimiter, end = (b";", b"\r\n") if french else (b",", b"\n")
-    out = sys.stdout.buffer
-    try:
-        names = names_of(words) if words else None
-    except source.Refused as fault:
-        print(f"table-out: {fault}", file=sys.stderr)
-        return 3
     guarded = (lambda text: text) if "--bare" in options else unlike_a_formula
     try:
-        for number, fields in enumerate(rows(records.answers(iter(source.standard_input()), names), french, names, guarded)):
+        names = names_of(options)
+        found = records.answers(iter(source.standard_input()), names)
+        if "--of" in options:
+            found = held_to(found, options["--of"])
+        for number, fields in enumerate(rows(found, french, names, guarded)):
             if number == 0 and french:
                 out.write(b"\xef\xbb\xbf")
             out.write(delimiter.join([quoted(field, delimiter) for field in fields]) + end)
-    except Strange as fault:
+    except (Strange, source.Refused) as fault:
         out.flush()
         print(f"table-out: {fault}", file=sys.stderr)
-        return 1
-    except source.Refused as fault:
-        out.flush()
-        print(f"table-out: {fault}", file=sys.stderr)
-        return 3
+        return 1 if isinstance(fault, Strange) else 3
     return 0

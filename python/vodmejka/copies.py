@@ -1,0 +1,94 @@
+"""Rules, a household and a driver that are read once and copied into a folder: the program computes the copies, whatever happens to the files meanwhile."""
+from __future__ import annotations
+
+import contextlib
+import os
+import re
+import subprocess
+import tempfile
+
+from . import runs, source
+from .reasons import Rules
+
+
+class Wrong(Exception):
+    """What ends a tool, with its status."""
+
+    def __init__(self, text: str, status: int = 1):
+        super().__init__(text)
+        self.status = status
+
+
+class Stopped(Exception):
+    """A run that a verification or a condition of the driver stops: its line, and the text of the error."""
+
+    def __init__(self, line: str, text: str):
+        super().__init__(f"{line}: {text}" if text else line)
+        self.line, self.text = line, text
+
+
+class Copies:
+    """The copies. `household` and `driver` are bytes; without a driver the rules are called once."""
+
+    def __init__(self, rules: Rules, household: bytes, room: str, driver: bytes | None = None):
+        self.room, self.names = room, {}
+        for number, (name, content) in enumerate(rules.contents, 1):
+            self.names[self.put(f"rules-{number:06}.m", content)] = name
+        self.list = self.put("rules.list", os.fsencode("\n".join([rules.application, *self.names, ""])))
+        self.household = self.put("household.csv", household)
+        self.driver = "-" if driver is None else self.put("driver.mpp", driver)
+
+    def put(self, name: str, content: bytes) -> str:
+        """Writes a file of the folder."""
+        path = os.path.join(self.room, name)
+        source.put(path, content)
+        return path
+
+    def told(self, line: str) -> str:
+        """A line of the program, with the names of the files as they are."""
+        return re.sub(re.escape(self.room) + r"/rules-[0-9]{6}\.m\b", lambda match: self.names.get(match[0], match[0]), line)
+
+    def ask(self, *words: str, given: bytes | None = None) -> tuple[bytes, int]:
+        """What the program prints to these words, and its status; `given` is its standard input."""
+        try:
+            with contextlib.ExitStack() as stack:
+                stdin = subprocess.DEVNULL if given is None else stack.enter_context(open(self.put("input", given), "rb"))
+                return runs.printed(*words, stdin=stdin)
+        except OSError as fault:
+            raise Wrong(f"{runs.program_path()}: {fault.strerror}", 3) from fault
+
+    def values(self, cells: list[str], driver: str | None = None, household: str | None = None) -> dict[str, str]:
+        """The values of cells after a run, as they are printed: `= 3`, `undefined` or `over`."""
+        requests = self.put("requests.txt", "".join(cell + "\n" for cell in cells).encode("utf-8", "surrogateescape"))
+        text, status = self.ask("run", self.list, driver or self.driver, requests, household or self.household)
+        lines = text.decode("latin-1").split("\n")
+        if status == 6:
+            raise Stopped(lines[0], text_of_error(lines))
+        if status != 0:
+            line = self.told(runs.fault_of(text, status))
+            raise Wrong(line.replace("refused requests line", "no variable of this name: refused requests line"), 3 if status == 3 else 1)
+        told = lines[:-1][-len(cells) :] if cells else []
+        if [line.split(" ")[0] for line in told] != cells:
+            raise Wrong("the program's answer isn't a line for each cell")
+        return dict(line.split(" ", 1) for line in told)
+
+    def value_unstopped(self, cell: str) -> str | None:
+        """The value that the rules give a cell in one call, also where a verification stops that call; nothing where no cell has the name."""
+        text, status = self.ask("serve", self.list, "-", "-", self.household, given=f"why {cell}\n".encode("utf-8", "surrogateescape"))
+        lines = text.decode("latin-1").split("\n")
+        if status != 0 or len(lines) < 3 or lines[-2] != "." or lines[-3].split(" ")[0] != cell:
+            return None
+        return lines[-3].split(" ", 1)[1]
+
+
+def text_of_error(lines: list[str]) -> str:
+    """The text of the error of a stopped run; a condition has none."""
+    return lines[1] if lines[0].startswith("failed") and len(lines) > 1 else ""
+
+
+@contextlib.contextmanager
+def copied(list_name: str, household: str, driver: str | None = None):
+    """The rules of a list, and copies of all."""
+    rules = Rules(list_name)
+    with tempfile.TemporaryDirectory(prefix="copies-") as room:
+        yield rules, Copies(rules, source.fetch(household), room, None if driver in (None, "-") else source.fetch(driver))

@@ -1,0 +1,134 @@
+"""Slips of what is declared and not used, or used and not what was meant: types, attributes, letters of loops, numbers of rules, constants, variables and
+errors, what is returned and never set or received, verifications that always stop."""
+from __future__ import annotations
+
+from fractions import Fraction
+
+from .hints import distance
+
+TYPES = ("BOOLEEN", "DATE", "DATE_AAAA", "DATE_JJMMAAAA", "DATE_MM", "ENTIER", "REEL")
+MOST_NAMED = 5
+
+
+def slips_of_words(files):
+    """Types that the language doesn't know, and attributes that are nearly `restituee`."""
+    for file in files:
+        for variable in file.variables:
+            if variable.type is not None and variable.type not in TYPES:
+                yield f"{variable.place}: the type {variable.type} of {variable.name} is none of {', '.join(TYPES)}, and says nothing"
+            for word in variable.words:
+                if word != "restituee" and distance(word, "restituee", 1) <= 1:
+                    yield f"{variable.place}: the attribute {word} of {variable.name} isn't restituee, and returns nothing"
+
+
+def slips_of_numbers(files, applications):
+    """Rules, and verifications, that have a number in common and an application that is given."""
+    first = {}
+    for file in files:
+        for rule in file.rules:
+            for application in dict(rule.applications):
+                key = (rule.kind, int(rule.number or 0), application)
+                if application in applications and rule.number and key in first:
+                    what = "rule" if rule.kind == "regle" else "verification"
+                    yield f"{rule.place}: the {what} {rule.number} stands twice; the first is {first[key]}"
+                    break
+                first.setdefault(key, rule.place)
+
+
+def bound_again(term, letters):
+    """A letter that a sum binds within a loop over the same letter, or nothing."""
+    stack = [(term, letters)]
+    while stack:
+        (kind, *parts), bound = stack.pop()
+        if kind == "sum":
+            own = {letter for letter, _ in parts[0]}
+            if own & bound:
+                return min(own & bound)
+            stack.append((parts[1], bound | own))
+        elif kind == "op":
+            stack += [(part, bound) for part in parts[1]]
+        elif kind == "read":
+            stack.append((parts[1], bound))
+    return None
+
+
+def slips_of_letters(file, reader):
+    """Letters of loops that are bound again within their own loop."""
+    for formula in reader.formulas:
+        letters, again = set(), None
+        for header in formula.loops:
+            own = {letter for letter, _ in header}
+            again = again or min(own & letters, default=None)
+            letters |= own
+        again = again or bound_again(formula.term, letters)
+        if again:
+            yield f"{file.place(formula.byte)}: the letter {again} is bound again within its own loop, and means the inner one there"
+    for check in reader.checks:
+        again = bound_again(check.condition, set())
+        if again:
+            yield f"{file.place(check.byte)}: the letter {again} is bound again within its own loop, and means the inner one there"
+
+
+# ---- verifications that always stop
+
+
+def of_numbers(sign, parts):
+    """The value of an operator over numbers, or None where this doesn't know it."""
+    one, other = parts[0], parts[-1]
+    compared = {"=": one == other, "!=": one != other, "<": one < other, "<=": one <= other, ">": one > other, ">=": one >= other,
+                "et": bool(one and other), "ou": bool(one or other), "non": not one, "positif": one > 0, "positif_ou_nul": one >= 0, "null": one == 0}
+    computed = {"+": one + other, "-": one - other, "*": one * other, "neg": -one, "abs": abs(one), "max": max(one, other), "min": min(one, other)}
+    return Fraction(compared[sign]) if sign in compared else computed.get(sign)
+
+
+def constant_value(term, constants):
+    """What a term is worth that is made of numbers and constants alone; None of another one."""
+    kind, *parts = term
+    if kind == "number":
+        return Fraction(parts[0])
+    if kind == "name":
+        return Fraction(parts[0]) if parts[0].isdigit() else constants.get(parts[0])
+    if kind != "op" or parts[0] not in ("=", "!=", "<", "<=", ">", ">=", "et", "ou", "non", "positif", "positif_ou_nul", "null", "+", "-", "*", "neg", "abs", "max", "min"):
+        return None
+    values = [constant_value(part, constants) for part in parts[1]]
+    return None if None in values else of_numbers(parts[0], values)
+
+
+def slips_of_checks(file, reader, application, constants, kinds):
+    """Verifications whose condition holds for every household."""
+    for check in reader.checks:
+        if application in check.applications and kinds.get(check.error) == "anomalie" and constant_value(check.condition, constants):
+            yield f"{file.place(check.byte)}: the condition holds for every household, so {check.error} always stops"
+
+
+# ---- what is declared and not used
+
+
+def named(places):
+    """Names with the place of the first, and how many there are."""
+    shown = [f"{name} ({place})" if k == 0 else name for k, (name, place) in enumerate(places[:MOST_NAMED])]
+    return ", ".join(shown) + (" .." if len(places) > MOST_NAMED else "")
+
+
+def slips_of_idle(files, read, used_errors, driver_names):
+    """Constants, computed variables and errors that nothing uses, a line for each kind. Inputs without effect are `lint`'s to tell."""
+    variables = {variable.name: variable for file in files for variable in file.variables}
+    constants = [(name, variable.place) for name, variable in variables.items() if variable.kind == "const" and name not in read | driver_names]
+    idle = [(name, variable.place) for name, variable in variables.items()
+            if variable.kind == "calculee" and name not in read | driver_names and "restituee" not in variable.words]
+    errors = [(name, file.place(byte)) for file in files for name, byte in file.errors if name not in used_errors]
+    for what, found in (("constants that nothing reads", constants), ("computed variables that nothing reads or returns", idle),
+                        ("errors that no verification has", errors)):
+        if found:
+            yield f"{what}: {len(found)}, {named(found)}"
+
+
+def slips_of_outputs(files, done, driver, received):
+    """Variables that are returned, and that nothing sets, or that the driver doesn't receive."""
+    for variable in (variable for file in files for variable in file.variables):
+        if "restituee" not in variable.words or variable.kind != "calculee":
+            continue
+        if variable.name not in {name for name, _ in done}:
+            yield f"{variable.place}: {variable.name} is returned, and nothing sets it"
+        elif driver is not None and variable.name not in received:
+            yield f"{variable.place}: {variable.name} is returned, and {driver} never receives or sets it, so it stays undefined"
