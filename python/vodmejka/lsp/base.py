@@ -197,4 +197,4 @@ def names_read(piece: Piece) -> set[str]:
     found: set[str] = set()
     for word, index, _, round_it in piece.reads:
         found.update(names_of(word, round_it))
-    return {name for name in found if not name.isdigit()}
+    return {name for name in found if not loops.is_number(name)}
