@@ -45,6 +45,10 @@ awk -F'|' '/^## /{in_table = /^## Limits/} in_table && $3 ~ /`[A-Z_]+`/{gsub(/[`
     sort >"$room/limits"
 same "the limits of m_places and those of FORMATS" "$room/constants" "$room/limits"
 
+# The same in the Python library.
+sed -n 's/^\([A-Z_]*\) = \([0-9_]*\)  # .*/\1 \2/p' python/vodmejka/limits.py | grep -v '^AMOUNT ' | sed 's/_\([0-9]\)/\1/g' | sort >"$room/library"
+same "the limits of m_places and those of the Python library" "$room/constants" "$room/library"
+
 # The usage line: one text wherever it stands.
 git grep -hoE 'usage: m_tax run[^"\\]*TABLE' -- README.md docs crates tests/started.sh | sort -u >"$room/usages"
 head -n 1 "$room/usages" >"$room/usage"
@@ -104,6 +108,14 @@ git ls-files '*.md' | grep -v '^unlanded/' | while read -r page; do
 done | sort -u >"$room/links"
 while read -r page link; do if [ -e "$link" ]; then echo "$page $link"; fi; done <"$room/links" >"$room/there"
 same "the links of the pages and the files" "$room/links" "$room/there"
+
+# The French pages have the commands and answers of the English ones.
+blocks() { awk '/^```/{code = !code; print "--"; next} code' "$1"; }
+for pair in README.md:LISEZMOI.md docs/FIRST_HOUR.md:docs/fr/PREMIERE_HEURE.md; do
+    blocks "${pair%:*}" >"$room/blocks"
+    blocks "${pair#*:}" >"$room/french"
+    same "the commands and answers of ${pair%:*} and of ${pair#*:}" "$room/blocks" "$room/french"
+done
 
 # The front page is short.
 if [ "$(wc -c <README.md)" -lt 10240 ]; then echo short; else echo long; fi >"$room/size"

@@ -1,6 +1,7 @@
 #!/bin/sh
 # Runs the tests of tools/: each tests/tools/NAME.sh, in an empty folder of its own with ROOT for the repository, prints what NAME.out
-# has. Those with a line "# needs the program" are left out where ./build has not built it and M_TAX doesn't name it. Prints
+# has. Those with a line "# needs the program" are left out where ./build has not built it and M_TAX doesn't name it, and those with a line
+# "# needs COMMAND" where that isn't installed. Prints
 # the differences of each test that fails, or takes over 15 minutes, and a count. The status is 0 where none fails.
 here=$PWD
 cd "$(dirname "$0")/.." || exit 1
@@ -28,6 +29,11 @@ for test in tests/tools/*.sh; do
     name=$(basename "$test" .sh)
     if [ -z "${M_TAX-}" ] && grep -q '^# needs the program' "$test"; then
         left=$((left + 1))
+        continue
+    fi
+    needed=$(sed -n 's/^# needs \([a-z0-9]*\)$/\1/p' "$test")
+    if [ -n "$needed" ] && ! command -v "$needed" >/dev/null 2>&1; then
+        echo "tools: $name: not run: there is no $needed"
         continue
     fi
     mkdir "$room/$name" || exit 1

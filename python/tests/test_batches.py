@@ -148,7 +148,7 @@ class Batches(Room):
 
     def test_tables_that_are_too_long(self):
         rows = [{"1AJ": 1000 + k} for k in range(300)]
-        with mock.patch.object(batches, "TABLE_BYTES", 100):
+        with mock.patch.object(batches, "FILE_BYTES", 100):
             self.assertEqual([answer["IRN"] for answer in self.rules.batch(rows)], list(range(300)))
             rows[211] = {"1AJ": "x"}
             told, refused = self.told_before(rows, 1000, Refused)

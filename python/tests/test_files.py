@@ -83,7 +83,9 @@ class Cache(Room):
         with self.assertRaisesRegex(Interrupted, "./build makes the program"):
             list(rules.batch([{}]))
         self.put_program("repo/out/m_tax")
-        with rules.session() as session:
+        with self.assertRaisesRegex(Broken, "was replaced meanwhile"):
+            rules.session()
+        with Rules(self.list, cache=self.room.name + "/kept", program=script).session() as session:
             self.assertEqual(session.show()["IRN"], 0)
 
     def test_a_program_that_is_named_and_is_not_there(self):

@@ -177,8 +177,8 @@ class Package(unittest.TestCase):
             self.rules.session({"1AJ": "x"}).show()
 
     def test_code(self):
-        (kept,) = os.listdir(self.room.name + "/cache")
-        code = Rules.from_code(os.path.join(self.room.name, "cache", kept))
+        self.rules.write_code(self.room.name + "/a.code")
+        code = Rules.from_code(self.room.name + "/a.code")
         self.assertEqual(code.run({"1AJ": 2500}), self.rules.run({"1AJ": 2500}))
         self.assertEqual([answer["IRN"] for answer in code.batch([{"1AJ": 2500}, {}])], [1500, 0])
         self.assertEqual(code.inputs(), {"1AJ": "", "1BB": "truth"})

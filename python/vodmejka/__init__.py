@@ -10,10 +10,13 @@
 them, `session` holds one that is edited. An answer has values, notes, or what stopped the run. What the program refuses is an exception with its place.
 """
 from .answers import OVER, Answer, Note, Over, Stop, Value
-from .errors import Broken, Interrupted, NotFound, Refused, VodmejkaError
+from .comparisons import Comparison, compare
+from .errors import Broken, Interrupted, NotFound, Refused, Stopped, VodmejkaError
 from .rules import Rules
 from .session import Session
+from .sweeps import Sweep, sweep
 
 __all__ = [
-    "OVER", "Answer", "Broken", "Interrupted", "Note", "NotFound", "Over", "Refused", "Rules", "Session", "Stop", "Value", "VodmejkaError",
+    "OVER", "Answer", "Broken", "Comparison", "Interrupted", "Note", "NotFound", "Over", "Refused", "Rules", "Session", "Stop", "Stopped", "Sweep", "Value",
+    "VodmejkaError", "compare", "sweep",
 ]

@@ -3,11 +3,12 @@ import math
 import re
 from fractions import Fraction
 
+from . import limits
 from .runs import Failed
 
 UNIT = 1_000_000
 HALF = Fraction(1, 2)
-MOST = 10_000_000_000_000 * UNIT
+MOST = limits.AMOUNT * UNIT
 AMOUNT = re.compile(r"(-?)([0-9]+)(?:\.([0-9]{1,6}))?")
 
 

@@ -5,9 +5,9 @@ import mmap
 import re
 from dataclasses import dataclass
 from decimal import Decimal, InvalidOperation
-from typing import TYPE_CHECKING, Callable, Iterator, Union
+from typing import TYPE_CHECKING, Callable, Iterator, Mapping, Union
 
-from .errors import Broken
+from .errors import Broken, Stopped
 from .program import ENCODING
 
 if TYPE_CHECKING:
@@ -55,8 +55,10 @@ Printed = Union[bytes, mmap.mmap]
 Read = tuple[dict[str, Value], tuple[Note, ...], Union[Stop, None]]
 
 
-class Answer:
+class Answer(Mapping[str, Value]):
     """What a household is told: the values by their names in order, and the notes; or the stop, and then there are no values.
+
+    It is a mapping of names to values. Of a household that a verification stopped it is empty, and `answer[NAME]` raises `Stopped`.
 
     Of a batch the lines of the program are read when something of them is asked for, and of a single value its line alone, so that many answers cost little.
     """
@@ -92,6 +94,18 @@ class Answer:
         except (KeyError, TypeError):
             return self._value(name)
 
+    def __iter__(self) -> Iterator[str]:
+        return iter(self.values)
+
+    def __len__(self) -> int:
+        return len(self.values)
+
+    def __bool__(self) -> bool:
+        return True
+
+    def __contains__(self, name: object) -> bool:
+        return name in self.values
+
     def __eq__(self, other: object) -> bool:
         return isinstance(other, Answer) and (self.values, *self._told()) == (other.values, *other._told())
 
@@ -114,7 +128,11 @@ class Answer:
         try:
             return Decimal(self._lines.rpartition(self._form.begins[name])[2].partition("\n")[0])
         except (KeyError, InvalidOperation):
-            return self.values[name]
+            pass
+        values = self.values
+        if name not in values and self.stop is not None:
+            raise Stopped(self.stop.line)
+        return values[name]
 
     def _told(self) -> tuple[tuple[Note, ...], Stop | None]:
         """The notes and the stop."""

@@ -15,12 +15,13 @@ from typing import BinaryIO, Callable, Generator, Iterable, Iterator
 
 from .answers import LABEL_LINE, NEXT_LABEL, Answer, Form, Printed
 from .blocks import Hands, Piece, Told
-from .errors import Broken, NotFound, Refused
-from .program import ENCODING, raise_for, started
+from .errors import Broken, Interrupted, NotFound, Refused
+from .guard import Child, memory_file
+from .limits import FILE_BYTES
+from .program import ENCODING, Program, raise_for, started
 from .tables import Household, Tables, by_columns
 
 AHEAD = 1_000
-TABLE_BYTES = 16_777_216
 SLICE = 24_576
 TABLE_NAME = "table.csv"
 ROW = re.compile(r"(refused household line )([0-9]+)(: .*)", re.DOTALL)
@@ -53,8 +54,12 @@ class Batch:
     handed out.
     """
 
-    def __init__(self, words: list[str], folder: str, form: Form, size: int, codes: Iterable[str], told: Callable[[str], str]):
-        self.words, self.folder, self.form, self.size = words, folder, form, size
+    def __init__(
+        self, program: Program, words: list[str], folder: str, form: Form, size: int, codes: Iterable[str], told: Callable[[str], str],
+        timeout: float | None = None,
+    ):
+        self.program, self.timeout = program, timeout
+        self.words, self.folder, self.form, self.size = [program.path, *words], folder, form, size
         self.codes, self.told, self.tables = frozenset(codes), told, Tables()
         self.hands = Hands()
         self.few: Form | None = None
@@ -63,11 +68,21 @@ class Batch:
         """The answers of households, in their order."""
         return Answers(self._handed(rows))
 
-    def started(self, table: int, printed: int, requests: int | None = None) -> subprocess.Popen[bytes]:
-        """The program on a table, which prints to a file; it is asked for what these requests name, or for all. All are files in memory."""
+    def started(self, table: int, printed: int, messages: int, requests: int | None = None) -> Child:
+        """The program on a table, which prints to a file, and its messages to another; it is asked for what these requests name, or for all. All are files in
+        memory."""
         given = [table] if requests is None else [table, requests]
         words = [*self.words[:-1], self.words[-1] if requests is None else f"/proc/self/fd/{requests}", f"/proc/self/fd/{table}"]
-        return started(words, cwd=self.folder, pass_fds=given, stdin=subprocess.DEVNULL, stdout=printed, stderr=subprocess.DEVNULL)
+        return started(words, cwd=self.folder, pass_fds=given, stdin=subprocess.DEVNULL, stdout=printed, stderr=messages)
+
+    def ended(self, child: Child) -> int:
+        """The status of the program at its end. What it printed counts only where the program is the one that all parts before it had."""
+        try:
+            status = child.wait(self.timeout)
+        except subprocess.TimeoutExpired:
+            raise Interrupted(f"the program gave no answer within {self.timeout} s") from None
+        self.program.check()
+        return status
 
     def _handed(self, rows: Iterable[Household]) -> Generator[list[Told], None, None]:
         """The same, some hundred at a time."""
@@ -128,7 +143,7 @@ class Part:
 
     def __init__(self, batch: Batch, households: list[Household], first: int, fault: BaseException | None = None, few: Form | None = None):
         self.batch, self.households, self.first, self.fault, self.few = batch, households, first, fault, few
-        self.child: subprocess.Popen[bytes] | None = None
+        self.child: Child | None = None
         self.inner: Part | None = None
         self.files: list[int] = []
         try:
@@ -139,22 +154,22 @@ class Part:
 
     def _begin(self) -> None:
         """Starts the program on the table, where the table isn't too long."""
-        self.files.append(os.memfd_create("table"))
+        self.files.append(memory_file("table"))
         with open(self.files[0], "wb", closefd=False) as file:
             self._write(file)
-        if self.households and (os.fstat(self.files[0]).st_size <= TABLE_BYTES or len(self.households) == 1):
+        if self.households and (os.fstat(self.files[0]).st_size <= FILE_BYTES or len(self.households) == 1):
             self._start()
 
     def _start(self) -> None:
         """Starts the program, which is asked for all values, or for those of some names."""
         requests = None
-        self.files[1:] = [os.memfd_create("answers")]
+        self.files[1:] = [memory_file("answers"), memory_file("messages")]
         if self.few is not None:
-            requests = os.memfd_create("requests")
+            requests = memory_file("requests")
             self.files.append(requests)
             with open(requests, "wb", closefd=False) as file:
                 file.write("".join(f"{name}\n" for name in self.few.names).encode(ENCODING))
-        self.child = self.batch.started(self.files[0], self.files[1], requests)
+        self.child = self.batch.started(*self.files[:3], requests)
 
     def _write(self, file: BinaryIO) -> None:
         """Writes the table, of the households before the first one with what is no amount."""
@@ -185,7 +200,7 @@ class Part:
     def _pieces(self) -> Iterator[Piece]:
         """The same of a table that the program takes, or rejects."""
         assert self.child is not None
-        status = self.child.wait()
+        status = self.batch.ended(self.child)
         if self.few is not None:
             some = self._some(self.few) if status == 0 else None
             if some is not None:
@@ -193,7 +208,7 @@ class Part:
                 return
             status = self._anew()
         try:
-            raise_for(b"" if status == 0 else printed_in(self.files[1])[:], status)
+            raise_for(b"" if status == 0 else printed_in(self.files[1])[:], status, printed_in(self.files[2])[:])
         except NotFound as missing:
             raise NotFound(self.batch.told(str(missing))) from None
         except Refused as refused:
@@ -226,7 +241,7 @@ class Part:
             os.close(self.files.pop())
         self._start()
         assert self.child is not None
-        return self.child.wait()
+        return self.batch.ended(self.child)
 
     def _taken(self, line: str) -> int:
         """How many households stand before the one that the program rejects with this line: of a fault in the header the first with an unknown code."""
@@ -274,18 +289,19 @@ class AllLines:
 
     def _computed(self) -> list[bytes]:
         """The lines of each answer."""
-        printed = os.memfd_create("answers")
+        printed, messages = memory_file("answers"), memory_file("messages")
         try:
-            with self._batch.started(self._table, printed) as child:
+            with self._batch.started(self._table, printed, messages) as child:
                 try:
-                    status = child.wait()
+                    status = self._batch.ended(child)
                 except BaseException:
                     child.kill()
                     raise
-            text = printed_in(printed)
+            text, said = printed_in(printed), printed_in(messages)[:]
         finally:
             os.close(printed)
-        raise_for(b"" if status == 0 else text[:], status)
+            os.close(messages)
+        raise_for(b"" if status == 0 else text[:], status, said)
         return [lines for piece in pieces_of(self.form, text, self._due) for lines in piece.texts()]
 
 

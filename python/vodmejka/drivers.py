@@ -8,13 +8,12 @@ import re
 import sys
 from typing import NamedTuple
 
-from . import grammar, items, source
+from . import grammar, source
+from .limits import AMOUNT, BRACKET_DEPTH, DRIVER_LEVEL
 
 RESERVED = set(source.fetch(os.path.join(os.path.dirname(os.path.realpath(__file__)), "words", "mpp.words")).decode().split())
 TOKEN = re.compile(rb"(?P<word>[0-9]*[A-Za-z_][A-Za-z0-9_]*)|(?P<number>[0-9]+\.[0-9]+|[0-9]+)|(?P<sign>==|!=|<=|>=|<-|[-()\[\],:=<>+*/])")
 COMPARISONS = ("==", "!=", "<", "<=", ">", ">=")
-MOST_LEVEL = 64
-MOST_OPEN = 256
 OPERATORS = "an operator (+ - * / == < and or ..)"
 VALUE = "a value (a name, a number, (, present, cast or exists)"
 
@@ -204,8 +203,8 @@ class Driver:
                 other = "accented letters stand in comments only" if shown[0] > 127 else ""
                 self.fault("bad token", number, at, shown.decode("utf-8", "replace"), (), hints.get(shown, other))
                 return Line(number, len(content) - len(content.lstrip(b" ")), [])
-            if piece.lastgroup == "number" and float(piece[0]) > items.GREATEST:
-                self.fault("bad token", number, at, piece[0].decode(), (), f"numbers end at {items.GREATEST}")
+            if piece.lastgroup == "number" and float(piece[0]) > AMOUNT:
+                self.fault("bad token", number, at, piece[0].decode(), (), f"numbers end at {AMOUNT}")
             tokens.append(source.Token(piece.lastgroup, piece[0].decode("latin-1"), at))
             at = piece.end()
         return Line(number, len(content) - len(content.lstrip(b" ")), tokens) if tokens else None
@@ -219,7 +218,7 @@ class Driver:
             for token in line.tokens:
                 opened = opened + 1 if token.text in ("(", "[") else max(0, opened - 1) if token.text in (")", "]") else opened
                 most = max(most, opened)
-            if len(outer) > MOST_LEVEL or most > MOST_OPEN:
+            if len(outer) > DRIVER_LEVEL or most > BRACKET_DEPTH:
                 self.fault("too deep", line.number, None, hint="write a function of its own")
             outer.append(line.indent)
 

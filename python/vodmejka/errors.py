@@ -36,6 +36,14 @@ class Refused(VodmejkaError):
         return f"{self.line}\n  {self.hint}" if self.hint else self.line
 
 
+class Stopped(VodmejkaError):
+    """A value is wanted of a household that a verification or a driver's condition stopped; `line` is what the program printed of it."""
+
+    def __init__(self, line: str):
+        super().__init__(line)
+        self.line = line
+
+
 class NotFound(VodmejkaError):
     """A file can't be read."""
 

@@ -115,7 +115,10 @@ class Names:
 
 def driver_faults(name, variables):
     """The faults of a driver; without variables those of its tokens and lines alone."""
-    driver = drivers.Driver(source.fetch(name))
+    return faults_of_driver(name, drivers.Driver(source.fetch(name)), variables)
+
+
+def faults_of_driver(name, driver, variables):
     found = [Found(name, fault.line, fault.byte, fault.what, fault) for fault in driver.faults]
     if found or variables is None:
         return found

@@ -189,13 +189,13 @@ class Terms(Reader):
                 self.stuck(f"M writes {'=' if sign == '=' else sign} for a comparison, and no second =")
             return ("op", sign, [left, self.sum()])
         if self.next_is("non") or self.next_is("dans"):
-            if self.next_is("non"):
-                self.step()
+            isnt = self.take_if("non") is not None
             self.take("dans")
             self.take("(")
             members = self.separated(self.member, ",")
             self.take(")")
-            return ("op", "dans", [left, *members])
+            found = ("op", "dans", [left, *members])
+            return ("op", "non", [found]) if isnt else found
         return left
 
     def member(self):
@@ -206,8 +206,8 @@ class Terms(Reader):
         return ("op", "..", [low, self.signed()]) if self.take_if("..") else low
 
     def signed(self):
-        self.take_if("-")
-        return ("number", self.kind("number", "a number").text)
+        sign = self.take_if("-") or ""
+        return ("number", sign + self.kind("number", "a number").text)
 
     def sum(self):
         return self.chain(self.product, "+", "-")

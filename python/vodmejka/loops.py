@@ -1,7 +1,9 @@
 """Loops of rule files, for tools: the values of their letters, words with letters replaced, and what a term reads. Terms are those of grammar.py."""
 import itertools
+import math
 
-MOST = 10_000
+from .limits import LOOP_INSTANCES
+
 
 
 def whole(digits):
@@ -14,7 +16,7 @@ def values_of(pairs):
     found = []
     for low, high in pairs:
         if low.isdigit() and high.isdigit():
-            found += [f"{k:0{len(low)}}" for k in range(int(low), min(int(high), int(low) + MOST) + 1)]
+            found += [f"{k:0{len(low)}}" for k in range(int(low), min(int(high), int(low) + LOOP_INSTANCES) + 1)]
         elif low == high:
             found.append(low)
         else:
@@ -22,12 +24,31 @@ def values_of(pairs):
     return found
 
 
+def length_of(low, high):
+    """How many values stand from a point to a point; none where the range is bad."""
+    if low == high:
+        return 1
+    if low.isdigit() and high.isdigit():
+        return max(0, int(high) - int(low) + 1)
+    return max(0, ord(high) - ord(low) + 1) if len(low) == len(high) == 1 and low.isalpha() and high.isalpha() else 0
+
+
+def header_faults(header):
+    """The faults of a header as the program tells them, each with the number of the index at whose letter it stands."""
+    letters = [letter for letter, _ in header]
+    lengths = [[length_of(low, high) for low, high in values] for _, values in header]
+    bad = [k for k, letter in enumerate(letters) if letters.count(letter) > 1 or 0 in lengths[k]]
+    if bad:
+        return [(k, "bad range") for k in bad]
+    return [(0, "loop too large")] if math.prod(map(sum, lengths)) > LOOP_INSTANCES else []
+
+
 def instances(headers, words):
     """The letters that these words have, at each of their values: of many instances the first."""
     bound = {letter: values for header in headers for letter, values in header}
     letters = [letter for letter in bound if any(letter in word for word in words)]
     products = itertools.product(*(values_of(bound[letter]) for letter in letters))
-    return [dict(zip(letters, values)) for values in itertools.islice(products, MOST)]
+    return [dict(zip(letters, values)) for values in itertools.islice(products, LOOP_INSTANCES)]
 
 
 def replaced(word, letters):

@@ -10,9 +10,6 @@ from . import records, runs, source
 from .runs import Failed, file_digest
 
 
-BYTES = 16_777_216
-
-
 def remove_dead(path):
     """Removes what runs that were killed had begun of a file: nobody holds its lock."""
     folder, name = os.path.split(path)

@@ -13,6 +13,7 @@ from decimal import Decimal
 from typing import Any, Iterable, Mapping, Union
 
 from .errors import Broken, Interrupted, NotFound, Refused
+from .guard import GUARD, Child
 
 Amount = Union[Decimal, int, str, None]
 ENCODING = "latin-1"
@@ -30,18 +31,48 @@ def program_path(program: str | None = None) -> str:
     raise Broken(f"there is no program {named}" if named else "there is no program m_tax: name it by M_TAX, or run ./build in the repository")
 
 
-def program_digest(program: str) -> str:
-    """A digest of the program: of the repository's script also what ./build made, or without it the sources of which the script makes a trial."""
-    folder = os.path.dirname(os.path.realpath(program))
-    below = ["out/m_tax"] if os.path.exists(os.path.join(folder, "out", "m_tax")) else []
-    if not below:
-        sources = os.walk(os.path.join(folder, "crates"))
-        below = sorted(os.path.relpath(os.path.join(at, name), folder) for at, _, names in sources for name in names if name.endswith(".rt"))
-    pieces = []
-    for name, path in [("", program), *((name, os.path.join(folder, name)) for name in below)]:
-        with open(path, "rb") as file:
-            pieces += [os.fsencode(name), file.read()]
-    return digest_of(*pieces)
+class Program:
+    """The program that computes. It is one and the same as long as this is used: a file that is replaced in between is an error, and never a second program.
+
+    Of the repository's script what it runs is part of it: what ./build made, or without it the sources of which the script makes a trial.
+    """
+
+    def __init__(self, named: str | None = None):
+        self.path = program_path(named)
+        self.digest, self._state = self._looked()
+
+    def check(self) -> None:
+        """Raises Broken where the program isn't the one that it was."""
+        if self._states() != self._state:
+            digest, self._state = self._looked()
+            if digest != self.digest:
+                raise Broken(f"{self.path} was replaced meanwhile: what was computed before is of another program")
+
+    def _files(self) -> list[str]:
+        """The files that make the program."""
+        folder = os.path.dirname(os.path.realpath(self.path))
+        below = [built] if os.path.exists(built := os.path.join(folder, "out", "m_tax")) else []
+        if not below:
+            sources = os.walk(os.path.join(folder, "crates"))
+            below = sorted(os.path.join(at, name) for at, _, names in sources for name in names if name.endswith(".rt"))
+        return [self.path, *below]
+
+    def _states(self) -> list[tuple[str, int, int, int, int, int]]:
+        """What changes wherever one of the files does."""
+        try:
+            found = [(name, os.stat(name)) for name in self._files()]
+        except OSError as fault:
+            raise Broken(f"the program can't be started: {fault.filename}: {fault.strerror}") from fault
+        return [(name, at.st_dev, at.st_ino, at.st_size, at.st_mtime_ns, at.st_ctime_ns) for name, at in found]
+
+    def _looked(self) -> tuple[str, list[tuple[str, int, int, int, int, int]]]:
+        """The digest of the files, and their state before they were read."""
+        state = self._states()
+        top, pieces = os.path.dirname(os.path.realpath(self.path)), []
+        for number, (name, *_) in enumerate(state):
+            with open(name, "rb") as file:
+                pieces += [os.fsencode(os.path.relpath(name, top)) if number else b"", file.read()]
+        return digest_of(*pieces), state
 
 
 def is_trial(program: str) -> bool:
@@ -63,6 +94,7 @@ class Folder:
 
     def __init__(self) -> None:
         self.name = tempfile.mkdtemp(prefix="vodmejka-")
+        GUARD.say(f"+f{self.name}")
         weakref.finalize(self, remove, self.name, os.getpid())
 
     def put(self, content: bytes) -> str:
@@ -77,39 +109,46 @@ def remove(folder: str, owner: int) -> None:
     """Removes a folder of a process, where this is that one."""
     if os.getpid() == owner:
         shutil.rmtree(folder, ignore_errors=True)
+        GUARD.say(f"-f{folder}")
 
 
-def started(words: list[str], **options: Any) -> subprocess.Popen[bytes]:
-    """The program with these words."""
+def started(words: list[str], **options: Any) -> Child:
+    """The program with these words. It ends with this process."""
     try:
-        return subprocess.Popen(words, **options)
+        return Child(words, **options)
     except OSError as fault:
         raise Broken(f"the program can't be started: {fault.filename or words[0]}: {fault.strerror}") from fault
 
 
-def run(program: str, *words: str, folder: str | None = None) -> tuple[bytes, int]:
+def run(program: str, *words: str, folder: str | None = None, timeout: float | None = None) -> tuple[bytes, int]:
     """What the program prints, and its status: 0 or 6. What else it says is an error."""
-    with started([program, *words], stdin=subprocess.DEVNULL, stdout=subprocess.PIPE, stderr=subprocess.DEVNULL, cwd=folder) as child:
+    with started([program, *words], stdin=subprocess.DEVNULL, stdout=subprocess.PIPE, stderr=subprocess.PIPE, cwd=folder) as child:
         try:
-            text, _ = child.communicate()
+            text, messages = child.communicate(timeout=timeout)
+        except subprocess.TimeoutExpired:
+            child.kill()
+            raise Interrupted(f"the program gave no answer within {timeout} s") from None
         except BaseException:
             child.kill()
             raise
-    raise_for(text, child.returncode)
+    raise_for(text, child.returncode, messages)
     return text, child.returncode
 
 
-def raise_for(text: bytes, status: int) -> None:
-    """The error of an output, if it is one."""
+def raise_for(text: bytes, status: int, messages: bytes = b"") -> None:
+    """The error of an output, if it is one; `messages` is what the program wrote on its standard error."""
     if status in (0, 6):
         return
     line = text.decode(ENCODING).strip()
-    if status in (1, 2):
+    if status in (1, 2) and line.startswith(("refused ", "usage: ")):
         raise Refused(line)
-    if status == 3:
+    if status == 3 and line.startswith("unreadable "):
         raise NotFound(line)
     known = {4: "the output could not be written", 5: "out of memory", 70: "a trial of the sources can't do this: ./build makes the program, which can"}
-    raise Interrupted(known.get(status, f"the program ended with status {status}"))
+    if status in known or status < 0:
+        raise Interrupted(known.get(status, f"the program ended with status {status}"))
+    said = messages.decode("utf-8", "replace").strip()[-500:]
+    raise Broken(f"the program ended with status {status} and printed no line of its own{f': {said}' if said else ''}")
 
 
 def spelled(code: str, amount: Amount) -> str:

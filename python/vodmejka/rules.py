@@ -3,47 +3,24 @@ from __future__ import annotations
 
 import contextlib
 import decimal
+import hashlib
 import os
 import re
-import shutil
 import tempfile
-from typing import Any, Iterable, Iterator
+from typing import Any, Iterable, Iterator, Mapping
 
 from .answers import Answer, Form, answer_of
 from .batches import Batch
 from .errors import Broken, NotFound, Refused
-from .program import ENCODING, Amount, Folder, digest_of, household_bytes, is_trial, program_digest, program_path, run, spelled
+from .limits import CODE_FILE_BYTES, ROWS
+from .program import ENCODING, Amount, Folder, Program, digest_of, household_bytes, is_trial, run, spelled
 from .session import Session
+from .sources import Sources, fetched, fetched_rules, named
+from .variants import Number, Text, varied
 from .tables import Household
 
-ROWS, MOST_ROWS = 50_000, 100_000
+ROWS_AT_ONCE = 50_000
 VALUES = 4_000_000
-FILE_BYTES, RULE_BYTES, CODE_FILE_BYTES, LIST_FILES = 16_777_216, 67_108_864, 1_073_741_824, 1_024
-
-
-def fetched(name: str, longest: int = FILE_BYTES) -> bytes:
-    """The bytes of a file, of one that is too long so many that the program says so."""
-    try:
-        with open(name, "rb") as file:
-            return file.read(longest + 1)
-    except (OSError, ValueError) as fault:  # (a name with a zero byte is none)
-        raise NotFound(f"unreadable {name}") from fault
-
-
-def fetched_rules(names: list[str]) -> list[tuple[str, bytes]]:
-    """The rule files of a list, each with its bytes; of what the program doesn't read, since there are too many names or bytes before, none."""
-    rules, left = [], RULE_BYTES if len(names) <= LIST_FILES else -1
-    for name in names:
-        content = fetched(name, min(FILE_BYTES, left)) if left >= 0 else b""
-        rules.append((name, content))
-        left -= len(content) if len(content) <= FILE_BYTES else left + 1
-    return rules
-
-
-def named(content: bytes) -> list[str]:
-    """The names of the rule files of a list, whose first line is the application."""
-    lines = content.replace(b"\r\n", b"\n").split(b"\n")[1:]
-    return [os.fsdecode(line) for line in lines if line]
 
 
 class Rules:
@@ -54,33 +31,65 @@ class Rules:
     and kept in the user's cache under their digest.
     """
 
-    def __init__(self, list: str, driver: str | None = None, requests: str | None = None, *, program: str | None = None, cache: str | None = None):
-        self.program = program_path(program)
-        self._room = Folder()
-        content = fetched(list)
+    def __init__(
+        self, list: str | os.PathLike[str], driver: str | os.PathLike[str] | None = None, requests: str | os.PathLike[str] | None = None, *,
+        program: str | None = None, cache: str | None = None, timeout: float | None = None,
+    ):
+        names = [None if name is None else os.fspath(name) for name in (list, driver, requests)]
+        assert names[0] is not None
+        content = fetched(names[0])
         rules = fetched_rules(named(content))
-        given = [None if name is None else fetched(name) for name in (driver, requests)]
-        self._names = {f"r{k}.m": name for k, (name, _) in enumerate(rules)}
-        self._put("list", b"\n".join([content.replace(b"\r\n", b"\n").split(b"\n")[0], *(name.encode() for name in self._names), b""]))
-        for copy, (_, text) in zip(self._names, rules):
+        driver_text, requests_text = (None if name is None else fetched(name) for name in names[1:])
+        self._begin(Sources(content, rules, driver_text, requests_text), Program(program), cache, timeout)
+
+    def _begin(self, sources: Sources, program: Program, cache: str | None, timeout: float | None) -> None:
+        """Copies the files into a folder of its own, and has their code file."""
+        self._program, self._sources, self._cache, self.timeout = program, sources, cache, timeout
+        self.program, self._room = program.path, Folder()
+        self._names = {f"r{k}.m": name for k, (name, _) in enumerate(sources.rules)}
+        application = sources.listing.replace(b"\r\n", b"\n").split(b"\n")[0]
+        self._put("list", b"\n".join([application, *(name.encode() for name in self._names), b""]))
+        for copy, (_, text) in zip(self._names, sources.rules):
             self._put(copy, text)
-        self._words = ["list", *("-" if text is None else self._put(name, text) for name, text in zip(("driver", "requests"), given))]
-        pieces = [
-            program_digest(self.program).encode(), content, *(text for _, text in rules),
-            *(b"none" if text is None else b"some" + text for text in given),
-        ]
-        self._code = self._compiled(digest_of(*pieces), cache)
+        given = (("driver", sources.driver), ("requests", sources.requests))
+        self._words = ["list", *("-" if text is None else self._put(name, text) for name, text in given)]
+        self.digest = sources.digest()
+        self._code = self._compiled(digest_of(program.digest.encode(), self.digest.encode()), cache)
         self._lines = self._interface()
 
     @classmethod
-    def from_code(cls, file: str, *, program: str | None = None) -> Rules:
+    def from_code(cls, file: str | os.PathLike[str], *, program: str | None = None, timeout: float | None = None) -> Rules:
         """Rules by a code file, without their sources: they run households, and have no sessions."""
+        return cls._by_code(fetched(os.fspath(file), CODE_FILE_BYTES), Program(program), timeout)
+
+    @classmethod
+    def _by_code(cls, code: bytes, program: Program, timeout: float | None) -> Rules:
         made = cls.__new__(cls)
-        made.program = program_path(program)
-        made._room = Folder()
-        made._names, made._words = {}, []
-        made._code = made._path(made._put("code", fetched(file, CODE_FILE_BYTES)))
+        made._program, made._sources, made._cache, made.timeout = program, None, None, timeout
+        made.program, made._room, made._names, made._words = program.path, Folder(), {}, []
+        made.digest = digest_of(code)
+        made._code = made._path(made._put("code", code))
         made._lines = made._interface()
+        return made
+
+    def __reduce__(self) -> tuple[Any, ...]:
+        """As it is pickled: the sources themselves, which another process or machine compiles by the same program."""
+        code = None
+        if self._sources is None:
+            with open(self._code, "rb") as file:
+                code = file.read()
+        return unpickled, (self._sources, code, self.program, self._program.digest, self._cache, self.timeout)
+
+    def variant(
+        self, values: Mapping[str, Number] | None = None, *, replace: Mapping[str, Text] | None = None, driver: Text | None = None,
+        outputs: Iterable[str] | None = None,
+    ) -> Rules:
+        """The same rules with other values of constants (or of cells whose only formula is a number), other texts of rule files by their names, another
+        driver, or other requested values. What isn't named stays as it is."""
+        if self._sources is None:
+            raise Broken("a variant needs rules: a code file has no sources")
+        made = Rules.__new__(Rules)
+        made._begin(varied(self._sources, values, replace, driver, outputs), self._program, self._cache, self.timeout)
         return made
 
     # ---- what is computed
@@ -94,7 +103,7 @@ class Rules:
             os.unlink(self._path(name))
         return answer_of(iter(lines_of(text).split("\n")[:-1]))
 
-    def batch(self, rows: Any, rows_at_once: int = ROWS) -> Any:
+    def batch(self, rows: Any, rows_at_once: int = ROWS_AT_ONCE) -> Any:
         """What households are told, in their order, as they are computed: any number of them, of which some thousand are in memory at once.
 
         `rows` is an iterable of households; then this is an iterator of answers. Or it is a frame of pandas, whose columns are codes; then this is a frame with
@@ -110,12 +119,22 @@ class Rules:
             raise Broken("a session needs rules: a code file has no sources")
         if is_trial(self.program):
             raise Broken("a trial of the sources has no sessions: ./build makes the program, which has")
-        return Session([self.program, "serve", *self._words, self._room.put(household_bytes(household or {}))], self._room)
+        self._program.check()
+        return Session([self.program, "serve", *self._words, self._room.put(household_bytes(household or {}))], self._room, self.timeout)
 
     def inputs(self) -> dict[str, str]:
         """The codes of the inputs in order, each with its type: `truth`, `whole`, or nothing."""
         words = [line.split(" ") for line in self._lines if line.startswith("input ")]
         return {line[1]: line[2] if len(line) > 2 else "" for line in words}
+
+    def outputs(self) -> list[str]:
+        """The names of the requested values, in order."""
+        return self._outputs()
+
+    def write_code(self, path: str | os.PathLike[str]) -> None:
+        """Writes the code file, which `Rules.from_code` and the program's `exec` take."""
+        with open(self._code, "rb") as file:
+            put_whole(os.path.abspath(os.fspath(path)), file.read())
 
     # ---- inside
 
@@ -146,7 +165,9 @@ class Rules:
 
     def _run(self, *words: str) -> tuple[bytes, int]:
         try:
-            return run(self.program, *words, folder=self._room.name)
+            told = run(self.program, *words, folder=self._room.name, timeout=self.timeout)
+            self._program.check()
+            return told
         except Refused as refused:
             raise Refused(self._told(refused.line)) from None
         except NotFound as missing:
@@ -161,16 +182,14 @@ class Rules:
         """The code file of the source, from the cache where it is there. A user without a home has no cache but the one that is named."""
         folder = cache or os.path.join(os.environ.get("XDG_CACHE_HOME") or os.path.expanduser("~/.cache"), "vodmejka")
         kept = os.path.join(folder, digest + ".code") if cache or os.path.isabs(folder) else None
-        with contextlib.suppress(OSError):  # it isn't there, or is another user's
-            if kept is not None:
-                shutil.copyfile(kept, self._path("code"))
-                return self._path("code")
-        text, _ = self._run("compile", *self._words)
+        text = None if kept is None else kept_code(kept)
+        if text is None:
+            text, _ = self._run("compile", *self._words)
+            with contextlib.suppress(OSError):
+                if kept is not None:
+                    os.makedirs(folder, exist_ok=True)
+                    put_whole(kept, hashlib.sha256(text).hexdigest().encode() + b"\n" + text)
         self._put("code", text)
-        with contextlib.suppress(OSError):
-            if kept is not None:
-                os.makedirs(folder, exist_ok=True)
-                put_whole(kept, text)
         return self._path("code")
 
     def _answers(self, rows: Iterable[Household], at_once: int) -> Iterator[Answer]:
@@ -178,10 +197,11 @@ class Rules:
             return (self.run(row) for row in rows)
         form = Form(self._outputs())
         notes = sum(line.startswith("note ") for line in self._lines)
-        size = max(1, min(at_once, MOST_ROWS, VALUES // (len(form.names) + notes + 1)))
+        size = max(1, min(at_once, ROWS, VALUES // (len(form.names) + notes + 1)))
         # (an iterator may hand out one mapping again and again, changed each time: a part is read before it is written)
         taken = rows if isinstance(rows, (list, tuple)) else map(dict, rows)
-        return Batch([self.program, "batch", *self._words], self._room.name, form, size, self.inputs(), self._told).answers(taken)
+        batch = Batch(self._program, ["batch", *self._words], self._room.name, form, size, self.inputs(), self._told, self.timeout)
+        return batch.answers(taken)
 
     def _frame(self, frame: Any, at_once: int) -> Any:
         """The answers to the rows of a frame, as a frame."""
@@ -201,6 +221,29 @@ class Rules:
         made["stop"] = [answer.stop.line if answer.stop else None for answer in answers]
         made["notes"] = [answer.notes for answer in answers]
         return pandas.DataFrame(made, index=frame.index, columns=[*names, "stop", "notes"], dtype=object)
+
+
+def kept_code(path: str) -> bytes | None:
+    """The code file that the cache keeps, after its digest; None where there is none, or it isn't what was kept: it was changed, or cut."""
+    with contextlib.suppress(OSError), open(path, "rb") as file:  # (it isn't there, or is another user's)
+        digest, text = file.readline().strip(), file.read()
+        return text if hashlib.sha256(text).hexdigest().encode() == digest else None
+    return None
+
+
+def unpickled(
+    sources: Sources | None, code: bytes | None, path: str, digest: str, cache: str | None, timeout: float | None
+) -> Rules:
+    """Rules as they were pickled, by the program of the same path, or else the one that is found here, which has to be the same."""
+    program = Program(path if os.access(path, os.X_OK) else None)
+    if program.digest != digest:
+        raise Broken(f"{program.path} is another program than the one that these rules were made with")
+    if sources is None:
+        assert code is not None
+        return Rules._by_code(code, program, timeout)
+    made = Rules.__new__(Rules)
+    made._begin(sources, program, cache, timeout)
+    return made
 
 
 def put_whole(path: str, content: bytes) -> None:

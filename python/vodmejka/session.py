@@ -4,11 +4,13 @@ from __future__ import annotations
 import contextlib
 import os
 import subprocess
+import threading
 from types import TracebackType
 from typing import Iterator, Protocol
 
 from .answers import Answer, answer_of
 from .errors import Interrupted, Refused
+from .guard import memory_file
 from .program import ENCODING, Amount, raise_for, spelled, started
 
 CLOSING = 2.0  # seconds
@@ -26,10 +28,11 @@ class Session:
     The words of the program end with the name of the household's file, which goes with the session. All files stand in a folder of the rules.
     """
 
-    def __init__(self, words: list[str], room: Room):
-        self._room, self._given = room, os.path.join(room.name, words[-1])
+    def __init__(self, words: list[str], room: Room, timeout: float | None = None):
+        self._room, self._given, self._timeout, self._is_late = room, os.path.join(room.name, words[-1]), timeout, False
+        self._messages = open(memory_file("messages"), "r+b", buffering=0)
         try:
-            self._child = started(words, cwd=room.name, stdin=subprocess.PIPE, stdout=subprocess.PIPE, stderr=subprocess.DEVNULL)
+            self._child = started(words, cwd=room.name, stdin=subprocess.PIPE, stdout=subprocess.PIPE, stderr=self._messages)
         except BaseException:
             self._drop()
             raise
@@ -78,7 +81,8 @@ class Session:
         self._child.stdout.close()
 
     def _drop(self) -> None:
-        """Drops the household's file."""
+        """Drops the household's file, and what the program wrote on its standard error."""
+        self._messages.close()
         with contextlib.suppress(FileNotFoundError):
             os.unlink(self._given)
 
@@ -87,12 +91,23 @@ class Session:
     @contextlib.contextmanager
     def _whole(self) -> Iterator[None]:
         """A line and its reply. What breaks in, as an exception of a signal, ends the session, since the rest of the reply would be taken for the next one."""
+        timer = None if self._timeout is None else threading.Timer(self._timeout, self._late)
+        if timer is not None:
+            timer.start()
         try:
             yield
         except BaseException:
             self._child.kill()
             self._shut()
             raise
+        finally:
+            if timer is not None:
+                timer.cancel()
+
+    def _late(self) -> None:
+        """Ends a program that gave no reply in time."""
+        self._is_late = True
+        self._child.kill()
 
     def _edit(self, *words: str) -> None:
         line = " ".join(words)
@@ -143,5 +158,7 @@ class Session:
         status = self._child.wait()
         if self._child.stdout is not None and not self._child.stdout.closed:
             said += self._child.stdout.read()
-        raise_for(said, status)
+        if self._is_late:
+            raise Interrupted(f"the session gave no reply within {self._timeout} s") from fault
+        raise_for(said, status, b"" if self._messages.closed else os.pread(self._messages.fileno(), 65_536, 0))
         raise Interrupted("the session has ended") from fault

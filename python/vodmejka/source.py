@@ -15,17 +15,14 @@ import sys
 import threading
 import traceback
 
+from .limits import CELLS, FILE_BYTES, FILE_NAME_BYTES, LIST_FILES, RULE_BYTES, TABLE_CELLS
+
 GAP_OR_TOKEN = re.compile(
     rb"(?P<gap>[ \t\r\n]+|#[^\n]*)|(?P<text>\"[^\"]*\")|(?P<number>[0-9]+\.[0-9]+|[0-9]+(?![A-Za-z0-9_]))|(?P<word>[A-Za-z0-9_]+)"
     rb"|(?P<sign>\.\.|!=|<=|>=|[-+*/=<>()\[\],;:])"
 )
 
 
-FILE_BYTES = 16_777_216
-RULE_BYTES = 67_108_864
-LIST_FILES = 1024
-CELLS = 1_000_000
-TABLE_CELLS = 1024
 MARK = b"\xef\xbb\xbf"
 PIPED = {}
 WAITING = []
@@ -165,7 +162,7 @@ def read_list_text(name, content):
             line.decode("utf-8")
         except UnicodeDecodeError as fault:
             raise Refused(f"{name} line {number}: the name isn't UTF-8") from fault
-        if len(line) > 4096:
+        if len(line) > FILE_NAME_BYTES:
             raise Refused(f"{name} line {number}: the name has more than 4,096 bytes")
     names = [os.fsdecode(line) for line in lines[1:] if line]
     if len(names) > LIST_FILES:

@@ -20,7 +20,6 @@ the program refuses a file; 2 for wrong words; and 3 where a file can't be read.
 """
 from __future__ import annotations
 
-import sys
 
 from .. import source
 from ..claims import judged, read_claim

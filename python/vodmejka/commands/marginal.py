@@ -24,8 +24,8 @@ from decimal import Decimal, InvalidOperation
 from xml.sax.saxutils import escape
 
 from .. import records, runs, source
+from ..limits import AMOUNT, ROWS
 
-MOST_ROWS = 100_000
 MILLIONTH = Decimal("0.000001")
 WIDTH, HEIGHT, LEFT, RIGHT, TOP, BOTTOM = 860, 420, 60, 20, 40, 50
 COLOURS = ["#1b5e9b", "#b3421e", "#2e7d32", "#7b3fa0", "#8a6d00", "#00707a"]
@@ -45,7 +45,7 @@ def amount(text, what):
         value = Decimal(text)
     except InvalidOperation as fault:
         raise Wrong(f"{what} is no amount: {text}", 2) from fault
-    if not value.is_finite() or abs(value) > 10_000_000_000_000 or value != round(value, 6):
+    if not value.is_finite() or abs(value) > AMOUNT or value != round(value, 6):
         raise Wrong(f"{what} is no amount: {text}", 2)
     return value
 
@@ -225,8 +225,8 @@ def draw(words):
     if step <= 0 or last <= first:
         raise Wrong("STEP is above 0, and TO is above FROM", 2)
     count = int((last - first) / step) + 2
-    if count > MOST_ROWS:
-        raise Wrong(f"{count - 1} steps, and at most {MOST_ROWS - 1} may be", 2)
+    if count > ROWS:
+        raise Wrong(f"{count - 1} steps, and at most {ROWS - 1} may be", 2)
     amounts = [first + step * number for number in range(count)]
     lines = computed([listed, driver], names, household, code, amounts)
     table = list(rates(amounts, values_of(lines, names, count), step))

@@ -18,9 +18,9 @@ import re
 import sys
 
 from .. import source
+from ..limits import REQUESTS
 from ..places import decode
 
-MOST = 100_000
 KINDS = {"--inputs": "saisie", "--computed": "calculee", "--constants": "const"}
 
 
@@ -72,8 +72,8 @@ def main(words):
         return 0
     variables = [variable for variable in base.variables if not kinds or variable.kind in kinds]
     names = [name for variable in variables for name in names_of(variable, patterns)]
-    if not names or len(names) > MOST:
-        print(f"requests: {len(names)} values match, and 1 to {MOST:,} can be asked for", file=sys.stderr)
+    if not names or len(names) > REQUESTS:
+        print(f"requests: {len(names)} values match, and 1 to {REQUESTS:,} can be asked for", file=sys.stderr)
         return 1
     print("\n".join(names))
     return 0

@@ -24,11 +24,11 @@ import tempfile
 
 sys.dont_write_bytecode = True
 from .. import runs, source
+from ..limits import AMOUNT
 
 AT_ONCE = 2_000
 TRIES, TRIES_OF_CODE = 20_000, 500
 BYTES = 8_000_000
-MOST = 10_000_000_000_000
 LINE = re.compile(rb"household r([0-9]+)\n")
 
 
@@ -96,7 +96,7 @@ def numbers_of(*codes):
     for code in codes:
         for text in re.findall(rb"\nlit [0-9]+ (-?[0-9]+)", code):
             found.add(int(text) // 1_000_000)
-    return sorted(value for value in {value + step for value in found for step in (-1, 0, 1)} if abs(value) < MOST)
+    return sorted(value for value in {value + step for value in found for step in (-1, 0, 1)} if abs(value) < AMOUNT)
 
 
 def drawn(draw, inputs, numbers):

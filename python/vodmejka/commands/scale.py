@@ -37,11 +37,11 @@ import sys
 import tempfile
 
 from .. import records, runs, source
-from ..parts import BYTES, Made, Plan, digest_there, look_at, missing, part_path, remove_dead, unfinished, whole, write_whole
+from ..limits import FILE_BYTES, ROWS
+from ..parts import Made, Plan, digest_there, look_at, missing, part_path, remove_dead, unfinished, whole, write_whole
 from ..progress import Progress
 from ..runs import Failed, digest, file_digest
 
-ROWS = 100_000
 BATCH_BYTES = 256 << 20  # a batch of the longest table takes half of it, and the look at its answer the rest
 MOST_AT_ONCE = 4
 
@@ -62,7 +62,7 @@ def parts_of(header, rows, most):
     """The rows of each part, so that a part is within the limits of a table, with their labels."""
     part, labels, size = [], [], len(header)
     for row, label in rows:
-        if part and (len(part) == most or size + len(row) + 1 > BYTES):
+        if part and (len(part) == most or size + len(row) + 1 > FILE_BYTES):
             yield part, labels
             part, labels, size = [], [], len(header)
         part.append(row + b"\n")
@@ -87,7 +87,7 @@ def cut(arguments):
     with contextlib.ExitStack() as stack:
         sorter = runs.Sorter(stack) if arguments.once else None
         compiled = stack.enter_context(open(arguments.table, "rb"))
-        before, rows = records.state(compiled), records.records(compiled, BYTES)
+        before, rows = records.state(compiled), records.records(compiled, FILE_BYTES)
         header = looked_at(next(rows, (b"", b""))[0])
         for part, names in parts_of(header, rows, arguments.rows):
             joined = b"".join(names)
@@ -121,7 +121,7 @@ def source_of(arguments):
 def seen_in(table, answer, names):
     """The names of the values of an answer, which has the households of the table, and how many these are."""
     with open(table, "rb") as file:
-        labels = [label for _, label in records.records(file, BYTES)][1:]
+        labels = [label for _, label in records.records(file, FILE_BYTES)][1:]
     try:
         seen, names = records.read_answer(answer, names)
     except records.Strange as fault:
@@ -255,7 +255,7 @@ def pipe(arguments):
         if arguments.of not in (None, compiled.digest):
             raise Failed("the source is another one than --of says", False)
         passed = 0
-        for part, _ in parts_of(header, records.records(source.standard_input(), BYTES, False), ROWS):
+        for part, _ in parts_of(header, records.records(source.standard_input(), FILE_BYTES, False), ROWS):
             with tempfile.NamedTemporaryFile(suffix=".csv") as table, tempfile.NamedTemporaryFile() as out:
                 table.write(header + b"".join(part))
                 table.flush()

@@ -34,14 +34,13 @@ import decimal
 import os
 import re
 import sys
-
 from fractions import Fraction
 
 from .. import drivers, items, slips_of_use, source
+from ..limits import AMOUNT
 from ..loops import instances, reads_of, replaced, whole
 from ..source import Refused
 
-MOST = 10_000_000_000_000
 
 
 def words_of(term):
@@ -75,8 +74,8 @@ def number_of(term, letters):
         if worth is None or other is None:
             return None
         worth = {"+": worth + other, "-": worth - other, "*": worth * other}[sign]
-        worth = worth if abs(worth) <= MOST else None
-    return worth if worth is None or abs(worth) <= MOST else None
+        worth = worth if abs(worth) <= AMOUNT else None
+    return worth if worth is None or abs(worth) <= AMOUNT else None
 
 
 def cells_read(name, size, index, letters):

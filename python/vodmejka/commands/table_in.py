@@ -31,6 +31,7 @@ import re
 import sys
 
 from .. import sheets, source
+from ..limits import ROWS
 from ..source import Refused
 from ..written_amounts import Amounts, OTHER, Signs, is_amount
 
@@ -38,7 +39,6 @@ CODE = re.compile("(?![0-9]+$)[0-9A-Z_]+")
 LIKE_A_BOX = re.compile("[0-9]+[A-Za-z][0-9A-Za-z]*")
 WORDS = ("table-in: words: table-in [--list LIST] [--leave HEAD] [--labels HEAD] [--sheet NAME] [--french | --decimal SIGN | --thousands SIGN] "
          "[--table | --household] FILE; see --help")
-MOST = 100_000
 FILE_BYTES = 1 << 28
 OF_UTF_8 = re.compile(rb"[\xc2-\xdf][\x80-\xbf]|[\xe0-\xef][\x80-\xbf]{2}|[\xf0-\xf4][\x80-\xbf]{3}")
 CONTROL = re.compile("[\0-\x08\x0b\x0c\x0e-\x1f\x7f]")
@@ -287,7 +287,7 @@ def main(words):
     except Refused as fault:
         print(f"table-in: {name} {fault}", file=sys.stderr)
         return 1
-    if count > MOST:
-        print(f"table-in: {count} rows, and a table has at most {MOST:,}: tools/scale cuts it", file=sys.stderr)
+    if count > ROWS:
+        print(f"table-in: {count} rows, and a table has at most {ROWS:,}: tools/scale cuts it", file=sys.stderr)
     sys.stdout.write(text)
     return 0

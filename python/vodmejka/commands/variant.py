@@ -11,92 +11,14 @@ than once, is computed, has the value already, or has it by a rule of another ap
 are told on standard error, with the status 1. FOLDER must not exist, and have a name that a list may have; it has its name only once all files stand in it.
 The status is 2 for wrong words, 3 where a file can't be read or written, and 4 where the output is closed.
 """
-import decimal
 import os
-import re
 import shutil
 import sys
 import tempfile
 
-from .. import items, source
-
-NUMBER = re.compile(r"-?([0-9]+)(?:\.[0-9]+)?")
-MOST = 10_000_000_000_000
-NAME_BYTES = 4096
-
-
-class Wrong(Exception):
-    """A change that can't be made."""
-
-
-def spelled(value):
-    """Whether a value is spelled as a number of rules, and not too great."""
-    match = NUMBER.fullmatch(value)
-    return match is not None and len(match[1].lstrip("0")) <= 14 and decimal.Decimal(value).copy_abs() <= MOST
-
-
-def whole(value):
-    """A number in the one spelling that stands for all of its spellings."""
-    sign, digits = ("-", value[1:]) if value.startswith("-") else ("", value)
-    before, _, behind = digits.partition(".")
-    number = f"{before.lstrip('0')}.{behind.rstrip('0')}"
-    return number if number == "." else sign + number
-
-
-def literal_at(file, at):
-    """The number that stands from a token on up to a `;`: its first byte, its end and its spelling; or None."""
-    minus = file.text(at) == "-"
-    number = at + 1 if minus else at
-    if number >= len(file.tokens) or file.tokens[number].kind != "number" or file.text(number + 1) != ";":
-        return None
-    end = file.tokens[number].byte + len(file.text(number))
-    return file.tokens[at].byte, end, ("-" if minus else "") + file.text(number)
-
-
-def is_target(file, at):
-    """Whether a formula or a declaration may begin at a token: what stands before ended something."""
-    return at == 0 or file.text(at - 1) in (";", ":")
-
-
-def places_of(files):
-    """Where names and cells get values: for each the files, with what `literal_at` says of the place, and the byte of the name."""
-    places = {}
-    for file in files:
-        for at, token in enumerate(file.tokens):
-            if token.kind != "word" or not is_target(file, at):
-                continue
-            name, behind = token.text, at + 1
-            if file.text(behind) == "[" and file.text(behind + 2) == "]":
-                name, behind = f"{name}[{file.text(behind + 1)}]", behind + 3
-            elif file.text(behind) == ":" and file.text(behind + 1) == "const":
-                behind += 2
-            if file.text(behind) == "=":
-                is_const = file.text(at + 1) == ":"
-                places.setdefault(name, []).append((file, literal_at(file, behind + 1), token.byte, is_const))
-    return places
-
-
-def counts(file, byte, application):
-    """Whether the formula at a byte is of a rule of an application, and of no chained one."""
-    formulas = items.read(file.bytes)[0].formulas
-    return any(formula.byte == byte and application in formula.applications and not formula.is_chained for formula in formulas)
-
-
-def change_of(places, name, value, application):
-    """The file and the piece of it that a change replaces."""
-    found = places.get(name, [])
-    if not found:
-        raise Wrong(f"{name}: no constant has this name, and no formula")
-    file, piece, byte, is_const = found[0]
-    if len(found) > 1:
-        raise Wrong(f"{name}: it stands at {len(found)} places, first {file.place(byte)}")
-    if piece is None:
-        raise Wrong(f"{name}: it is computed, {file.place(byte)}")
-    if whole(piece[2]) == whole(value):
-        raise Wrong(f"{name}: it is {piece[2]} already, {file.place(byte)}")
-    if not is_const and not counts(file, byte, application):
-        raise Wrong(f"{name}: its formula is of no rule that counts for {application}, so nothing would change, {file.place(byte)}")
-    return file, piece
+from .. import source
+from ..constants import Wrong, change_of, changed, places_of, spelled
+from ..limits import FILE_NAME_BYTES
 
 
 def copy_names(files):
@@ -116,22 +38,13 @@ def copy_names(files):
 def line_of_list(path):
     """The line of a list that names a file."""
     line = os.fsencode(path)
-    if b"\n" in line or b"\r" in line or len(line) > NAME_BYTES:
-        raise Wrong(f"{path!r} is no name for a list: it has line ends, or more than {NAME_BYTES:,} bytes")
+    if b"\n" in line or b"\r" in line or len(line) > FILE_NAME_BYTES:
+        raise Wrong(f"{path!r} is no name for a list: it has line ends, or more than {FILE_NAME_BYTES:,} bytes")
     try:
         line.decode("utf-8")
     except UnicodeDecodeError as fault:
         raise Wrong(f"{path} is no name for a list: it isn't UTF-8") from fault
     return line + b"\n"
-
-
-def changed(text, pieces):
-    """A text with pieces of it replaced: each has its first byte, its end and what stands there now."""
-    parts, at = [], 0
-    for begin, end, value in sorted(pieces):
-        parts += [text[at:begin], value.encode()]
-        at = end
-    return b"".join([*parts, text[at:]])
 
 
 def write_copy(base, pieces, folder):

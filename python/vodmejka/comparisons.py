@@ -1,0 +1,220 @@
+"""What a change of rules does to households: who gains, who loses, what it costs, over groups and tenths, with weights, in exact sums."""
+from __future__ import annotations
+
+import itertools
+from decimal import Decimal
+from fractions import Fraction
+from typing import Any, Iterable, Iterator, Mapping, NamedTuple, Sequence
+
+from .answers import Answer, Over
+from .errors import Refused
+from .expressions import UNIT, Amount, Expression, millionths
+from .groups import Group, gini_of, group_line
+from .rules import Rules
+from .sweeps import exact
+
+TENTH = "tenth:"
+GAINS = ("less", "more")
+
+
+class Compared(NamedTuple):
+    """A household: its number from 0, its weight in millionths, what it is grouped by, `of` before and after and what is kept before and after, in millionths.
+
+    `why` is empty, or says why one of these is no number: `stopped`, `undefined` or `over`."""
+
+    number: int
+    weight: int
+    groups: tuple[Any, ...]
+    before: Fraction | None
+    after: Fraction | None
+    kept: tuple[Fraction | None, Fraction | None]
+    why: str
+
+
+class Comparison:
+    """The outcome of a change.
+
+    `groups` has the group of all households first, named `all`, and then those of each grouping in order; `households` the single ones. `digests` are those of
+    the two sources. Amounts are exact, as decimals; shares and the Gini coefficient are fractions.
+    """
+
+    def __init__(self, of: str, gain: str, net: str | None, by: Sequence[str], households: list[Compared], digests: tuple[str, str]):
+        self.of, self.gain, self.net, self.by, self.households, self.digests = of, gain, net, list(by), households, digests
+        sign = -1 if gain == "less" else 1
+        self.groups = [Group("all", households, sign), *itertools.chain.from_iterable(grouped(households, by, sign))]
+
+    @property
+    def all(self) -> Group:
+        return self.groups[0]
+
+    @property
+    def cost(self) -> Decimal:
+        """What `of` is less after the change than before, over all households by their weights: of a tax what the state loses. With gain="more", as of a
+        benefit, what it is more."""
+        change = self.all.after - self.all.before
+        return exact(change if self.gain == "more" else -change)
+
+    @property
+    def winners(self) -> Decimal:
+        """The weight of the households that gain."""
+        return exact(Fraction(self.all.winners))
+
+    @property
+    def losers(self) -> Decimal:
+        """The weight of the households that lose."""
+        return exact(Fraction(self.all.losers))
+
+    @property
+    def gini(self) -> tuple[Fraction | None, Fraction | None]:
+        """The Gini coefficient before and after: of what is kept where `net` was given, else of `of`. None where the amounts have no sum above 0."""
+        pairs = [(one.weight, one.kept if self.net is not None else (one.before, one.after)) for one in self.households if not one.why]
+        return gini_of([(weight, kept[0]) for weight, kept in pairs]), gini_of([(weight, kept[1]) for weight, kept in pairs])
+
+    @property
+    def table(self) -> Any:
+        """A row for each group, as a frame of pandas where it is installed, else as a list of dicts."""
+        rows = [group_line(group) for group in self.groups]
+        try:
+            import pandas
+        except ImportError:
+            return rows
+        return pandas.DataFrame(rows).set_index("group")
+
+    def __repr__(self) -> str:
+        whole = self.all
+        return f"<Comparison of {self.of}: {whole.households} households, {whole.apart} apart; cost {self.cost}, winners {self.winners}, losers {self.losers}>"
+
+
+def compare(
+    before: Rules, after: Rules, households: Any, *, of: str, weight: str | None = None, by: Sequence[str] = (), net: str | None = None, gain: str = "less",
+    keep: Sequence[str] = (),
+) -> Comparison:
+    """What a change of rules does to households.
+
+    `households` is an iterable of mappings, or a frame, with amounts by codes and further columns: `weight` names one with a weight of 0 or more, `by` has
+    names of columns, or `tenth:NAME` for tenths of the weight by a requested value before the change, or by a code, and `keep` names columns that are passed
+    over. The two may have other inputs, drivers and requested values; a code that one hasn't is left out of its households. `of` is a requested value of both,
+    or a sum as `TOTAL + LEVIES`; `net` a sum of codes and values that says what a household keeps. With gain="less" less of `of` is a gain, as of a tax, with
+    "more" more of it.
+    """
+    if gain not in GAINS:
+        raise ValueError('gain: "less" or "more"')
+    sums = [Expression(text) for text in (of, *([net] if net is not None else []))]
+    codes = [set(before.inputs()), set(after.inputs())]
+    tenths = [name.removeprefix(TENTH) for name in by if name.startswith(TENTH)]
+    for name in tenths:
+        if name not in before.outputs() and name not in codes[0]:
+            raise Refused(f"by: {name} is neither a requested value nor a code of the rules before the change")
+    for base, own in zip((before, after), codes):
+        for name in itertools.chain.from_iterable(sum_.names for sum_ in sums):
+            if name not in base.outputs() and name not in codes[0] | codes[1]:
+                raise Refused(f"{name} is neither a requested value nor a code of the rules; there are {', '.join(base.outputs())}")
+    columns = [name for name in ([weight] if weight is not None else []) + list(by) if not name.startswith(TENTH)]
+    made = list(compared(before, after, codes, rows_of(households, columns, keep, codes), sums, weight, by))
+    return Comparison(of, gain, net, by, made, (before.digest, after.digest))
+
+
+def rows_of(households: Any, columns: Sequence[str], keep: Sequence[str], codes: Sequence[set[str]]) -> Iterator[Mapping[str, Any]]:
+    """The households as mappings, of which each name is a code or a column that is asked for."""
+    known = codes[0] | codes[1] | set(columns) | set(keep)
+    if hasattr(households, "columns") and hasattr(households, "itertuples"):
+        names = [str(name) for name in households.columns]
+        households = (dict(zip(names, row)) for row in households.itertuples(index=False, name=None))
+    for number, household in enumerate(households):
+        unknown = [name for name in household if name not in known]
+        if unknown:
+            raise Refused(f"household {number}: column {unknown[0]!r} is no code of the rules: keep=[{unknown[0]!r}]?")
+        missing = [name for name in columns if name not in household]
+        if missing:
+            raise Refused(f"household {number}: there is no column {missing[0]!r}")
+        yield household
+
+
+def compared(
+    before: Rules, after: Rules, codes: Sequence[set[str]], rows: Iterator[Mapping[str, Any]], sums: Sequence[Expression], weight: str | None, by: Sequence[str]
+) -> Iterator[Compared]:
+    """The households with what they are told by both rules; they are read once, and in step."""
+    own, first, second = itertools.tee(rows, 3)
+    told = zip(before.batch(with_codes(first, codes[0])), after.batch(with_codes(second, codes[1])))
+    for number, (household, answers) in enumerate(zip(own, told)):
+        groups = tuple(group_of(name, household, answers[0], number) for name in by)
+        weighed = UNIT if weight is None else weight_of(number, weight, household[weight])
+        why = next((reason for reason in (reason_of(sums, household, answer) for answer in answers) if reason), "")
+        values = [[None, None]] * len(sums) if why else [[value_of(sum_, household, answer) for answer in answers] for sum_ in sums]
+        kept = values[1] if len(values) > 1 else [None, None]
+        yield Compared(number, weighed, groups, values[0][0], values[0][1], (kept[0], kept[1]), why)
+
+
+def with_codes(rows: Iterable[Mapping[str, Any]], codes: set[str]) -> Iterator[dict[str, Any]]:
+    """The households with the codes of one rule base alone."""
+    return ({name: amount for name, amount in row.items() if name in codes} for row in rows)
+
+
+def amount_in(name: str, household: Mapping[str, Any], answer: Answer) -> Amount:
+    """The amount of a requested value, or of a code: a box that isn't filled is 0."""
+    if name in answer:
+        return millionths(answer[name])
+    given = household.get(name)
+    return Fraction(0) if given is None or given == "" or given != given else Fraction(str(given)) * UNIT
+
+
+def reason_of(sums: Sequence[Expression], household: Mapping[str, Any], answer: Answer) -> str:
+    """Why an answer has no number for one of the sums; nothing where it has."""
+    if answer.stop is not None:
+        return "stopped"
+    values = [sum_.value(lambda name: amount_in(name, household, answer)) for sum_ in sums]
+    return "undefined" if None in values else "over" if any(isinstance(value, Over) for value in values) else ""
+
+
+def value_of(sum_: Expression, household: Mapping[str, Any], answer: Answer) -> Fraction:
+    value = sum_.value(lambda name: amount_in(name, household, answer))
+    assert isinstance(value, Fraction)
+    return value
+
+
+def group_of(name: str, household: Mapping[str, Any], answer: Answer, number: int) -> Any:
+    """What a household is grouped by: the text of a column, or the number by which it is put into tenths; None where that is none."""
+    if not name.startswith(TENTH):
+        return household[name]
+    name = name.removeprefix(TENTH)
+    if answer.stop is not None and name not in household:
+        return None
+    value = amount_in(name, household, answer)
+    return value if isinstance(value, Fraction) else None
+
+
+def weight_of(number: int, name: str, given: Any) -> int:
+    """A weight in millionths."""
+    try:
+        weight = Fraction(str(given)) * UNIT
+    except (ValueError, ZeroDivisionError):
+        raise Refused(f"household {number}: the weight {name} is no number: {given!r}") from None
+    if weight < 0 or weight.denominator != 1:
+        raise Refused(f"household {number}: the weight {name} is below 0, or has more than six decimals: {given}")
+    return int(weight)
+
+
+def grouped(households: Sequence[Compared], by: Sequence[str], sign: int) -> Iterator[list[Group]]:
+    """The groups of each grouping: those of a column in the order in which they are met, those of tenths from the least to the greatest."""
+    for at, name in enumerate(by):
+        found: dict[str, list[Compared]] = {}
+        if name.startswith(TENTH):
+            found = in_tenths(households, at, name.removeprefix(TENTH))
+        else:
+            for one in households:
+                found.setdefault(f"{name} {one.groups[at]}", []).append(one)
+        yield [Group(label, members, sign) for label, members in found.items()]
+
+
+def in_tenths(households: Sequence[Compared], at: int, name: str) -> dict[str, list[Compared]]:
+    """The households by the tenth of the weight in which their own begins, in order of a value; those without one apart."""
+    found: dict[str, list[Compared]] = {f"tenth {k} of {name}": [] for k in range(1, 11)}
+    ordered = sorted((one for one in households if one.groups[at] is not None), key=lambda one: one.groups[at])
+    whole, passed = sum(one.weight for one in ordered), 0
+    for one in ordered:
+        found[f"tenth {min(9, passed * 10 // whole) + 1 if whole else 1} of {name}"].append(one)
+        passed += one.weight
+    apart = [one for one in households if one.groups[at] is None]
+    if apart:
+        found[f"no {name}"] = apart
+    return found

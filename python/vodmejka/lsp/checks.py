@@ -1,0 +1,219 @@
+"""The faults of names and loops of a piece within its rule base, and its slips: what the language permits and an analyst never means."""
+from __future__ import annotations
+
+from collections.abc import Iterable, Iterator, Mapping
+from typing import Any, NamedTuple
+
+from .. import faults, items, loops, source
+from ..commands import slips
+from ..limits import TABLE_CELLS
+from .base import Base, Cell, names_of
+from .pieces import Check, Formula, Piece, PieceReader, headers_of
+
+ERROR, WARNING, INFORMATION, HINT = 1, 2, 3, 4
+
+
+class Finding(NamedTuple):
+    """What is told of some bytes, which count from the begin of a piece: how grave it is, what the program calls it, and a token that stands for it."""
+
+    begin: int
+    end: int
+    severity: int
+    what: str
+
+
+class Declared(Mapping[str, items.Declaration]):
+    """The variables of a base by their names: of several declarations the first."""
+
+    def __init__(self, base: Base) -> None:
+        self.base = base
+
+    def __contains__(self, name: object) -> bool:
+        return name in self.base.variables
+
+    def __getitem__(self, name: str) -> items.Declaration:
+        declared = self.base.declared(name)
+        if declared is None:
+            raise KeyError(name)
+        return declared
+
+    def __iter__(self) -> Iterator[str]:
+        return iter(self.base.variables)
+
+    def __len__(self) -> int:
+        return len(self.base.variables)
+
+
+class Done:
+    """The cells that formulas before a piece set, and those that the piece sets."""
+
+    def __init__(self, base: Base, piece: Piece) -> None:
+        self.base, self.piece, self.own = base, piece, set[Cell]()
+
+    def __contains__(self, cell: Cell) -> bool:
+        name, number = cell
+        if cell in self.own:
+            return True
+        others = self.base.setters.of(cell)
+        if number is not None:
+            others = [*others, *self.base.setters.of((name, "X"))]
+        if len(others) < 2:
+            return False
+        mine = self.base.order(self.piece)
+        return any(self.base.counts(other) and self.base.order(other) < mine for other in others)
+
+    def update(self, cells: Iterable[Cell]) -> None:
+        self.own.update(cells)
+
+
+class Checker(faults.Names):
+    """Looks for the faults of the pieces of a base."""
+
+    variables: Any
+    errors: Any
+    files: Any
+    done: Any
+
+    def __init__(self, base: Base, set_by_driver: set[Cell] | None = None) -> None:
+        self.base, self.variables, self.errors, self.files = base, Declared(base), base.errors, self
+        self.set_by_driver = set_by_driver or set()
+        self.told: list[tuple[int, str]] = []
+
+    def findings(self, piece: Piece) -> list[Finding]:
+        """The faults of a piece, and where it has none its slips."""
+        self.told, item = [], piece.item
+        slipped: list[Finding] = []
+        if isinstance(item, items.Declaration):
+            self.look_at_declaration(piece, item)
+            slipped = [] if self.told else list(self.slips_of_declaration(piece, item))
+        elif isinstance(item, (Formula, Check)) and self.base.counts(piece):
+            self.look_at_loops(piece)
+            if isinstance(item, Formula):
+                self.done = Done(self.base, piece)
+                self.look_at_target("", b"", item)
+            elif item.error not in self.errors and item.error not in self.base.maybe and not self.base.missing:
+                self.told.append((item.error_byte, f"unknown error {item.error}"))
+            self.look_at_reads(piece)
+            slipped = [] if self.told else list(slips_of_reads(self.base, piece))
+        return [self.finding(piece, byte, what) for byte, what in self.told] + slipped
+
+    def finding(self, piece: Piece, byte: int, what: str) -> Finding:
+        return Finding(byte, byte + token_length(piece, byte), ERROR, what)
+
+    def add(self, _name: str, _content: bytes, byte: int, what: str) -> None:
+        """What the library tells of a piece. That a name is unknown isn't sure where a piece with faults may declare it, or a file can't be read."""
+        if what.startswith("unknown name ") and (self.base.missing or what.split(" ")[2] in self.base.maybe):
+            return
+        self.told.append((byte, what))
+
+    def look_at_declaration(self, piece: Piece, item: items.Declaration) -> None:
+        base = self.base
+        of_kind = base.errors if item.kind in items.KINDS_OF_ERRORS else base.variables
+        if base.first(of_kind.of(item.name)) is not piece:
+            self.told.append((item.byte, f"declared twice {item.name}"))
+        elif item.code is not None and base.first(base.codes.of(item.code)) is not piece:
+            self.told.append((item.byte, f"alias twice {item.code}"))
+        elif item.size is not None and not 1 <= item.size <= TABLE_CELLS:
+            self.told.append((item.byte, "table size"))
+
+    def look_at_loops(self, piece: Piece) -> None:
+        if any(loops.header_faults(header) for header in headers_of(piece)):
+            self.told += faults_of_headers(piece)
+
+    def look_at_reads(self, piece: Piece) -> None:
+        for word, index, byte, round_it in piece.reads:
+            for one in names_of(word, round_it):
+                what = None if one.isdigit() and index is None else self.name_fault(one, index is not None)
+                if what is not None:
+                    self.add("", b"", byte, what)
+                    break
+
+    def slips_of_declaration(self, piece: Piece, item: items.Declaration) -> Iterator[Finding]:
+        for word, number in item.attributes:
+            if word == "restituee" and number is not None:
+                at = piece.text.content.index(b"restituee", piece.begin + item.byte) - piece.begin
+                yield Finding(at, at + len(word), WARNING, f"restituee = {number} returns nothing, of {item.name}")
+        if item.kind != "calculee":
+            return
+        end = item.byte + len(item.name)
+        cells: Iterable[int | None] = range(item.size) if item.size is not None else [None]
+        bare = [cell for cell in cells if not self.is_set(item.name, cell)]
+        if not bare:
+            return
+        read = self.cells_read(item)
+        if item.size is None:
+            if (item.name, None) in read:
+                yield Finding(item.byte, end, INFORMATION, f"{item.name} is read, and nothing sets it: it is undefined")
+            return
+        idle = [cell for cell in bare if (item.name, cell) not in read]
+        if idle and (len(bare) < item.size or len(idle) < len(bare)):
+            shown = ", ".join(f"{item.name}[{cell}]" for cell in idle[:5])
+            yield Finding(item.byte, end, WARNING, f"nothing sets {shown}{' ..' if len(idle) > 5 else ''}, {len(idle)} of {item.size} cells")
+
+    def is_set(self, name: str, cell: int | None) -> bool:
+        places: list[Cell] = [(name, cell)] if cell is None else [(name, cell), (name, "X")]
+        return (name, cell) in self.set_by_driver or any(self.base.counts(piece) for place in places for piece in self.base.setters.of(place))
+
+    def cells_read(self, item: items.Declaration) -> set[Cell]:
+        """The cells of a variable that something reads that counts."""
+        found: set[Cell] = set()
+        for piece in self.base.readers.of(item.name):
+            if self.base.counts(piece):
+                for word, index, _, round_it in piece.reads:
+                    for letters in loops.instances(round_it, [word, *(slips.words_of(index) or [] if index else [])]):
+                        if loops.replaced(word, letters) == item.name:
+                            found.update(slips.cells_read(item.name, item.size, index, letters))
+        return found
+
+
+def slips_of_reads(base: Base, piece: Piece) -> Iterator[Finding]:
+    """Indexes that are a number, also one of a loop, and no cell of the table."""
+    for word, index, byte, round_it in piece.reads:
+        words = None if index is None else slips.words_of(index)
+        if words is None:
+            continue
+        for letters in loops.instances(round_it, [word, *words]):
+            name = loops.replaced(word, letters)
+            number = slips.number_of(index, letters)
+            declared = base.declared(name)
+            size = declared.size if declared else None
+            if number is not None and size is not None and not -1 < number < size:
+                what = "is undefined" if number > 0 else "is 0"
+                yield Finding(byte, byte + len(word), WARNING, f"{name}[{int(number)}] is past the table, which has {size} cells, and {what}")
+                break
+
+
+class HeaderReader(PieceReader):
+    """Reads a piece again, and keeps the bytes of the letters of each header."""
+
+    def __init__(self, piece: Piece) -> None:
+        self.headers: list[tuple[Any, list[int]]] = []
+        self.letters: list[int] = []
+        super().__init__(piece.text, piece.begin, piece.state)
+
+    def forget(self) -> None:
+        super().forget()
+        self.headers.clear()
+
+    def letter(self) -> str:
+        self.letters.append(self.peek().byte)
+        return str(super().letter())
+
+    def header(self) -> Any:
+        letters: list[int] = []
+        self.letters = letters
+        found = super().header()
+        self.headers.append((found, letters))
+        return found
+
+
+def faults_of_headers(piece: Piece) -> list[tuple[int, str]]:
+    reader = HeaderReader(piece)
+    reader.next()
+    return [(letters[k] - piece.begin, what) for header, letters in reader.headers for k, what in loops.header_faults(header)]
+
+
+def token_length(piece: Piece, byte: int) -> int:
+    """How long the token at a byte of a piece is."""
+    found = source.GAP_OR_TOKEN.match(piece.text.content, piece.begin + byte)
+    return len(found[0]) if found else 1

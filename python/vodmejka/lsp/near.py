@@ -1,0 +1,33 @@
+"""Names that are nearly a given one: by one letter more, less, other or exchanged, else alike in most."""
+from __future__ import annotations
+
+import difflib
+from collections.abc import Iterable, Iterator
+
+LETTERS = "ABCDEFGHIJKLMNOPQRSTUVWXYZ0123456789_abcdefghijklmnopqrstuvwxyz"
+MOST = 3
+MOST_COMPARED = 2_000
+
+
+def near(name: str, names: Iterable[str]) -> list[str]:
+    """At most MOST of the names, the likeliest first; the name itself is none of them."""
+    known = set(names)
+    found = [other for other in dict.fromkeys(edits(name)) if other in known and other != name]
+    if not found:
+        alike = [other for other in known if abs(len(other) - len(name)) <= 3 and (other[:1] == name[:1] or other[-2:] == name[-2:])]
+        found = difflib.get_close_matches(name, sorted(alike)[:MOST_COMPARED], MOST, 0.7)
+    return found[:MOST]
+
+
+def edits(name: str) -> Iterator[str]:
+    """The names one edit away, those first that a slip makes most often."""
+    yield name.upper()
+    yield name.lower()
+    for at in range(len(name) - 1):
+        yield name[:at] + name[at + 1] + name[at] + name[at + 2 :]
+    for at in range(len(name)):
+        yield name[:at] + name[at + 1 :]
+    for at in range(len(name) + 1):
+        for letter in LETTERS:
+            yield name[:at] + letter + name[at:]
+            yield name[:at] + letter + name[at + 1 :]

@@ -1,0 +1,126 @@
+"""What rules give along one amount of a household: every amount of a range, by one or several rule bases."""
+from __future__ import annotations
+
+from decimal import Decimal
+from fractions import Fraction
+from typing import Iterable, Mapping, NamedTuple, Sequence, Union
+
+from .answers import Over, Stop, Value
+from .errors import Refused, Stopped
+from .expressions import UNIT, Amount, Expression, millionths
+from .program import Amount as Given
+from .rules import Rules
+
+Number = Union[int, str, Decimal]
+Along = Sequence[Union[Mapping[str, Amount], Stop]]
+"""For each amount the values by their names, or the stop."""
+
+
+class Drop(NamedTuple):
+    """An amount at which what is kept is less than at the amount before it, and by how much: a number below 0."""
+
+    amount: Decimal
+    change: Decimal
+
+
+class Sweep:
+    """The answers along an amount.
+
+    `amounts` has the amounts in order, `values[k]` the values of `of` by the rule base number k, `digests` those of the rule bases. A household that is stopped
+    at some amount is an error, `Stopped`, unless it is made with `stops="keep"`: then its value is the `Stop`.
+    """
+
+    def __init__(self, code: str, of: str, amounts: Sequence[Decimal], answers: Sequence[Along], digests: Sequence[str]):
+        self.code, self.of, self.amounts, self.digests = code, of, list(amounts), list(digests)
+        self._answers = answers
+        self.values = [[told if isinstance(told, Stop) else decimal_of(told[of]) for told in column] for column in answers]
+
+    def __repr__(self) -> str:
+        return f"<Sweep of {self.of} along {self.code}: {len(self.amounts)} amounts from {self.amounts[0]} to {self.amounts[-1]}, {len(self.values)} rule bases>"
+
+    def net(self, net: str, base: int = -1) -> list[Value]:
+        """What is kept at each amount by a rule base, as `1AJ - TOTAL`; undefined where the household is stopped."""
+        return [decimal_of(amount) for amount in self._kept(Expression(net), base)]
+
+    def drops(self, net: str, base: int = -1) -> list[Drop]:
+        """The amounts at which what is kept falls though the amount rises, by a rule base (the last one, unless another is named). Amounts beside one at
+        which what is kept is no number are left out."""
+        kept = self._kept(Expression(net), base)
+        found = []
+        for before, now, amount in zip(kept, kept[1:], self.amounts[1:]):
+            if isinstance(before, Fraction) and isinstance(now, Fraction) and now < before:
+                found.append(Drop(amount, exact(now - before)))
+        return found
+
+    def rates(self, base: int = -1) -> list[tuple[Decimal, Fraction | None, Fraction | None]]:
+        """For each amount what one more unit up to it adds to `of` (the marginal rate), and `of` over the amount (the mean rate); None where there is none."""
+        values = [None if isinstance(told, Stop) else told[self.of] for told in self._answers[base]]
+        rows = []
+        for at, amount in enumerate(self.amounts):
+            now, marginal, mean = values[at], None, None
+            if isinstance(now, Fraction):
+                before = values[at - 1] if at else None
+                step = amount - self.amounts[at - 1] if at else Decimal(0)
+                marginal = (now - before) / UNIT / Fraction(step) if isinstance(before, Fraction) and step else None
+                mean = now / UNIT / Fraction(amount) if amount else None
+            rows.append((amount, marginal, mean))
+        return rows
+
+    def _kept(self, net: Expression, base: int) -> list[Amount]:
+        kept: list[Amount] = []
+        for amount, told in zip(self.amounts, self._answers[base]):
+            if isinstance(told, Stop):
+                kept.append(None)
+                continue
+            unknown = [name for name in net.names if name != self.code and name not in told]
+            if unknown:
+                raise Refused(f"{net.text!r}: {unknown[0]} is neither a requested value nor a code of the household")
+            own = Fraction(amount) * UNIT
+            kept.append(net.value(lambda name: own if name == self.code else told[name]))
+        return kept
+
+
+def sweep(
+    rules: Rules | Sequence[Rules], household: Mapping[str, Given], code: str, amounts: Iterable[Number], of: str, *, stops: str = "raise"
+) -> Sweep:
+    """What rules give to a household as one code goes through amounts in rising order. `of` is a requested value; all requested values and the household's
+    other amounts may stand in expressions of the result."""
+    bases = [rules] if isinstance(rules, Rules) else list(rules)
+    along = [Decimal(str(amount)) for amount in amounts]
+    if not along or any(now <= before for before, now in zip(along, along[1:])):
+        raise ValueError("amounts: one or more, each greater than the one before it")
+    if stops not in ("raise", "keep"):
+        raise ValueError('stops: "raise" or "keep"')
+    others = {name: Fraction(str(amount)) * UNIT for name, amount in household.items() if name != code and amount not in (None, "")}
+    columns = [answers_along(base, household, code, along, of, others, stops) for base in bases]
+    return Sweep(code, of, along, columns, [base.digest for base in bases])
+
+
+def answers_along(
+    rules: Rules, household: Mapping[str, Given], code: str, amounts: Sequence[Decimal], of: str, others: Mapping[str, Fraction], stops: str
+) -> list[Mapping[str, Amount] | Stop]:
+    """For each amount the requested values with the household's other amounts, or the stop."""
+    if of not in rules.outputs():
+        raise Refused(f"{of} is no requested value of the rules; there are {', '.join(rules.outputs())}")
+    told: list[Mapping[str, Amount] | Stop] = []
+    for amount, answer in zip(amounts, rules.batch([{**household, code: amount} for amount in amounts])):
+        if answer.stop is None:
+            told.append({**others, **{name: millionths(value) for name, value in answer.items()}})
+        elif stops == "raise":
+            raise Stopped(f"{code} = {amount}: {answer.stop.line}")
+        else:
+            told.append(answer.stop)
+    return told
+
+
+def exact(amount: Fraction) -> Decimal:
+    """A number of millionths as a decimal; a part of a millionth is rounded, halves away from zero."""
+    whole = abs(amount)
+    rounded = (2 * whole.numerator + whole.denominator) // (2 * whole.denominator)
+    made = Decimal(rounded if amount >= 0 else -rounded).scaleb(-6)
+    return made.quantize(Decimal(1)) if made == made.to_integral_value() else made.normalize()
+
+
+def decimal_of(amount: Amount) -> Value:
+    """A number of millionths as a value."""
+    return amount if amount is None or isinstance(amount, Over) else exact(amount)

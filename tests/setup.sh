@@ -1,0 +1,8 @@
+#!/bin/sh
+# Installs the Debian packages that some tests use; without one its tests are left out, with a line that says so. As root: tests/setup.sh
+set -eu
+apt-get update -qq
+# tests/web: node runs the modules of pages, chromium with its driver opens them
+apt-get install -y --no-install-recommends nodejs chromium chromium-driver
+# tests/tools/lsp_neovim.sh: a real client of the language server
+apt-get install -y --no-install-recommends neovim
