@@ -1,12 +1,16 @@
 """Shows why a variable has its value, as a tree: each value with those that it was computed from, down to what was declared.
 
     why LIST HOUSEHOLD NAME [--depth N] [--only-nonzero] [--against OTHER] [--html FILE [--open]] [--report]
+    why LIST HOUSEHOLD NAME --driver DRIVER [--depth N] [--only-nonzero]
 
 NAME is a variable, or a cell of a table as T[3]. The values are what the program computes at one call of the rules, without a driver, and `check` looks at
 the report of them before anything is shown. For each value it shows what the declaration says of it, the formula as the rule file has it, and
 its file, line and rule. A value that was shown above is named again without what stands below it. --depth shows so many levels, --only-nonzero leaves
 out what is undefined or 0. --against shows what differs for the household OTHER: the values that are others there, with both. --report prints the lines of the report alone, for `check`. --html writes a page of its own, without scripts,
 that folds and unfolds in any browser; --open unfolds all of it, and printed it is whole.
+
+With --driver the value is the one after a run by the driver: it says which command gave it, goes on with what that read, into functions and partitions and
+the branches that were taken, and shows the tree of each call of the rules that it comes to.
 
 Of a formula the letters of loops are filled in, and it says which cells of tables and which branches were taken. Where a verification stops the call, that
 comes first, with its condition and the values that this reads, and the status is 1.
@@ -23,6 +27,7 @@ import tempfile
 sys.dont_write_bytecode = True
 from .. import reasons, runs, source
 from ..copies import Copies, Stopped, Wrong
+from ..driver_trace import Driver, Trace, cells_of, last
 from ..loops import reads_of
 from ..taken import told
 
@@ -32,12 +37,12 @@ summary{cursor:pointer}.leaf{padding-left:1em}b{font-family:monospace}.said{colo
 @media print{details::details-content{content-visibility:visible;block-size:auto}details:not([open])>*{display:block}}"""
 
 
-WORDS = "words: why LIST HOUSEHOLD NAME [--depth N] [--only-nonzero] [--against OTHER] [--html FILE [--open]] [--report]; see --help"
+WORDS = "words: why LIST HOUSEHOLD NAME [--depth N] [--only-nonzero] [--against OTHER] [--html FILE [--open]] [--report], or --driver DRIVER; see --help"
 
 
 def options(words):
     """The three words, and what the options say."""
-    told_words, found = [], {"--depth": None, "--html": None, "--against": None, "--only-nonzero": False, "--report": False, "--open": False}
+    told_words, found = [], {"--depth": None, "--html": None, "--against": None, "--driver": None, "--only-nonzero": False, "--report": False, "--open": False}
     while words:
         word = words.pop(0)
         if word in found and isinstance(found[word], bool):
@@ -52,6 +57,8 @@ def options(words):
         raise Wrong(WORDS, 2)
     if found["--depth"] is not None and not re.fullmatch("[1-9][0-9]{0,5}", found["--depth"]):
         raise Wrong(f"--depth wants a number from 1 on, and not {found['--depth']}", 2)
+    if found["--driver"] is not None and (found["--html"] or found["--against"] or found["--report"]):
+        raise Wrong("--driver shows a tree alone, and neither a page, a report nor what differs", 2)
     return told_words, found
 
 
@@ -161,6 +168,72 @@ def as_text(tree, root):
             yield "  " * level + "    " + "   ".join(part for part in (formula, f"({place})") if part)
 
 
+class Steps:
+    """Shows why a cell has its value behind a driver: the commands that gave it, and of each call of the rules the tree."""
+
+    def __init__(self, trace, name, driver_name, found):
+        self.trace, self.name, self.driver, self.found, self.shown = trace, name, driver_name, found, set()
+
+    def lines(self):
+        main = self.trace.driver.functions["main"]
+        body, head = self.trace.follow(main.block, [], None, "")
+        real = self.trace.copies.values([self.name])[self.name]
+        if self.trace.values(body, [self.name])[self.name] != real:
+            raise Wrong(f"the commands that were followed come to another value of {self.name} than the driver's run, {real}")
+        yield from self.of(self.name, last(self.name, head), body, 0)
+
+    def of(self, cell, event, body, level):
+        """The lines of a cell whose value an event gave; without one it has what it had at the start."""
+        indent, value = "  " * level, self.trace.values(body if event is None else self.trace.after(event), [cell])[cell]
+        what = self.trace.rules.description(cell)
+        head = "   ".join(filter(None, (f"{cell} {value}", what)))
+        key = (cell, None if event is None else (event.command.number, event.where, tuple(event.before)))
+        if event is None:
+            yield f"{indent}{head}"
+            yield f"{indent}    ({self.trace.rules.role(cell)})"
+            return
+        yield f"{indent}{head}" if key not in self.shown else f"{indent}{cell} {value}   as above"
+        if key in self.shown:
+            return
+        self.shown.add(key)
+        yield f"{indent}    {event.command.text}   ({self.driver} line {event.command.number}{event.where})"
+        kind = event.command.said[0]
+        if kind == "set":
+            for other in cells_of(event.command):
+                yield from self.of(other, last(other, event.history), event.before, level + 1)
+        elif kind == "call" and event.command.said[2] != "call_m":
+            inner = self.trace.inside(event)
+            yield from self.of(cell, inner, event.before, level + 1)
+        elif kind == "call":
+            yield from (f"{indent}  {line}" for line in self.call(cell, event))
+
+    def call(self, cell, event):
+        """The tree of a cell at a call of the rules."""
+        rules = self.trace.rules
+        cells = cells_needed(rules, cell)
+        received = [one for one in cells if one in rules.formulas]
+        body = [*event.before, f"  {', '.join(received)} <- call_m()"] if received else event.before
+        lines = self.trace.values(body, cells)
+        self.look_at(cells, lines, event)
+        yield from as_text(Tree(rules, lines, self.found), cell)
+
+    def look_at(self, cells, lines, event):
+        """Has `check` look at the values, where those that no rule sets are of inputs and constants alone."""
+        rules, copies = self.trace.rules, self.trace.copies
+        given = [(rules.variables[cell].code, lines[cell]) for cell in cells if cell in rules.variables and rules.variables[cell].kind == "saisie"]
+        other = [cell for cell in cells if cell not in rules.formulas and last(cell, event.history) is not None
+                 and rules.variables[cell.split("[")[0]].kind == "calculee"]
+        if other or any(value == "over" for _, value in given):
+            source.say(f"the values at line {event.command.number} are not looked at by check: the driver sets {', '.join(other) or 'an input'} before")
+            return
+        household = "code,amount\n" + "".join(f"{code},{value[2:]}\n" for code, value in given if value.startswith("= "))
+        path = copies.put("there.csv", household.encode("latin-1"))
+        report_path = copies.put("report.txt", "".join(f"{cell} {value}\n" for cell, value in lines.items()).encode("latin-1"))
+        said, status = copies.ask("check", copies.list, path, report_path)
+        if (said, status) != (b"sound\n", 0):
+            raise Wrong(f"check of the report at line {event.command.number} says {runs.fault_of(said, status)}")
+
+
 def as_page(tree, root, words, is_open, stop):
     """The tree as a page."""
     title = html.escape(f"{root} {tree.lines[root]}")
@@ -210,9 +283,26 @@ def look_at_page(page, read):
         raise Wrong(f"{page} is read, and would be lost", 2)
 
 
+def show_driver(rules, words, found):
+    """Shows why a cell has its value behind a driver."""
+    content = source.fetch(found["--driver"])
+    with tempfile.TemporaryDirectory() as room:
+        copies = Copies(rules, source.fetch(words[1]), room, content)
+        try:
+            lines = list(Steps(Trace(rules, copies, Driver(content)), words[2], found["--driver"], found).lines())
+        except Stopped as stop:
+            for line in told_stop(rules, copies, stop):
+                print(line)
+            return 1
+    print("\n".join(lines))
+    return 0
+
+
 def show(words, found):
     """Shows what the words ask for, and answers the status."""
     rules, page, against = reasons.Rules(words[0]), found["--html"], found["--against"]
+    if found["--driver"] not in (None, "-"):
+        return show_driver(rules, words, found)
     if page is not None:
         look_at_page(page, [*words[:2], *([against] if against else []), *(name for name, _ in rules.contents)])
     lines, stop = report(rules, *words[1:])
