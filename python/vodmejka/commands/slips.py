@@ -215,7 +215,8 @@ def slips_of_uses(bases, named_drivers):
     readers = {file.name: (file, reader) for base in bases for file, reader in base.readers}.values()
     applications = {base.source.application for base in bases}
     yield from slips_of_use.slips_of_words(files)
-    yield from slips_of_use.slips_of_numbers(files, applications)
+    for base in bases:
+        yield from slips_of_use.slips_of_numbers(base.source.files, {base.source.application})
     for file, reader in readers:
         yield from slips_of_use.slips_of_letters(file, reader)
     constants = {variable.name: Fraction(variable.told) for file in files for variable in file.variables if variable.kind == "const" and variable.told}
