@@ -37,7 +37,8 @@ export class Law {
     const [, number, tree] = this.data.cells[this.places.get(cell)] ?? [];
     if (number === undefined) return null;
     const [text, file, line, rule, comments] = this.data.formulas[number];
-    return { text, file, line, rule, comments, tree };
+    const heading = this.data.headings[file] ?? '';
+    return { text, file, line, rule, comments: heading === '' ? comments : [heading, ...comments], tree };
   }
 
   // What the rules with the driver give: a stop or none, the notes, and the values that are asked for.

@@ -156,6 +156,7 @@ class Law:
             "variables": dict(self.variables()),
             "errors": dict(error for passages in self.passages.values() for error in passages.errors()),
             "pure": self.is_pure(),
+            "headings": {shown(self.files.names[path]): passages.heading() for path, passages in self.passages.items()},
             "origins": {name: self.origins.of(name) for name in self.asked} if self.origins else {},
             "files": [[shown(name), digest] for name, digest in self.files.contents],
             "digest": hashlib.sha256(self.code.encode("latin-1")).hexdigest(),

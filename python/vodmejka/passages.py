@@ -76,6 +76,11 @@ class Passages:
         number = "".join(token.text for token in tokens[4:-1]) if tokens[2].text == "const" else ""
         return [texts[-1] if texts else "", word, number, self.comments_at(byte)]
 
+    def heading(self):
+        """The comment with which the file begins, which may name the article that all of it is of."""
+        texts = self.comments.texts
+        return " ".join(texts[line] for line in range(1, self.comments.heading + 1) if texts[line])
+
     def errors(self):
         """The errors that are declared: the name and the text for people, which is the fourth."""
         for k, token in enumerate(self.tokens[:-3]):

@@ -43,7 +43,7 @@ for cell in law["cells"]:
 for formula in law["formulas"]:
     print("formula", *formula, sep=" | ")
 print("variables", sorted(law["variables"]), law["variables"]["A"], law["variables"]["TX"][4])
-print("errors", law["errors"], "pure", law["pure"], "groups", data["groups"], "main", data["main"])
+print("errors", law["errors"], "pure", law["pure"], "headings", law["headings"], "groups", data["groups"], "main", data["main"])
 def told(origin, level):
     print("  " * level, origin["line"], origin["text"], origin["by"], origin["cell"], origin.get("hidden", ""), origin["blocks"])
     for below in origin.get("below", ()):
