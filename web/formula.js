@@ -109,7 +109,9 @@ export class Shown {
 
   // Whether an index has no cell in it: it is the same for each household.
   isFixed(tree) {
-    return typeof tree === 'string' || (Array.isArray(tree) && tree[0] !== '[]' && tree.slice(2).every((each) => this.isFixed(each)));
+    if (!Array.isArray(tree)) return typeof tree === 'string';
+    const [sign, , ...rest] = tree;
+    return sign !== '[]' && rest.every((each) => this.isFixed(sign === 'somme' ? each[1] : each));
   }
 
   // What a value was taken from, along the branches that were taken: choices, reads of tables, terms of sums, and the cells in the order in which they are met.
