@@ -135,7 +135,8 @@ class Checker(faults.Names):
                 yield Finding(at, at + len(word), WARNING, f"restituee = {number} returns nothing, of {item.name}")
         for word, number in item.attributes:
             if word != "restituee" and number is None and distance(word, "restituee", 1) <= 1:
-                yield Finding(item.byte, item.byte + len(item.name), WARNING, f"the attribute {word} of {item.name} isn't restituee, and returns nothing")
+                at = piece.text.content.index(word.encode(), piece.begin + item.byte + len(item.name)) - piece.begin
+                yield Finding(at, at + len(word), WARNING, f"the attribute {word} of {item.name} isn't restituee, and returns nothing")
         if item.type is not None and item.type not in TYPES:
             what = f"the type {item.type} of {item.name} is none of {', '.join(TYPES)}, and says nothing"
             yield Finding(item.byte, item.byte + len(item.name), WARNING, what)
