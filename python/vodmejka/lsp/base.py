@@ -67,7 +67,7 @@ class Base:
         return self.texts[piece.text], piece.begin
 
     def first(self, pieces: list[Piece]) -> Piece | None:
-        return min(pieces, key=self.order) if pieces else None
+        return min(pieces, key=self.order) if len(pieces) > 1 else pieces[0] if pieces else None
 
     def declared(self, name: str) -> items.Declaration | None:
         """The first declaration of a variable."""

@@ -6,7 +6,9 @@ from typing import Any, NamedTuple
 
 from .. import faults, items, loops, source
 from ..commands import slips
+from ..hints import distance
 from ..limits import TABLE_CELLS
+from ..slips_of_use import TYPES
 from .base import Base, Cell, names_of
 from .pieces import Check, Formula, Piece, PieceReader
 
@@ -131,6 +133,13 @@ class Checker(faults.Names):
             if word == "restituee" and number is not None:
                 at = piece.text.content.index(b"restituee", piece.begin + item.byte) - piece.begin
                 yield Finding(at, at + len(word), WARNING, f"restituee = {number} returns nothing, of {item.name}")
+        for word, number in item.attributes:
+            if word != "restituee" and number is None and distance(word, "restituee", 1) <= 1:
+                at = piece.text.content.index(word.encode(), piece.begin + item.byte + len(item.name)) - piece.begin
+                yield Finding(at, at + len(word), WARNING, f"the attribute {word} of {item.name} isn't restituee, and returns nothing")
+        if item.type is not None and item.type not in TYPES:
+            what = f"the type {item.type} of {item.name} is none of {', '.join(TYPES)}, and says nothing"
+            yield Finding(item.byte, item.byte + len(item.name), WARNING, what)
         if item.kind != "calculee":
             return
         end = item.byte + len(item.name)

@@ -16,8 +16,9 @@ from ..limits import BRACKET_DEPTH
 from .texts import Text
 
 BLOCK = 1_000  # how many tokens are taken in at once
-AHEAD = 3  # how many tokens behind a piece may say how it is read
-BEHIND = 3  # how many pieces before an edit it may change
+AHEAD = 4  # how many tokens behind a piece may say how it is read
+BEHIND = 4  # how many pieces before an edit it may change
+RECURSION = 20_000  # calls within calls, for brackets within brackets
 AT_ONCE = 2_000  # how many pieces are read again before an edit is answered; the others follow
 QUOTE_OR_COMMENT = re.compile(rb'"[^"]*"|#[^\n]*|"')
 DEEPER = {"(": 1, "[": 1, "si": 1, ")": -1, "]": -1, "finsi": -1, "erreur": -1}
@@ -89,6 +90,7 @@ class PieceReader(items.RuleReader):
 
     def __init__(self, text: RuleText, begin: int, state: State) -> None:
         super().__init__([])
+        sys.setrecursionlimit(max(sys.getrecursionlimit(), RECURSION))
         self.text, self.begin = text, begin
         self.byte, self.block, self.is_last, self.is_done = begin, BLOCK, False, False
         self.byte_faults: list[items.Fault] = []
@@ -134,6 +136,7 @@ class PieceReader(items.RuleReader):
     def forget(self) -> None:
         for found in (self.formulas, self.checks, self.declarations, self.errors, self.faults):
             found.clear()
+        self.kinds_of_errors.clear()
         self.cell_numbers.clear()
         self.has_bad_header = False
 
