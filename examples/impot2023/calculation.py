@@ -1,76 +1,153 @@
 """The tax on the incomes of 2023 a second time, from the articles of the code général des impôts, in exact fractions.
 
-It knows nothing of the rule files: the scale is applied to the income for one part, as article 197 words it. `Law` has the two figures that
-examples/reform2023 changes.
+It knows nothing of the rule files: the scale is applied to the income for one part, as article 197 words it, and children are counted one by one. The
+verifications stand in verifications.py.
 """
-from dataclasses import dataclass, replace
+from dataclasses import dataclass
 from fractions import Fraction
-from math import floor
+
+from household import CREDITS, OF_2023, PERSONS, REDUCTIONS, millionths, nearest, once, per_cent
+
+# Incomes
 
 
-@dataclass(frozen=True)
-class Law:
-    """What the example of a reform changes: where the rate of 30 % begins, and the greatest advantage of a half part."""
-
-    begin_of_30: int = 28797
-    half_part: int = 1759
-
-    def scale(self):
-        """197 I 1: thresholds for one part, each with the rate above it."""
-        return [(11294, Fraction(11, 100)), (self.begin_of_30, Fraction(30, 100)), (82341, Fraction(41, 100)), (177106, Fraction(45, 100))]
+def salary(household, person):
+    """Wages and unemployment benefits are one income (79)."""
+    return household[person.wages] + household[person.unemployment]
 
 
-OF_2023 = Law()
+def net_salary(household, person):
+    """Less real expenses where there are any, else ten per cent, at least 495 and at most the income, at most 14,171 (83 3°)."""
+    gross = salary(household, person)
+    if household[person.expenses] > 0:
+        return gross - household[person.expenses]
+    return gross - min(Fraction(14171), max(gross / 10, min(Fraction(495), gross)))
 
 
-@dataclass
-class Household:
-    couple: bool = False
-    box_t: bool = False
-    children: int = 0
-    wages: tuple = (0, 0)
-    pensions: tuple = (0, 0)
-    gifts_to_aid: int = 0
-    other_gifts: int = 0
+def net_pensions(household):
+    """Less ten per cent, at least 442 for a person and at most the pension, at most 4,321 for a household (158 5 a)."""
+    pensions = [household[person.pensions] for person in PERSONS]
+    return sum(pensions) - min(Fraction(4321), sum(max(pension / 10, min(Fraction(442), pension)) for pension in pensions))
 
 
-def nearest(amount):
-    """To the nearest unit, a half up (1657)."""
-    return floor(amount + Fraction(1, 2))
+def by_scale(household, law):
+    """Whether dividends and interest are taxed by the scale: the option of 200 A 2."""
+    return law.capital_by_scale or household["2OP"] == 1
 
 
-def wage_deduction(wage):
-    """Ten per cent, at least 495 and at most the wage, at most 14,171 (83 3°)."""
-    return min(Fraction(14171), max(Fraction(wage, 10), Fraction(min(495, wage))))
+def capital(household):
+    return household["2DC"] + household["2TR"]
 
 
-def pension_deduction(pensions):
-    """Ten per cent, at least 442 for a person and at most the pension, at most 4,321 for a household (158 5 a)."""
-    of_persons = [max(Fraction(pension, 10), Fraction(min(442, pension))) for pension in pensions]
-    return min(Fraction(4321), sum(of_persons))
+def property_income(household):
+    """The real income, and the gross one of the micro regime less 30 % (32)."""
+    return household["4BA"] + household["4BE"] * per_cent(70)
 
 
-def taxable_income(household):
-    wages = sum(Fraction(wage) - wage_deduction(wage) for wage in household.wages)
-    return nearest(wages + sum(household.pensions) - pension_deduction(household.pensions))
+def net_turnover(turnover, rate):
+    """The micro regimes: less a share, at least 305 and at most the turnover (50-0, 102 ter)."""
+    return turnover - max(rate * turnover, min(Fraction(305), turnover))
+
+
+def business(household):
+    return sum(
+        net_turnover(household[person.sales], per_cent(71))
+        + net_turnover(household[person.services], per_cent(50))
+        + net_turnover(household[person.fees], per_cent(34))
+        for person in PERSONS
+    )
+
+
+def all_incomes(household, law):
+    """A category below 0, by real expenses, is set off against the others (156 I)."""
+    incomes = sum(net_salary(household, person) for person in PERSONS) + net_pensions(household) + property_income(household) + business(household)
+    if by_scale(household, law):
+        incomes += household["2DC"] * per_cent(60) + household["2TR"]  # 158 3 2°: 40 % off dividends
+    return incomes
+
+
+def charges(household, law):
+    """156 II: maintenance of two adult children, at most 6,674 each, and the deductible CSG; that of capital income where the scale is chosen (154 quinquies)."""
+    result = household["6DE"] + min(Fraction(6674), household["6EL"]) + min(Fraction(6674), household["6EM"])
+    if by_scale(household, law):
+        result += household["2BH"] * per_cent(6.8)
+    return result
+
+
+@once
+def before_savings(household, law):
+    return max(Fraction(0), all_incomes(household, law) - charges(household, law))
+
+
+@once
+def retirement_savings(household, law):
+    """What is deducted: for each person the lesser of payment and ceiling (163 quatervicies), no more than there is."""
+    payments = sum(min(household[person.savings], household[person.ceiling]) for person in PERSONS)
+    return min(payments, before_savings(household, law))
+
+
+@once
+def taxable_income(household, law):
+    return nearest(before_savings(household, law) - retirement_savings(household, law))
+
+
+def reference_income(household, law):
+    """1417 IV: with capital income at the flat rate, or what the 40 % took off, and the deducted savings."""
+    more = household["2DC"] * per_cent(40) if by_scale(household, law) else capital(household)
+    return nearest(taxable_income(household, law) + more + retirement_savings(household, law))
+
+
+# Parts
+
+
+def couple(household):
+    return household["0AM"] == 1
 
 
 def base_parts(household):
-    return Fraction(2 if household.couple else 1)
+    return Fraction(2 if couple(household) else 1)
+
+
+def shared_only(household):
+    return household["0CF"] == 0 and household["0CH"] > 0
 
 
 def alone_with_children(household):
-    return household.box_t and not household.couple and household.children > 0
+    """194 II."""
+    return household["0BT"] == 1 and not couple(household) and household["0CF"] + household["0CH"] > 0
 
 
-def parts(household):
-    """194 and 195: half a part for the first two children each, one for each further one, half a part more in box T."""
-    result = base_parts(household)
-    for child in range(1, household.children + 1):
-        result += Fraction(1, 2) if child <= 2 else 1
+def child_parts(household):
+    """194 I: a half for each of the first two, one for each further; those in alternating custody come last and have half of it."""
+    result, exclusive = Fraction(0), int(household["0CF"])
+    for rank in range(1, exclusive + int(household["0CH"]) + 1):
+        share = Fraction(1, 2) if rank <= 2 else Fraction(1)
+        result += share if rank <= exclusive else share / 2
     if alone_with_children(household):
-        result += Fraction(1, 2)
+        result += min(Fraction(2), household["0CH"]) / 4 if shared_only(household) else Fraction(1, 2)
     return result
+
+
+def disability_halves(household):
+    """195 2, 3, 5: persons and children with a card of invalidity; a child in alternating custody counts half."""
+    return household["0AP"] + household["0AF"] + household["0CG"] + household["0CI"] / 2
+
+
+def raised_a_child(household):
+    """195 1 a: a single person without children, and only one half for all reasons of 195 1."""
+    return household["0AL"] == 1 and not couple(household) and household["0CF"] + household["0CH"] == 0 and household["0AP"] == 0
+
+
+def parts_beside_children(household):
+    return base_parts(household) + disability_halves(household) / 2 + (Fraction(1, 2) if raised_a_child(household) else 0)
+
+
+@once
+def parts(household, law):
+    return parts_beside_children(household) + (child_parts(household) if law.for_each_child is None else 0)
+
+
+# The scale
 
 
 def scale(income_of_a_part, law):
@@ -88,103 +165,169 @@ def by_parts(income, count, law):
 
 
 def greatest_advantage(household, law):
-    """197 I 2: 1,759 for each half part of the children; 4,149 for the whole part of the first one in box T."""
-    halves = 2 * (parts(household) - base_parts(household))
-    if alone_with_children(household):
-        return 4149 + law.half_part * (halves - 2)
-    return law.half_part * halves
+    """197 I 2: for each half part; for the parts of 194 II and 195 1 a amounts of their own."""
+    halves = 2 * (parts(household, law) - base_parts(household))
+    if raised_a_child(household):
+        return Fraction(1050)
+    if not alone_with_children(household) or law.for_each_child is not None:
+        return law.half_part * halves
+    if shared_only(household):
+        first = min(Fraction(2), household["0CH"])
+        return first * Fraction(4149, 2) + law.half_part * (halves - first)
+    return 4149 + law.half_part * (halves - 2)
+
+
+@once
+def capped_tax(household, law):
+    """The tax where the cap decides: less 1,753 for each half part of disability (197 I 2, last paragraphs)."""
+    without = by_parts(taxable_income(household, law), base_parts(household), law)
+    return without - greatest_advantage(household, law) - 1753 * disability_halves(household)
+
+
+@once
+def uncapped_tax(household, law):
+    return by_parts(taxable_income(household, law), parts(household, law), law)
+
+
+def quotient_tax(household, law):
+    """197 I 1 and 2; the further reduction for disability is no more than what the cap added."""
+    return max(uncapped_tax(household, law), capped_tax(household, law))
+
+
+def scale_tax(household, law):
+    """What a reform takes off for each child ends at 0."""
+    tax = quotient_tax(household, law)
+    if law.for_each_child is None:
+        return tax
+    return max(Fraction(0), tax - law.for_each_child * (household["0CF"] + household["0CH"] / 2))
 
 
 def rebate(household, tax):
-    """197 I 4."""
-    greatest = 1444 if household.couple else 873
-    return max(Fraction(0), greatest - Fraction(4525, 10000) * tax)
+    """197 I 4, no more than the tax; a product of quarters of a part can have seven decimals, and amounts have six."""
+    greatest = 1444 if couple(household) else 873
+    return min(tax, max(Fraction(0), greatest - millionths(per_cent(45.25) * tax)))
 
 
-def gifts_reduction(household, income):
+def rate_of_bracket(household, law):
+    """The rate of the bracket of the income for one part: of all parts, or where the cap decides of those of the persons."""
+    count = base_parts(household) if capped_tax(household, law) > uncapped_tax(household, law) else parts(household, law)
+    income = taxable_income(household, law) / count
+    return max([Fraction(0), *(rate for threshold, rate in law.scale() if income > threshold)])
+
+
+# Reductions, credits and levies
+
+
+def gifts_reduction(household, law):
     """200: 75 % of gifts to aid bodies up to 1,000; 66 % of the rest, of at most a fifth of the taxable income."""
-    to_aid = min(1000, household.gifts_to_aid)
-    rest = household.gifts_to_aid - to_aid + household.other_gifts
-    return Fraction(3, 4) * to_aid + Fraction(66, 100) * min(Fraction(income, 5), Fraction(rest))
+    to_aid = min(Fraction(1000), household["7UD"])
+    rest = household["7UD"] - to_aid + household["7UF"]
+    return per_cent(75) * to_aid + per_cent(66) * min(Fraction(taxable_income(household, law), 5), rest)
+
+
+def pupils_reduction(household):
+    """199 quater F."""
+    return 61 * household["7EA"] + 153 * household["7EC"] + 183 * household["7EF"]
+
+
+def dues_credit(household):
+    """199 quater C: of at most 1 % of wages and pensions of the person, and of nobody who takes real expenses off."""
+    return sum(
+        per_cent(66) * min(household[person.dues], per_cent(1) * (salary(household, person) + household[person.pensions]))
+        for person in PERSONS
+        if household[person.expenses] == 0
+    )
+
+
+def care_credit(household):
+    """200 quater B."""
+    return sum(min(Fraction(3500), household[code]) for code in ("7GA", "7GB", "7GC")) / 2
+
+
+def home_limit(household):
+    """199 sexdecies 3; a child in alternating custody adds half."""
+    return min(Fraction(15000), 12000 + 1500 * household["0CF"] + 750 * household["0CH"])
+
+
+def home_credit(household):
+    return min(household["7DB"], home_limit(household)) / 2
+
+
+def credits(household):
+    """With 200-0 A: care and work at home together at most 10,000. The levy that was paid on capital income is one too (2CK)."""
+    return nearest(dues_credit(household) + min(Fraction(10000), care_credit(household) + home_credit(household)) + household["2CK"])
+
+
+def social_levies(household):
+    """17.2 % of property and capital income (136-6, 136-7 of the code of social security), but what has borne them at its source (2BH)."""
+    base = property_income(household) + max(Fraction(0), capital(household) - household["2BH"])
+    return nearest(per_cent(17.2) * nearest(base))
 
 
 def contribution(household, income):
     """223 sexies."""
-    persons = 2 if household.couple else 1
+    persons = 2 if couple(household) else 1
     low, high = 250000 * persons, 500000 * persons
-    return nearest(Fraction(3, 100) * max(0, min(income, high) - low) + Fraction(4, 100) * max(0, income - high))
+    return nearest(per_cent(3) * max(0, min(income, high) - low) + per_cent(4) * max(0, income - high))
 
 
-def scale_tax(household, law):
-    """197 I 1 and 2: by the scale, with the children's parts as far as their advantage goes."""
-    income = taxable_income(household)
-    with_children = by_parts(income, parts(household), law)
-    without = by_parts(income, base_parts(household), law)
-    return max(with_children, without - greatest_advantage(household, law))
+@dataclass
+class Tax:
+    """The steps from the scale to the tax."""
+
+    gross: Fraction
+    cap: Fraction
+    rebate: Fraction
+    flat: Fraction
+    offered: Fraction
+    reductions: Fraction
+    rounded: int
+    credits: int
+    net: int
 
 
-def income_tax(household, law):
-    income = taxable_income(household)
-    tax = scale_tax(household, law)
-    tax = max(Fraction(0), tax - rebate(household, tax))
-    tax = nearest(max(Fraction(0), tax - gifts_reduction(household, income)))
-    return 0 if tax < 61 else tax
-
-
-def rate_of_bracket(household, law):
-    """The rate of the bracket of the income for one part: of all parts, or where their advantage is bounded of those without the children."""
-    income, count = taxable_income(household), parts(household)
-    if by_parts(income, base_parts(household), law) - greatest_advantage(household, law) > by_parts(income, count, law):
-        count = base_parts(household)
-    return max([Fraction(0), *(rate for threshold, rate in law.scale() if Fraction(income) / count > threshold)])
+@once
+def tax_of(household, law):
+    """Reductions end at 0 and don't reach the flat tax (197 I 5); below 61 nothing is collected (1657 1 bis); credits are paid out."""
+    gross = scale_tax(household, law)
+    taken = rebate(household, gross)
+    flat = Fraction(0) if by_scale(household, law) else per_cent(12.8) * capital(household)
+    offered = gifts_reduction(household, law) + pupils_reduction(household)
+    reductions = min(gross - taken, offered)
+    rounded = nearest(gross - taken - reductions + flat)
+    paid_out = credits(household)
+    net = (rounded if rounded >= 61 else 0) - paid_out
+    cap = quotient_tax(household, law) - uncapped_tax(household, law)
+    return Tax(gross, cap, taken, flat, offered, reductions, rounded, paid_out, net)
 
 
 def total(household, law=OF_2023):
-    """The income tax and the contribution on high incomes."""
-    return income_tax(household, law) + contribution(household, taxable_income(household))
+    """The income tax, the social levies and the contribution on high incomes."""
+    return tax_of(household, law).net + social_levies(household) + contribution(household, reference_income(household, law))
 
 
-def impossible(household):
-    """The number of the first verification that a declaration fails, in the order of their numbers, if any."""
-    first, second = household.wages[0], household.pensions[0]
-    of_second = (household.wages[1], household.pensions[1])
-    amounts = (first, second, *of_second, household.gifts_to_aid, household.other_gifts)
-    tests = [
-        (101, household.couple == 1 and household.box_t == 1),
-        (102, not 0 <= household.children <= 30 or household.children != floor(household.children)),
-        (103, household.couple not in (0, 1) or household.box_t not in (0, 1)),
-        (104, min(amounts) < 0),
-        (105, household.couple == 0 and max(of_second) > 0),
-    ]
-    return next((number for number, fails in tests if fails), None)
-
-
-def told(household, law):
-    """The numbers of what is told with the answer: gifts above a fifth of the taxable income; that the rebate was applied."""
-    tax = scale_tax(household, law)
-    tests = [
-        (201, household.gifts_to_aid + household.other_gifts > Fraction(taxable_income(household), 5)),
-        (301, tax > 0 and rebate(household, tax) > 0),
-    ]
-    return [number for number, is_so in tests if is_so]
-
-
-def answer(household, law=OF_2023):
-    """What the rules and the driver return of the same names and note, or the verification that stops them. The driver first computes without the gifts."""
-    without = replace(household, gifts_to_aid=0, other_gifts=0)
-    stop = impossible(without) or impossible(household)
-    if stop is not None:
-        return stop
-    income, tax, before = taxable_income(household), income_tax(household, law), total(without, law)
-    more = contribution(household, income)
+def values(household, law=OF_2023):
+    """What the rules and the driver return, by their names."""
+    tax, income, reference = tax_of(household, law), taxable_income(household, law), reference_income(household, law)
+    whole = total(household, law)
+    before = total(household.without(REDUCTIONS + CREDITS), law)
     return {
         "RNI": income,
-        "NBPT": parts(household),
+        "RFR": reference,
+        "NBPT": parts(household, law),
+        "IDROIT": tax.gross,
+        "IPLAF": tax.cap,
+        "DECOTE": tax.rebate,
+        "IPROP": tax.flat,
+        "REDUC": tax.reductions,
+        "CREDIT": tax.credits,
+        "IINET": tax.net,
+        "PS": social_levies(household),
+        "CHR": contribution(household, reference),
+        "TOTAL": whole,
+        "SOLDE": whole - household["8HV"] - household["8IV"],
         "TMI": rate_of_bracket(household, law),
-        "IINET": tax,
-        "CHR": more,
-        "TOTAL": tax + more,
+        "TXMOYEN": millionths(Fraction(whole) / reference) if reference else Fraction(0),
         "AVANT": before,
-        "GAIN": before - tax - more,
-        "noted": told(without, law) + told(household, law),
+        "GAIN": before - whole,
     }

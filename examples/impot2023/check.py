@@ -6,7 +6,8 @@ a declaration that a verification stops the verification. The households come fr
 does, and 2 where the program is missing or doesn't answer.
 
 With --picture FILE it also draws the marginal rate over the income of a single person, from a table of its own. With --cases FILE it starts no program, and
-writes the households as a table of cases, with what the second calculation says of each.
+writes the households as a table of cases, with what the second calculation says of each. With --extremes the households are those that have a billion in one
+box or in many, in the place of random ones.
 """
 import argparse
 import os
@@ -15,56 +16,20 @@ import re
 import subprocess
 import sys
 import tempfile
-from dataclasses import replace
 from fractions import Fraction
 
-from calculation import Household, answer
+from drawn import CODES, extremes, mistaken, random_household
+from household import Household
+from verifications import answer
 
 HERE = "examples/impot2023"
 PROGRAM = os.environ.get("M_TAX", "out/m_tax")
-CODES = ["0AM", "0BT", "0CF", "1AJ", "1BJ", "1AS", "1BS", "7UD", "7UF"]
-WRONG = {
-    "box_t": lambda chance: True,
-    "children": lambda chance: chance.choice([-1, 31]),
-    "wages": lambda chance: chance.choice([(-1, 0), (100, -50), (100, 5000)]),
-    "pensions": lambda chance: chance.choice([(0, -7), (0, 300)]),
-    "gifts_to_aid": lambda chance: -10,
-    "other_gifts": lambda chance: Fraction(-1, 100),
-}
-
-
-def random_amount(chance):
-    """0 mostly, or an amount of one of several sizes, so that each bracket and bound is met."""
-    if chance.random() < 0.4:
-        return 0
-    return chance.randrange(chance.choice([600, 6000, 25000, 60000, 200000, 1500000]))
-
-
-def random_household(chance):
-    couple = chance.random() < 0.5
-    return Household(
-        couple=couple,
-        box_t=not couple and chance.random() < 0.3,
-        children=chance.choice([0, 0, 0, 1, 1, 2, 2, 3, 4, 6]),
-        wages=(random_amount(chance), random_amount(chance) if couple else 0),
-        pensions=(random_amount(chance), random_amount(chance) if couple else 0),
-        gifts_to_aid=chance.choice([0, 0, 50, 999, 1000, 1001, 4000]),
-        other_gifts=chance.choice([0, 0, 100, 3000, 20000]),
-    )
-
-
-def mistaken(household, chance):
-    """One household in ten has one or two entries that are drawn anew, most of them wrong."""
-    if chance.random() < 0.9:
-        return household
-    return replace(household, **{name: WRONG[name](chance) for name in chance.sample(sorted(WRONG), chance.choice([1, 1, 2]))})
+PART = 50_000  # households of one batch: a table has at most 100,000 rows and 16,777,216 bytes
 
 
 def fields(household):
     """The amount of each code, nothing for 0."""
-    amounts = [int(household.couple), household.box_t + 0, household.children, *household.wages, *household.pensions]
-    amounts += [household.gifts_to_aid, household.other_gifts]
-    return ["" if amount == 0 else f"{float(amount):.6f}" if isinstance(amount, Fraction) else str(amount) for amount in amounts]
+    return ["" if household[code] == 0 else spelled(household[code]) for code in CODES]
 
 
 def started(*words):
@@ -83,18 +48,24 @@ def read_answer(lines):
         return int(stop[1])
     notes = [k for k, line in enumerate(lines) if re.fullmatch("noted [0-9]+ .*", line)]
     values = [line for k, line in enumerate(lines) if line and k not in notes and k - 1 not in notes]
-    answer = {line.split(" = ")[0]: Fraction(line.split(" = ")[1]) if " = " in line else line for line in values}
+    answer = {line.split(" ")[0]: Fraction(line.split(" = ")[1]) if " = " in line else line for line in values}
     return {**answer, "noted": [int(lines[k].split(" ")[1]) for k in notes]}
 
 
-def answers(households, room):
-    """The answers to all households, by one batch."""
+def answers(households, room, driver=f"{HERE}/driver.mpp", requests=f"{HERE}/all.txt"):
+    """The answers to all households, by batches."""
+    parts = [households[start : start + PART] for start in range(0, len(households), PART)]
+    return [one for part in parts for one in answers_of_part(part, room, driver, requests)]
+
+
+def answers_of_part(households, room, driver, requests):
+    """The answers to the households of one table."""
     table = os.path.join(room, "table.csv")
     with open(table, "w") as file:
         file.write("name," + ",".join(CODES) + "\n")
         for number, household in enumerate(households):
             file.write(f"h{number}," + ",".join(fields(household)) + "\n")
-    text, status = started("batch", f"{HERE}/rules.list", f"{HERE}/driver.mpp", "-", table)
+    text, status = started("batch", f"{HERE}/rules.list", driver, requests, table)
     blocks = re.split("^household h[0-9]+\n", text, flags=re.MULTILINE)[1:]
     if status != 0 or len(blocks) != len(households):
         print(f"check: batch: {text[:200].strip()} (status {status}, {len(blocks)} of {len(households)} households)", file=sys.stderr)
@@ -125,7 +96,7 @@ def draw(file_name, points):
 
 def picture(file_name, room):
     """Wages a thousand apart, so that one step of the taxable income is 900 or 1,000."""
-    households = [Household(wages=(wage, 0)) for wage in range(0, 221000, 1000)]
+    households = [Household({"1AJ": wage}) for wage in range(0, 221000, 1000)]
     results = answers(households, room)
     points = []
     for before, after in zip(results, results[1:]):
@@ -160,9 +131,10 @@ def main():
     parser.add_argument("--count", type=int, default=20000)
     parser.add_argument("--picture")
     parser.add_argument("--cases")
+    parser.add_argument("--extremes", action="store_true")
     told = parser.parse_args()
     chance = random.Random(told.seed)
-    households = [mistaken(random_household(chance), chance) for _ in range(told.count)]
+    households = list(extremes()) if told.extremes else [mistaken(random_household(chance), chance) for _ in range(told.count)]
     if told.cases:
         write_cases(told.cases, households)
         return
@@ -178,8 +150,9 @@ def main():
             if differ <= 5:
                 print(f"{household}: the rules say {result}, the calculation {wanted}")
     stopped = sum(isinstance(result, int) for result in results)
-    print(f"{len(results)} households, seed {told.seed}, of which {stopped} are stopped by a verification: {differ} differ")
-    sys.exit(0 if differ == 0 and len(results) == told.count > 0 else 1)
+    drawn = "of a billion" if told.extremes else f"seed {told.seed}"
+    print(f"{len(results)} households, {drawn}, of which {stopped} are stopped by a verification: {differ} differ")
+    sys.exit(0 if differ == 0 and len(results) == len(households) > 0 else 1)
 
 
 if __name__ == "__main__":

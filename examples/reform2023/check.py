@@ -1,7 +1,7 @@
 #!/usr/bin/env python3
-"""Compares what tools/reform wrote with the second calculation of examples/impot2023: python3 examples/reform2023/check.py FOLDER
+"""Compares what tools/reform wrote with the second calculation of examples/impot2023: python3 examples/reform2023/check.py FOLDER [REFORM]
 
-FOLDER is what make.sh made. Each household of table.csv is computed before and after the reform by calculation.py, in exact fractions, and compared with its
+FOLDER is what make.sh made, of REFORM (thresholds, children or capital). Each household of table.csv is computed before and after the reform by calculation.py, in exact fractions, and compared with its
 line of households.csv; so are the sums, weighted, with the first line of summary.csv, and those of each tenth with its own. The status is 0 where nothing differs.
 """
 import csv
@@ -10,31 +10,27 @@ import sys
 from fractions import Fraction
 
 sys.path.insert(0, os.path.join(os.path.dirname(os.path.dirname(os.path.abspath(__file__))), "impot2023"))
-from calculation import OF_2023, Household, Law, taxable_income, total  # noqa: E402
+from calculation import taxable_income, total  # noqa: E402
+from household import Household, Law  # noqa: E402
 
-AFTER = Law(begin_of_30=29797, half_part=1559)
+REFORMS = {
+    "thresholds": Law(begin_of_30=29797, half_part=1559),
+    "children": Law(for_each_child=1500),
+    "capital": Law(capital_by_scale=True),
+}
 
 
 def household_of(row):
     """The household of a row of the table."""
-    whole = {code: int(text or "0") for code, text in row.items() if code not in ("name", "weight")}
-    return Household(
-        couple=whole["0AM"] == 1,
-        box_t=whole["0BT"] == 1,
-        children=whole["0CF"],
-        wages=(whole["1AJ"], whole["1BJ"]),
-        pensions=(whole["1AS"], whole["1BS"]),
-        gifts_to_aid=whole["7UD"],
-        other_gifts=whole["7UF"],
-    )
+    return Household({code: int(text) for code, text in row.items() if text and code not in ("name", "weight")})
 
 
-def computed(path):
+def computed(path, law):
     """For each household of a table its label, weight, taxable income, and what it pays before and after."""
     with open(path, encoding="latin-1", newline="") as file:
         for row in csv.DictReader(file):
             household = household_of(row)
-            yield row["name"], Fraction(row["weight"]), taxable_income(household), total(household), total(household, AFTER)
+            yield row["name"], Fraction(row["weight"]), taxable_income(household), total(household), total(household, law)
 
 
 def lines_of(path):
@@ -68,7 +64,8 @@ def tenths(rows):
 
 def main():
     folder = sys.argv[1]
-    rows = list(computed(os.path.join(folder, "table.csv")))
+    law = REFORMS[sys.argv[2] if len(sys.argv) > 2 else "thresholds"]
+    rows = list(computed(os.path.join(folder, "table.csv"), law))
     told = lines_of(os.path.join(folder, "report", "households.csv"))
     wanted = [(name, weight, income, before, after, after - before) for name, weight, income, before, after in rows]
     said = [(row["name"], *(Fraction(row[column]) for column in ("weight", "by", "before", "after", "difference"))) for row in told]
