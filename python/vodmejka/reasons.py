@@ -98,7 +98,7 @@ class Rules:
         self.descriptions, self.formulas, self.checks, self.comments = {}, {}, [], {}
         for file in base.files:
             self.describe(file)
-            reader, _ = items.read(file.bytes)
+            reader, _ = items.read(file.bytes, file.tokens)
             written = Written(file, reader.tokens)
             self.checks += [(file, check, written) for check in reader.checks if base.application in check.applications]
             for formula in reader.formulas:

@@ -112,10 +112,10 @@ def named(places):
 
 def slips_of_idle(files, read, used_errors, driver_names):
     """Constants, computed variables and errors that nothing uses, a line for each kind. Inputs without effect are `lint`'s to tell."""
-    variables = {variable.name: variable for file in files for variable in file.variables}
-    constants = [(name, variable.place) for name, variable in variables.items() if variable.kind == "const" and name not in read | driver_names]
+    variables, read = {variable.name: variable for file in files for variable in file.variables}, read | driver_names
+    constants = [(name, variable.place) for name, variable in variables.items() if variable.kind == "const" and name not in read]
     idle = [(name, variable.place) for name, variable in variables.items()
-            if variable.kind == "calculee" and name not in read | driver_names and "restituee" not in variable.words]
+            if variable.kind == "calculee" and name not in read and "restituee" not in variable.words]
     errors = [(name, file.place(byte)) for file in files for name, byte in file.errors if name not in used_errors]
     for what, found in (("constants that nothing reads", constants), ("computed variables that nothing reads or returns", idle),
                         ("errors that no verification has", errors)):
@@ -125,10 +125,11 @@ def slips_of_idle(files, read, used_errors, driver_names):
 
 def slips_of_outputs(files, done, driver, received):
     """Variables that are returned, and that nothing sets, or that the driver doesn't receive."""
+    names = {name for name, _ in done}
     for variable in (variable for file in files for variable in file.variables):
         if "restituee" not in variable.words or variable.kind != "calculee":
             continue
-        if variable.name not in {name for name, _ in done}:
+        if variable.name not in names:
             yield f"{variable.place}: {variable.name} is returned, and nothing sets it"
         elif driver is not None and variable.name not in received:
             yield f"{variable.place}: {variable.name} is returned, and {driver} never receives or sets it, so it stays undefined"

@@ -23,6 +23,8 @@ GAP_OR_TOKEN = re.compile(
 )
 
 
+# (a comment ends at its line's end alone, so that a match that fails is no long search)
+AFTER_GAPS = re.compile(rb"(?:[ \t\r\n]|#[^\n]*(?=\n|\Z))*(?:" + GAP_OR_TOKEN.pattern.partition(rb"|#[^\n]*)|")[2] + rb")")
 MARK = b"\xef\xbb\xbf"
 PIPED = {}
 WAITING = []
@@ -67,7 +69,7 @@ def standard_input():
     return io.BufferedReader(Input(), 1_048_576)
 
 
-@dataclasses.dataclass
+@dataclasses.dataclass(slots=True)
 class Token:
     kind: str
     text: str
@@ -193,6 +195,17 @@ class Lines:
         return self.content[self.begin(number) : end].removesuffix(b"\r")
 
 
+def quick_tokens(content, byte, tokens, most=sys.maxsize):
+    """Adds tokens up to the first byte that begins none, until there are so many; the byte behind the last one comes back."""
+    match = AFTER_GAPS.match(content, byte)
+    while match is not None and len(tokens) < most:
+        kind = match.lastgroup
+        tokens.append(Token(kind, match[kind].decode("latin-1"), match.start(kind)))
+        byte = match.end()
+        match = AFTER_GAPS.match(content, byte)
+    return byte
+
+
 class RuleFile:
     """The items of one rule file."""
 
@@ -208,7 +221,8 @@ class RuleFile:
         return f"{self.name} line {self.lines.number(byte)} byte {byte}"
 
     def read_tokens(self):
-        tokens, byte = [], len(MARK) if self.bytes.startswith(MARK) else 0
+        tokens = []
+        byte = quick_tokens(self.bytes, len(MARK) if self.bytes.startswith(MARK) else 0, tokens)
         while byte < len(self.bytes):
             piece = GAP_OR_TOKEN.match(self.bytes, byte)
             if piece is None:
