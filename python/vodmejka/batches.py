@@ -32,7 +32,7 @@ class Answers:
 
     __slots__ = ("_lists", "_all")
 
-    def __init__(self, lists: Generator[list[Told], None, None]):
+    def __init__(self, lists: Generator[list[Told], None, None] | Generator[list[Answer], None, None]):
         self._lists, self._all = lists, itertools.chain.from_iterable(lists)
 
     def __iter__(self) -> Iterator[Answer]:

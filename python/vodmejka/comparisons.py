@@ -11,6 +11,7 @@ from .errors import Refused
 from .expressions import UNIT, Amount, Expression, millionths
 from .groups import Group, gini_of, group_line
 from .rules import Rules
+from .shown import section, short, table
 from .sweeps import exact
 
 TENTH = "tenth:"
@@ -79,6 +80,11 @@ class Comparison:
         except ImportError:
             return rows
         return pandas.DataFrame(rows).set_index("group")
+
+    def _repr_html_(self) -> str:
+        rows = [group_line(group) for group in self.groups]
+        digests = f"rules {short(self.digests[0])} before, {short(self.digests[1])} after"
+        return section([repr(self).strip("<>"), digests], table(list(rows[0]), [list(row.values()) for row in rows]))
 
     def __repr__(self) -> str:
         whole = self.all

@@ -10,6 +10,7 @@ from .errors import Refused, Stopped
 from .expressions import UNIT, Amount, Expression, millionths
 from .program import Amount as Given
 from .rules import Rules
+from .shown import section, short, table
 
 Number = Union[int, str, Decimal]
 Along = Sequence[Union[Mapping[str, Amount], Stop]]
@@ -37,6 +38,11 @@ class Sweep:
 
     def __repr__(self) -> str:
         return f"<Sweep of {self.of} along {self.code}: {len(self.amounts)} amounts from {self.amounts[0]} to {self.amounts[-1]}, {len(self.values)} rule bases>"
+
+    def _repr_html_(self) -> str:
+        rows = [[amount, *("stopped" if isinstance(told, Stop) else told for told in column)] for amount, *column in zip(self.amounts, *self.values)]
+        heads = [self.code, *(f"{self.of} by {short(digest)}" for digest in self.digests)]
+        return section([f"{self.of} along {self.code}: {len(self.amounts)} amounts"], table(heads, rows))
 
     def net(self, net: str, base: int = -1) -> list[Value]:
         """What is kept at each amount by a rule base, as `1AJ - TOTAL`; undefined where the household is stopped."""
@@ -107,7 +113,7 @@ def answers_along(
         if answer.stop is None:
             told.append({**others, **{name: millionths(value) for name, value in answer.items()}})
         elif stops == "raise":
-            raise Stopped(f"{code} = {amount}: {answer.stop.line}")
+            raise Stopped(answer.stop.line, f"{code} = {amount}: {answer.stop.line}")
         else:
             told.append(answer.stop)
     return told

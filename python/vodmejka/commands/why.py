@@ -19,6 +19,7 @@ import tempfile
 
 sys.dont_write_bytecode = True
 from .. import reasons, runs, source
+from ..why_trees import Tree
 
 STYLE = """body{font:15px/1.5 sans-serif;max-width:62em;margin:2em auto;padding:0 1em;color:#222}details,.leaf{margin:.15em 0 .15em 1.2em}
 summary{cursor:pointer}.leaf{padding-left:1em}b{font-family:monospace}.said{color:#555}code{background:#f2f2f2;padding:0 .3em}\
@@ -131,70 +132,14 @@ def report(rules, household, name):
     return dict(line.split(" ", 1) for line in told)
 
 
-class Tree:
-    """What is shown: each value, and what its formula reads."""
-
-    def __init__(self, rules, lines, depth, nonzero):
-        self.rules, self.lines, self.depth, self.nonzero = rules, lines, depth, nonzero
-        self.shown = set()
-
-    def below(self, cell):
-        """The cells that a value was computed from, as far as they are shown."""
-        formula = self.rules.formulas.get(cell)
-        read = [] if formula is None else [other for other in formula.reads(self.rules.sizes) if other in self.lines]
-        return [other for other in read if not self.nonzero or self.lines[other] not in ("undefined", "= 0")]
-
-    def walk(self, root):
-        """The values in their order, each with its level: how deep it stands, whether it was shown above, and how many stand right below it."""
-        left = [(root, 0)]
-        while left:
-            cell, level = left.pop()
-            again = cell in self.shown
-            self.shown.add(cell)
-            under = [] if again or self.depth is not None and level + 1 >= self.depth else self.below(cell)
-            yield cell, level, again, len(under)
-            left += [(other, level + 1) for other in reversed(under)]
-
-    def said(self, cell, again):
-        """The parts of a line: the value, the description, the formula, the place."""
-        formula, what = self.rules.formulas.get(cell), self.rules.description(cell)
-        value = f"{cell} {self.lines[cell]}"
-        if again:
-            return value, "as above", "", ""
-        if formula is None:
-            return value, what, "", self.rules.role(cell)
-        return value, what, formula.text, formula.place()
-
-
-def as_text(tree, root):
-    """The tree as lines."""
-    for cell, level, again, _ in tree.walk(root):
-        value, what, formula, place = tree.said(cell, again)
-        yield "  " * level + "   ".join(part for part in (value, what) if part)
-        if formula or place:
-            yield "  " * level + "    " + "   ".join(part for part in (formula, f"({place})") if part)
-
-
-def as_page(tree, root, words):
+def as_page(tree, words):
     """The tree as a page."""
-    title = html.escape(f"{root} {tree.lines[root]}")
+    title = html.escape(f"{tree.root} {tree.lines[tree.root]}")
     yield f'<!doctype html><html><head><meta charset="utf-8"><title>{title}</title><style>{STYLE}</style></head><body><h1>{title}</h1>'
     yield f"<p>Why, by the rules of {html.escape(words[0])} for the household {html.escape(words[1])}. The report was checked line by line.</p>"
-    open_levels = []
-    for cell, level, again, under in tree.walk(root):
-        while len(open_levels) > level:
-            open_levels.pop()
-            yield "</details>"
-        value, what, formula, place = (html.escape(part) for part in tree.said(cell, again))
-        line = f'<b>{value}</b> <span class="said">{what}</span>'
-        line += f" <code>{formula}</code>" if formula else ""
-        line += f' <span class="place">{place}</span>' if place else ""
-        if under:
-            yield f'<details{" open" if level < 2 else ""}><summary>{line}</summary>'
-            open_levels.append(level)
-        else:
-            yield f'<div class="leaf">{line}</div>'
-    yield "</details>" * len(open_levels) + "</body></html>"
+    *pieces, last = tree.html()
+    yield from pieces
+    yield f"{last}</body></html>"
 
 
 def write_page(path, lines):
@@ -229,15 +174,15 @@ def main(words):
         ):
             raise Wrong(f"{page} is read, and would be lost", 2)
         lines = report(rules, *words[1:])
-        tree = Tree(rules, lines, depth, nonzero)
+        tree = Tree(rules, words[2], lines, depth, nonzero)
         if alone:
             for cell, value in lines.items():
                 print(cell, value)
         elif page is None:
-            for line in as_text(tree, words[2]):
+            for line in tree.text():
                 print(line)
         else:
-            write_page(page, as_page(tree, words[2], words))
+            write_page(page, as_page(tree, words))
         return 0
     except Wrong as wrong:
         print(f"why: {wrong}", file=sys.stderr)
