@@ -135,10 +135,7 @@ class Table:
         told, row = answer.values, len(self.over)
         for name, column in self.values.items():
             value = told.get(name)
-            try:
-                column.append(self._known[value])
-            except KeyError:
-                column.append(self._number(row, name, value))
+            column.append(self._known[value] if value in self._known else self._number(row, name, value))
         self.over.append(" ".join(name for name in self.names if told.get(name) is OVER))
         self.notes.append(" ".join(note.error for note in answer.notes))
         self.stop.append(answer.stop.line if answer.stop else None)

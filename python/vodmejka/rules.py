@@ -190,7 +190,8 @@ class Rules:
             return f"<Rules of a code file: {counts}>"
         application = self._sources.listing.replace(b"\r\n", b"\n").split(b"\n")[0].decode(ENCODING)
         driver = "a driver" if self._sources.driver is not None else "no driver"
-        return f"<Rules of {application}: {len(self._sources.rules)} rule files, {driver}, {counts}>"
+        files = len(self._sources.rules)
+        return f"<Rules of {application}: {files} rule file{'' if files == 1 else 's'}, {driver}, {counts}>"
 
     def _repr_html_(self) -> str:
         inputs = [[code, one.name, one.description, one.type] for code, one in self.inputs().items()]
