@@ -65,6 +65,7 @@ class Answer(Mapping[str, Value]):
     """
 
     __slots__ = ("_block", "_columns", "_index", "_lines", "_form", "_values", "_rest")
+    _index: int
 
     def __init__(self, values: dict[str, Value] | None = None, notes: tuple[Note, ...] = (), stop: Stop | None = None):
         self._block: Block | None = None
@@ -73,7 +74,7 @@ class Answer(Mapping[str, Value]):
         self._values: dict[str, Value] | None = {} if values is None else values
         self._rest: tuple[tuple[Note, ...], Stop | None] | None = (notes, stop)
 
-    @property
+    @property  # type: ignore[override]
     def values(self) -> dict[str, Value]:
         if self._block is not None:
             self._leave(self._block)

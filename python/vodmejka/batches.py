@@ -169,7 +169,8 @@ class Part:
             self.files.append(requests)
             with open(requests, "wb", closefd=False) as file:
                 file.write("".join(f"{name}\n" for name in self.few.names).encode(ENCODING))
-        self.child = self.batch.started(*self.files[:3], requests)
+        table, printed, messages = self.files[:3]
+        self.child = self.batch.started(table, printed, messages, requests)
 
     def _write(self, file: BinaryIO) -> None:
         """Writes the table, of the households before the first one with what is no amount."""

@@ -37,6 +37,9 @@ class Rules:
     and kept in the user's cache under their digest.
     """
 
+    _sources: Sources | None
+    _read: Variables | None = None
+
     def __init__(
         self, list: str | os.PathLike[str], driver: str | os.PathLike[str] | None = None, requests: str | os.PathLike[str] | None = None, *,
         program: str | None = None, cache: str | None = None, timeout: float | None = None,
@@ -51,7 +54,7 @@ class Rules:
     def _begin(self, sources: Sources, program: Program, cache: str | None, timeout: float | None) -> None:
         """Copies the files into a folder of its own, and has their code file."""
         self._program, self._sources, self._cache, self.timeout = program, sources, cache, timeout
-        self.program, self._room, self._read = program.path, Folder(), None
+        self.program, self._room = program.path, Folder()
         self._names = {f"r{k}.m": name for k, (name, _) in enumerate(sources.rules)}
         application = sources.listing.replace(b"\r\n", b"\n").split(b"\n")[0]
         self._put("list", b"\n".join([application, *(name.encode() for name in self._names), b""]))
@@ -72,7 +75,7 @@ class Rules:
     def _by_code(cls, code: bytes, program: Program, timeout: float | None) -> Rules:
         made = cls.__new__(cls)
         made._program, made._sources, made._cache, made.timeout = program, None, None, timeout
-        made.program, made._room, made._names, made._words, made._read = program.path, Folder(), {}, [], None
+        made.program, made._room, made._names, made._words = program.path, Folder(), {}, []
         made.digest = digest_of(code)
         made._code = made._path(made._put("code", code))
         made._lines = made._interface()
@@ -274,7 +277,7 @@ class Rules:
         notes = sum(line.startswith("note ") for line in self._lines)
         size = max(1, min(at_once, ROWS, VALUES // (len(form.names) + notes + 1)))
         # (an iterator may hand out one mapping again and again, changed each time: a part is read before it is written)
-        taken = rows if isinstance(rows, (list, tuple)) else map(dict, rows)
+        taken: Iterable[Household] = rows if isinstance(rows, (list, tuple)) else (dict(row) for row in rows)
         batch = Batch(self._program, ["batch", *self._words], self._room.name, form, size, self.types(), self._told, self.timeout)
         return batch.answers(taken)
 

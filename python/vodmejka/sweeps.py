@@ -81,8 +81,9 @@ class Sweep:
             unknown = [name for name in net.names if name != self.code and name not in told]
             if unknown:
                 raise Refused(f"{net.text!r}: {unknown[0]} is neither a requested value nor a code of the household")
-            own = Fraction(amount) * UNIT
-            kept.append(net.value(lambda name: own if name == self.code else told[name]))
+            amounts: dict[str, Amount] = dict(told)
+            amounts[self.code] = Fraction(amount) * UNIT
+            kept.append(net.value(amounts.__getitem__))
         return kept
 
 
@@ -109,7 +110,7 @@ def answers_along(
     if of not in rules.outputs():
         raise Refused(f"{of} is no requested value of the rules; there are {', '.join(rules.outputs())}")
     told: list[Mapping[str, Amount] | Stop] = []
-    for amount, answer in zip(amounts, rules.batch([{**household, code: amount} for amount in amounts])):
+    for amount, answer in zip(amounts, rules.batch([with_amount(household, code, amount) for amount in amounts])):
         if answer.stop is None:
             told.append({**others, **{name: millionths(value) for name, value in answer.items()}})
         elif stops == "raise":
@@ -117,6 +118,13 @@ def answers_along(
         else:
             told.append(answer.stop)
     return told
+
+
+def with_amount(household: Mapping[str, Given], code: str, amount: Decimal) -> dict[str, Given]:
+    """The household with another amount of a code."""
+    made = dict(household)
+    made[code] = amount
+    return made
 
 
 def exact(amount: Fraction) -> Decimal:

@@ -96,7 +96,7 @@ class Variables:
     def _formulas(self, name: str) -> Iterable[Formula]:
         """The formulas that set a variable or the cells of a table, each once, in the order of the cells."""
         size = self.reasons.sizes.get(name)
-        found = {}
+        found: dict[tuple[str, int, str], Formula] = {}
         for cell in [name] if size is None else [f"{name}[{k}]" for k in range(size)]:
             one = self.reasons.formulas.get(cell)
             if one is not None:
