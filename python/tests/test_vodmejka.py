@@ -181,7 +181,9 @@ class Package(unittest.TestCase):
         code = Rules.from_code(self.room.name + "/a.code")
         self.assertEqual(code.run({"1AJ": 2500}), self.rules.run({"1AJ": 2500}))
         self.assertEqual([answer["IRN"] for answer in code.batch([{"1AJ": 2500}, {}])], [1500, 0])
-        self.assertEqual(code.inputs(), {"1AJ": "", "1BB": "truth"})
+        self.assertEqual(code.types(), {"1AJ": "", "1BB": "truth"})
+        self.assertEqual([(one.name, one.type) for one in code.inputs().values()], [("", ""), ("", "BOOLEEN")])
+        self.assertEqual(code.outputs(), {"IRN": "", "C": ""})
         with self.assertRaises(Broken):
             code.session()
         with self.assertRaisesRegex(Refused, "code: bad header"):

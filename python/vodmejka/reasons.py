@@ -32,12 +32,18 @@ class Written:
                 begin = token.byte + len(token.text)
         return plain(b"".join([*pieces, self.file.bytes[begin : self.tokens[end].byte]]))
 
-    def place(self, byte):
-        """The file, the line and the rule of a formula."""
+    def rule(self, byte):
+        """The number of the rule of a formula."""
         first = bisect.bisect_left(self.bytes, byte)
         rule = self.rules[bisect.bisect_left(self.rules, first) - 1]
-        number = next(self.tokens[k].text for k in range(rule, first) if self.tokens[k].kind == "number")
-        return f"{self.file.name} line {self.file.lines.number(byte)}, rule {number}"
+        return next(self.tokens[k].text for k in range(rule, first) if self.tokens[k].kind == "number")
+
+    def line(self, byte):
+        return self.file.lines.number(byte)
+
+    def place(self, byte):
+        """The file, the line and the rule of a formula."""
+        return f"{self.file.name} line {self.line(byte)}, rule {self.rule(byte)}"
 
 
 class Formula:
@@ -88,10 +94,10 @@ def number_of(index, letters):
 
 
 class Rules:
-    """The formulas of a list's application by their cells, and the variables with their descriptions."""
+    """The formulas of a list's application by their cells, and the variables with their descriptions. `base` is the rule base, where it was read before."""
 
-    def __init__(self, list_name):
-        base = source.RuleBase(list_name)
+    def __init__(self, list_name, base=None):
+        base = base or source.RuleBase(list_name)
         self.application, self.contents = base.application, [(file.name, file.bytes) for file in base.files]
         self.variables = {variable.name: variable for variable in base.variables}
         self.sizes = {name: variable.size for name, variable in self.variables.items() if variable.size is not None}

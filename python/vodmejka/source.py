@@ -302,9 +302,21 @@ class RuleBase:
     """A list with all its rule files, whose names count from a folder. Tables and cells may be `bounded`, as the program's are."""
 
     def __init__(self, list_name, folder="", bounded=True):
-        self.application, names = read_list_text(list_name, fetch(list_name).removeprefix(MARK))
+        application, names = read_list_text(list_name, fetch(list_name).removeprefix(MARK))
         names = [os.path.join(folder, name) for name in names]
-        self.files = [RuleFile(name, content) for name, content in zip(names, fetch_rules(names))]
+        self.take(application, zip(names, fetch_rules(names)), bounded)
+
+    @classmethod
+    def of(cls, application, contents):
+        """The rule base of files that were read: each by its name with its bytes."""
+        made = cls.__new__(cls)
+        made.take(application, contents, True)
+        return made
+
+    def take(self, application, contents, bounded):
+        """Reads the files."""
+        self.application = application
+        self.files = [RuleFile(name, content) for name, content in contents]
         self.variables = [variable for file in self.files for variable in file.variables]
         self.rules = [rule for file in self.files for rule in file.rules]
         if bounded:
