@@ -5,7 +5,7 @@ from __future__ import annotations
 import os
 from typing import NamedTuple, Union
 
-from . import case_tables, laws, operators, records, runs, source
+from . import case_tables, laws, operators, records, runs, source, texts
 from .calculation import Rules, Stopped
 from .driving import Driver, OneCall
 from .limits import REQUESTS
@@ -24,6 +24,13 @@ class Told(NamedTuple):
     values: list[operators.Value]
     notes: list[str]
     stop: str | None
+
+
+def percent_of(reached: int, of: int) -> str:
+    """A percentage with one decimal at most, rounded down, so that 100 is all."""
+    tenths = reached * 1000 // of if of else 1000
+    whole, rest = divmod(tenths, 10)
+    return f"{whole}{texts.decimal_sign()}{rest}" if rest else str(whole)
 
 
 class Coverage:

@@ -4,7 +4,7 @@ from __future__ import annotations
 import os
 
 from . import marks, plain_pages
-from .coverage import Coverage
+from .coverage import Coverage, percent_of
 from .plain_pages import escaped
 from .texts import said
 
@@ -26,26 +26,20 @@ def shown(name: str) -> str:
     return os.fsencode(name).decode("utf-8", "replace")
 
 
-def percent(reached: int, of: int) -> str:
-    return f"{reached * 1000 // of / 10:g} %" if of else ""
-
-
 def summary(followed: Coverage, excepted: set[str]) -> str:
     found = [(kind, reached, of) for kind, reached, of in followed.summary(excepted) if of]
     found.append(("all", sum(one for _, one, _ in found), sum(one for _, _, one in found)))
-    rows = [[escaped(said(f"coverage.kind.{kind}")), str(reached), str(of), percent(reached, of)] for kind, reached, of in found]
+    rows = [[escaped(said(f"coverage.kind.{kind}")), str(reached), str(of), said("coverage.rate", percent=percent_of(reached, of))] for kind, reached, of in found]
     return plain_pages.table([said("coverage.kind"), said("coverage.reached"), said("coverage.count"), said("coverage.percent")], rows)
 
 
 def missing(followed: Coverage, excepted: set[str], numbers: dict[str, int]) -> str:
-    rows = []
+    lines = []
     for point in followed.missing(excepted):
         path, line = followed.place(point)
         place = f'<a href="#f{numbers[point.path]}l{line}">{escaped(f"{path}:{line}")}</a>'
-        rows.append([f"<code>{escaped(point.key)}</code>", escaped(said(point.why)), place])
-    if not rows:
-        return f"<p>{escaped(said('coverage.nothing'))}</p>"
-    return plain_pages.table([said("coverage.kind"), "", said("coverage.place")], rows)
+        lines.append(f"<li>{place} <code>{escaped(point.key)}</code>: {escaped(said(point.why))}</li>")
+    return f"<ul>{''.join(lines)}</ul>" if lines else f"<p>{escaped(said('coverage.nothing'))}</p>"
 
 
 def sheet(followed: Coverage, path: str, excepted: set[str], number: int) -> str:

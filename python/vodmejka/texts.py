@@ -58,11 +58,10 @@ TEXTS = {
     "coverage.by": ("Cases: {tables}", "Cas : {tables}"),
     "coverage.missing": ("What no case reaches", "Ce qu'aucun cas n'atteint"),
     "coverage.nothing": ("Every point is reached.", "Tout est atteint."),
-    "coverage.place": ("Place", "Emplacement"),
+    "coverage.rate": ("{percent} %", "{percent} %"),
     "coverage.legend": (
         "A line is marked + where all of it is reached, ~ where a part is, and - where nothing is. What no case reaches is underlined.",
         "Une ligne porte + si tout y est atteint, ~ si une partie l'est, - si rien ne l'est. Ce qu'aucun cas n'atteint est souligné."),
-    "coverage.line": ("line {line}", "ligne {line}"),
 }
 
 
@@ -88,3 +87,8 @@ def said(key: str, **values) -> str:
     """The sentence with this key, in the language that was chosen."""
     english, french = TEXTS[key]
     return (french if Language.name == FRENCH else english).format(**values)
+
+
+def decimal_sign() -> str:
+    """The sign before decimals."""
+    return "," if Language.name == FRENCH else "."

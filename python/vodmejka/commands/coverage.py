@@ -110,8 +110,7 @@ def follow(said: list[str], found: dict[str, str], room: str) -> int:
         if of:
             print(texts.said(f"coverage.of.{kind}", reached=reached, of=of))
     reached, of = sum(one for _, one, _ in summary), sum(one for _, _, one in summary)
-    percent = f"{reached * 1000 // of / 10:g}" if of else "100"
-    print(texts.said("coverage.all", households=households, reached=reached, of=of, percent=percent))
+    print(texts.said("coverage.all", households=households, reached=reached, of=of, percent=coverage.percent_of(reached, of)))
     if "--page" in found:
         source.put(found["--page"], coverage_page.page(followed, excepted, said, households).encode("utf-8", "replace"))
     if "--lcov" in found:
