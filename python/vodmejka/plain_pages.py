@@ -4,14 +4,12 @@ from __future__ import annotations
 import base64
 import hashlib
 import html
-import os
 
-from . import source
+from .plain_style import STYLE
 from .texts import Language
 
 POLICY = "default-src 'none'; style-src 'sha256-{style}'; {script}img-src data:; base-uri 'none'; form-action 'none'"
-HERE = os.path.dirname(os.path.realpath(__file__))
-STYLE = source.fetch(os.path.join(HERE, "words", "plain.css")).decode("utf-8")
+HIDDEN = "\x7f\u061c\u200b\u200e\u200f\u202a\u202b\u202c\u202d\u202e\u2060\u2066\u2067\u2068\u2069\ufeff"
 
 
 def digest(text: str) -> str:
@@ -22,9 +20,6 @@ def escaped(text: str) -> str:
     """A text as a page shows it: no sign of it is markup, and what turns the direction of writing or can't be seen is shown as U+FFFD."""
     seen = "".join("\ufffd" if ord(letter) < 32 and letter not in "\t\n" or letter in HIDDEN or "\ud800" <= letter <= "\udfff" else letter for letter in text)
     return html.escape(seen)
-
-
-HIDDEN = "\x7f\u061c\u200b\u200e\u200f\u202a\u202b\u202c\u202d\u202e\u2060\u2066\u2067\u2068\u2069\ufeff"
 
 
 def page(title: str, body: str, script: str = "", up: str = "") -> str:

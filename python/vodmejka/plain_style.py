@@ -1,4 +1,6 @@
-:root{color-scheme:light}
+"""The style of plain pages: readable from 360 pixels on, and on paper."""
+
+STYLE = """:root{color-scheme:light}
 body{font:16px/1.5 system-ui,"Liberation Sans",sans-serif;color:#161616;background:#fff;margin:0}
 main,nav{max-width:64rem;margin:0 auto;padding:.5rem 1rem}
 nav{border-bottom:1px solid #ccc;display:flex;flex-wrap:wrap;gap:.25rem 1rem}
@@ -28,3 +30,4 @@ input{font:inherit;padding:.4rem;border:1px solid #555;width:100%;max-width:30re
 .sheet span.line:target{outline:2px solid #0a76f6}
 @media(max-width:32rem){.sheet span.line{padding-left:4.5em;text-indent:-4.5em}.sheet .no{width:4em}dl{grid-template-columns:1fr}dt{margin-top:.4rem}}
 @media print{nav{display:none}}
+"""
