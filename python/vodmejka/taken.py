@@ -29,6 +29,12 @@ def number(value: str) -> Fraction | None:
     return Fraction(value[2:]) if value.startswith("= ") else None
 
 
+def literal(text: str) -> Fraction:
+    """The amount of a number of rules, of however many digits: at the seventh decimal it is decided how it is rounded."""
+    whole, _, decimals = text.partition(".")
+    return rounded(Fraction(f"{whole.lstrip('0') or '0'}.{decimals[:7] or '0'}"))
+
+
 class Taken:
     """Evaluates a term over the values of cells, and notes the cells that indexes came to and the branches that were taken."""
 
@@ -39,12 +45,12 @@ class Taken:
     def value(self, term) -> Fraction | None:
         kind, *parts = term
         if kind == "number":
-            return Fraction(parts[0])
+            return literal(parts[0])
         if kind == "X":
             return Fraction(self.own or 0)
         if kind == "name":
             word = replaced(parts[0], self.letters)
-            return Fraction(word) if word.isdigit() else self.cell(word)
+            return literal(word) if word.isdigit() else self.cell(word)
         if kind == "read":
             return self.read(replaced(parts[0], self.letters), parts[1])
         if kind == "sum":
