@@ -8,6 +8,7 @@ from .hints import distance
 
 TYPES = ("BOOLEEN", "DATE", "DATE_AAAA", "DATE_JJMMAAAA", "DATE_MM", "ENTIER", "REEL")
 MOST_NAMED = 5
+EVALUATED = ("=", "!=", "<", "<=", ">", ">=", "et", "ou", "non", "positif", "positif_ou_nul", "null", "+", "-", "*", "neg", "abs", "max", "min")
 
 
 def slips_of_words(files):
@@ -88,7 +89,7 @@ def constant_value(term, constants):
         return Fraction(parts[0])
     if kind == "name":
         return Fraction(parts[0]) if parts[0].isdigit() else constants.get(parts[0])
-    if kind != "op" or parts[0] not in ("=", "!=", "<", "<=", ">", ">=", "et", "ou", "non", "positif", "positif_ou_nul", "null", "+", "-", "*", "neg", "abs", "max", "min"):
+    if kind != "op" or parts[0] not in EVALUATED:
         return None
     values = [constant_value(part, constants) for part in parts[1]]
     return None if None in values else of_numbers(parts[0], values)

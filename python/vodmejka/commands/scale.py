@@ -19,7 +19,9 @@ have no part in it. A program that was built anew meanwhile is refused.
 --timeout SECONDS ends a batch of one, run or pipe that takes longer; the part has no answer then, and the same words begin it again.
 
 A part is written under a name of its own until it is whole and checked, so a run that was stopped or killed is begun again by the same words and goes
-on; what it had begun of a part is removed then. `one` and `run` look that an answer has the part's labels, each once and in their order, and for each household one line for each request or a stop.
+on; what it had begun of a part is removed then.
+
+`one` and `run` look that an answer has the part's labels, each once and in their order, and for each household one line for each request or a stop.
 `join` looks that every part has its answer as it was checked, that all answers together have the labels of the table in their order, and that all were
 made of one source (program, list, rule files, driver, requests). So no household is lost or doubled. `cut --once` also refuses a label that stands twice.
 

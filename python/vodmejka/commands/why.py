@@ -6,7 +6,8 @@
 NAME is a variable, or a cell of a table as T[3]. The values are what the program computes at one call of the rules, without a driver, and `check` looks at
 the report of them before anything is shown. For each value it shows what the declaration says of it, the formula as the rule file has it, and
 its file, line and rule. A value that was shown above is named again without what stands below it. --depth shows so many levels, --only-nonzero leaves
-out what is undefined or 0. --against shows what differs for the household OTHER: the values that are others there, with both. --report prints the lines of the report alone, for `check`. --html writes a page of its own, without scripts,
+out what is undefined or 0. --against shows what differs for the household OTHER: the values that are others there, with both.
+--report prints the lines of the report alone, for `check`. --html writes a page of its own, without scripts,
 that folds and unfolds in any browser; --open unfolds all of it, and printed it is whole.
 
 With --driver the value is the one after a run by the driver: it says which command gave it, goes on with what that read, into functions and partitions and
