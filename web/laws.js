@@ -18,14 +18,14 @@ export class Law {
     this.numbers = new Map(this.inputs.map((input, k) => [input.code, k]));
     this.places = new Map(data.cells.map(([cell], k) => [cell, k]));
     this.codes = new Map();
-    for (const [variable, declared] of Object.entries(data.variables)) if (declared[1] !== null) this.codes.set(declared[1], variable);
+    for (const [variable, declared] of Object.entries(data.variables)) if (declared[4]) this.codes.set(declared[4], variable);
   }
 
   // What is declared of a variable, of which a cell may be one.
   declared(cell) {
-    const found = this.data.variables[cell.split('[')[0]] ?? ['calculee', null, '', '', '', [], ['', 0], []];
-    const [kind, code, description, type, number, attributes, [file, line], comments] = found;
-    return { kind, code, description, type, number, attributes, file, line, comments };
+    const found = this.data.variables[cell.split('[')[0]] ?? ['calculee'];
+    const [kind, description = '', place = 0, line = 0, code = null, type = '', number = '', attributes = [], comments = []] = found;
+    return { kind, code, description, type, number, attributes, file: this.data.places[place]?.[0] ?? '', line, comments };
   }
 
   description(cell) {
@@ -36,8 +36,8 @@ export class Law {
   formula(cell) {
     const [, number, tree] = this.data.cells[this.places.get(cell)] ?? [];
     if (number === undefined) return null;
-    const [text, file, line, rule, comments] = this.data.formulas[number];
-    const heading = this.data.headings[file] ?? '';
+    const [text, place, line, rule, comments = []] = this.data.formulas[number];
+    const [file, heading] = this.data.places[place];
     return { text, file, line, rule, comments: heading === '' ? comments : [heading, ...comments], tree };
   }
 

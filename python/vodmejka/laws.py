@@ -75,6 +75,7 @@ class Law:
             self.rules = reasons.Rules(self.files.list)
             self.base = source.RuleBase(self.files.list)
             self.passages = {file.name: passages.Passages(file) for file in self.base.files}
+            self.numbers = {path: number for number, path in enumerate(self.passages)}
             self.asked = re.findall(r"^output (.+)$", self.code.split("\ncode\n", 1)[0], re.MULTILINE)
             self.origins = origins.Origins(self.files.driver, self.rules.variables) if self.files.driver is not None else None
             self.trees_and_code()
@@ -156,7 +157,7 @@ class Law:
             "variables": dict(self.variables()),
             "errors": dict(error for passages in self.passages.values() for error in passages.errors()),
             "pure": self.is_pure(),
-            "headings": {shown(self.files.names[path]): passages.heading() for path, passages in self.passages.items()},
+            "places": [[shown(self.files.names[path]), passages.heading()] for path, passages in self.passages.items()],
             "origins": {name: self.origins.of(name) for name in self.asked} if self.origins else {},
             "files": [[shown(name), digest] for name, digest in self.files.contents],
             "digest": hashlib.sha256(self.code.encode("latin-1")).hexdigest(),
@@ -171,11 +172,11 @@ class Law:
         key = (path, formula.formula.byte)
         if key not in formulas:
             text, line, rule, comments = self.passages[path].formula(formula.formula.byte)
-            formulas[key] = len(formulas), [text, shown(self.files.names[path]), line, rule, comments]
+            formulas[key] = len(formulas), [text, self.numbers[path], line, rule, *([comments] if comments else [])]
         return [name, formulas[key][0], self.trees[name]]
 
     def variables(self):
-        """The variables of the form and of the cells: kind, code, description, type, a constant's number, attributes, place and comments."""
+        """The variables of the form and of the cells: kind, description, file, line, code, type, a constant's number, attributes, comments; without empty ends."""
         needed = {cell.split("[")[0] for cell in [*self.places, *self.asked]}
         for file in self.base.files:
             for variable in file.variables:
@@ -184,8 +185,10 @@ class Law:
                 _, line, byte = re.fullmatch(r"(.*) line ([0-9]+) byte ([0-9]+)", variable.place, re.DOTALL).groups()
                 description, word, number, comments = self.passages[file.name].declaration(int(byte))
                 attributes = [*variable.words, *(f"{name} = {value}" for name, value in variable.numbers.items())]
-                place = [shown(self.files.names[file.name]), int(line)]
-                yield variable.name, [variable.kind, variable.code, description, word, number, attributes, place, comments]
+                said = [variable.kind, description, self.numbers[file.name], int(line), variable.code, word, number, attributes, comments]
+                while not said[-1]:
+                    said.pop()
+                yield variable.name, said
 
 
 def shown(name):

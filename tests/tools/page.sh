@@ -42,8 +42,8 @@ for cell in law["cells"]:
     print("cell", *(json.dumps(part) for part in cell))
 for formula in law["formulas"]:
     print("formula", *formula, sep=" | ")
-print("variables", sorted(law["variables"]), law["variables"]["A"], law["variables"]["TX"][4])
-print("errors", law["errors"], "pure", law["pure"], "headings", law["headings"], "groups", data["groups"], "main", data["main"])
+print("variables", sorted(law["variables"]), law["variables"]["A"], law["variables"]["TX"])
+print("errors", law["errors"], "pure", law["pure"], "places", law["places"], "groups", data["groups"], "main", data["main"])
 def told(origin, level):
     print("  " * level, origin["line"], origin["text"], origin["by"], origin["cell"], origin.get("hidden", ""), origin["blocks"])
     for below in origin.get("below", ()):
