@@ -162,8 +162,13 @@ def raise_for(text: bytes, status: int, messages: bytes = b"") -> None:
     raise Broken(f"the program ended with status {status} and printed no line of its own{f': {said}' if said else ''}")
 
 
-def spelled(code: str, amount: Amount) -> str:
-    """An amount as the program reads it. Floats are rejected, since they mean another number than they show."""
+def spelled(code: str, amount: Any) -> str:
+    """An amount as the program reads it. Whole numbers of any type are amounts, also numpy's. Floats that aren't whole are rejected, since they mean another
+    number than they show."""
+    if hasattr(amount, "item"):
+        amount = amount.item()
+    if isinstance(amount, float) and amount.is_integer():
+        amount = int(amount)
     if isinstance(amount, bool) or not isinstance(amount, (Decimal, int, str)):
         raise TypeError(f"{code}: an amount is a Decimal, an int or a text, and not {amount!r}")
     if isinstance(amount, Decimal):
