@@ -1,41 +1,111 @@
-"""Makes the wheel that `pip install ./python` asks for, with Python's library alone, so that no other package and no network is needed."""
+"""Makes the wheel that `pip install ./python` asks for, with Python's library alone, so that no other package and no network is needed.
+
+A wheel that is made in a clone of the repository names that clone, whose program is used then; with VODMEJKA_RELEASE set it names none. Python 3.10 has no
+reader of TOML, so pyproject.toml is read by its lines.
+"""
 import base64
+import gzip
 import hashlib
+import io
 import os
 import re
+import tarfile
 import zipfile
 
 HERE = os.path.dirname(os.path.abspath(__file__))
-FORM = "Wheel-Version: 1.0\nGenerator: vodmejka\nRoot-Is-Purelib: true\nTag: py3-none-any\n"
+NAME = "vodmejka"
+CLONE = f"{NAME}/clone.path"
+PURE = "Wheel-Version: 1.0\nGenerator: vodmejka\nRoot-Is-Purelib: true\nTag: py3-none-any\n"
+SCRIPTS = b"[console_scripts]\nvodmejka = vodmejka.__main__:main\n"
+WEB = f"{NAME}/web"
+FIRST = (1980, 1, 1, 0, 0, 0)
 
 
 def build_wheel(wheel_directory, config_settings=None, metadata_directory=None):
     """The hook of PEP 517: writes the wheel, and answers its name."""
-    with open(os.path.join(HERE, "pyproject.toml"), encoding="utf-8") as file:
-        project = dict(re.findall(r'^([a-z-]+) = "(.*)"$', file.read().split("[project]")[1], re.MULTILINE))
-    name, version = project["name"], project["version"]
-    heads = {"Metadata-Version": "2.1", "Name": name, "Version": version, "Summary": project["description"], "Requires-Python": project["requires-python"]}
-    info = f"{name}-{version}.dist-info"
-    files = {f"{info}/METADATA": "".join(f"{head}: {text}\n" for head, text in heads.items()).encode(), f"{info}/WHEEL": FORM.encode()}
-    files[f"{info}/entry_points.txt"] = b"[console_scripts]\nvodmejka = vodmejka.__main__:main\n"
-    for entry, path in package_files(name):
-        with open(path, "rb") as file:
-            files[entry] = file.read()
+    files = {entry: content_of(entry) for entry in package_files()}
+    if (top := clone()) is not None:
+        files[CLONE] = os.fsencode(top) + b"\n"
+    return written(wheel_directory, files)
+
+
+def build_editable(wheel_directory, config_settings=None, metadata_directory=None):
+    """The hook of PEP 660: a wheel that names this folder, in which the package is used as it stands."""
+    return written(wheel_directory, {f"{NAME}.pth": os.fsencode(HERE) + b"\n"})
+
+
+def build_sdist(sdist_directory, config_settings=None):
+    """The hook of PEP 517: writes the sources from which `build_wheel` makes the same package, and answers the file's name."""
+    top = f"{NAME}-{version()}"
+    names = ["pyproject.toml", "wheel_of_package.py", "README.md", *package_files()]
+    files = {"PKG-INFO": metadata(), **{name: content_of(name) for name in names}}
+    with open(os.path.join(sdist_directory, f"{top}.tar.gz"), "wb") as out, gzip.GzipFile("", "wb", 9, out, 0) as packed:
+        with tarfile.open(fileobj=packed, mode="w", format=tarfile.PAX_FORMAT) as archive:
+            for name, content in files.items():
+                entry = tarfile.TarInfo(f"{top}/{name}")
+                entry.size, entry.mode = len(content), 0o644
+                archive.addfile(entry, io.BytesIO(content))
+    return f"{top}.tar.gz"
+
+
+def written(folder, files):
+    """Writes a wheel with these files, and answers its name."""
+    info = f"{NAME}-{version()}.dist-info"
+    files = {**files, f"{info}/METADATA": metadata(), f"{info}/WHEEL": PURE.encode(), f"{info}/entry_points.txt": SCRIPTS}
     lines = [f"{path},sha256={digest(content)},{len(content)}\n" for path, content in files.items()]
     files[f"{info}/RECORD"] = "".join([*lines, f"{info}/RECORD,,\n"]).encode()
-    wheel = f"{name}-{version}-py3-none-any.whl"
-    with zipfile.ZipFile(os.path.join(wheel_directory, wheel), "w", zipfile.ZIP_DEFLATED) as out:
+    wheel = f"{NAME}-{version()}-py3-none-any.whl"
+    with zipfile.ZipFile(os.path.join(folder, wheel), "w", zipfile.ZIP_DEFLATED) as out:
         for path, content in files.items():
-            out.writestr(zipfile.ZipInfo(path, (1980, 1, 1, 0, 0, 0)), content)
+            entry = zipfile.ZipInfo(path, FIRST)
+            entry.external_attr = 0o644 << 16
+            out.writestr(entry, content)
     return wheel
 
 
-def package_files(name):
-    """The files of the package, each with its path within the wheel; the sources of pages stand beside it in the repository."""
-    web = os.path.join(os.path.dirname(HERE), "web")
-    for top, place, kinds in ((os.path.join(HERE, name), name, (".py", ".typed", ".words")), (web, f"{name}/web", (".js", ".json", ".css", ".html"))):
-        found = sorted(os.path.join(folder, entry) for folder, _, entries in os.walk(top) for entry in entries if entry.endswith(kinds))
-        yield from ((os.path.join(place, os.path.relpath(path, top)), path) for path in found)
+def clone():
+    """The repository in which this package stands, where it does, and the wheel isn't for others."""
+    top = os.path.dirname(HERE)
+    return top if os.path.exists(os.path.join(top, "crates.txt")) and not os.environ.get("VODMEJKA_RELEASE") else None
+
+
+def version():
+    """The version of the package, which stands in it once."""
+    return re.search(r'^VERSION = "([0-9.]+)"$', content_of(f"{NAME}/version.py").decode(), re.MULTILINE)[1]
+
+
+def metadata():
+    """What a wheel or an archive says of the package."""
+    project = content_of("pyproject.toml").decode().split("[project]\n")[1].split("\n[")[0]
+    texts = dict(re.findall(r'^([a-z-]+) = "(.*)"$', project, re.MULTILINE))
+    classifiers = re.findall(r'^    "(.*)",$', project, re.MULTILINE)
+    heads = [("Metadata-Version", "2.1"), ("Name", NAME), ("Version", version()), ("Summary", texts["description"])]
+    heads += [("Requires-Python", texts["requires-python"]), *(("Classifier", one) for one in classifiers)]
+    heads.append(("Description-Content-Type", "text/markdown"))
+    return "".join(f"{head}: {text}\n" for head, text in heads).encode() + b"\n" + content_of(texts["readme"])
+
+
+def package_files():
+    """The files of the package, by their paths within it. The sources of pages stand beside it in the repository, and in its folder `web` elsewhere."""
+    return sorted([*files_below(os.path.join(HERE, NAME), NAME, (".py", ".typed", ".words")), *files_below(web_folder(), WEB, (".js", ".json", ".css", ".html"))])
+
+
+def files_below(top, place, kinds):
+    """The files of these kinds below a folder, as they stand below a place of the package."""
+    found = [os.path.join(folder, entry) for folder, _, entries in os.walk(top) for entry in entries if entry.endswith(kinds)]
+    return [os.path.join(place, os.path.relpath(path, top)) for path in found]
+
+
+def web_folder():
+    """The folder of the sources of pages."""
+    inside = os.path.join(HERE, WEB)
+    return inside if os.path.isdir(inside) else os.path.join(os.path.dirname(HERE), "web")
+
+
+def content_of(entry):
+    path = os.path.join(web_folder(), os.path.relpath(entry, WEB)) if entry.startswith(WEB + "/") else os.path.join(HERE, entry)
+    with open(path, "rb") as file:
+        return file.read()
 
 
 def digest(content):

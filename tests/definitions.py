@@ -25,7 +25,7 @@ def imports(lines, mark):
     """The names that use lines bring: a name of this file to (module, name), and an alias to (module, None)."""
     text = "\n".join(lines)
     found = {}
-    for module, names, alias in re.findall(rf"^{mark}use (Rattle\.[\w.]+?)(?:\.\{{([^}}]*)\}};?| as (\w+);?)$", text, re.M):
+    for module, names, alias in re.findall(rf"^(?:pub )?{mark}use (Rattle\.[\w.]+?)(?:\.\{{([^}}]*)\}};?| as (\w+);?)$", text, re.M):
         if alias:
             found[alias] = (module, None)
         for name in filter(None, (part.strip() for part in names.split(","))):
@@ -37,7 +37,7 @@ def imports(lines, mark):
 class Definition:
     def __init__(self, crate, path, line, name):
         self.crate, self.path, self.line, self.name = crate, path, line, name
-        self.count, self.words = 0, set()
+        self.count, self.words, self.is_data, self.is_sealed = 0, set(), False, False
 
     def add(self, text):
         code = re.sub(r"(^|\s)(--|//).*$", "", text)
@@ -60,7 +60,7 @@ def of_specs(crate, module):
             within.append(indent + 2)
             continue
         text = text[within[-1]:]
-        if not text.strip() or text.startswith(("--", "use ", "mod ", "pub mod ")):
+        if not text.strip() or text.startswith(("--", "use ", "pub use ", "mod ", "pub mod ")):
             continue
         if not text[0].isspace() and text[0] not in ")}]":
             name = HEAD.match(text)
@@ -69,10 +69,16 @@ def of_specs(crate, module):
             name = name.group(1)
             if name not in found:
                 found[name] = Definition(crate, path, number, name)
-                if re.match(r"(pub )?data ", text):
-                    found[name].is_data = True
+                found[name].is_data = bool(re.match(r"(pub )?data ", text))
+                # of a definition that no proof unfolds, only the type is known
+                found[name].is_sealed = bool(re.match(r"(pub )?(?!data |record |abbrev |unfoldable |mutual)\S+ :", text)) and within == [0]
+            elif found[name].is_sealed:
+                now = None
+                continue
             now = found[name]
-        elif getattr(now, "is_data", False):
+        elif now is None:
+            continue
+        elif now.is_data:
             case = re.match(r"\s+([A-Za-z_][\w']*)\s*:", text)
             if case and case.group(1) not in found:
                 found[case.group(1)] = now
@@ -104,7 +110,7 @@ class Reading:
         self.files, self.types, self.seen, self.left_out = {}, {}, {}, left_out
 
     def find(self, module, name):
-        """The definitions by which a name of a module is known, and the imports and neighbours of its file."""
+        """The definition by which a name of a module is known, with its module, and the imports and neighbours of its file."""
         parts = module.split(".")
         crate, kind = parts[1], parts[2] if len(parts) > 2 else ""
         if not os.path.isdir(os.path.join(ROOT, "crates", crate)) or kind != "specs":
@@ -118,12 +124,15 @@ class Reading:
             if key not in self.types:
                 self.types[key] = of_type(*key)
             found, names = self.types[key]
-            return (found, names, {}) if found else None
+            return (found, module, names, {}) if found else None
         key = (crate, ".".join(parts[3:]))
         if key not in self.files:
             self.files[key] = of_specs(*key)
         found, names = self.files[key]
-        return (found[name], names, found) if name in found else None
+        if name in found:
+            return found[name], module, names, found
+        # a file may hand on what another one defines
+        return self.find(names[name][0], names[name][1] or name) if name in names else None
 
     def walk(self, todo):
         while todo:
@@ -131,7 +140,7 @@ class Reading:
             known = self.find(module, name)
             if not known or name in self.left_out:
                 continue
-            definition, names, neighbours = known
+            definition, module, names, neighbours = known
             key = (definition.path, definition.line)
             if key in self.seen:
                 continue

@@ -19,12 +19,17 @@ same() {
     diff "$2" "$3" | sed -n 's/^[<>]/    &/p'
 }
 
-# Crates: the index, the folders, and the table of ARCHITECTURE under "The crates, and what each may not know".
-sed -n 's/^\([a-z][a-z0-9_]*\)[^:#]*:.*/\1/p' crates.txt | sort >"$room/index"
+# Crates: the index, the folders, and the tables of ARCHITECTURE under "The crates, and what each may not know", which have its groups in its order.
+sed -n 's/^\([a-z][a-z0-9_]*\)[^:#]*:.*/\1/p; s/^# /# /p' crates.txt >"$room/groups"
+grep -v '^#' "$room/groups" | sort >"$room/index"
 git ls-files crates | cut -d/ -f2 | sort -u >"$room/folders"
-awk '/^## /{in_table = /^## The crates/} in_table && /^\| [a-z][a-z0-9_]* \|/{print $2}' docs/ARCHITECTURE.md | sort >"$room/table"
+awk '
+    /^## /{in_table = /^## The crates/}
+    in_table && /^[A-Z].*:$/{group = "# " tolower(substr($0, 1, 1)) substr($0, 2, length($0) - 2)}
+    in_table && /^\| Crate \|/{print group}
+    in_table && /^\| [a-z][a-z0-9_]* \|/{print $2}' docs/ARCHITECTURE.md >"$room/table"
 same "crates.txt and the folders of crates" "$room/index" "$room/folders"
-same "crates.txt and the table of crates in ARCHITECTURE" "$room/index" "$room/table"
+same "the groups of crates.txt and those of ARCHITECTURE" "$room/groups" "$room/table"
 
 # PROVED has a row for each crate that isn't of tests and rows alone, and each call that a row names stands in its crate.
 sed -n 's/^\([a-z][a-z0-9_]*\)[^:#]*:.*/\1/p' crates.txt | grep -v '_tests$' | grep -vx -e rows -e worked_rows | sort >"$room/proved"

@@ -6,3 +6,5 @@ apt-get update -qq
 apt-get install -y --no-install-recommends nodejs chromium chromium-driver
 # tests/tools/lsp_neovim.sh: a real client of the language server
 apt-get install -y --no-install-recommends neovim
+# python/tests: frames, by /usr/bin/python3, for which Debian has pandas; types
+apt-get install -y --no-install-recommends python3-pandas mypy

@@ -19,6 +19,7 @@ export ROOT
 [ -z "${M_TAX-}" ] || export M_TAX
 PYTHONDONTWRITEBYTECODE=1
 export PYTHONDONTWRITEBYTECODE
+unset LC_ALL LC_MESSAGES LANG
 room=$(mktemp -d) || exit 1
 trap 'rm -rf "$room"' EXIT
 trap 'exit 1' HUP INT TERM

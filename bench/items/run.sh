@@ -11,7 +11,7 @@ work=$(mktemp -d "${TMPDIR:-/tmp}/bench_items.XXXXXX")
 trap 'rm -rf "$work"' EXIT
 trap 'exit 1' HUP INT TERM
 mkdir -p "$work/repository/crates"
-for crate in m_places m_fixed m_names m_text m_lexer m_ast m_terms declaration_items rule_items m_items m_symbols; do
+for crate in m_places m_fixed m_names m_text m_lexer m_ast m_terms m_items m_symbols; do
     mkdir "$work/repository/crates/$crate"
     for part in src specs proofs; do
         if [ -d "$root/crates/$crate/$part" ]; then cp -r "$root/crates/$crate/$part" "$work/repository/crates/$crate/"; fi

@@ -1,5 +1,5 @@
 #!/bin/sh
-# Times the order of definitions and the values of cells, over generated rules, in the ordinary stack of 8,192 KiB. It builds a
+# Times the order of definitions, over generated rules, in the ordinary stack of 8,192 KiB. It builds a
 # program of its own in a copy of the repository, which proves the crates below it. It needs `rt`, Python, GNU `time` and `valgrind`.
 #
 #     sh bench/order/run.sh
@@ -10,15 +10,15 @@ work=$(mktemp -d "${TMPDIR:-/tmp}/bench_order.XXXXXX")
 trap 'rm -rf "$work"' EXIT
 trap 'exit 1' HUP INT TERM
 mkdir -p "$work/repository/crates"
-for crate in m_places m_fixed m_names m_ports m_text text_pieces rule_text m_lexer m_ast m_terms declaration_items rule_items m_items \
-    m_symbols plain_rules loop_values index_expand m_requests micro_m m_resolve m_read_all rule_order rule_base; do
+for crate in m_places m_fixed m_names m_text m_lexer m_ast m_terms m_items \
+    m_symbols loop_values index_expand micro_m m_resolve rule_order rule_base; do
     mkdir "$work/repository/crates/$crate"
     for part in src specs proofs; do
         if [ -d "$root/crates/$crate/$part" ]; then cp -r "$root/crates/$crate/$part" "$work/repository/crates/$crate/"; fi
     done
     grep "^$crate:" "$root/crates.txt" >>"$work/repository/crates.txt"
 done
-echo "bench_order: m_places m_fixed micro_m rule_order rule_text rule_base anyhow" >>"$work/repository/crates.txt"
+echo "bench_order: m_places micro_m rule_order rule_base anyhow" >>"$work/repository/crates.txt"
 cp "$root/HANDLES" "$work/repository/"
 bench=$work/repository/crates/bench_order
 mkdir -p "$bench/src"
@@ -39,14 +39,14 @@ timed() {
     echo "### $1, $2 definitions"
     echo
     for _ in 1 2 3; do
-        /usr/bin/time -f '%M KiB at the most' "$bench/out/bench_order" fill "$work/$1$2"/*.m 2>&1
+        /usr/bin/time -f '%M KiB at the most' "$bench/out/bench_order" order "$work/$1$2"/*.m 2>&1
     done
     echo
 }
 
 # The instructions of each step for so many definitions of a kind.
 counts() {
-    for step in base order fill; do
+    for step in base order; do
         echo "up to $step: $(instructions "$step" "$work/$1$2"/*.m) thousand instructions"
     done
     echo
@@ -57,8 +57,8 @@ for kind in chain sum dynamic ring; do
         timed "$kind" "$count"
         counts "$kind" "$count" | tee "$work/counts.$count"
     done
-    few=$(awk '/fill/ { print $4 }' "$work/counts.10000")
-    awk -v kind="$kind" -v few="$few" '/fill/ { printf "figure order.%s_100000_to_10000_instructions %.3g <=11\n", kind, $4 / few }' "$work/counts.100000"
+    few=$(awk '/order/ { print $4 }' "$work/counts.10000")
+    awk -v kind="$kind" -v few="$few" '/order/ { printf "figure order.%s_100000_to_10000_instructions %.3g <=11\n", kind, $4 / few }' "$work/counts.100000"
 done
 timed dynamic 300000
 timed ring 200000

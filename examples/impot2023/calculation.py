@@ -67,7 +67,7 @@ def all_incomes(household, law):
 
 
 def charges(household, law):
-    """156 II: maintenance of two adult children, at most 6,674 each, and the deductible CSG; that of capital income where the scale is chosen (154 quinquies)."""
+    """156 II: maintenance of two adult children, at most 6,674 each, and the deductible CSG; by the scale also that of capital income (154 quinquies)."""
     result = household["6DE"] + min(Fraction(6674), household["6EL"]) + min(Fraction(6674), household["6EM"])
     if by_scale(household, law):
         result += household["2BH"] * per_cent(6.8)

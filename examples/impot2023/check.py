@@ -36,7 +36,8 @@ def started(*words):
     try:
         run = subprocess.run([PROGRAM, *words], capture_output=True, check=False)
     except OSError as fault:
-        print(f"check: {PROGRAM} can't be started ({fault.strerror}): ./build makes it, at the top of the repository; or name a program by M_TAX", file=sys.stderr)
+        why = f"{PROGRAM} can't be started ({fault.strerror})"
+        print(f"check: {why}: ./build makes it, at the top of the repository; or name a program by M_TAX", file=sys.stderr)
         sys.exit(2)
     return run.stdout.decode("latin-1"), run.returncode
 

@@ -19,9 +19,9 @@ import check
 import worked
 from household import Household, millionths
 
-sys.path.insert(0, "tools")
-from m_loops import instances, replaced  # noqa: E402
-from m_why import Rules  # noqa: E402
+sys.path.insert(0, "python")
+from vodmejka.loops import instances, replaced  # noqa: E402
+from vodmejka.reasons import Rules  # noqa: E402
 
 LIST = f"{check.HERE}/rules.list"
 ARITHMETIC = {

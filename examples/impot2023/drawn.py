@@ -124,7 +124,7 @@ def mistaken(household, chance):
 
 
 def extremes():
-    """Households with a billion in one box, in all but one, and in all, single and couple, with and without the option, thirty children and boxes of disability."""
+    """Households with a billion in one box, in all but one, and in all: single and couple, with and without the option, thirty children and disability."""
     for couple in (0, 1):
         amounts = {code: BILLION for code in CODES[9:] if code not in ("2OP", "4BE") and (couple or code not in SECOND)}
         sets = [{code: BILLION} for code in amounts] + [{other: BILLION for other in amounts if other != code} for code in amounts] + [amounts]

@@ -99,7 +99,7 @@ def households():
                         found.append(Worked(line.removeprefix("household ").split(":")[0]))
                     elif line:
                         read_line(line, found[-1])
-                except (ValueError, SyntaxError) as fault:
+                except (ValueError, SyntaxError, IndexError) as fault:
                     sys.exit(f"worked: {os.path.basename(path)} line {number}: {fault}")
     return found
 

@@ -1,8 +1,9 @@
 #!/usr/bin/env python3
 """Compares what tools/reform wrote with the second calculation of examples/impot2023: python3 examples/reform2023/check.py FOLDER [REFORM]
 
-FOLDER is what make.sh made, of REFORM (thresholds, children or capital). Each household of table.csv is computed before and after the reform by calculation.py, in exact fractions, and compared with its
-line of households.csv; so are the sums, weighted, with the first line of summary.csv, and those of each tenth with its own. The status is 0 where nothing differs.
+FOLDER is what make.sh made, of REFORM (thresholds, children or capital). Each household of table.csv is computed before and after the reform by
+calculation.py, in exact fractions, and compared with its line of households.csv; so are the sums, weighted, with the first line of summary.csv, and those of
+each tenth with its own. The status is 0 where nothing differs.
 """
 import csv
 import os
@@ -72,7 +73,8 @@ def main():
     differ = sum(one != other for one, other in zip(wanted, said)) + abs(len(wanted) - len(said))
     groups = [sums(rows), *map(sums, tenths(rows))]
     lines = lines_of(os.path.join(folder, "report", "summary.csv"))
-    others = sum(any(Fraction(line[column]) != figure for column, figure in group.items()) for line, group in zip(lines, groups)) + abs(len(lines) - len(groups))
+    wrong = (any(Fraction(line[column]) != figure for column, figure in group.items()) for line, group in zip(lines, groups))
+    others = sum(wrong) + abs(len(lines) - len(groups))
     print(f"{len(rows)} households by the calculation: {float(groups[0]['before']):.1f} before, {float(groups[0]['after']):.1f} after")
     print(f"{differ} households differ, {others} of {len(lines)} lines of the summary")
     sys.exit(1 if differ or others or not rows else 0)

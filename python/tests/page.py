@@ -28,7 +28,7 @@ def main():
             if kind == "sh":
                 subprocess.run(["sh", "-e", "-c", text], check=True, stdout=subprocess.DEVNULL)
                 continue
-            if "import pandas" in text and importlib.util.find_spec("pandas") is None:
+            if "pandas" in text and importlib.util.find_spec("pandas") is None:
                 left += 1
                 continue
             test = doctest.DocTestParser().get_doctest(text, names, f"block {number}", PAGE, 0)

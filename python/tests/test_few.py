@@ -7,7 +7,7 @@ from decimal import Decimal
 from unittest import mock
 
 from room import Room
-from vodmejka import OVER, Interrupted, Refused, batches
+from vodmejka import OVER, Interrupted, Refused, Stopped, batches
 
 NOTED = 'case "$4" in /*) echo $(cat "$4");; *) echo all;; esac >>asked;'
 PARTS, PART, EACH = 8, 300, 1_500
@@ -102,7 +102,7 @@ class Few(Room):
         for answer in self.batch():
             try:
                 told.append(answer["C"])
-            except KeyError:
+            except Stopped:
                 told.append(answer.stop.error)
         due = [(1000 + k % 500) ** 3 for k in range(ALL)]
         due[1600], due[1601], due[1700], due[ALL - 1] = None, OVER, "A20", "A20"

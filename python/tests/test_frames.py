@@ -1,11 +1,13 @@
 """Tests with pandas, where it is there, and of what is done with its floats."""
+import decimal
+import pickle
 import struct
 import types
 import unittest
 
 from room import Room
-from vodmejka import Refused
-from vodmejka.rules import exact, narrow
+from vodmejka import OVER, Refused, Stopped
+from vodmejka.frames import exact, fault_of, narrow
 
 
 class Short(float):
@@ -30,34 +32,109 @@ class Floats(unittest.TestCase):
         self.assertIsNone(narrow(object()))
 
 
+    def test_faults_of_amounts(self):
+        for text, type_, fault in (
+            ("1.5", "whole", "is not whole"), ("1.0000001", "whole", None), ("2", "truth", "is neither 0 nor 1"), ("1", "truth", None), ("-3", "whole", None),
+            ("x", "", "is no amount"), ("1e3", "", "is no amount"), ("10000000000001", "", "is beyond the greatest amount"), ("1.5", "", None),
+        ):
+            self.assertEqual(fault_of(text, type_), fault, text)
+
+
 class Frames(Room):
+    """By the rules of test_vodmejka: IRN is what 1AJ has above 1000 and 1 for 1BB, C the cube of 1AJ; below 0 it is stopped, above 9000 there is a note."""
+
     def setUp(self):
         super().setUp()
         try:
             import pandas
         except ImportError:
             self.skipTest("no pandas")
-        self.frame = pandas.DataFrame
+        self.pandas, self.frame = pandas, pandas.DataFrame
 
-    def test_frames(self):
-        frame = self.frame({"1AJ": [2500.0, None, -1], "1BB": [1, 0, 1]}, index=["a", "b", "c"])
+    def test_floats(self):
+        """2000.5 - 1000 + 1; the cube of 10,000,000 is beyond the greatest amount, and that of nothing undefined."""
+        frame = self.frame({"1AJ": [2000.5, None, 10_000_000], "1BB": [1, 0, 0]}, index=["a", "b", "c"])
         found = self.rules.batch(frame)
-        self.assertEqual(list(found.index), ["a", "b", "c"])
-        self.assertEqual(list(found["IRN"]), [1501, 0, None])
-        self.assertEqual(list(found["stop"]), [None, None, "failed 20 A20 anomalie"])
+        self.assertEqual((list(found.index), list(found.columns)), (["a", "b", "c"], ["IRN", "C", "over", "notes"]))
+        self.assertEqual((str(found["IRN"].dtype), list(found["IRN"])), ("float64", [1001.5, 0.0, 9_999_000.0]))
+        self.assertEqual((list(found["C"].isna()), found["C"].iloc[2]), ([False, True, False], float("inf")))
+        self.assertEqual((list(found["over"]), list(found["notes"])), (["", "", "C"], ["", "", "A30"]))
+        self.assertEqual(found.attrs, {"source": self.rules.digest, "program": self.rules.program_digest})
         short = self.frame({"1AJ": [16777.1, 1000.3]}, dtype="float32")
-        self.assertEqual([str(value) for value in self.rules.batch(short)["IRN"]], ["15777.1", "0.3"])
+        self.assertEqual([str(value) for value in self.rules.batch(short, numbers="decimal")["IRN"]], ["15777.1", "0.3"])
+
+    def test_what_a_float_cannot_hold(self):
+        """2^53 millionths are 9007199254.740992: 2080 cubed is less, 2081 cubed is 9011897441."""
+        self.assertEqual(list(self.rules.batch(self.frame({"1AJ": [2080]}))["C"]), [8_998_912_000.0])
+        frame = self.frame({"1AJ": [2080, 2081]}, index=["dupont", "martin"])
+        with self.assertRaisesRegex(Refused, 'household "martin", C: 9011897441 is not exact in float64: numbers="micros"'):
+            self.rules.batch(frame)
+        self.assertEqual(list(self.rules.batch(frame, numbers="micros")["C"]), [8_998_912_000_000_000, 9_011_897_441_000_000])
+        self.assertEqual(list(self.rules.batch(frame, numbers="decimal")["C"]), [8_998_912_000, 9_011_897_441])
+
+    def test_millionths_and_decimals(self):
+        frame = self.frame({"1AJ": [2500.5, None, 10_000_000]})
+        micros = self.rules.batch(frame, numbers="micros")
+        self.assertEqual((str(micros["IRN"].dtype), list(micros["IRN"])), ("Int64", [1_500_500_000, 0, 9_999_000_000_000]))
+        self.assertEqual((list(micros["C"].isna()), list(micros["over"])), ([False, True, True], ["", "", "C"]))
+        decimals = self.rules.batch(frame, numbers="decimal")
+        self.assertEqual((list(decimals["IRN"]), decimals["C"].iloc[1], decimals["C"].iloc[2]), ([decimal.Decimal("1500.5"), 0, 9_999_000], None, OVER))
+
+    def test_stops(self):
+        frame = self.frame({"1AJ": [2000, -1, -2]}, index=["a", "dupont", "martin"])
+        with self.assertRaises(Stopped) as caught:
+            self.rules.batch(frame)
+        said = 'household "dupont": failed 20 A20 anomalie; 2 of 3 households are stopped: stops="keep" keeps them'
+        self.assertEqual((str(caught.exception), caught.exception.line), (said, "failed 20 A20 anomalie"))
+        self.assertEqual(str(pickle.loads(pickle.dumps(caught.exception))), said)
+        for numbers in ("float64", "micros", "decimal"):
+            found = self.rules.batch(frame, stops="keep", numbers=numbers)
+            self.assertEqual((list(found["IRN"].isna()), list(found["stop"])), ([False, True, True], [None, *["failed 20 A20 anomalie"] * 2]))
+
+    def test_columns_that_are_kept(self):
+        frame = self.frame({"weight": [1.5, 2.5], "1AJ": [1500, 2000], "region": ["n", "s"]})
+        found = self.rules.batch(frame, keep=["region", "weight", "1AJ"])
+        self.assertEqual(list(found.columns), ["region", "weight", "1AJ", "IRN", "C", "over", "notes"])
+        self.assertEqual((list(found["region"]), list(found["1AJ"]), (found["IRN"] * found["weight"]).sum()), (["n", "s"], [1500, 2000], 3250))
+        for keep, line in (
+            ([], 'column "weight" is no code of the rules: keep=\\["weight", "region"\\]'), (["weight", "region", "age"], 'the frame has no column "age"')
+        ):
+            with self.assertRaisesRegex(Refused, line):
+                self.rules.batch(frame, keep=keep)
+        with self.assertRaisesRegex(Refused, 'column "IRN" would stand twice'):
+            self.rules.batch(frame.rename(columns={"weight": "IRN"}), keep=["IRN", "region"])
+
+    def test_cells_that_are_none(self):
+        for column, cells, line in (
+            ("1BB", [0, 2], 'household "martin", code 1BB: 2 is neither 0 nor 1'), ("1AJ", ["1", "1,5"], 'household "martin", code 1AJ: 1,5 is no amount'),
+            ("1AJ", [1.0, float("inf")], 'household "martin", code 1AJ: inf is no amount'),
+            ("1AJ", [1, 10**14], 'household "martin", code 1AJ: 100000000000000 is beyond the greatest amount'),
+            ("1AJ", [1, object], "household \"martin\", code 1AJ: <class 'object'> is no amount"),
+        ):
+            with self.assertRaises(Refused) as caught:
+                self.rules.batch(self.frame({column: cells}, index=["dupont", "martin"]))
+            self.assertEqual(caught.exception.line, line)
+        with self.assertRaisesRegex(Refused, "household 1, code 1BB: 0.5 is neither"):
+            self.rules.batch(self.frame({"1BB": [0, 0.5]}))
 
     def test_frames_without_values(self):
         """The columns are those of what is asked for, whatever the households are told."""
         for rows in ([], [-1], [-1, -2]):
-            found = self.rules.batch(self.frame({"1AJ": rows}))
-            self.assertEqual(list(found.columns), ["IRN", "C", "stop", "notes"])
-            self.assertEqual(list(found["IRN"]), [None] * len(rows))
+            found = self.rules.batch(self.frame({"1AJ": rows}), stops="keep")
+            self.assertEqual(list(found.columns), ["IRN", "C", "over", "notes", "stop"])
+            self.assertEqual(list(found["IRN"].isna()), [True] * len(rows))
+        self.assertEqual(list(self.rules.batch(self.frame(index=["a", "b"]))["IRN"]), [0.0, 0.0])
 
     def test_frames_with_a_code_twice(self):
-        with self.assertRaisesRegex(Refused, "line 1: code twice"):
+        with self.assertRaisesRegex(Refused, 'column "1AJ" stands twice'):
             self.rules.batch(self.frame([[2500, 0]], columns=["1AJ", "1AJ"]))
+
+    def test_words_that_are_none(self):
+        for words in ({"numbers": "floats"}, {"stops": "drop"}):
+            with self.assertRaises(ValueError):
+                self.rules.batch(self.frame({"1AJ": [1]}), **words)
+            with self.assertRaises(TypeError):
+                self.rules.batch([{}], **words)
 
 
 if __name__ == "__main__":

@@ -25,7 +25,7 @@ class Variants(Room):
     def test_a_driver_and_requests(self):
         made = self.rules.variant(driver="main():\n  REV = 4000\n  IRN <- call_m()\n", outputs=["IRN", "REV"])
         self.assertEqual(self.told(made), {"IRN": "3000", "REV": "4000"})
-        self.assertEqual(made.outputs(), ["IRN", "REV"])
+        self.assertEqual(made.outputs(), {"IRN": "n", "REV": "s"})
         self.assertEqual(self.told(made.variant({"SEUIL": 500})), {"IRN": "3500", "REV": "4000"})
 
     def test_each_has_a_digest_of_its_own(self):

@@ -7,7 +7,7 @@ from collections import OrderedDict
 from decimal import Decimal
 from types import MappingProxyType
 
-from vodmejka import OVER, Broken, NotFound, Refused, Rules
+from vodmejka import OVER, Broken, NotFound, Refused, Rules, Stopped
 
 RULES = """REV : saisie revenu classe = 0 alias 1AJ : "s" ;
 B : saisie alias 1BB : "b" type BOOLEEN ;
@@ -122,7 +122,7 @@ class Package(unittest.TestCase):
         rules = Rules(self.put("value.txt", f"iliad\n{self.room.name}/value.m\n"), cache=self.room.name)
         noted, over, stopped = rules.batch([{"1AJ": 9001}, {"1AJ": 10_000_000}, {"1AJ": -1}])
         self.assertEqual((noted["IRN"], noted.notes[0].text, over["C"], over["IRN"]), (8001, "IRN = 5::00:household ~:N", OVER, 9999000))
-        with self.assertRaises(KeyError):
+        with self.assertRaisesRegex(Stopped, "failed 20 A20 anomalie"):
             stopped["IRN"]
         self.assertEqual((stopped.values, stopped.notes, stopped.stop.text), ({}, (), "IRN = 5::00:.:N"))
         self.assertEqual(noted, pickle.loads(pickle.dumps(noted)))
@@ -153,10 +153,26 @@ class Package(unittest.TestCase):
                 self.assertEqual(answer[name], again.values[name])
         (answer,) = self.rules.batch([{"1AJ": -1}])
         for name in ("IRN", "IR", "X"):
-            with self.assertRaises(KeyError):
+            with self.assertRaises(Stopped):
                 answer[name]
         with self.assertRaises(KeyError):
             self.rules.run({})["IR"]
+
+    def test_whole_numbers_of_other_types(self):
+        """A float that is whole is that number, and so is what has `item`, as numpy's numbers."""
+        class Number:
+            def __init__(self, value):
+                self.value = value
+
+            def item(self):
+                return self.value
+
+        for amount in (2500.0, Number(2500), Number(2500.0)):
+            self.assertEqual(self.rules.run({"1AJ": amount})["IRN"], 1500)
+            self.assertEqual([answer["IRN"] for answer in self.rules.batch([{"1AJ": 2000}, {"1AJ": amount}])], [1000, 1500])
+        for amount in (2500.5, Number(2500.5), Number(True), float("nan"), float("inf")):
+            with self.assertRaises(TypeError):
+                self.rules.run({"1AJ": amount})
 
     def test_session(self):
         with self.rules.session({"1AJ": 2500}) as session:
@@ -181,7 +197,9 @@ class Package(unittest.TestCase):
         code = Rules.from_code(self.room.name + "/a.code")
         self.assertEqual(code.run({"1AJ": 2500}), self.rules.run({"1AJ": 2500}))
         self.assertEqual([answer["IRN"] for answer in code.batch([{"1AJ": 2500}, {}])], [1500, 0])
-        self.assertEqual(code.inputs(), {"1AJ": "", "1BB": "truth"})
+        self.assertEqual(code.types(), {"1AJ": "", "1BB": "truth"})
+        self.assertEqual([(one.name, one.type) for one in code.inputs().values()], [("", ""), ("", "BOOLEEN")])
+        self.assertEqual(code.outputs(), {"IRN": "", "C": ""})
         with self.assertRaises(Broken):
             code.session()
         with self.assertRaisesRegex(Refused, "code: bad header"):

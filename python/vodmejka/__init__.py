@@ -10,13 +10,17 @@
 them, `session` holds one that is edited. An answer has values, notes, or what stopped the run. What the program refuses is an exception with its place.
 """
 from .answers import OVER, Answer, Note, Over, Stop, Value
+from .cases import Mismatch
 from .comparisons import Comparison, compare
 from .errors import Broken, Interrupted, NotFound, Refused, Stopped, VodmejkaError
 from .rules import Rules
 from .session import Session
 from .sweeps import Sweep, sweep
+from .variables import Formula, Variable
+from .version import VERSION as __version__
+from .whys import Why
 
 __all__ = [
-    "OVER", "Answer", "Broken", "Comparison", "Interrupted", "Note", "NotFound", "Over", "Refused", "Rules", "Session", "Stop", "Stopped", "Sweep", "Value",
-    "VodmejkaError", "compare", "sweep",
+    "OVER", "Answer", "Broken", "Comparison", "Formula", "Interrupted", "Mismatch", "Note", "NotFound", "Over", "Refused", "Rules", "Session", "Stop",
+    "Stopped", "Sweep", "Value", "Variable", "VodmejkaError", "Why", "__version__", "compare", "sweep",
 ]

@@ -9,6 +9,7 @@ from typing import TYPE_CHECKING, Callable, Iterator, Mapping, Union
 
 from .errors import Broken, Stopped
 from .program import ENCODING
+from .shown import section, table
 
 if TYPE_CHECKING:
     from .blocks import Block
@@ -64,6 +65,7 @@ class Answer(Mapping[str, Value]):
     """
 
     __slots__ = ("_block", "_columns", "_index", "_lines", "_form", "_values", "_rest")
+    _index: int
 
     def __init__(self, values: dict[str, Value] | None = None, notes: tuple[Note, ...] = (), stop: Stop | None = None):
         self._block: Block | None = None
@@ -72,7 +74,7 @@ class Answer(Mapping[str, Value]):
         self._values: dict[str, Value] | None = {} if values is None else values
         self._rest: tuple[tuple[Note, ...], Stop | None] | None = (notes, stop)
 
-    @property
+    @property  # type: ignore[override]
     def values(self) -> dict[str, Value]:
         if self._block is not None:
             self._leave(self._block)
@@ -113,6 +115,13 @@ class Answer(Mapping[str, Value]):
 
     def __repr__(self) -> str:
         return f"Answer(values={self.values!r}, notes={self.notes!r}, stop={self.stop!r})"
+
+    def _repr_html_(self) -> str:
+        if self.stop is not None:
+            return section([self.stop.line, self.stop.text])
+        notes = [f"noted {note.verification} {note.error} {note.kind}: {note.text}" for note in self.notes]
+        values = [[name, "undefined" if value is None else "over" if isinstance(value, Over) else value] for name, value in self.values.items()]
+        return section([f"{len(values)} values", *notes], table(["name", "value"], values))
 
     def __reduce__(self) -> tuple[type, tuple[object, ...]]:
         return Answer, (self.values, self.notes, self.stop)
@@ -269,11 +278,17 @@ def parts_of(lines: Iterator[str]) -> Read:
             notes.append(Note(match[2], match[3], match[4], text))
         elif match := OVER_LINE.fullmatch(line):
             return {}, (), Stop(line, match[1], match[2], driver_line=int(match[3]) if match[3] else None)
-        elif match := VALUE.fullmatch(line):
-            values.setdefault(match[1], Decimal(match[2]) if match[2] else None if match[3] else OVER)
         else:
-            raise Broken(f"a line that is no answer: {line}")
+            values.setdefault(line.split(" ")[0], value_of(line))
     return values, tuple(notes), None
+
+
+def value_of(line: str) -> Value:
+    """The value that a line tells: `NAME = AMOUNT`, `NAME undefined` or `NAME over`."""
+    match = VALUE.fullmatch(line)
+    if match is None:
+        raise Broken(f"a line that is no answer: {line}")
+    return Decimal(match[2]) if match[2] else None if match[3] else OVER
 
 
 def answer_of(lines: Iterator[str]) -> Answer:

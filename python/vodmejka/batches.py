@@ -32,7 +32,7 @@ class Answers:
 
     __slots__ = ("_lists", "_all")
 
-    def __init__(self, lists: Generator[list[Told], None, None]):
+    def __init__(self, lists: Generator[list[Told], None, None] | Generator[list[Answer], None, None]):
         self._lists, self._all = lists, itertools.chain.from_iterable(lists)
 
     def __iter__(self) -> Iterator[Answer]:
@@ -169,7 +169,8 @@ class Part:
             self.files.append(requests)
             with open(requests, "wb", closefd=False) as file:
                 file.write("".join(f"{name}\n" for name in self.few.names).encode(ENCODING))
-        self.child = self.batch.started(*self.files[:3], requests)
+        table, printed, messages = self.files[:3]
+        self.child = self.batch.started(table, printed, messages, requests)
 
     def _write(self, file: BinaryIO) -> None:
         """Writes the table, of the households before the first one with what is no amount."""

@@ -134,7 +134,7 @@ class Turn:
         return held > 0
 
     def _new(self, index: int) -> Told:
-        answer = Told()
+        answer: Told = Told()
         answer._block, answer._columns, answer._index = self.block, self.block.columns, index
         return answer
 

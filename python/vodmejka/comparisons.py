@@ -11,6 +11,7 @@ from .errors import Refused
 from .expressions import UNIT, Amount, Expression, millionths
 from .groups import Group, gini_of, group_line
 from .rules import Rules
+from .shown import section, short, table
 from .sweeps import exact
 
 TENTH = "tenth:"
@@ -80,6 +81,11 @@ class Comparison:
             return rows
         return pandas.DataFrame(rows).set_index("group")
 
+    def _repr_html_(self) -> str:
+        rows = [group_line(group) for group in self.groups]
+        digests = f"rules {short(self.digests[0])} before, {short(self.digests[1])} after"
+        return section([repr(self).strip("<>"), digests], table(list(rows[0]), [list(row.values()) for row in rows]))
+
     def __repr__(self) -> str:
         whole = self.all
         return f"<Comparison of {self.of}: {whole.households} households, {whole.apart} apart; cost {self.cost}, winners {self.winners}, losers {self.losers}>"
@@ -140,8 +146,9 @@ def compared(
         groups = tuple(group_of(name, household, answers[0], number) for name in by)
         weighed = UNIT if weight is None else weight_of(number, weight, household[weight])
         why = next((reason for reason in (reason_of(sums, household, answer) for answer in answers) if reason), "")
-        values = [[None, None]] * len(sums) if why else [[value_of(sum_, household, answer) for answer in answers] for sum_ in sums]
-        kept = values[1] if len(values) > 1 else [None, None]
+        none: list[Fraction | None] = [None, None]
+        values = [none if why else [value_of(sum_, household, answer) for answer in answers] for sum_ in sums]
+        kept = values[1] if len(values) > 1 else none
         yield Compared(number, weighed, groups, values[0][0], values[0][1], (kept[0], kept[1]), why)
 
 
@@ -209,7 +216,7 @@ def grouped(households: Sequence[Compared], by: Sequence[str], sign: int) -> Ite
 def in_tenths(households: Sequence[Compared], at: int, name: str) -> dict[str, list[Compared]]:
     """The households by the tenth of the weight in which their own begins, in order of a value; those without one apart."""
     found: dict[str, list[Compared]] = {f"tenth {k} of {name}": [] for k in range(1, 11)}
-    ordered = sorted((one for one in households if one.groups[at] is not None), key=lambda one: one.groups[at])
+    ordered = [one for _, _, one in sorted((one.groups[at], k, one) for k, one in enumerate(households) if one.groups[at] is not None)]
     whole, passed = sum(one.weight for one in ordered), 0
     for one in ordered:
         found[f"tenth {min(9, passed * 10 // whole) + 1 if whole else 1} of {name}"].append(one)

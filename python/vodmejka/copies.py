@@ -72,13 +72,17 @@ class Copies:
             raise Wrong("the program's answer isn't a line for each cell")
         return dict(line.split(" ", 1) for line in told)
 
-    def value_unstopped(self, cell: str) -> str | None:
-        """The value that the rules give a cell in one call, also where a verification stops that call; nothing where no cell has the name."""
+    def reported(self, cell: str) -> dict[str, str]:
+        """The report of a cell, as a session tells it, also where a verification stops the call; nothing where no cell has the name."""
         text, status = self.ask("serve", self.list, "-", "-", self.household, given=f"why {cell}\n".encode("utf-8", "surrogateescape"))
         lines = text.decode("latin-1").split("\n")
         if status != 0 or len(lines) < 3 or lines[-2] != "." or lines[-3].split(" ")[0] != cell:
-            return None
-        return lines[-3].split(" ", 1)[1]
+            return {}
+        return dict(line.split(" ", 1) for line in lines[:-2])
+
+    def value_unstopped(self, cell: str) -> str | None:
+        """The value that the rules give a cell in one call, also where a verification stops that call; nothing where no cell has the name."""
+        return self.reported(cell).get(cell)
 
 
 def text_of_error(lines: list[str]) -> str:

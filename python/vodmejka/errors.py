@@ -37,11 +37,15 @@ class Refused(VodmejkaError):
 
 
 class Stopped(VodmejkaError):
-    """A value is wanted of a household that a verification or a driver's condition stopped; `line` is what the program printed of it."""
+    """A value is wanted of a household that a verification or a driver's condition stopped; `line` is what the program printed of it, and `said`, where it is
+    given, the same with the household's name."""
 
-    def __init__(self, line: str):
-        super().__init__(line)
-        self.line = line
+    def __init__(self, line: str, said: str = ""):
+        super().__init__(line, said)
+        self.line, self.said = line, said
+
+    def __str__(self) -> str:
+        return self.said or self.line
 
 
 class NotFound(VodmejkaError):

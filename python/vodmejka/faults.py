@@ -6,7 +6,7 @@ import re
 from typing import NamedTuple
 
 from . import drivers, items, source
-from .loops import instances, reads_of, replaced
+from .loops import instances, is_number, is_repeated, reads_of, replaced
 
 
 UNREADABLE = ("syntax", "open string", "bad byte", "too deep")
@@ -98,6 +98,8 @@ class Names:
                     fault = f"bad target {word}"
                 elif twice := [cell for cell in cells if (word, cell) in self.done]:
                     fault = f"defined twice {word}" + ("" if twice[0] is None else f"[{twice[0]}]")
+                elif is_repeated(formula.loops, formula.target):
+                    fault = f"defined twice {word}" + ("" if cells[0] is None else f"[{cells[0]}]")
                 self.done.update((word, cell) for cell in cells)
             if fault is not None:
                 self.files.add(name, content, formula.byte, fault)
@@ -107,7 +109,7 @@ class Names:
         for word, index, byte, round_it in reads_of(term, loops):
             for letters in instances(round_it, [word]):
                 one = replaced(word, letters)
-                fault = None if one.isdigit() and index is None else self.name_fault(one, index is not None)
+                fault = None if is_number(one) and index is None else self.name_fault(one, index is not None)
                 if fault is not None:
                     self.files.add(name, content, byte, fault)
                     break

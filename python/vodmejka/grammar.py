@@ -52,7 +52,10 @@ class Reader:
         self.end = source.Token("end", "", tokens[-1].byte + len(tokens[-1].text) if tokens else 0)
 
     def peek(self, ahead=0):
-        return self.tokens[self.at + ahead] if self.at + ahead < len(self.tokens) else self.end
+        try:
+            return self.tokens[self.at + ahead]
+        except IndexError:
+            return self.end
 
     def want(self, what):
         if what not in self.wanted:
@@ -61,7 +64,8 @@ class Reader:
     def step(self):
         token = self.peek()
         self.at += 1
-        self.wanted, self.hint = [], ""
+        self.wanted.clear()
+        self.hint = ""
         return token
 
     def stuck(self, hint=""):
@@ -69,7 +73,8 @@ class Reader:
         raise Stuck
 
     def next_is(self, *texts):
-        return self.peek().kind in ("sign", "word") and self.peek().text in texts
+        token = self.peek()
+        return token.text in texts and token.kind in ("sign", "word")
 
     def take_if(self, *texts):
         for text in texts:

@@ -55,7 +55,7 @@ class Hints:
 
     @cached_property
     def readers(self) -> dict[str, items.RuleReader]:
-        return {file.name: items.read(file.bytes)[0] for file in self.base.files}
+        return {file.name: items.read(file.bytes, file.tokens)[0] for file in self.base.files}
 
     @cached_property
     def errors(self) -> list[tuple[str, str]]:

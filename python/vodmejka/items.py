@@ -297,10 +297,22 @@ def tokens_of(content):
     return tokens, faults
 
 
+def too_great(tokens):
+    """The faults of numbers above the greatest amount."""
+    return [Fault("number too great", token.byte, token.text, (), f"numbers end at {AMOUNT}")
+            for token in tokens if token.kind == "number" and len(token.text) > 13 and float(token.text) > AMOUNT]
+
+
 def take_tokens(content, byte, tokens, faults, most=sys.maxsize, is_cut=False):
     """Adds the tokens from a byte on, until there are so many, and the faults of the bytes among them. The byte behind them comes back. With `is_cut` a text
     that isn't closed in its line ends there, so that what stands behind an open text can be read."""
     while byte < len(content) and len(tokens) < most:
+        if not is_cut:
+            known = len(tokens)
+            byte = source.quick_tokens(content, byte, tokens, most)
+            faults += too_great(tokens[known:])
+            if byte == len(content) or len(tokens) == most:
+                return byte
         piece = source.GAP_OR_TOKEN.match(content, byte)
         if is_cut and content[byte : byte + 1] == b'"' and (piece is None or b"\n" in piece[0]):
             piece = CUT_TEXT.match(content, byte)
@@ -315,8 +327,7 @@ def take_tokens(content, byte, tokens, faults, most=sys.maxsize, is_cut=False):
             continue
         if piece.lastgroup != "gap":
             token = source.Token(piece.lastgroup, piece[0].decode("latin-1"), byte)
-            if token.kind == "number" and float(token.text) > AMOUNT:
-                faults.append(Fault("number too great", byte, token.text, (), f"numbers end at {AMOUNT}"))
+            faults += too_great([token])
             tokens.append(token)
         byte = piece.end()
     return byte
@@ -343,10 +354,10 @@ def deep_fault(token):
     return Fault("too deep", token.byte, token.text, (), "give a part of the formula a variable of its own")
 
 
-def read(content):
-    """The formulas and checks of a file, and all its faults in their order."""
+def read(content, tokens=None):
+    """The formulas and checks of a file, and all its faults in their order. The tokens may be there already, where no byte is bad."""
     sys.setrecursionlimit(max(sys.getrecursionlimit(), 20_000))
-    tokens, faults = tokens_of(content)
+    tokens, faults = tokens_of(content) if tokens is None else (tokens, too_great(tokens))
     deep = too_deep(tokens)
     reader = RuleReader(tokens)
     if not deep and not any(fault.what == "open string" for fault in faults):

@@ -4,6 +4,8 @@ import math
 
 from .limits import LOOP_INSTANCES
 
+MOST_DIGITS = 12  # the most digits of a word that is a number after letters are replaced
+
 
 
 def whole(digits):
@@ -49,6 +51,20 @@ def instances(headers, words):
     letters = [letter for letter in bound if any(letter in word for word in words)]
     products = itertools.product(*(values_of(bound[letter]) for letter in letters))
     return [dict(zip(letters, values)) for values in itertools.islice(products, LOOP_INSTANCES)]
+
+
+def is_repeated(headers, word):
+    """Whether a word is the same in several instances, since a letter of the loops isn't in it, or is bound again further in."""
+    bound = [(letter, values) for header in headers for letter, values in header]
+    seen = dict(bound)
+    return any(
+        sum(length_of(*pair) for pair in values) > 1 for letter, values in bound if letter not in word or seen[letter] is not values
+    )
+
+
+def is_number(word):
+    """Whether a word of a formula is a number after its letters are replaced."""
+    return word.isdigit() and len(word) <= MOST_DIGITS
 
 
 def replaced(word, letters):

@@ -17,18 +17,29 @@ from .guard import GUARD, Child
 
 Amount = Union[Decimal, int, str, None]
 ENCODING = "latin-1"
+CLONE = "clone.path"
 TOP = os.path.dirname(os.path.dirname(os.path.dirname(os.path.realpath(__file__))))
 
 
 def program_path(program: str | None = None) -> str:
-    """The program: the one that is named, or the one of the variable M_TAX, which must be there then; else `m_tax` of the path, or that of a repository round
-    this package."""
+    """The program: the one that is named, or the one of the variable M_TAX, which must be there then; else what `./build` made in the repository round this
+    package, or from which it was installed, `m_tax` of the path, or the script of the repository."""
     named = program or os.environ.get("M_TAX")
-    others = (shutil.which("m_tax"), os.path.join(TOP, "out", "m_tax"), os.path.join(TOP, "m_tax"))
+    tops = [TOP, *clone()]
+    others = [*(os.path.join(top, "out", "m_tax") for top in tops), shutil.which("m_tax"), *(os.path.join(top, "m_tax") for top in tops)]
     for candidate in others if not named else (shutil.which(named) or named,):
         if candidate and os.access(candidate, os.X_OK) and os.path.isfile(candidate):
             return os.path.abspath(candidate)
     raise Broken(f"there is no program {named}" if named else "there is no program m_tax: name it by M_TAX, or run ./build in the repository")
+
+
+def clone() -> list[str]:
+    """The repository from which the package was installed, where the wheel names one."""
+    try:
+        with open(os.path.join(os.path.dirname(os.path.realpath(__file__)), CLONE), encoding="utf-8", errors="surrogateescape") as file:
+            return [file.read().rstrip("\n")]
+    except OSError:
+        return []
 
 
 class Program:
@@ -151,8 +162,13 @@ def raise_for(text: bytes, status: int, messages: bytes = b"") -> None:
     raise Broken(f"the program ended with status {status} and printed no line of its own{f': {said}' if said else ''}")
 
 
-def spelled(code: str, amount: Amount) -> str:
-    """An amount as the program reads it. Floats are rejected, since they mean another number than they show."""
+def spelled(code: str, amount: Any) -> str:
+    """An amount as the program reads it. Whole numbers of any type are amounts, also numpy's. Floats that aren't whole are rejected, since they mean another
+    number than they show."""
+    if hasattr(amount, "item"):
+        amount = amount.item()
+    if isinstance(amount, float) and amount.is_integer():
+        amount = int(amount)
     if isinstance(amount, bool) or not isinstance(amount, (Decimal, int, str)):
         raise TypeError(f"{code}: an amount is a Decimal, an int or a text, and not {amount!r}")
     if isinstance(amount, Decimal):

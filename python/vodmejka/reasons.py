@@ -3,6 +3,7 @@ import bisect
 import re
 
 from . import items, source
+from .grammar import RESERVED
 from .loops import instances, reads_of, replaced, whole
 from .places import decode
 
@@ -16,18 +17,33 @@ class Written:
         self.rules = [k for k, token in enumerate(tokens) if token.text == "regle"]
         self.ends = [k for k, token in enumerate(tokens) if token.text == ";" and token.kind == "sign"]
 
-    def formula(self, byte):
-        """The text of the formula that begins at a byte."""
-        at = bisect.bisect_left(self.ends, bisect.bisect_left(self.bytes, byte))
+    def formula(self, byte, letters=(), number=None):
+        """The text of the formula that begins at a byte, with these letters and the number of its cell filled in."""
+        first = bisect.bisect_left(self.bytes, byte)
+        at = bisect.bisect_left(self.ends, first)
         end = self.ends[at] if at < len(self.ends) else len(self.tokens) - 1
-        return plain(self.file.bytes[byte : self.tokens[end].byte])
+        pieces, begin = [], byte
+        for token in self.tokens[first:end]:
+            word = str(number) if token.text == "X" and number is not None else token.text
+            if letters and token.kind == "word" and token.text not in RESERVED:
+                word = replaced(word, letters)
+            if word != token.text:
+                pieces += [self.file.bytes[begin : token.byte], word.encode("latin-1")]
+                begin = token.byte + len(token.text)
+        return plain(b"".join([*pieces, self.file.bytes[begin : self.tokens[end].byte]]))
+
+    def rule(self, byte):
+        """The number of the rule of a formula."""
+        first = bisect.bisect_left(self.bytes, byte)
+        rule = self.rules[bisect.bisect_left(self.rules, first) - 1]
+        return next(self.tokens[k].text for k in range(rule, first) if self.tokens[k].kind == "number")
+
+    def line(self, byte):
+        return self.file.lines.number(byte)
 
     def place(self, byte):
         """The file, the line and the rule of a formula."""
-        first = bisect.bisect_left(self.bytes, byte)
-        rule = self.rules[bisect.bisect_left(self.rules, first) - 1]
-        number = next(self.tokens[k].text for k in range(rule, first) if self.tokens[k].kind == "number")
-        return f"{self.file.name} line {self.file.lines.number(byte)}, rule {number}"
+        return f"{self.file.name} line {self.line(byte)}, rule {self.rule(byte)}"
 
 
 class Formula:
@@ -38,7 +54,7 @@ class Formula:
 
     @property
     def text(self):
-        return self.written.formula(self.formula.byte)
+        return self.written.formula(self.formula.byte, self.letters, self.number)
 
     def place(self):
         return self.written.place(self.formula.byte)
@@ -78,18 +94,19 @@ def number_of(index, letters):
 
 
 class Rules:
-    """The formulas of a list's application by their cells, and the variables with their descriptions."""
+    """The formulas of a list's application by their cells, and the variables with their descriptions. `base` is the rule base, where it was read before."""
 
-    def __init__(self, list_name):
-        base = source.RuleBase(list_name)
+    def __init__(self, list_name, base=None):
+        base = base or source.RuleBase(list_name)
         self.application, self.contents = base.application, [(file.name, file.bytes) for file in base.files]
         self.variables = {variable.name: variable for variable in base.variables}
         self.sizes = {name: variable.size for name, variable in self.variables.items() if variable.size is not None}
-        self.descriptions, self.formulas = {}, {}
+        self.descriptions, self.formulas, self.checks, self.comments = {}, {}, [], {}
         for file in base.files:
             self.describe(file)
-            reader, _ = items.read(file.bytes)
+            reader, _ = items.read(file.bytes, file.tokens)
             written = Written(file, reader.tokens)
+            self.checks += [(file, check, written) for check in reader.checks if base.application in check.applications]
             for formula in reader.formulas:
                 if base.application in formula.applications and not formula.is_chained:
                     self.add(written, formula)
@@ -97,6 +114,9 @@ class Rules:
     def describe(self, file):
         """Takes the last text of each declaration of a file."""
         places = {int(variable.place.rsplit(" ", 1)[1]): variable.name for variable in file.variables}
+        for variable in (variable for variable in file.variables if variable.kind == "const"):
+            line = file.lines.line(file.lines.number(int(variable.place.rsplit(" ", 1)[1])))
+            self.comments[variable.name] = decode(line.partition(b"#")[2]).strip()
         name = None
         for token in file.tokens:
             name = places.get(token.byte, name)
@@ -122,4 +142,7 @@ class Rules:
         variable = self.variables.get(cell.split("[")[0])
         if variable is None or variable.kind == "calculee":
             return "no rule sets it"
-        return f"declared, {variable.code}" if variable.kind == "saisie" else "a constant"
+        if variable.kind == "saisie":
+            return f"declared, {variable.code}"
+        comment = self.comments.get(variable.name)
+        return f"a constant: {comment}" if comment else "a constant"

@@ -91,8 +91,9 @@ def page(words, rows, found, step, sign, heads):
         f"<p>{html.escape(words.of)} is <b id=before>{plain(Fraction(whole.before, UNIT))}</b> before"
         f" and <b id=after>{plain(Fraction(whole.after, UNIT))}</b> after,"
         f" a difference of <b id=difference>{plain(Fraction(whole.after - whole.before, UNIT))}</b>. {said}</p>",
-        f"<h2>Who gains and who loses</h2><p>The share of households, by the gain of each. Above 0 a household gains: it has so much {'more' if sign < 0 else 'less'} "
-        f"of {of} after the reform. Below 0 it loses. The gain is the difference{'' if sign < 0 else ' with the other sign'}, which is after less before.</p>",
+        "<h2>Who gains and who loses</h2><p>The share of households, by the gain of each. "
+        f"Above 0 a household gains: it has so much {'more' if sign < 0 else 'less'} of {of} after the reform. "
+        f"Below 0 it loses. The gain is the difference{'' if sign < 0 else ' with the other sign'}, which is after less before.</p>",
         changes_picture(rows, total, sign),
     ]
     if len(found) > 1:

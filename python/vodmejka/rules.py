@@ -2,22 +2,28 @@
 from __future__ import annotations
 
 import contextlib
-import decimal
 import hashlib
 import os
 import re
 import tempfile
-from typing import Any, Iterable, Iterator, Mapping
+from typing import TYPE_CHECKING, Any, Iterable, Iterator, Mapping, overload
 
 from .answers import Answer, Form, answer_of
-from .batches import Batch
+from .batches import Answers, Batch
+from .cases import Mismatch, mismatches_of
 from .errors import Broken, NotFound, Refused
+from .frames import Households, Table
 from .limits import CODE_FILE_BYTES, ROWS
-from .program import ENCODING, Amount, Folder, Program, digest_of, household_bytes, is_trial, run, spelled
+from .program import ENCODING, Folder, Program, digest_of, household_bytes, is_trial, run
 from .session import Session
+from .shown import section, short, table
 from .sources import Sources, fetched, fetched_rules, named
-from .variants import Number, Text, varied
 from .tables import Household
+from .variables import TYPES, Variable, Variables
+from .variants import Number, Text, varied
+
+if TYPE_CHECKING:
+    import pandas
 
 ROWS_AT_ONCE = 50_000
 VALUES = 4_000_000
@@ -30,6 +36,9 @@ class Rules:
     files are read once, when this is made, and copied: what is computed is of that moment. The code file of `run` is compiled once for a program and a source,
     and kept in the user's cache under their digest.
     """
+
+    _sources: Sources | None
+    _read: Variables | None = None
 
     def __init__(
         self, list: str | os.PathLike[str], driver: str | os.PathLike[str] | None = None, requests: str | os.PathLike[str] | None = None, *,
@@ -103,14 +112,29 @@ class Rules:
             os.unlink(self._path(name))
         return answer_of(iter(lines_of(text).split("\n")[:-1]))
 
-    def batch(self, rows: Any, rows_at_once: int = ROWS_AT_ONCE) -> Any:
+    @overload
+    def batch(self, rows: Iterable[Household], rows_at_once: int = ROWS_AT_ONCE) -> Answers: ...
+
+    @overload
+    def batch(
+        self, rows: pandas.DataFrame, rows_at_once: int = ROWS_AT_ONCE, *, numbers: str = "float64", stops: str = "raise", keep: Iterable[str] = ()
+    ) -> pandas.DataFrame: ...
+
+    def batch(
+        self, rows: Any, rows_at_once: int = ROWS_AT_ONCE, *, numbers: str = "float64", stops: str = "raise", keep: Iterable[str] = ()
+    ) -> Any:
         """What households are told, in their order, as they are computed: any number of them, of which some thousand are in memory at once.
 
         `rows` is an iterable of households; then this is an iterator of answers. Or it is a frame of pandas, whose columns are codes; then this is a frame with
-        its index, with a column for each value (Decimal, None or OVER), and `stop` and `notes`.
+        its index, with the columns that `keep` names, a column for each value, `over` with the names of the values that overflow and `notes` with the errors
+        that were noted. With numbers="float64" values are floats, and one that isn't exact in a float is an error; "micros" gives whole millionths, "decimal"
+        decimals. Undefined is NaN, NA or None; what overflows is infinite, NA or OVER. A household that is stopped is an error, `Stopped`; with stops="keep" its
+        values are undefined, and a column `stop` has the line.
         """
         if hasattr(rows, "columns") and hasattr(rows, "itertuples"):
-            return self._frame(rows, rows_at_once)
+            return self._frame(rows, rows_at_once, numbers, stops, keep)
+        if (numbers, stops, tuple(keep)) != ("float64", "raise", ()):
+            raise TypeError("numbers, stops and keep are for frames: an answer of another batch has decimals and its stop")
         return self._answers(rows, rows_at_once)
 
     def session(self, household: Household | None = None) -> Session:
@@ -120,16 +144,63 @@ class Rules:
         if is_trial(self.program):
             raise Broken("a trial of the sources has no sessions: ./build makes the program, which has")
         self._program.check()
-        return Session([self.program, "serve", *self._words, self._room.put(household_bytes(household or {}))], self._room, self.timeout)
+        words = [self.program, "serve", *self._words, self._room.put(household_bytes(household or {}))]
+        return Session(words, self._room, self.timeout, lambda: self._variables().reasons)
 
-    def inputs(self) -> dict[str, str]:
-        """The codes of the inputs in order, each with its type: `truth`, `whole`, or nothing."""
+    def cases(self, table: str | os.PathLike[str]) -> list[Mismatch]:
+        """The expectations of a table of cases that aren't met, in their order; none where all are."""
+        if not self._words:
+            raise Broken("cases need rules: a code file has no sources")
+        name = self._room.put(fetched(os.fspath(table)))
+        try:
+            text, _ = self._run("cases", *self._words, name)
+        finally:
+            os.unlink(self._path(name))
+        return mismatches_of(lines_of(text).split("\n")[:-1])
+
+    # ---- what the rules are
+
+    def inputs(self) -> dict[str, Variable]:
+        """The inputs by their codes, in order, each with its name, description, type and attributes; of a code file with its type alone."""
+        types = self.types()
+        if self._sources is None:
+            return {code: Variable("", "saisie", code, type=TYPES.get(type_, "")) for code, type_ in types.items()}
+        return {code: self._variables().input(code) for code in types}
+
+    def types(self) -> dict[str, str]:
+        """The codes of the inputs in order, each with what its amounts may be: `truth` (0 or 1), `whole`, or nothing, which is any amount."""
         words = [line.split(" ") for line in self._lines if line.startswith("input ")]
         return {line[1]: line[2] if len(line) > 2 else "" for line in words}
 
-    def outputs(self) -> list[str]:
-        """The names of the requested values, in order."""
-        return self._outputs()
+    def outputs(self) -> dict[str, str]:
+        """The names of the requested values in order, each with its description; of a code file without."""
+        return {name: "" if self._sources is None else self._variables().description(name) for name in self._outputs()}
+
+    def variable(self, name: str) -> Variable:
+        """What the rule files say of a variable, by its name or its code: its declaration, and the formulas that set it, with their places."""
+        if self._sources is None:
+            raise Broken("variables need rules: a code file has no sources")
+        return self._variables().variable(name)
+
+    @property
+    def program_digest(self) -> str:
+        """The digest of the program; `digest` is that of the source."""
+        return self._program.digest
+
+    def __repr__(self) -> str:
+        counts = f"{len(self.types())} inputs, {len(self._outputs())} outputs, digest {short(self.digest)}"
+        if self._sources is None:
+            return f"<Rules of a code file: {counts}>"
+        application = self._sources.listing.replace(b"\r\n", b"\n").split(b"\n")[0].decode(ENCODING)
+        driver = "a driver" if self._sources.driver is not None else "no driver"
+        files = len(self._sources.rules)
+        return f"<Rules of {application}: {files} rule file{'' if files == 1 else 's'}, {driver}, {counts}>"
+
+    def _repr_html_(self) -> str:
+        inputs = [[code, one.name, one.description, one.type] for code, one in self.inputs().items()]
+        outputs = [[name, description] for name, description in self.outputs().items()]
+        tables = table(["output", "description"], outputs) + table(["code", "input", "description", "type"], inputs)
+        return section([repr(self).strip("<>")], tables)
 
     def write_code(self, path: str | os.PathLike[str]) -> None:
         """Writes the code file, which `Rules.from_code` and the program's `exec` take."""
@@ -137,6 +208,13 @@ class Rules:
             put_whole(os.path.abspath(os.fspath(path)), file.read())
 
     # ---- inside
+
+    def _variables(self) -> Variables:
+        """What the rule files say, which is read when it is asked for first."""
+        if self._read is None:
+            assert self._sources is not None
+            self._read = Variables(self._sources)
+        return self._read
 
     def _outputs(self) -> list[str]:
         """The names of what is asked for, in order."""
@@ -192,35 +270,26 @@ class Rules:
         self._put("code", text)
         return self._path("code")
 
-    def _answers(self, rows: Iterable[Household], at_once: int) -> Iterator[Answer]:
+    def _answers(self, rows: Iterable[Household], at_once: int) -> Answers:
         if not self._words:
-            return (self.run(row) for row in rows)
+            return Answers([self.run(row)] for row in rows)
         form = Form(self._outputs())
         notes = sum(line.startswith("note ") for line in self._lines)
         size = max(1, min(at_once, ROWS, VALUES // (len(form.names) + notes + 1)))
         # (an iterator may hand out one mapping again and again, changed each time: a part is read before it is written)
-        taken = rows if isinstance(rows, (list, tuple)) else map(dict, rows)
-        batch = Batch(self._program, ["batch", *self._words], self._room.name, form, size, self.inputs(), self._told, self.timeout)
+        taken: Iterable[Household] = rows if isinstance(rows, (list, tuple)) else (dict(row) for row in rows)
+        batch = Batch(self._program, ["batch", *self._words], self._room.name, form, size, self.types(), self._told, self.timeout)
         return batch.answers(taken)
 
-    def _frame(self, frame: Any, at_once: int) -> Any:
+    def _frame(self, frame: pandas.DataFrame, at_once: int, numbers: str, stops: str, keep: Iterable[str]) -> pandas.DataFrame:
         """The answers to the rows of a frame, as a frame."""
-        import pandas
-
-        codes = [str(column) for column in frame.columns]
-        if len(set(codes)) < len(codes):
-            raise Refused("refused household line 1: code twice")
-        columns = list(zip(codes, map(narrow, frame.dtypes)))
-        households = (
-            {code: None if pandas.isna(value) else exact(code, value, shown) for (code, shown), value in zip(columns, row)}
-            for row in frame.itertuples(index=False, name=None)
-        )
-        answers = list(self._answers(households, at_once))
-        names = list(dict.fromkeys(self._outputs()))
-        made = {name: [answer.values.get(name) for answer in answers] for name in names}
-        made["stop"] = [answer.stop.line if answer.stop else None for answer in answers]
-        made["notes"] = [answer.notes for answer in answers]
-        return pandas.DataFrame(made, index=frame.index, columns=[*names, "stop", "notes"], dtype=object)
+        households = Households(frame, self.types(), [*keep])
+        told = Table(households, self._outputs(), numbers, stops)
+        for answer in households.answers(lambda rows: self._answers(rows, at_once)):
+            told.add(answer)
+        made = told.frame()
+        made.attrs.update(source=self.digest, program=self.program_digest)
+        return made
 
 
 def kept_code(path: str) -> bytes | None:
@@ -264,22 +333,3 @@ def lines_of(output: bytes) -> str:
     if output and not output.endswith(b"\n"):
         raise Broken(f"a last line without its end: {output[-200:]!r}")
     return output.decode(ENCODING)
-
-
-def narrow(dtype: Any) -> Any:
-    """The type of the values of a column of short floats, which pandas hands out as long ones that show other digits; None of another column."""
-    dtype = getattr(dtype, "numpy_dtype", dtype)
-    return dtype.type if getattr(dtype, "kind", "") == "f" and dtype.itemsize < 8 else None
-
-
-def exact(code: str, value: Any, shown: Any = None) -> Amount:
-    """A value of a frame as an amount: whole numbers of any kind, decimals and texts. A float is taken where it is whole, and else as it is shown, as of the
-    type that is given."""
-    if hasattr(value, "item"):
-        value = value.item()
-    if isinstance(value, bool):
-        return int(value)
-    if isinstance(value, float):
-        return int(value) if value.is_integer() else f"{decimal.Decimal(repr(value) if shown is None else str(shown(value))):f}"
-    spelled(code, value)
-    return value

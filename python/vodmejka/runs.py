@@ -124,6 +124,28 @@ class Children:
 CHILDREN = Children()
 
 
+@contextlib.contextmanager
+def ended_after(child, seconds):
+    """Ends a child that takes longer than so many seconds, and refuses what it printed."""
+    late = threading.Event()
+
+    def end():
+        late.set()
+        child.kill()
+
+    timer = threading.Timer(seconds, end) if seconds else None
+    if timer:
+        timer.daemon = True
+        timer.start()
+    try:
+        yield
+    finally:
+        if timer:
+            timer.cancel()
+    if late.is_set():
+        raise Failed(f"the program took more than {seconds} s, and was ended")
+
+
 def printed(*words, stdin=subprocess.DEVNULL, folder=None):
     """What the program prints to these words, perhaps in a folder, and its status."""
     with CHILDREN.started([program_path(), *words], stdin=stdin, stdout=subprocess.PIPE, cwd=folder) as child:
@@ -199,10 +221,11 @@ def workers():
 
 
 class Source:
-    """A source that was read once: a copy of its files in a folder, in which every batch runs, and the digest of all that an answer depends on."""
+    """A source that was read once: a copy of its files in a folder, in which every batch runs, and the digest of all that an answer depends on. A batch that
+    takes longer than `timeout` seconds is ended."""
 
-    def __init__(self, words, room):
-        self.program = program_path()
+    def __init__(self, words, room, timeout=None):
+        self.program, self.timeout = program_path(), timeout
         self.room = room
         first, again = self.read(words), self.read(words)
         if first != again:
@@ -247,7 +270,9 @@ class Source:
         """What a command says over the source, through a pipe, so that a program whose parent was killed can't go on writing. The status comes back."""
         words = [self.program, command, *self.words, *more]
         with CHILDREN.started(words, cwd=self.room, stdin=subprocess.DEVNULL, stdout=subprocess.PIPE) as child:
-            shutil.copyfileobj(child.stdout, out, PIECE)
+            with ended_after(child, self.timeout):
+                shutil.copyfileobj(child.stdout, out, PIECE)
+                child.wait()
         out.flush()
         if digest_of_program(self.program) != self.program_digest:
             raise Failed(f"{self.program} was changed meanwhile: the same words begin with the new one")

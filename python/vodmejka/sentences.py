@@ -1,44 +1,32 @@
 """A sentence for each error of docs/REFUSALS.md, which says what to mend."""
+from collections.abc import Mapping
+
+from .texts import TEXTS, said
+
+
+class Sentences(Mapping):
+    """The sentences of a kind of faults by what the program calls these, in the language that was chosen."""
+
+    def __init__(self, kind: str):
+        self.prefix = kind + "."
+        self.names = [key[len(self.prefix) :] for key in TEXTS if key.startswith(self.prefix)]
+
+    def __getitem__(self, name: str) -> str:
+        if name not in self.names:
+            raise KeyError(name)
+        return said(self.prefix + name)
+
+    def __iter__(self):
+        return iter(self.names)
+
+    def __len__(self) -> int:
+        return len(self.names)
+
 
 # What to mend, for the faults that have a place in a rule file. Names after a fault are left out.
-RULES = {
-    "bad byte": "No token begins here: accented letters stand in texts and comments only, and a point between digits.",
-    "open string": 'The text that begins here is never closed; look for a " that is missing, here or in a text above or below.',
-    "number too great": "Numbers end at 10000000000000.",
-    "too deep": "More than 256 brackets and conditionals are open here: give a part of the formula a variable of its own.",
-    "syntax": "What begins here can't be read: look, up to the next ;, for a ; or finsi that is missing, or a word where a sign stands.",
-    "declared twice": "An earlier declaration has this name: leave one out, or rename it.",
-    "alias twice": "An earlier input has this code: give each box of the form one input.",
-    "table size": "A table has 1 to 1,024 cells.",
-    "too many cells": "With this declaration the base passes 1,000,000 cells, and a variable is one too: split the base.",
-    "bad range": "A range runs upward, from number to number or from letter to letter, and each letter stands once in a header.",
-    "loop too large": "This header makes more than 10,000 instances: write it as several.",
-    "unbound index": "A small letter here is bound by no loop round it; names of variables have none.",
-    "too many parts": "With this item all formulas, without their loops, pass 2,000,000 names, numbers and operators: shorten the loops.",
-    "unknown name": "No declaration has this name, after letters of loops are replaced: look for a slip, or declare it.",
-    "not a table": "Only tables have an index: leave it out, or declare a table.",
-    "is a table": "A table is read and set cell by cell: write an index in [ ].",
-    "bad target": "Rules set computed variables and the cells that a table has: no inputs, no constants.",
-    "defined twice": "A formula above sets this too: join the two by si, or take one to another application.",
-    "unknown error": "The word after erreur is the name of no error: declare it, or look for a slip.",
-}
-DRIVER = {
-    "bad token": "No token begins somewhere in this line: look for a tab, an accented letter, or a number above 10000000000000.",
-    "too deep": "More than 256 brackets are open in this line, or it has more than 64 outer lines: write a function of its own.",
-    "syntax": "The driver can't be read on from here: look at the indentation, a : that is missing, = for ==, <- for < -.",
-    "function twice": "An earlier function has this name, or it is call_m, which is the rules: rename it.",
-    "unknown": "No variable or function has this name, or an index is missing, too many or past the table.",
-    "bad target": "Constants can't be set, deleted or received.",
-}
-HOUSEHOLD = {
-    "bad row": "A row has two fields (1,5 is two: write 1.5), in a table as many as its first line, with a label that isn't empty.",
-    "unknown code": "No input has this code: codes are the words after alias, and not names.",
-    "bad amount": "An amount is digits, a point and digits, perhaps with a -, no blanks, at most 10000000000000.",
-    "code twice": "Two rows have this code: add them up, or leave one out.",
-    "not of its type": "A box (type BOOLEEN) takes 0 and 1, a count (type ENTIER) whole units.",
-    "unknown output": "Nothing that is asked for has the name after = : look at the requests.",
-    "bad expected": "What is expected is an amount, undefined, over, stop, or nothing.",
-}
+RULES = Sentences("rule")
+DRIVER = Sentences("driver")
+HOUSEHOLD = Sentences("household")
 CODE = "The code file was changed or cut: write it anew by compile."
 OTHERS = [
     (r"usage: .*",

@@ -6,12 +6,14 @@ import os
 import subprocess
 import threading
 from types import TracebackType
-from typing import Iterator, Protocol
+from typing import Callable, Iterator, Protocol
 
+from . import reasons
 from .answers import Answer, answer_of
 from .errors import Interrupted, Refused
 from .guard import memory_file
 from .program import ENCODING, Amount, raise_for, spelled, started
+from .whys import Why
 
 CLOSING = 2.0  # seconds
 
@@ -25,10 +27,12 @@ class Room(Protocol):
 class Session:
     """A household of rules, held by the program, which computes only what edits touch.
 
-    The words of the program end with the name of the household's file, which goes with the session. All files stand in a folder of the rules.
+    The words of the program end with the name of the household's file, which goes with the session. All files stand in a folder of the rules. `rules` gives the
+    formulas, which `why` shows.
     """
 
-    def __init__(self, words: list[str], room: Room, timeout: float | None = None):
+    def __init__(self, words: list[str], room: Room, timeout: float | None = None, rules: Callable[[], reasons.Rules] | None = None):
+        self._rules = rules
         self._room, self._given, self._timeout, self._is_late = room, os.path.join(room.name, words[-1]), timeout, False
         self._messages = open(memory_file("messages"), "r+b", buffering=0)
         try:
@@ -62,6 +66,21 @@ class Session:
         if lines and lines[0].startswith("refused "):
             raise Refused(lines[0])
         return answer_of(iter(lines))
+
+    def why(self, name: str) -> Why:
+        """Why a variable, or a cell as `T[3]`, has its value, at one call of the rules for the household as it is now: the driver isn't asked."""
+        assert self._rules is not None
+        if name.split() != [name]:
+            raise ValueError(f"a name is one word: {name!r}")
+        with self._whole():
+            self._say(f"why {name}\n".encode(ENCODING))
+            lines = self._lines()
+        if lines and lines[0].startswith("refused "):
+            raise Refused(f"{lines[0]}: {name}" if lines[0] == "refused unknown variable" else lines[0])
+        return Why(lines, self._rules)
+
+    def __repr__(self) -> str:
+        return f"<Session: {'ended' if self._child.poll() is not None else 'a household that is edited'}>"
 
     def close(self) -> None:
         """Ends the session. A session that is closed, or whose program has ended, can be closed again."""

@@ -11,6 +11,7 @@ import zipfile
 import zlib
 from typing import Callable, NamedTuple
 
+from .hidden import Hidden, column_name
 from .source import Refused
 
 MOST_BYTES = 1 << 29
@@ -56,32 +57,6 @@ def label_of(field, place):
     return field.shown if isinstance(field, Plain) else field
 
 
-class Hidden:
-    """What a spreadsheet hides of a sheet, and is read all the same."""
-
-    def __init__(self):
-        self.rows, self.columns, self.sheet = [], set(), None
-
-    def told(self):
-        """The hidden rows and columns, and the sheet itself, in words; nothing where all is shown."""
-        parts = [f"the sheet {self.sheet}"] if self.sheet is not None else []
-        for one, name_of_it, numbers in (("row", str, self.rows), ("column", column_name, sorted(self.columns))):
-            if numbers:
-                parts.append(f"{one}{'s' if len(numbers) > 1 else ''} {', '.join(ranges(numbers, name_of_it))}")
-        return "; ".join(parts)
-
-
-def ranges(numbers, name_of_it):
-    """Numbers in order, as `3` and `5 to 7`."""
-    first = last = numbers[0]
-    for number in [*numbers[1:], None]:
-        if number is not None and number == last + 1:
-            last = number
-            continue
-        yield name_of_it(first) if first == last else f"{name_of_it(first)} to {name_of_it(last)}"
-        first = last = number
-
-
 class Sheet(NamedTuple):
     """A sheet of a file: its name, whether it is hidden, and what reads its rows and notes what is hidden of them."""
 
@@ -117,15 +92,6 @@ def below(element, name):
 def told(element, name):
     """The attribute of an element, whatever its namespace is."""
     return next((value for key, value in element.attrib.items() if key.rsplit("}", 1)[-1] == name), None)
-
-
-def column_name(column):
-    """The letters above a column, from 0."""
-    letters, column = "", column + 1
-    while column:
-        column, rest = divmod(column - 1, 26)
-        letters = chr(65 + rest) + letters
-    return letters
 
 
 class Book:

@@ -8,6 +8,7 @@ from .hints import distance
 
 TYPES = ("BOOLEEN", "DATE", "DATE_AAAA", "DATE_JJMMAAAA", "DATE_MM", "ENTIER", "REEL")
 MOST_NAMED = 5
+EVALUATED = ("=", "!=", "<", "<=", ">", ">=", "et", "ou", "non", "positif", "positif_ou_nul", "null", "+", "-", "*", "neg", "abs", "max", "min")
 
 
 def slips_of_words(files):
@@ -88,7 +89,7 @@ def constant_value(term, constants):
         return Fraction(parts[0])
     if kind == "name":
         return Fraction(parts[0]) if parts[0].isdigit() else constants.get(parts[0])
-    if kind != "op" or parts[0] not in ("=", "!=", "<", "<=", ">", ">=", "et", "ou", "non", "positif", "positif_ou_nul", "null", "+", "-", "*", "neg", "abs", "max", "min"):
+    if kind != "op" or parts[0] not in EVALUATED:
         return None
     values = [constant_value(part, constants) for part in parts[1]]
     return None if None in values else of_numbers(parts[0], values)
@@ -112,10 +113,10 @@ def named(places):
 
 def slips_of_idle(files, read, used_errors, driver_names):
     """Constants, computed variables and errors that nothing uses, a line for each kind. Inputs without effect are `lint`'s to tell."""
-    variables = {variable.name: variable for file in files for variable in file.variables}
-    constants = [(name, variable.place) for name, variable in variables.items() if variable.kind == "const" and name not in read | driver_names]
+    variables, read = {variable.name: variable for file in files for variable in file.variables}, read | driver_names
+    constants = [(name, variable.place) for name, variable in variables.items() if variable.kind == "const" and name not in read]
     idle = [(name, variable.place) for name, variable in variables.items()
-            if variable.kind == "calculee" and name not in read | driver_names and "restituee" not in variable.words]
+            if variable.kind == "calculee" and name not in read and "restituee" not in variable.words]
     errors = [(name, file.place(byte)) for file in files for name, byte in file.errors if name not in used_errors]
     for what, found in (("constants that nothing reads", constants), ("computed variables that nothing reads or returns", idle),
                         ("errors that no verification has", errors)):
@@ -125,10 +126,11 @@ def slips_of_idle(files, read, used_errors, driver_names):
 
 def slips_of_outputs(files, done, driver, received):
     """Variables that are returned, and that nothing sets, or that the driver doesn't receive."""
+    names = {name for name, _ in done}
     for variable in (variable for file in files for variable in file.variables):
         if "restituee" not in variable.words or variable.kind != "calculee":
             continue
-        if variable.name not in {name for name, _ in done}:
+        if variable.name not in names:
             yield f"{variable.place}: {variable.name} is returned, and nothing sets it"
         elif driver is not None and variable.name not in received:
             yield f"{variable.place}: {variable.name} is returned, and {driver} never receives or sets it, so it stays undefined"

@@ -3,7 +3,6 @@
 These tools read files that the program accepts, and look at the heads of items alone: what a formula says is passed over. A byte order mark is passed over
 too; `slips` and `explain` tell it. grammar.py reads formulas.
 """
-import bisect
 import contextlib
 import dataclasses
 import io
@@ -16,6 +15,8 @@ import threading
 import traceback
 
 from .limits import CELLS, FILE_BYTES, FILE_NAME_BYTES, LIST_FILES, RULE_BYTES, TABLE_CELLS
+from .lines import Lines  # noqa: F401
+from .messages import Messages
 
 GAP_OR_TOKEN = re.compile(
     rb"(?P<gap>[ \t\r\n]+|#[^\n]*)|(?P<text>\"[^\"]*\")|(?P<number>[0-9]+\.[0-9]+|[0-9]+(?![A-Za-z0-9_]))|(?P<word>[A-Za-z0-9_]+)"
@@ -23,6 +24,8 @@ GAP_OR_TOKEN = re.compile(
 )
 
 
+# (a comment ends at its line's end alone, so that a match that fails is no long search)
+AFTER_GAPS = re.compile(rb"(?:[ \t\r\n]|#[^\n]*(?=\n|\Z))*(?:" + GAP_OR_TOKEN.pattern.partition(rb"|#[^\n]*)|")[2] + rb")")
 MARK = b"\xef\xbb\xbf"
 PIPED = {}
 WAITING = []
@@ -67,7 +70,7 @@ def standard_input():
     return io.BufferedReader(Input(), 1_048_576)
 
 
-@dataclasses.dataclass
+@dataclasses.dataclass(slots=True)
 class Token:
     kind: str
     text: str
@@ -170,27 +173,15 @@ def read_list_text(name, content):
     return application, names
 
 
-class Lines:
-    """A text by its lines, which have numbers from 1."""
-
-    def __init__(self, content):
-        self.content = content
-        self.feeds = [match.start() for match in re.finditer(b"\n", content)]
-
-    def number(self, byte):
-        """The number of the line in which a byte is; a line feed is in the line that it ends."""
-        return bisect.bisect_left(self.feeds, byte) + 1
-
-    def begin(self, number):
-        """The byte at which a line begins."""
-        return self.feeds[number - 2] + 1 if number > 1 else 0
-
-    def line(self, number):
-        """A line without its end, or nothing where there are fewer."""
-        if number > len(self.feeds) + 1:
-            return None
-        end = self.feeds[number - 1] if number <= len(self.feeds) else len(self.content)
-        return self.content[self.begin(number) : end].removesuffix(b"\r")
+def quick_tokens(content, byte, tokens, most=sys.maxsize):
+    """Adds tokens up to the first byte that begins none, until there are so many; the byte behind the last one comes back."""
+    match = AFTER_GAPS.match(content, byte)
+    while match is not None and len(tokens) < most:
+        kind = match.lastgroup
+        tokens.append(Token(kind, match[kind].decode("latin-1"), match.start(kind)))
+        byte = match.end()
+        match = AFTER_GAPS.match(content, byte)
+    return byte
 
 
 class RuleFile:
@@ -208,7 +199,8 @@ class RuleFile:
         return f"{self.name} line {self.lines.number(byte)} byte {byte}"
 
     def read_tokens(self):
-        tokens, byte = [], len(MARK) if self.bytes.startswith(MARK) else 0
+        tokens = []
+        byte = quick_tokens(self.bytes, len(MARK) if self.bytes.startswith(MARK) else 0, tokens)
         while byte < len(self.bytes):
             piece = GAP_OR_TOKEN.match(self.bytes, byte)
             if piece is None:
@@ -288,9 +280,21 @@ class RuleBase:
     """A list with all its rule files, whose names count from a folder. Tables and cells may be `bounded`, as the program's are."""
 
     def __init__(self, list_name, folder="", bounded=True):
-        self.application, names = read_list_text(list_name, fetch(list_name).removeprefix(MARK))
+        application, names = read_list_text(list_name, fetch(list_name).removeprefix(MARK))
         names = [os.path.join(folder, name) for name in names]
-        self.files = [RuleFile(name, content) for name, content in zip(names, fetch_rules(names))]
+        self.take(application, zip(names, fetch_rules(names)), bounded)
+
+    @classmethod
+    def of(cls, application, contents):
+        """The rule base of files that were read: each by its name with its bytes."""
+        made = cls.__new__(cls)
+        made.take(application, contents, True)
+        return made
+
+    def take(self, application, contents, bounded):
+        """Reads the files."""
+        self.application = application
+        self.files = [RuleFile(name, content) for name, content in contents]
         self.variables = [variable for file in self.files for variable in file.variables]
         self.rules = [rule for file in self.files for rule in file.rules]
         if bounded:
@@ -305,27 +309,6 @@ class RuleBase:
                 raise Refused(f"{variable.place}: table size")
             if cells > CELLS:
                 raise Refused(f"{variable.place}: too many cells")
-
-
-class Messages:
-    """The standard error. What can't be written there, as on a full disk, is dropped: it is no reason for another status."""
-
-    def __init__(self, stream):
-        self.stream = stream
-
-    def write(self, text):
-        try:
-            self.stream.write(text)
-            self.stream.flush()
-        except OSError:
-            os.dup2(os.open(os.devnull, os.O_WRONLY), 2)
-        return len(text)
-
-    def flush(self):
-        """Each piece is written at once."""
-
-    def __getattr__(self, name):
-        return getattr(self.stream, name)
 
 
 def begin():

@@ -10,6 +10,7 @@ from .errors import Refused, Stopped
 from .expressions import UNIT, Amount, Expression, millionths
 from .program import Amount as Given
 from .rules import Rules
+from .shown import section, short, table
 
 Number = Union[int, str, Decimal]
 Along = Sequence[Union[Mapping[str, Amount], Stop]]
@@ -37,6 +38,11 @@ class Sweep:
 
     def __repr__(self) -> str:
         return f"<Sweep of {self.of} along {self.code}: {len(self.amounts)} amounts from {self.amounts[0]} to {self.amounts[-1]}, {len(self.values)} rule bases>"
+
+    def _repr_html_(self) -> str:
+        rows = [[amount, *("stopped" if isinstance(told, Stop) else told for told in column)] for amount, *column in zip(self.amounts, *self.values)]
+        heads = [self.code, *(f"{self.of} by {short(digest)}" for digest in self.digests)]
+        return section([f"{self.of} along {self.code}: {len(self.amounts)} amounts"], table(heads, rows))
 
     def net(self, net: str, base: int = -1) -> list[Value]:
         """What is kept at each amount by a rule base, as `1AJ - TOTAL`; undefined where the household is stopped."""
@@ -75,8 +81,9 @@ class Sweep:
             unknown = [name for name in net.names if name != self.code and name not in told]
             if unknown:
                 raise Refused(f"{net.text!r}: {unknown[0]} is neither a requested value nor a code of the household")
-            own = Fraction(amount) * UNIT
-            kept.append(net.value(lambda name: own if name == self.code else told[name]))
+            amounts: dict[str, Amount] = dict(told)
+            amounts[self.code] = Fraction(amount) * UNIT
+            kept.append(net.value(amounts.__getitem__))
         return kept
 
 
@@ -103,14 +110,21 @@ def answers_along(
     if of not in rules.outputs():
         raise Refused(f"{of} is no requested value of the rules; there are {', '.join(rules.outputs())}")
     told: list[Mapping[str, Amount] | Stop] = []
-    for amount, answer in zip(amounts, rules.batch([{**household, code: amount} for amount in amounts])):
+    for amount, answer in zip(amounts, rules.batch([with_amount(household, code, amount) for amount in amounts])):
         if answer.stop is None:
             told.append({**others, **{name: millionths(value) for name, value in answer.items()}})
         elif stops == "raise":
-            raise Stopped(f"{code} = {amount}: {answer.stop.line}")
+            raise Stopped(answer.stop.line, f"{code} = {amount}: {answer.stop.line}")
         else:
             told.append(answer.stop)
     return told
+
+
+def with_amount(household: Mapping[str, Given], code: str, amount: Decimal) -> dict[str, Given]:
+    """The household with another amount of a code."""
+    made = dict(household)
+    made[code] = amount
+    return made
 
 
 def exact(amount: Fraction) -> Decimal:

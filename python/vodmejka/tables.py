@@ -67,12 +67,13 @@ class Tables:
         """Some rows; None where something isn't plain."""
         if set(map(type, households)) != {dict}:
             return None
-        amounts = tuple(itertools.chain.from_iterable(map(dict.values, households)))  # type: ignore[arg-type]
-        types = {int} if are_whole(amounts) else set(map(type, amounts))
+        amounts: tuple[Amount, ...] = tuple(itertools.chain.from_iterable(map(dict.values, households)))  # type: ignore[arg-type]
+        types: set[type] = {int} if are_whole(amounts) else set(map(type, amounts))
         if not types <= PLAIN:
             return None
         try:
-            forms = "".join(map(self._forms.__getitem__, map(tuple, households)))
+            codes: Iterable[tuple[str, ...]] = map(tuple, households)
+            forms = "".join(map(self._forms.__getitem__, codes))
         except KeyError:
             raise UnknownList from None
         text = forms % amounts
@@ -122,7 +123,7 @@ def by_columns(households: Sequence[Household]) -> str:
     """The table where households, codes and amounts may be anything."""
     codes = list(dict.fromkeys(itertools.chain.from_iterable(households)))
     columns = [[household.get(code) for household in households] for code in codes]
-    types = set(itertools.chain.from_iterable(map(set, (map(type, column) for column in columns))))
+    types: set[type] = set(itertools.chain.from_iterable(map(type, column) for column in columns))
     labels = [LABEL] * len(households)
     text = csv_text([["name", *codes], *zip(labels, *columns)]) if types <= PLAIN else None
     if text is None or Decimal in types and WORDS.search(text, text.index("\n")):

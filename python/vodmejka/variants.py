@@ -53,7 +53,8 @@ def with_values(files: dict[str, bytes], values: Mapping[str, Number], applicati
     """Rule files in which constants, or cells whose only formula is a number, have other values."""
     try:
         read = [source.RuleFile(name, content) for name, content in files.items()]
-        places, pieces = constants.places_of(read), {file.name: [] for file in read}
+        places = constants.places_of(read)
+        pieces: dict[str, list[tuple[int, int, str]]] = {file.name: [] for file in read}
         for name, value in values.items():
             text = spelled(name, value)
             if not constants.spelled(text):

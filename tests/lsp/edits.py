@@ -17,8 +17,10 @@ from vodmejka.lsp.server import Server  # noqa: E402
 PIECES = (
     '; : ( ) , = [ ] .. - si alors finsi regle verif 1 A a "x" X 1.5 dans non pour un et somme( max( . " sinon erreur application # saisie calculee '
     "const TOTA LOYA1 REV TAUX E01 i j IMPOT < + REVE ZZ"
-).split() + ["\n", " ", '"a\nb"', "\r", "\u00e9", "\U0001f600", 'ZZ : calculee : "x" ;\n', "regle 1 : application : iliad ;\nZZ = REV ;\n", "(" * 300, "\t"]
-DRIVER_PIECES = ["\n", "  ", "\n  IMPOT = 1", "REV", "REVE", "f()", "<-", "call_m()", "del IMPOT", "partition with a = 1:", "#", "=", "if REV:", "\u00e9", "else:"]
+).split() + ["\n", " ", '"a\nb"', "\r", "\u00e9", "\U0001f600", 'ZZ : calculee : "x" ;\n', "regle 1 : application : iliad ;\nZZ = REV ;\n"]
+PIECES += ["(" * 300, "\t"]
+DRIVER_PIECES = ["\n", "  ", "\n  IMPOT = 1", "REV", "REVE", "f()", "<-", "call_m()", "del IMPOT", "#", "=", "if REV:", "\u00e9", "else:",
+                 "partition with a = 1:"]
 
 
 class Silent:

@@ -26,11 +26,12 @@ def generate(folder):
         for k in rules:
             a, b, c = (chance.choice(made[-500:]) for _ in range(3))
             lines += [f"# article 19{k % 10} du code", f"regle calcul {k + 1} : application : iliad , batch ;"]
-            term = f"somme(i=0..9: REV{k // 100 * 100 // 10 * 10}) + max(0, {a} - {b})" if k % 7 == 0 else None
-            lines.append(f"V{k} = {term or f'si {a} > 1000.5 et {b} >= 0 alors arr(min({a}, {b}) * 0.1) + max(0, {c} - 45 * ({a} + {b})) sinon {c} / 2 finsi'} ;")
+            term = f"si {a} > 1000.5 et {b} >= 0 alors arr(min({a}, {b}) * 0.1) + max(0, {c} - 45 * ({a} + {b})) sinon {c} / 2 finsi"
+            lines.append(f"V{k} = {f'somme(i=0..9: {a}) + max(0, {a} - {b})' if k % 7 == 0 else term} ;")
             made.append(f"V{k}")
             if k % 50 == 0:
-                lines += [f'E{k} : anomalie : "E" : "{k}" : "00" : "montant négatif" ;', f"verif {k + 1} : application : iliad ;", f"si {a} < 0 alors erreur E{k} ;"]
+                lines.append(f'E{k} : anomalie : "E" : "{k}" : "00" : "montant négatif" ;')
+                lines += [f"verif {k + 1} : application : iliad ;", f"si {a} < 0 alors erreur E{k} ;"]
         names.append(f"part{number:03}.m")
         with open(os.path.join(folder, names[-1]), "w", encoding="latin-1") as out:
             out.write("\n".join(lines) + "\n")
@@ -91,7 +92,8 @@ def keys(client, uri, lines):
             tell(method, timed(client, lambda: client.request("textDocument/" + method, textDocument={"uri": uri}, position=where)), worst)
         page = {"start": {"line": max(0, line - 30), "character": 0}, "end": {"line": line + 30, "character": 0}}
         for method in ("semanticTokens/range", "inlayHint", "codeAction"):
-            tell(method, timed(client, lambda: client.request("textDocument/" + method, textDocument={"uri": uri}, range=page, context={"diagnostics": []})), worst)
+            more = {"range": page, "context": {"diagnostics": []}}
+            tell(method, timed(client, lambda: client.request("textDocument/" + method, textDocument={"uri": uri}, **more)), worst)
         for method in ("documentSymbol", "foldingRange", "semanticTokens/full"):
             tell(method, timed(client, lambda: client.request("textDocument/" + method, textDocument={"uri": uri})), worst)
     for name, (passed, used) in worst.items():

@@ -53,7 +53,8 @@ def place(text, word, more=0, nth=0):
 
 def short(where):
     begin, end = where["start"], where["end"]
-    return f"{begin['line']}:{begin['character']}-{end['character']}" if begin["line"] == end["line"] else f"{begin['line']}:{begin['character']}-{end['line']}:{end['character']}"
+    last = f"{end['line']}:{end['character']}" if begin["line"] != end["line"] else end["character"]
+    return f"{begin['line']}:{begin['character']}-{last}"
 
 
 def name_of(uri):
@@ -92,7 +93,7 @@ class Script:
         print(what)
         for uri, told in sorted(self.client.told.items()):
             for one in told:
-                print(f"  {name_of(uri)} {short(one['range'])} {one['severity']} {one['message']}".replace(HERE + "/", "").replace("\n", "\n    "))
+                print(f"  {name_of(uri)} {short(one['range'])} {one['severity']} {one['message']}".replace(HERE + "/", "").replace(HERE, "HERE").replace("\n", "\n    "))
 
     def mended(self, uri, text, what):
         """The quick fixes of a text, and the text as the first one leaves it."""
@@ -145,8 +146,9 @@ def cancelled(script, uri):
 
 
 def shown(script, base, rules):
-    for what, uri, word, nth in (("loops", rules, "NETi", 0), ("a code", base, "1AJ", 0), ("an error", rules, "E01", 0), ("a table", rules, "TRANCHE", 0), ("a letter", base, "i =", 0)):
-        found = script.ask("hover", uri, word, 1 if what != "a letter" else 0, nth)
+    words = (("loops", rules, "NETi"), ("a code", base, "1AJ"), ("an error", rules, "E01"), ("a table", rules, "TRANCHE"), ("a letter", base, "i ="))
+    for what, uri, word in words:
+        found = script.ask("hover", uri, word, 1 if what != "a letter" else 0)
         print(f"hover of {what} {short(found['range'])}")
         print("  " + found["contents"]["value"].replace("\n", "\n  "))
 
@@ -183,7 +185,8 @@ def listed(script, uris):
 
 
 def completed(script, rules):
-    for tail in ("IR", "IRN = ", "IRN = 1A", "IRN = SALV ", "regle 30 : ", "regle 30 : application : ", "A : ", "A : calculee ", "verif 2 : application : iliad ; si 1 alors erreur ", "# si ", '" si '):
+    tails = ("IR", "IRN = ", "IRN = 1A", "IRN = SALV ", "regle 30 : ", "regle 30 : application : ", "A : ", "A : calculee ")
+    for tail in (*tails, "verif 2 : application : iliad ; si 1 alors erreur ", "# si ", '" si '):
         text = RULES.split("verif")[0] + tail
         script.client.change(rules, 2, {"text": text})
         script.texts[rules] = text
@@ -195,8 +198,10 @@ def completed(script, rules):
 
 def hints(script, rules):
     for what, old, new in (
-        ("a name", "TRANCHE[1]", "TRANHE[1]"), ("an error", "erreur E01", "erreur E10"), ("a semicolon", "TRANCHE[1] ;", "TRANCHE[1]"), ("a bracket", "NETi)", "NETi"),
-        ("a comma", "TRANCHE[1]", "1,5"), ("two signs", "IRN =", "IRN =="), ("finsi", "TRANCHE[1]", "si 1 alors 2"), ("a word", "application", "aplication"), ("three arguments", "TRANCHE[1]", "max(1, 2 * 3, 4)"),
+        ("a name", "TRANCHE[1]", "TRANHE[1]"), ("an error", "erreur E01", "erreur E10"), ("a semicolon", "TRANCHE[1] ;", "TRANCHE[1]"),
+        ("a bracket", "NETi)", "NETi"), ("a comma", "TRANCHE[1]", "1,5"), ("two signs", "IRN =", "IRN =="), ("finsi", "TRANCHE[1]", "si 1 alors 2"),
+        ("a word", "application", "aplication"), ("three arguments", "TRANCHE[1]", "max(1, 2 * 3, 4)"), ("capitals", "somme(", "SOMME("),
+        ("another sign", "< 0", "\u2264 0"), ("a hard blank", "SALV < 0", "SALV <\u00a00"), ("a colon", "verif 1 :", "verif 1"),
     ):
         script.mended(rules, RULES.replace(old, new, 1), what)
     script.client.change(rules, 2, {"text": RULES})

@@ -2,9 +2,11 @@
 # The package: its tests, the blocks of its page as they stand, and what pip installs, which computes too.
 here=$PWD
 cd "$ROOT" || exit 1
-PYTHONPATH=python python3 -B -W ignore -m unittest discover -s python/tests 2>"$here/log" || cat "$here/log"
+python=python3
+for one in python3 /usr/bin/python3; do "$one" -c 'import pandas' 2>/dev/null && { python=$one; break; }; done
+PYTHONPATH=python "$python" -B -W ignore -m unittest discover -s python/tests 2>"$here/log" || cat "$here/log"
 tail -n 1 "$here/log" | sed 's/ (skipped=.*//'
-python3 -B python/tests/page.py 2>/dev/null
+"$python" -B python/tests/page.py 2>/dev/null
 wheel=$(PYTHONPATH=python python3 -c "import wheel_of_package as made, sys; print(made.build_wheel(sys.argv[1]))" "$here") && echo "$wheel"
 PYTHONPATH=$here/$wheel XDG_CACHE_HOME=$here python3 -c "
 import vodmejka

@@ -2,8 +2,7 @@
 ghost use Rattle.std.specs.Prelude.{◌≡◌, ◌<◌, length};
 
 use crate::rows::check;
-use held_text::{BufferedSink, Origin, Printed};
-use m_ports::{MemSink, Sink, give_all};
+use m_ports::{BufferedSink, MemSink, Origin, Printed, Sink, give_all};
 use std::alloc::Global;
 use std::marker::Brand;
 use std::test::Fail;

@@ -1,7 +1,7 @@
 //! The line of a fault that no row of plain files shows, and one that is cut.
-use fault_lines::{Fault, give_fault};
 use m_ports::{MemSink, Sink};
 use std::alloc::Global;
+use tax_print::{Fault, give_fault};
 
 /// Whether a fault is told by this text, by an output that takes a byte at a time, and whose call of this number fails.
 fn is_told(alloc: Global, fault: Fault<'_>, failing: u64, whole: bool, text: &[u8]) -> bool {

@@ -20,6 +20,8 @@ mod pairs;
 #[cfg(test)]
 mod ports;
 #[cfg(test)]
+mod records;
+#[cfg(test)]
 mod rows;
 #[cfg(test)]
 mod shared;

@@ -1,7 +1,7 @@
 -- A text that was printed into an empty room is what is held, and what is given of it is that text.
 use Rattle.std.proofs.Common.{◌≡◌, ℕ, List, [], Option, Some, Result, ◌∙◌, ap, subst}
 use Rattle.std.specs.Io.KnownBytes.{append_known}
-use Rattle.text_pieces.specs.Giving.{Gives}
+use Rattle.m_ports.specs.Giving.{Gives}
 
 same : (one other : List ℕ) → Some one ≡ Some other → one ≡ other
 same one other is = cc is

@@ -1,7 +1,7 @@
 pub mod HeldLemmas
 pub mod CodeLemmas
 pub mod Shown
-pub mod GroupLemmas
+pub mod BatchLemmas
 pub mod Printings
 pub mod LargeLemmas
 pub mod Refusals

@@ -6,7 +6,7 @@ use Rattle.m_ports.specs.Counts.{Rose}
 use Rattle.m_ports.proofs.SinkLemmas.{append_known-append, AppendsPrefix-after}
 use Rattle.command_plans.specs.Printing.{Prints}
 use Rattle.command_plans.specs.Views.{OutputView, output_view}
-use Rattle.text_pieces.specs.Giving.{Gives}
+use Rattle.m_ports.specs.Giving.{Gives}
 use Rattle.command_plans.specs.declared.status.Status.{Status}
 use Rattle.command_plans.specs.declared.status.Status.TheVariants.{WriteFault}
 

@@ -26,10 +26,11 @@ use Rattle.code_answers.specs.Households.{answer_status, household_fault_line, t
 use Rattle.code_answers.specs.Shown.{HouseholdReplies, Shows, TableReplies}
 use Rattle.code_answers.specs.Shown as households
 use Rattle.code_answers.specs.Schemes.{Scheme, told_to}
-use Rattle.code_answers.specs.declared.groups.GroupFault.{GroupFault}
-use Rattle.code_answers.specs.declared.groups.GroupFault.TheVariants as group
+use Rattle.m_batch.specs.Printing.{WritesRows}
+use Rattle.m_batch.specs.declared.fault.PrintFault.{PrintFault}
+use Rattle.m_batch.specs.declared.fault.PrintFault.TheVariants as rows
 use Rattle.code_answers.specs.inner.Answers.{IsAnswerOf}
-use Rattle.code_answers.specs.inner.Groups.{WritesGroups, group_status}
+use Rattle.code_answers.specs.inner.Printers.{rows_status}
 use Rattle.code_answers.proofs.Refusals.{TellsRefusal}
 use Rattle.code_answers.proofs.Shown.{given_by, household_told, status_told, told_answer}
 use Rattle.code_answers.specs.Parts as parts
@@ -79,12 +80,12 @@ table_refused scheme face runs table fault old new status shown (inl (line, refu
     parts.printed line Refused (households.table_is_refused fault (subst (λ inputs. table_of inputs table ≡ Err fault) shown.inputs refused.0) refused.1) tt p
 table_refused scheme face runs table fault old new status shown (inr (same, memory)) = parts.no_memory same memory
 
-pub batch_written : {S T : Type 0} (written : S → Option (List ℕ)) (faults : S → ℕ) (old new : S) (result : Result T GroupFault) (text : List ℕ) (Replies : List ℕ → Status → Type 0) (status : Status)
-    → Replies text Done → status ≡ group_status result → WritesGroups written faults old new result text
+pub batch_written : {S T : Type 0} (written : S → Option (List ℕ)) (faults : S → ℕ) (old new : S) (result : Result T PrintFault) (text : List ℕ) (Replies : List ℕ → Status → Type 0) (status : Status)
+    → Replies text Done → status ≡ rows_status result → WritesRows written faults old new result text
     → IsWrittenInParts Replies (output_view written faults old) (output_view written faults new) status
 batch_written written faults old new (Ok value) text Replies status replied is wrote = parts.printed text Done replied tt (inl ((wrote.all, wrote.counted), is))
-batch_written written faults old new (Err group.Memory) text Replies status replied is wrote = broke_off text Done replied wrote.prefix wrote.counted is
-batch_written written faults old new (Err group.Failed) text Replies status replied is wrote = parts.printed text Done replied tt (inr ((wrote.prefix, wrote.counted), is))
+batch_written written faults old new (Err rows.Memory) text Replies status replied is wrote = broke_off text Done replied wrote.prefix wrote.counted is
+batch_written written faults old new (Err rows.Failed) text Replies status replied is wrote = parts.printed text Done replied tt (inr ((wrote.prefix, wrote.counted), is))
 
 -- ---- code files that are read
 

@@ -1,7 +1,7 @@
 -- What is answered to a table of cases.
 use Rattle.std.specs.Prelude.{◌≡◌, ℕ, zero, suc, ◌+◌, List, [], ◌∷◌, ◌++◌, length, Option, Some, None, Ok, Err}
-use Rattle.fault_lines.specs.Lines.{household_header_line, household_line, too_many_rows_line}
-use Rattle.fault_lines.specs.declared.fault.RowFault.TheVariants as row
+use Rattle.tax_print.specs.FaultLines.{household_header_line, household_line, too_many_rows_line}
+use Rattle.tax_print.specs.declared.fault.RowFault.TheVariants as row
 use Rattle.household.specs.declared.table.Row.{Row}
 use Rattle.m_cases.specs.Cases.{cases_of}
 use Rattle.m_cases.specs.Mismatches.{count_line, mismatch_count, mismatch_lines, told_values}

@@ -1,7 +1,7 @@
 -- What `exec` answers.
 use Rattle.std.specs.Prelude.{◌≡◌, ℕ, ℤ, List, [], Option, Some, None, Ok}
-use Rattle.fault_lines.specs.Lines.{code_header_line, code_line}
-use Rattle.fault_lines.specs.declared.fault.CodeFault.TheVariants as word
+use Rattle.tax_print.specs.FaultLines.{code_header_line, code_line}
+use Rattle.tax_print.specs.declared.fault.CodeFault.TheVariants as word
 use Rattle.reg_machine.specs.Machine.{machine_run}
 use Rattle.household.specs.Household.{household_of}
 use Rattle.code_file.specs.Reading.{IsFormOf, IsCodeFault}

@@ -1,7 +1,7 @@
 -- The line of each fault of a household or a table, and the status of what is told.
 use Rattle.std.specs.Prelude.{ℕ, List, Option, Some, None}
-use Rattle.fault_lines.specs.Lines.{household_header_line, household_line, too_many_rows_line}
-use Rattle.fault_lines.specs.declared.fault.RowFault.TheVariants as row
+use Rattle.tax_print.specs.FaultLines.{household_header_line, household_line, too_many_rows_line}
+use Rattle.tax_print.specs.declared.fault.RowFault.TheVariants as row
 use Rattle.observables.specs.Answers.{Told, values, stopped}
 use Rattle.observables.specs.declared.answer.Answer.{Answer}
 use Rattle.observables.specs.declared.answer.Answer.TheVariants.{Values, Stopped as AnswerStopped}

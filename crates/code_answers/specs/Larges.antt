@@ -1,6 +1,6 @@
 -- What `large N` prints before its answer, and the household that it answers.
 use Rattle.std.specs.Prelude.{◌≡◌, ℕ, ℤ, List, [], ◌∷◌, Ok, codes, decimal}
-use Rattle.text_pieces.specs.Pieces.{joined, new_line}
+use Rattle.m_text.specs.Pieces.{joined, new_line}
 use Rattle.household.specs.Household.{household_of}
 use Rattle.m_large.specs.Large.{household_text}
 use Rattle.observables.specs.declared.face.Face.{Face}

@@ -1,8 +1,8 @@
 -- What a table of households is told.
 use Rattle.std.specs.Prelude.{ℕ, List, [], ◌∷◌, ◌++◌, codes}
-use Rattle.text_pieces.specs.Pieces.{joined}
+use Rattle.m_text.specs.Pieces.{joined}
 use Rattle.household.specs.declared.table.Row.{Row}
-use Rattle.text_pieces.specs.Pieces.{new_line}
+use Rattle.m_text.specs.Pieces.{new_line}
 use Rattle.tax_print.specs.Lines.{told_lines}
 use Rattle.code_answers.specs.Schemes.{Scheme, told_to}
 

@@ -1,5 +1,4 @@
 -- What inner functions' contracts speak of. No reader of the public contract needs it.
 pub mod Answers
-pub mod Groups
-pub mod CaseGroups
+pub mod Printers
 pub mod Refusals

@@ -1,4 +1,4 @@
-//! A batch: the answers of code to the rows of a table are printed, in groups.
+//! A batch: the answers of code to the rows of a table are printed.
 ghost use Rattle.std.specs.Prelude.{◌≡◌, IfOk, Ok, Err, length};
 ghost use Rattle.std.specs.List.{AllByRecursion};
 ghost use Rattle.m_places.specs.Refusals.{Outcome};
@@ -10,15 +10,16 @@ ghost use Rattle.command_plans.specs.Views.{output_view};
 ghost use Rattle.code_answers.specs.Parts.{IsWrittenInParts};
 ghost use Rattle.code_answers.specs.Shown.{IsRunnableCode, Shows, TableReplies};
 ghost use Rattle.code_answers.specs.Schemes.{Scheme};
-ghost use Rattle.code_answers.specs.inner.Groups.{group_status};
+ghost use Rattle.code_answers.specs.inner.Printers.{rows_status};
 
 use crate::given::codes_by;
-use crate::groups::{GroupFault, print_rows};
+use crate::printers::AnswerLines;
 use crate::told::{tell_refusal, told_household};
 use code_file::Loaded;
 use command_plans::Status;
 use household::{HouseholdFault, Row, read_table};
-use m_places::Seq;
+use m_batch::{PrintFault, print_batch};
+use m_places::{Open, Seq};
 use m_ports::Sink;
 use std::alloc::Global;
 use std::thread::Threads;
@@ -36,7 +37,11 @@ pub fn answer_batch<R: Threads + Sync, K: Sink>(
         → IsWrittenInParts (TableReplies scheme table.now) (output_view K.written K.faults out.old) (output_view K.written K.faults out.new) result }
 {
     match rows_of(rt, alloc, loaded, table) {
-        Ok(rows) => status_of_rows(print_rows(rt, alloc, loaded, rows.as_slice(), out)),
+        Ok(rows) => {
+            let printer = AnswerLines { face: &loaded.face };
+            let code = &loaded.code;
+            status_of_rows(print_batch(rt, alloc, code, rows.as_slice(), &Open, &printer, out))
+        }
         Err(fault) => tell_refusal(out, told_household(fault)),
     }
 }
@@ -58,12 +63,12 @@ fn rows_of<R: Threads + Sync>(
 }
 
 // The status after rows that were written or not.
-fn status_of_rows(written: Result<(), GroupFault>) -> Status
-    ensures { result ≡ group_status written }
+fn status_of_rows(written: Result<u64, PrintFault>) -> Status
+    ensures { result ≡ rows_status written }
 {
     match written {
-        Ok(()) => Status::Done,
-        Err(GroupFault::Memory) => Status::Memory,
-        Err(GroupFault::Failed) => Status::WriteFault,
+        Ok(_) => Status::Done,
+        Err(PrintFault::Memory) => Status::Memory,
+        Err(PrintFault::Failed) => Status::WriteFault,
     }
 }

@@ -1,4 +1,4 @@
-//! Cases: the answers of code to the rows of a table are compared with what is expected of them, in groups.
+//! Cases: the answers of code to the rows of a table are compared with what is expected of them.
 ghost use Rattle.std.specs.Prelude.{◌≡◌, ◌<◌, ◌≤◌, ◌^◌, IfOk, Ok, Err, length};
 ghost use Rattle.std.specs.List.{AllByRecursion};
 ghost use Rattle.m_places.specs.Refusals.{Outcome};
@@ -13,14 +13,14 @@ ghost use Rattle.code_answers.specs.Parts.{IsWrittenInParts};
 ghost use Rattle.code_answers.specs.Cases.{ComparedReplies};
 ghost use Rattle.code_answers.specs.Shown.{IsRunnableCode, Shows};
 ghost use Rattle.code_answers.specs.Schemes.{Scheme};
-ghost use Rattle.code_answers.specs.inner.CaseGroups.{compared_status};
+ghost use Rattle.code_answers.specs.inner.Printers.{compared_status};
 
-use crate::case_groups::print_cases;
+use crate::compared::print_cases;
 use crate::given::codes_by;
-use crate::groups::GroupFault;
 use crate::told::{tell_refusal, told_cases};
 use code_file::Loaded;
 use command_plans::Status;
+use m_batch::PrintFault;
 use m_cases::{Cases, CasesFault, read_cases};
 use m_ports::Sink;
 use std::alloc::Global;
@@ -69,13 +69,13 @@ fn cases_in(alloc: Global, loaded: &Loaded, table: &[u8]) -> Result<Cases, Cases
 }
 
 // The status after cases that were written or not.
-fn status_of_cases(written: Result<u64, GroupFault>) -> Status
+fn status_of_cases(written: Result<u64, PrintFault>) -> Status
     ensures { result ≡ compared_status written }
 {
     match written {
         Ok(0) => Status::Done,
         Ok(_) => Status::Stopped,
-        Err(GroupFault::Memory) => Status::Memory,
-        Err(GroupFault::Failed) => Status::WriteFault,
+        Err(PrintFault::Memory) => Status::Memory,
+        Err(PrintFault::Failed) => Status::WriteFault,
     }
 }

@@ -1,7 +1,7 @@
 //! `large N`: the code of the generated source is prepared, and its answer to the generated household is printed.
 ghost use Rattle.std.specs.Prelude.{◌≡◌, ◌≤◌, ◌++◌};
 ghost use Rattle.m_places.specs.declared.limits.TheConstants.{LARGE};
-ghost use Rattle.text_pieces.specs.Giving.{Gives};
+ghost use Rattle.m_ports.specs.Giving.{Gives};
 ghost use Rattle.household.specs.declared.fault.HouseholdFault.TheVariants as household;
 ghost use Rattle.m_large.specs.Large.{household_text};
 ghost use Rattle.tax_print.specs.Lines.{AnswerIsWithin, answer_lines};
@@ -19,15 +19,13 @@ use crate::texts::{ANSWER_ROOM, give_large};
 use crate::told::status_of;
 use code_file::Loaded;
 use command_plans::{Status, printed};
-use held_text::FixedText;
 use household::HouseholdFault;
 use itoa::Buffer;
 use m_large::large_household;
-use m_ports::{Failed, Sink};
+use m_ports::{Failed, FixedText, Sink, give_pieces};
 use observables::{Answer, Face};
 use std::alloc::Global;
 use tax_print::print_answer;
-use text_pieces::give_pieces;
 
 /// Prints the line `large N`, and what code answers to the generated household, which has no fault by the code's inputs.
 pub fn answer_large<K: Sink>(alloc: Global, n: u32, loaded: &Loaded, out: &mut K) -> Status

@@ -6,13 +6,12 @@
 #![tactic(auto)]
 
 mod batch;
-mod case_groups;
 mod cases;
+mod compared;
 mod exec;
 mod given;
-mod groups;
 mod large;
-mod parts;
+mod printers;
 mod run;
 mod texts;
 mod told;

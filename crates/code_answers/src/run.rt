@@ -15,10 +15,9 @@ use crate::texts::{ANSWER_ROOM, give_answer};
 use crate::told::{status_of, tell_refusal, told_household};
 use code_file::Loaded;
 use command_plans::{Status, printed};
-use held_text::FixedText;
 use household::{Household, HouseholdFault, read_household};
 use m_batch::run_household;
-use m_ports::Sink;
+use m_ports::{FixedText, Sink};
 use observables::Answer;
 use std::alloc::Global;
 

@@ -1,36 +1,22 @@
 //! Lines that are printed into a text of a fixed room and given by one call; where they have no room there, they are printed to the
 //! output itself. Texts that may be longer go through a buffer.
-ghost use Rattle.std.specs.Prelude.{◌≡◌, ◌<◌, ◌≤◌, ◌++◌, IfOk, length};
-ghost use Rattle.std.specs.List.{AllByRecursion};
-ghost use Rattle.text_pieces.specs.Giving.{Gives};
-ghost use Rattle.m_places.specs.declared.limits.TheConstants.{ROWS};
+ghost use Rattle.std.specs.Prelude.{◌≡◌, ◌<◌, ◌++◌, length};
+ghost use Rattle.m_ports.specs.Giving.{Gives};
 ghost use Rattle.code_file.specs.Loading.{text_with};
 ghost use Rattle.code_file.specs.Printable.{IsPrintable};
 ghost use Rattle.code_file.specs.Reading.{IsFormOf};
-ghost use Rattle.observables.specs.Outputs.{names_of};
-ghost use Rattle.m_cases.specs.Cases.{AreExpected};
-ghost use Rattle.m_cases.specs.Mismatches.{HasValueEach};
 ghost use Rattle.tax_print.specs.Lines.{AnswerIsWithin, answer_lines};
 ghost use Rattle.code_answers.specs.Larges.{large_line};
-ghost use Rattle.code_answers.specs.inner.CaseGroups.{compared_count, compared_lines, with_count};
 
-use crate::case_groups::print_all_mismatches;
 use crate::large::print_large;
 use code_file::{Loaded, write_code};
-use held_text::{BufferedSink, FixedText, Origin, Printed};
-use household::Row;
-use m_cases::Expected;
-use m_places::Seq;
-use m_ports::{Failed, Sink, give_all};
+use m_ports::{BufferedSink, Failed, FixedText, Origin, Printed, Sink, give_all};
 use observables::{Answer, Face};
 use std::marker::Brand;
 use tax_print::print_answer;
 
 /// The room for the lines of one answer.
 pub(crate) const ANSWER_ROOM: usize = 65_536;
-
-/// The room for the lines of cases that are computed at once.
-pub(crate) const CASES_ROOM: usize = 4_194_304;
 
 // The room of a buffer before the output, by which texts go that may be longer.
 const BUFFER_ROOM: usize = 65_536;
@@ -67,40 +53,6 @@ pub(crate) fn give_large<K: Sink>(
     match print_large(n, face, answer, held) {
         Ok(()) => give_all(out, held.text()),
         Err(_) => print_large(n, face, answer, out),
-    }
-}
-
-/// Gives the lines of what rows expect and their answers aren't, and answers how much that is.
-pub(crate) fn give_compared<K: Sink>(
-    face: &Face,
-    rows: &[Row],
-    expected: &[Seq<(u32, Expected)>],
-    answers: &[Answer],
-    held: &mut FixedText,
-    out: &mut K,
-) -> Result<u64, Failed>
-    requires many { length expected.now ≡ length rows.now }
-    requires answered { length answers.now ≡ length rows.now }
-    requires few { length rows.now ≤ ROWS }
-    requires expected { AllByRecursion (AreExpected (length (names_of face.now.outputs))) expected.now }
-    requires within { AllByRecursion (HasValueEach face.now) answers.now }
-    ensures text { Gives K.written K.faults out.old out.new result (compared_lines face.now rows.now expected.now answers.now) }
-    ensures count { IfOk result (λ count. count ≡ compared_count face.now expected.now answers.now) }
-{
-    held.clear();
-    match print_all_mismatches(face, rows, expected, answers, held) {
-        Ok(count) => with_count(give_all(out, held.text()), count),
-        Err(_) => print_all_mismatches(face, rows, expected, answers, out),
-    }
-}
-
-// A count after a text that was given, or that a write failed.
-fn with_count(given: Result<(), Failed>, count: u64) -> Result<u64, Failed>
-    ensures { result ≡ with_count given count }
-{
-    match given {
-        Ok(()) => Ok(count),
-        Err(Failed) => Err(Failed),
     }
 }
 

@@ -1,7 +1,7 @@
 //! The lines by which a command refuses what it has gathered. Nothing here takes memory.
 ghost use Rattle.std.specs.Prelude.{◌≡◌};
 ghost use Rattle.std.specs.Option.{option_map};
-ghost use Rattle.fault_lines.specs.Lines.{fault_line};
+ghost use Rattle.tax_print.specs.FaultLines.{fault_line};
 ghost use Rattle.command_plans.specs.Views.{output_view};
 ghost use Rattle.code_answers.specs.Cases.{cases_fault_line};
 ghost use Rattle.code_answers.specs.Execs.{code_fault_line};
@@ -10,11 +10,11 @@ ghost use Rattle.code_answers.specs.inner.Refusals.{TellsLine};
 
 use code_file::CodeFault;
 use command_plans::{Status, print_fault};
-use fault_lines::{CodeFault as Words, Fault, RowFault};
 use household::HouseholdFault;
 use m_cases::CasesFault;
 use m_ports::Sink;
 use observables::Answer;
+use tax_print::{CodeFault as Words, Fault, RowFault};
 
 /// Tells what refuses the input, or of running out of memory nothing, and answers the status.
 pub fn tell_refusal<K: Sink>(out: &mut K, told: Option<Fault<'_>>) -> Status

@@ -10,7 +10,7 @@ use Rattle.observables.specs.declared.face.FaceOutput.TheVariants.{Named, Noted}
 use Rattle.reg_machine.specs.declared.instr.Instr.{Instr}
 use Rattle.reg_machine.specs.declared.instr.Instr.TheVariants.{Take, Lit, Do, Store, Load, Check, Output}
 use Rattle.reg_machine.proofs.TableLemmas.{none≢some, some-is}
-use Rattle.text_pieces.specs.Pieces.{joined, new_line}
+use Rattle.m_text.specs.Pieces.{joined, new_line}
 use Rattle.code_file.specs.declared.fault.CodeFault.{CodeFault}
 use Rattle.code_file.specs.declared.fault.CodeFault.TheVariants.{BadHeader, BadLine, BadOrder, Memory}
 use Rattle.code_file.specs.Text.{lines, slots_line, input_line, label_line, output_line, instr_line, op_word}
@@ -128,11 +128,11 @@ one-stop : (bytes : List ℕ) (es fs : List Entry) (rest left : List ℕ) → St
 one-stop bytes es fs rest left s t = same-stops blank es fs rest left (sym s.text ∙ t.text) s.due t.due s.ends t.ends
 
 -- where a fault is told the lines stop
-pub fault-stops : (bytes : List ℕ) (fault : CodeFault) → fault ≢ Memory → IsCodeFault bytes fault → (es : List Entry) × (rest : List ℕ) × Stops bytes es rest
-fault-stops bytes BadHeader other f = ([], bytes, f)
-fault-stops bytes (BadLine n) other f = (f.0, f.1, f.2)
-fault-stops bytes (BadOrder n) other f = (f.0, f.1, f.2)
-fault-stops bytes Memory other f = absurd (other refl)
+pub fault-stops : (bytes : List ℕ) (fault : CodeFault) → IsCodeFault bytes fault → (es : List Entry) × (rest : List ℕ) × Stops bytes es rest
+fault-stops bytes BadHeader f = ([], bytes, f)
+fault-stops bytes (BadLine n) f = (f.0, f.1, f.2)
+fault-stops bytes (BadOrder n) f = (f.0, f.1, f.2)
+fault-stops bytes Memory f = absurd f
 
 -- ---- one fault
 
@@ -145,17 +145,17 @@ no-start : (fs : List Entry) (left : List ℕ) → [] ≡ fs → ReadsUnwritten 
 no-start fs left e h = let p : 0 ≡ 3 = ap {A = List Entry} {B = ℕ} (λ l. (draft_of l).part) e ∙ h.4 in cc p
 
 -- a text has one first fault
-pub one-fault : (bytes : List ℕ) (fault other : CodeFault) → fault ≢ Memory → other ≢ Memory → IsCodeFault bytes fault → IsCodeFault bytes other → fault ≡ other
-one-fault bytes BadHeader BadHeader m k a b = refl
-one-fault bytes BadHeader (BadLine n) m k a b = absurd (b.3 (sym (one-stop bytes [] b.0 bytes b.1 a b.2).0))
-one-fault bytes BadHeader (BadOrder n) m k a b = absurd (no-start b.0 b.1 (one-stop bytes [] b.0 bytes b.1 a b.2).0 b.4)
-one-fault bytes (BadLine n) BadHeader m k a b = absurd (a.3 (one-stop bytes a.0 [] a.1 bytes a.2 b).0)
-one-fault bytes (BadLine n) (BadLine l) m k a b = ap BadLine (a.4 ∙ ap (λ (x : List Entry). suc (length x)) (one-stop bytes a.0 b.0 a.1 b.1 a.2 b.2).0 ∙ sym b.4)
-one-fault bytes (BadLine n) (BadOrder l) m k a b = let same = one-stop bytes a.0 b.0 a.1 b.1 a.2 b.2 in absurd (a.5 (unwritten-moved a.0 b.0 a.1 b.1 same.0 same.1 b.4))
-one-fault bytes (BadOrder n) BadHeader m k a b = absurd (no-start a.0 a.1 (one-stop bytes [] a.0 bytes a.1 b a.2).0 a.4)
-one-fault bytes (BadOrder n) (BadLine l) m k a b = let same = one-stop bytes b.0 a.0 b.1 a.1 b.2 a.2 in absurd (b.5 (unwritten-moved b.0 a.0 b.1 a.1 same.0 same.1 a.4))
-one-fault bytes (BadOrder n) (BadOrder l) m k a b = ap BadOrder (a.3 ∙ ap (λ (x : List Entry). suc (length x)) (one-stop bytes a.0 b.0 a.1 b.1 a.2 b.2).0 ∙ sym b.3)
-one-fault bytes Memory other m k a b = absurd (m refl)
-one-fault bytes BadHeader Memory m k a b = absurd (k refl)
-one-fault bytes (BadLine n) Memory m k a b = absurd (k refl)
-one-fault bytes (BadOrder n) Memory m k a b = absurd (k refl)
+pub one-fault : (bytes : List ℕ) (fault other : CodeFault) → IsCodeFault bytes fault → IsCodeFault bytes other → fault ≡ other
+one-fault bytes BadHeader BadHeader a b = refl
+one-fault bytes BadHeader (BadLine n) a b = absurd (b.3 (sym (one-stop bytes [] b.0 bytes b.1 a b.2).0))
+one-fault bytes BadHeader (BadOrder n) a b = absurd (no-start b.0 b.1 (one-stop bytes [] b.0 bytes b.1 a b.2).0 b.4)
+one-fault bytes (BadLine n) BadHeader a b = absurd (a.3 (one-stop bytes a.0 [] a.1 bytes a.2 b).0)
+one-fault bytes (BadLine n) (BadLine l) a b = ap BadLine (a.4 ∙ ap (λ (x : List Entry). suc (length x)) (one-stop bytes a.0 b.0 a.1 b.1 a.2 b.2).0 ∙ sym b.4)
+one-fault bytes (BadLine n) (BadOrder l) a b = let same = one-stop bytes a.0 b.0 a.1 b.1 a.2 b.2 in absurd (a.5 (unwritten-moved a.0 b.0 a.1 b.1 same.0 same.1 b.4))
+one-fault bytes (BadOrder n) BadHeader a b = absurd (no-start a.0 a.1 (one-stop bytes [] a.0 bytes a.1 b a.2).0 a.4)
+one-fault bytes (BadOrder n) (BadLine l) a b = let same = one-stop bytes b.0 a.0 b.1 a.1 b.2 a.2 in absurd (b.5 (unwritten-moved b.0 a.0 b.1 a.1 same.0 same.1 a.4))
+one-fault bytes (BadOrder n) (BadOrder l) a b = ap BadOrder (a.3 ∙ ap (λ (x : List Entry). suc (length x)) (one-stop bytes a.0 b.0 a.1 b.1 a.2 b.2).0 ∙ sym b.3)
+one-fault bytes Memory other a b = absurd a
+one-fault bytes BadHeader Memory a b = absurd b
+one-fault bytes (BadLine n) Memory a b = absurd b
+one-fault bytes (BadOrder n) Memory a b = absurd b

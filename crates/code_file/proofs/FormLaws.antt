@@ -218,9 +218,9 @@ form-due bytes loaded form =
     )
 
 -- a text that is a form has no fault
-pub no-fault-of-form : (bytes : List ℕ) (loaded : Loaded) (fault : CodeFault) → fault ≢ Memory → IsFormOf bytes loaded → IsCodeFault bytes fault → ⊥
-no-fault-of-form bytes loaded fault other form is =
-    let f = fault-stops bytes fault other is in
+pub no-fault-of-form : (bytes : List ℕ) (loaded : Loaded) (fault : CodeFault) → IsFormOf bytes loaded → IsCodeFault bytes fault → ⊥
+no-fault-of-form bytes loaded fault form is =
+    let f = fault-stops bytes fault is in
     let same = same-stops blank f.0 (entries_of loaded) f.1 [] (sym f.2.text ∙ form.text ∙ sym (form-text loaded) ∙ sym (append-nil (lines entry_line (entries_of loaded))))
     f.2.due (form-due bytes loaded form) f.2.ends (never-empty (draft_of (entries_of loaded))) in
     f.2.open_end (ap {A = List Entry} {B = ℕ} (λ l. (draft_of l).part) same.0 ∙ ap {A = Draft} {B = ℕ} (λ d. d.part) (all-said loaded)) same.1

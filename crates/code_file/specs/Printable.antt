@@ -11,7 +11,7 @@ use Rattle.observables.specs.declared.face.FaceOutput.{FaceOutput}
 use Rattle.observables.specs.declared.face.FaceOutput.TheVariants.{Named, Noted}
 use Rattle.observables.specs.declared.face.Face.{Face}
 use Rattle.observables.specs.Inputs.{codes_of}
-use Rattle.text_pieces.specs.Pieces.{joined}
+use Rattle.m_text.specs.Pieces.{joined}
 
 -- a byte that is no letter from a to z
 abbrev pub IsNoSmallLetter : ℕ → Type 0

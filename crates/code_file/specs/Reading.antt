@@ -161,12 +161,12 @@ abbrev pub ReadsUnwritten : Draft → List ℕ → Type 0
 ReadsUnwritten d rest = (i : Instr) × (behind : List ℕ) × (rest ≡ instr_line i ++ behind) × IsInstr i × (d.part ≡ 3) × (wrong_behind (code_in d) i ≡ Some Order)
 
 -- The first fault of a text. With so many lines before it, it is at the next line, also where there is none: the first line isn't
--- `mcode 1`, or a later one reads before it is written, or is another that can't come there.
+-- `mcode 1`, or a later one reads before it is written, or is another that can't come there. Running out of memory is none.
 abbrev pub IsCodeFault : List ℕ → CodeFault → Type 0
 IsCodeFault bytes BadHeader = Stops bytes [] bytes
 IsCodeFault bytes (BadLine n) = (entries : List Entry) × (rest : List ℕ) × Stops bytes entries rest × (entries ≢ []) × (n ≡ suc (length entries)) × (ReadsUnwritten (draft_of entries) rest → ⊥)
 IsCodeFault bytes (BadOrder n) = (entries : List Entry) × (rest : List ℕ) × Stops bytes entries rest × (n ≡ suc (length entries)) × ReadsUnwritten (draft_of entries) rest
-IsCodeFault bytes Memory = Unit {0}
+IsCodeFault bytes Memory = ⊥
 
 -- ---- the form
 

@@ -19,7 +19,7 @@ use Rattle.observables.specs.declared.face.FaceOutput.TheVariants.{Named, Noted}
 use Rattle.reg_machine.specs.declared.instr.Instr.{Instr}
 use Rattle.reg_machine.specs.declared.instr.Instr.TheVariants.{Take, Lit, Do, Store, Load, Check, Output}
 use Rattle.reg_machine.specs.Flow.{Listing}
-use Rattle.text_pieces.specs.Pieces.{new_line, joined}
+use Rattle.m_text.specs.Pieces.{new_line, joined}
 
 -- the lines of things, in order
 abbrev pub lines : {X : Type 0} → (X → List ℕ) → List X → List ℕ

@@ -1,15 +1,14 @@
 //! The lines of a face.
 ghost use Rattle.std.specs.Prelude.{◌≡◌, ◌∷◌, ◌++◌, ◌/◌, ◌%◌, [], codes, decimal};
-ghost use Rattle.text_pieces.specs.Giving.{Gives};
-ghost use Rattle.text_pieces.specs.Pieces.{joined, new_line};
+ghost use Rattle.m_ports.specs.Giving.{Gives};
+ghost use Rattle.m_text.specs.Pieces.{joined, new_line};
 ghost use Rattle.code_file.specs.Text.{lines, slots_line, input_line, label_line, output_line, verif_front, hex_of, hex_digit};
 
 use crate::words::{hex_digit, kind_word, kind_words};
 use itoa::Buffer;
 use m_places::Label;
-use m_ports::{Failed, Sink};
+use m_ports::{Failed, Sink, give_pieces};
 use observables::{Coded, FaceLabel, FaceOutput};
-use text_pieces::give_pieces;
 
 /// Gives a word, a number and the end of a line.
 pub fn give_number<K: Sink>(word: &[u8], number: u32, out: &mut K) -> Result<(), Failed>

@@ -1,7 +1,7 @@
 //! The lines of instructions.
 ghost use Rattle.std.specs.Prelude.{◌≡◌, ◌≤◌, ◌∷◌, [], codes, decimal};
-ghost use Rattle.text_pieces.specs.Giving.{Gives};
-ghost use Rattle.text_pieces.specs.Pieces.{joined, new_line};
+ghost use Rattle.m_ports.specs.Giving.{Gives};
+ghost use Rattle.m_text.specs.Pieces.{joined, new_line};
 ghost use Rattle.m_fixed.specs.declared.amount.Value.TheVariants.{Num};
 ghost use Rattle.m_fixed.specs.Operators.{arity_of};
 ghost use Rattle.code_file.specs.Text.{lines, instr_line, two_numbers, three_numbers, literal_line, do_line, op_word};
@@ -9,9 +9,8 @@ ghost use Rattle.code_file.specs.Text.{lines, instr_line, two_numbers, three_num
 use crate::words::{check_word, op_word};
 use itoa::Buffer;
 use m_fixed::{Amount, Op, Value, arity};
-use m_ports::{Failed, Sink};
+use m_ports::{Failed, Sink, give_pieces};
 use reg_machine::{Code, Instr};
-use text_pieces::give_pieces;
 
 /// Gives the lines of a code's instructions.
 pub fn give_instrs<K: Sink>(code: &Code, out: &mut K) -> Result<(), Failed>

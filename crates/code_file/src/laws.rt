@@ -1,18 +1,17 @@
 //! Laws of code files, over their definitions alone.
-ghost use Rattle.std.specs.Prelude.{◌≡◌, ◌≢◌, ℕ, List};
+ghost use Rattle.std.specs.Prelude.{◌≡◌, ℕ, List};
 ghost use Rattle.code_file.specs.declared.fault.CodeFault.{CodeFault};
-ghost use Rattle.code_file.specs.declared.fault.CodeFault.TheVariants.{Memory};
 ghost use Rattle.code_file.specs.declared.loaded.Loaded.{Loaded};
 ghost use Rattle.code_file.specs.Reading.{IsCodeFault, IsFormOf};
 
 /// A text has at most one first fault.
 pub fn one_fault()
-    ensures { (bytes : List ℕ) (fault other : CodeFault) → fault ≢ Memory → other ≢ Memory → IsCodeFault bytes fault → IsCodeFault bytes other → fault ≡ other }
+    ensures { (bytes : List ℕ) (fault other : CodeFault) → IsCodeFault bytes fault → IsCodeFault bytes other → fault ≡ other }
 {}
 
 /// A text that is the form of loaded code has no fault.
 pub fn no_fault_of_form()
-    ensures { (bytes : List ℕ) (loaded : Loaded) (fault : CodeFault) → fault ≢ Memory → IsFormOf bytes loaded → IsCodeFault bytes fault → ⊥ }
+    ensures { (bytes : List ℕ) (loaded : Loaded) (fault : CodeFault) → IsFormOf bytes loaded → IsCodeFault bytes fault → ⊥ }
 {}
 
 /// A text is the form of at most one code with its face.

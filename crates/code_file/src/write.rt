@@ -1,6 +1,6 @@
 //! A code file, written.
 ghost use Rattle.std.specs.Prelude.{◌++◌, codes};
-ghost use Rattle.text_pieces.specs.Giving.{Gives};
+ghost use Rattle.m_ports.specs.Giving.{Gives};
 ghost use Rattle.code_file.specs.Loading.{text_with};
 ghost use Rattle.code_file.specs.Printable.{IsPrintable};
 ghost use Rattle.code_file.specs.Reading.{IsFormOf};
@@ -10,9 +10,8 @@ use crate::face_lines::{give_inputs, give_labels, give_outputs, give_slots};
 use crate::fits::fits;
 use crate::instr_lines::give_instrs;
 use crate::loaded::Loaded;
-use m_ports::{Failed, Sink};
+use m_ports::{Failed, Sink, give_pieces};
 use reg_machine::Code;
-use text_pieces::give_pieces;
 
 /// Writes the text of code with its face. On a failure a prefix of the text was appended. It takes no memory.
 ///

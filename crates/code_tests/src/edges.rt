@@ -1,6 +1,6 @@
 //! Rows of edges.
-use edge_rows::Rows;
 use std::test::Fail;
+use value_sheet::Rows;
 
 #[test]
 fn rows(rt: HostRuntime) -> Result<(), Fail> {

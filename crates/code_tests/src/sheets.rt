@@ -7,8 +7,7 @@ use observables::Stop;
 use std::marker::Brand;
 use std::sync::ledger::{Blank, Ledger};
 use std::test::Fail;
-use steps::Steps;
-use value_sheet::Sheet;
+use value_sheet::{Sheet, Steps};
 
 // Whether what a sheet tells of its program's answers is right, from one settle to the next.
 fn tells<L: Ledger>(sheet: &mut Sheet, blank: Blank) -> bool

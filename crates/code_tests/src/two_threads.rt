@@ -1,13 +1,15 @@
-//! Two workers meet at a gate that one thread can't pass, in whatever order it takes the rows.
+//! Two workers meet at a gate that one thread can't pass, in whatever order it takes the rows: where rows are answered, and where they are
+//! printed, as the commands `batch` and `cases` do it.
 ghost use Rattle.std.specs.Prelude.{◌≡◌, IfOk};
 ghost use Rattle.std.specs.List.{AllByRecursion};
 ghost use Rattle.m_batch.specs.Batch.{HasInputsBelow};
 
 use crate::numbers::number;
 use household::{Household, Pair, Row};
-use m_batch::run_batch;
+use m_batch::{RowPrinter, print_batch, run_batch};
 use m_fixed::{Amount, Op};
 use m_places::{Gate, Name, Seq};
+use m_ports::{Failed, FixedText, Sink, give_all};
 use observables::Answer;
 use reg_machine::{Code, Instr, make_code};
 use std::alloc::{AllocError, Global};
@@ -71,13 +73,14 @@ fn code(alloc: Global) -> Result<Code, Fail>
     }
 }
 
+// The row with the amount 10 k, whose label is the byte k and a full stop.
 fn row(alloc: Global, k: u32) -> Result<Row, AllocError>
     ensures { IfOk result (HasInputsBelow 1) }
 {
     let amount = Amount::new(i128::from(k) * 10_000_000).unwrap_or(Amount::zero());
     let pairs = vec![in alloc; Pair::new(0, amount)]?;
     Ok(Row {
-        label: Name::new(alloc, b"h")?,
+        label: Name::new(alloc, &[u8::try_from(k).unwrap_or(0), b'.'])?,
         household: Household {
             pairs: Seq::from_vec(pairs),
         },
@@ -147,6 +150,70 @@ fn two_workers_meet(rt: HostRuntime) -> Result<(), Fail> {
     let code = code(rt.alloc())?;
     let rows = rows(rt.alloc())?;
     assert!(rt; rows.len() == 256 && are_answered(&rt, rt.alloc(), &code, &rows, &gate));
+    assert!(rt; have_met(&gate));
+    Ok(())
+}
+
+// Prints the label of each row, and counts the rows.
+#[derive(Drop)]
+struct Labels;
+
+impl RowPrinter for Labels {
+    ghost may_print = { λ _ _ _ _. Unit {0} };
+
+    ghost text = { λ _ _ row _. row.label };
+
+    ghost count = { λ _ _ _ _. 1 };
+
+    fn print<K: Sink>(
+        &self,
+        _place: usize,
+        row: &Row,
+        _answer: &Answer,
+        out: &mut K,
+    ) -> Result<u64, Failed> {
+        give_all(out, row.label.bytes())?;
+        Ok(1)
+    }
+}
+
+// Whether so many rows are printed.
+fn are_printed<R: Threads + Sync, G: Gate + Sync>(
+    rt: &R,
+    alloc: Global,
+    code: &Code,
+    rows: &[Row],
+    gate: &G,
+    out: &mut FixedText,
+) -> bool
+    requires code { code.now.counts.inputs ≡ 1 }
+    requires rows { AllByRecursion (HasInputsBelow 1) rows.now }
+{
+    match print_batch(rt, alloc, code, rows, gate, &Labels, out) {
+        Ok(count) => count == rows.len() as u64,
+        Err(_) => false,
+    }
+}
+
+// Whether a text is the labels of 256 rows, in their order.
+fn are_labels(text: &[u8]) -> bool {
+    for k in 0..256usize {
+        let at = 2 * k;
+        if at + 1 >= text.len() || usize::from(text[at]) != k || text[at + 1] != b'.' {
+            return false;
+        }
+    }
+    text.len() == 512
+}
+
+#[test]
+fn two_printing_workers_meet(rt: HostRuntime) -> Result<(), Fail> {
+    let gate = new_gate();
+    let code = code(rt.alloc())?;
+    let rows = rows(rt.alloc())?;
+    let mut out = FixedText::new(rt.alloc(), 4096)?;
+    assert!(rt; rows.len() == 256 && are_printed(&rt, rt.alloc(), &code, &rows, &gate, &mut out));
+    assert!(rt; are_labels(out.text()));
     assert!(rt; have_met(&gate));
     Ok(())
 }

@@ -1,7 +1,7 @@
 -- The reasons that a session tells are those of its source.
 use Rattle.std.proofs.Common.{◌≡◌, ℕ, List, [], ◌∷◌, ◌++◌, length, replicate, refl, ap, ◌∙◌}
 use Rattle.m_fixed.specs.declared.amount.Value.{Value}
-use Rattle.rule_text.specs.declared.Source.{Source}
+use Rattle.m_places.specs.declared.source.Source.{Source}
 use Rattle.m_ast.specs.declared.variable.Role.{Role}
 use Rattle.m_ast.specs.declared.variable.Role.TheVariants.{Input, Computed, Constant}
 use Rattle.m_symbols.specs.declared.variable.Variable.{Variable}

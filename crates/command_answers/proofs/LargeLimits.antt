@@ -2,9 +2,9 @@
 use Rattle.std.proofs.Common.{◌≡◌, ℕ, zero, suc, ◌+◌, ◌-◌, ◌*◌, ◌<◌, ◌≤◌, List, [], ◌∷◌, length, refl, ◌∙◌, ap, arith, length-append}
 use Rattle.std.specs.Prelude.{codes, decimal}
 use Rattle.std.proofs.lemmas.Fmt.{length-decimal-le}
-use Rattle.text_pieces.specs.Pieces.{joined}
-use Rattle.rule_text.specs.Limits.{SourceKeepsLimits}
-use Rattle.text_pieces.specs.Pieces.{new_line}
+use Rattle.m_text.specs.Pieces.{joined}
+use Rattle.m_places.specs.SourceLimits.{SourceKeepsLimits}
+use Rattle.m_text.specs.Pieces.{new_line}
 use Rattle.m_large.specs.Large.{declaration, declarations, rule, rules, first_rule, check, base_text}
 use Rattle.large_validity.specs.Sources.{large_requests, large_source}
 

@@ -1,7 +1,7 @@
 -- Errors of sources that were told.
 use Rattle.std.proofs.Common.{◌≡◌, ℕ, List, Option, None, Some, Result, refl, ap, inl, inr}
 use Rattle.std.specs.Prelude.{◌≢◌}
-use Rattle.rule_text.specs.declared.Source.{Source}
+use Rattle.m_places.specs.declared.source.Source.{Source}
 use Rattle.observables.specs.declared.inputs.Coded.{Coded}
 use Rattle.household.specs.declared.fault.HouseholdFault.{HouseholdFault}
 use Rattle.m_compile.specs.Faults.{IsSourceFault}

@@ -3,8 +3,8 @@ use Rattle.std.proofs.Common.{◌≡◌, ℕ, length, List, [], ◌++◌, Ok, Er
 use Rattle.std.specs.Prelude.{Some}
 use Rattle.m_fixed.specs.declared.amount.Value.{Value}
 use Rattle.m_names.specs.Names.{AreDistinct}
-use Rattle.rule_text.specs.declared.Source.{Source}
-use Rattle.fault_lines.specs.Lines.{input_too_long_line, unreadable_input_line}
+use Rattle.m_places.specs.declared.source.Source.{Source}
+use Rattle.tax_print.specs.FaultLines.{input_too_long_line, unreadable_input_line}
 use Rattle.observables.specs.Answers.{told_of}
 use Rattle.observables.specs.Inputs.{AreValuesOf, codes_of}
 use Rattle.observables.specs.Outputs.{notes_of}
@@ -23,7 +23,7 @@ use Rattle.household_session.specs.Replies.{ended_lines, input_lines}
 use Rattle.household_session.specs.Sessions.{Sitting, begun, showing_of}
 use Rattle.m_symbols.specs.Declarations.{Declared}
 use Rattle.rule_order.specs.declared.ordered.Ordered.{Ordered}
-use Rattle.serve_loop.specs.Repliers.{ended_of, whole_of}
+use Rattle.household_session.specs.Repliers.{ended_of, whole_of}
 use Rattle.why_session.specs.Explains.{Explaining, explained_replies}
 use Rattle.why_session.specs.Joined.{Joined, explains_by, joined_replies}
 use Rattle.m_compile.specs.Compiled.{IsCompiled, IsRunnable}

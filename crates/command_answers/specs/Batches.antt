@@ -1,6 +1,6 @@
 -- What a batch answers.
 use Rattle.std.specs.Prelude.{◌≡◌, ℕ, List, Ok}
-use Rattle.rule_text.specs.declared.Source.{Source}
+use Rattle.m_places.specs.declared.source.Source.{Source}
 use Rattle.household.specs.Table.{table_of}
 use Rattle.household.specs.declared.table.Row.{Row}
 use Rattle.command_plans.specs.declared.status.Status.{Status}

@@ -1,6 +1,6 @@
 -- What `cases` answers of a source.
 use Rattle.std.specs.Prelude.{◌≡◌, ℕ, List, Some, Ok}
-use Rattle.rule_text.specs.declared.Source.{Source}
+use Rattle.m_places.specs.declared.source.Source.{Source}
 use Rattle.m_cases.specs.Cases.{cases_of}
 use Rattle.m_cases.specs.declared.cases.Cases.{Cases}
 use Rattle.m_compile.specs.Faults.{IsSourceFault}

@@ -1,5 +1,5 @@
 -- What a source is prepared to.
-use Rattle.rule_text.specs.declared.Source.{Source}
+use Rattle.m_places.specs.declared.source.Source.{Source}
 use Rattle.flat_code.specs.declared.program.Flat.{Flat}
 use Rattle.reg_machine.specs.Machine.{machine_run}
 use Rattle.code_file.specs.declared.loaded.Loaded.{Loaded}

@@ -1,6 +1,6 @@
 -- What a run answers.
 use Rattle.std.specs.Prelude.{◌≡◌, ℕ, ℤ, List, Ok}
-use Rattle.rule_text.specs.declared.Source.{Source}
+use Rattle.m_places.specs.declared.source.Source.{Source}
 use Rattle.household.specs.Household.{household_of}
 use Rattle.tax_print.specs.Lines.{told_lines}
 use Rattle.command_plans.specs.declared.status.Status.{Status}

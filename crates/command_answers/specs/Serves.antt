@@ -1,8 +1,8 @@
 -- What `serve` answers to an input, and what became of the input.
 use Rattle.std.specs.Prelude.{◌≡◌, ℕ, ℤ, ◌<◌, List, ◌++◌, length, Ok}
-use Rattle.fault_lines.specs.Lines.{input_too_long_line, unreadable_input_line}
+use Rattle.tax_print.specs.FaultLines.{input_too_long_line, unreadable_input_line}
 use Rattle.m_places.specs.declared.limits.TheConstants.{INPUT_BYTES}
-use Rattle.rule_text.specs.declared.Source.{Source}
+use Rattle.m_places.specs.declared.source.Source.{Source}
 use Rattle.household.specs.Household.{household_of}
 use Rattle.command_plans.specs.Printing.{Prints}
 use Rattle.command_plans.specs.Views.{InputView, OutputView}

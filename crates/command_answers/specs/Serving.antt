@@ -3,7 +3,7 @@ use Rattle.std.specs.Prelude.{◌≡◌, ℕ, ◌<◌, ◌≤◌, List, ◌++◌
 use Rattle.std.specs.Io.KnownBytes.{prepend_known, IsAtEnd}
 use Rattle.m_places.specs.declared.limits.TheConstants.{INPUT_BYTES}
 use Rattle.m_ports.specs.Counts.{Rose}
-use Rattle.fault_lines.specs.Lines.{input_too_long_line, unreadable_input_line}
+use Rattle.tax_print.specs.FaultLines.{input_too_long_line, unreadable_input_line}
 use Rattle.command_plans.specs.Printing.{Appends, Breaks, Prints}
 use Rattle.command_plans.specs.Views.{InputView, OutputView}
 use Rattle.command_plans.specs.declared.status.Status.{Status}

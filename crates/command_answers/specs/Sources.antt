@@ -1,10 +1,10 @@
 -- What a source is to households, and the line by which it is refused.
 use Rattle.std.specs.Prelude.{◌≡◌, ℕ, List, Option, Some, Result, Err, map}
-use Rattle.rule_text.specs.declared.Source.{Source}
+use Rattle.m_places.specs.declared.source.Source.{Source}
 use Rattle.m_symbols.specs.Declarations.{Declared}
 use Rattle.micro_m.specs.declared.base.Base.{Base}
 use Rattle.driver_core.specs.declared.program.Core.{Core}
-use Rattle.m_requests.specs.Cells.{cell_name}
+use Rattle.m_symbols.specs.Cells.{cell_name}
 use Rattle.observables.specs.declared.inputs.Coded.{Coded}
 use Rattle.household.specs.declared.fault.HouseholdFault.{HouseholdFault}
 use Rattle.m_compile.specs.Sources.{IsValid}

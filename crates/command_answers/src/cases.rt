@@ -1,6 +1,6 @@
 //! Cases: the answers of a source's code to the rows of a table are compared with what is expected of them, in groups.
 ghost use Rattle.std.specs.Prelude.{◌<◌, Ok, Err};
-ghost use Rattle.rule_text.specs.Limits.{SourceKeepsLimits};
+ghost use Rattle.m_places.specs.SourceLimits.{SourceKeepsLimits};
 ghost use Rattle.command_plans.specs.Views.{output_view};
 ghost use Rattle.code_answers.specs.Parts.{IsWrittenInParts};
 ghost use Rattle.command_answers.specs.Cases.{CasesReplies};
@@ -9,8 +9,8 @@ use crate::program::prepare_code;
 use crate::refusal::tell_source;
 use code_answers::answer_cases;
 use command_plans::Status;
+use m_places::Source;
 use m_ports::Sink;
-use rule_text::Source;
 use std::alloc::Global;
 use std::thread::Threads;
 

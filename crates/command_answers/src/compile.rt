@@ -1,5 +1,5 @@
 //! A compilation: the code file of a source is written.
-ghost use Rattle.rule_text.specs.Limits.{SourceKeepsLimits};
+ghost use Rattle.m_places.specs.SourceLimits.{SourceKeepsLimits};
 ghost use Rattle.command_plans.specs.Printing.{IsAnswered};
 ghost use Rattle.command_plans.specs.Views.{output_view};
 ghost use Rattle.command_answers.specs.Compiles.{CompileReplies};
@@ -10,8 +10,8 @@ use crate::refusal::tell_source;
 use code_answers::give_code;
 use code_file::Loaded;
 use command_plans::{Status, printed};
+use m_places::Source;
 use m_ports::Sink;
-use rule_text::Source;
 use std::alloc::Global;
 use std::thread::Threads;
 

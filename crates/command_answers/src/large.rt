@@ -15,12 +15,11 @@ use command_plans::Status;
 use itoa::Buffer;
 use m_compile::SourceFault;
 use m_large::large_base;
-use m_places::{Name, Seq};
+use m_places::{Name, Seq, Source};
 use m_ports::Sink;
-use rule_text::Source;
+use m_text::append_pieces;
 use std::alloc::{AllocError, Global};
 use std::thread::Threads;
-use text_pieces::append_pieces;
 
 /// Prepares the code of the generated source of this many inputs, and prints the line `large N` and its answer to the generated
 /// household.

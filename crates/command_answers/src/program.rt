@@ -1,7 +1,7 @@
 //! Programs that are prepared to be run.
 ghost use Rattle.std.specs.Prelude.{◌≡◌, IfOk, IsTrue};
 ghost use Rattle.m_places.specs.Refusals.{Outcome};
-ghost use Rattle.rule_text.specs.Limits.{SourceKeepsLimits};
+ghost use Rattle.m_places.specs.SourceLimits.{SourceKeepsLimits};
 ghost use Rattle.code_file.specs.Loading.{counts_agree};
 ghost use Rattle.m_compile.specs.Faults.{IsSourceFault};
 ghost use Rattle.m_compile.specs.declared.fault.SourceFault.TheVariants.{Memory};
@@ -11,8 +11,8 @@ ghost use Rattle.code_answers.specs.Shown.{IsRunnableCode};
 use code_file::Loaded;
 use flat_code::Tidy;
 use m_compile::{Compiled, SourceFault, compile_with};
+use m_places::Source;
 use observables::Face;
-use rule_text::Source;
 use std::alloc::Global;
 use std::thread::Threads;
 

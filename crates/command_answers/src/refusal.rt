@@ -6,8 +6,8 @@ ghost use Rattle.code_answers.specs.inner.Refusals.{TellsLine};
 use code_answers::tell_refusal;
 use command_plans::Status;
 use m_compile::{SourceFault, told_fault};
+use m_places::Source;
 use m_ports::Sink;
-use rule_text::Source;
 
 /// Tells the fault of a source by its line, or that there was no memory. The fault ends here, and not in an arm of each caller, whose check would take ten
 /// seconds more.

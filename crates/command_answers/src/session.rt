@@ -1,16 +1,16 @@
 //! A session over an input, and the line that says why it ended before the input did.
 ghost use Rattle.std.specs.Prelude.{◌≡◌, ◌<◌};
-ghost use Rattle.serve_loop.specs.Repliers.{ended_of, whole_of};
+ghost use Rattle.household_session.specs.Repliers.{ended_of, whole_of};
 ghost use Rattle.command_plans.specs.Views.{input_view, output_view};
 ghost use Rattle.command_answers.specs.Serving.{Served};
 
 use command_plans::{Status, print_fault};
-use fault_lines::Fault;
+use household_session::{Replier, ServeEnd, serve};
 use m_ports::{Sink, Source};
-use serve_loop::{Replier, ServeEnd, serve};
 use std::marker::Brand;
 use std::sync::ledger::{Blank, Ledger};
-use steps::Steps;
+use tax_print::Fault;
+use value_sheet::Steps;
 
 /// Does the lines of an input, and tells how it ended. It takes no memory.
 pub(crate) fn serve_session<R: Replier, S: Source, K: Sink>(

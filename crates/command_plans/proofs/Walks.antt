@@ -5,8 +5,8 @@ use Rattle.std.specs.Prelude.{IsSomeAnd}
 use Rattle.m_ports.specs.Files.{Holds, HoldsMoreThan}
 use Rattle.m_ports.specs.declared.files.Attempt.{Attempt}
 use Rattle.command_plans.specs.Attempts.{BeginsWith, names_tried, NoneFailed, LastFailed, allowance}
-use Rattle.command_plans.specs.Plan.{Plan, refuses, asks, and_then, End, gathered, refused, asked, end_of, names_behind, names_fetched}
-use Rattle.fault_lines.specs.Lines.{too_long_line}
+use Rattle.command_plans.specs.Plan.{Plan, refuses, asks, asks_file, and_then, End, gathered, refused, asked, end_of, names_behind, names_fetched}
+use Rattle.tax_print.specs.FaultLines.{too_long_line}
 use Rattle.command_plans.specs.Refusals.{refusal_line}
 use Rattle.command_plans.specs.Views.{Disk}
 use Rattle.command_plans.specs.Trips.{Walks, ends, ends_refused, ends_without_memory, fetches_without_memory, fails, finds_too_long, goes_on}
@@ -85,7 +85,7 @@ EndsAt end (Err (Unreadable name)) = Unit {0}
 EndsAt end (Err Memory) = Unit {0}
 
 pub walks_to_end : {A : Type 0} (told : Option Disk) (disk : Disk) (plan : Plan A) (made : List Attempt) (spent : ℕ) (result : Result A Ending)
-    → Walks told plan made spent result → told ≡ Some disk → EndsAt (end_of disk plan) result
+    → Walks told plan made spent result → (asks_file plan ≡ true → told ≡ Some disk) → EndsAt (end_of disk plan) result
 walks_to_end told disk plan made spent result ends t = refl
 walks_to_end told disk plan made spent result ends_refused t = refl
 walks_to_end told disk plan made spent result ends_without_memory t = tt
@@ -93,13 +93,13 @@ walks_to_end told disk plan made spent result fetches_without_memory t = tt
 walks_to_end told disk plan made spent result fails t = tt
 walks_to_end told disk plan made spent result (finds_too_long {name = name} {limit = limit} {behind = behind} h) t =
     let P : Option Disk → Type 0 = λ u. HoldsMoreThan limit u name in
-    let s = some_of (disk name) (λ bytes. limit < length bytes) (subst P t h) in
+    let s = some_of (disk name) (λ bytes. limit < length bytes) (subst P (t refl) h) in
     ap (asked name limit (λ b. end_of disk (behind b))) s.1 ∙ ap (λ b. cond b (end_of disk (behind s.0)) (refused (too_long_line name))) (above (length s.0) limit s.2)
 walks_to_end told disk plan made spent result (goes_on {name = name} {limit = limit} {behind = behind} {made = rest} {spent = cost} bytes h l walk) t =
     subst (λ end. EndsAt end result)
-    (sym (ap (asked name limit (λ b. end_of disk (behind b))) (held told name bytes h disk t)
+    (sym (ap (asked name limit (λ b. end_of disk (behind b))) (held told name bytes h disk (t refl))
     ∙ ap (λ b. cond b (end_of disk (behind bytes)) (refused (too_long_line name))) (at_most (length bytes) limit l)))
-    (walks_to_end told disk (behind bytes) rest cost result walk t)
+    (walks_to_end told disk (behind bytes) rest cost result walk (λ _. t refl))
 
 -- at most the last attempt of a walk failed, and then the walk ended there
 abbrev pub FitsAttempts : {A : Type 0} → List Attempt → Result A Ending → Type 0

@@ -5,3 +5,8 @@ pub mod Refusals
 pub mod Status
 pub mod Trips
 pub mod Views
+pub mod Files
+pub mod Listing
+pub mod Reads
+pub mod Source
+pub mod inner

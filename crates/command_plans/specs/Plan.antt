@@ -1,7 +1,7 @@
 -- A command as a plan: which files it asks for, one after the other, and where it refuses.
-use Rattle.std.specs.Prelude.{ℕ, List, [], ◌∷◌, length, Option, Some, None, if◌then◌else◌, nat_le}
+use Rattle.std.specs.Prelude.{ℕ, Bool, true, false, List, [], ◌∷◌, length, Option, Some, None, if◌then◌else◌, nat_le}
 use Rattle.command_plans.specs.Views.{Disk}
-use Rattle.fault_lines.specs.Lines.{too_long_line}
+use Rattle.tax_print.specs.FaultLines.{too_long_line}
 
 -- A plan is done with what it gathered, or refuses with a line, or asks for a file by its name, of at most so
 -- many bytes, and goes on with the file's bytes.
@@ -9,6 +9,12 @@ pub data Plan (Gathered : Type 0) : Type 0 where
   done : Gathered → Plan Gathered
   refuses : (line : List ℕ) → Plan Gathered
   asks : (name : List ℕ) (limit : ℕ) (behind : List ℕ → Plan Gathered) → Plan Gathered
+
+-- whether a plan asks for a file
+abbrev pub asks_file : {Gathered : Type 0} → Plan Gathered → Bool
+asks_file (done all) = false
+asks_file (refuses line) = false
+asks_file (asks name limit behind) = true
 
 -- the plan that asks for one file, and is done with its bytes
 abbrev pub file_plan : List ℕ → ℕ → Plan (List ℕ)

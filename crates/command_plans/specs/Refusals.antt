@@ -1,6 +1,6 @@
 -- The line of each error that ends a command before it has its files.
 use Rattle.std.specs.Prelude.{ℕ, List}
-use Rattle.fault_lines.specs.Lines.{list_line, too_many_files_line, too_long_line}
+use Rattle.tax_print.specs.FaultLines.{list_line, too_many_files_line, too_long_line}
 use Rattle.command_plans.specs.declared.refusal.Refusal.{Refusal}
 use Rattle.command_plans.specs.declared.refusal.Refusal.TheVariants.{ListLine, TooManyFiles, FileTooLong}
 

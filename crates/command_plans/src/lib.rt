@@ -1,17 +1,27 @@
-//! Commands as plans: which files a command asks for, one after the other, and where it refuses.
+//! Commands as plans: which files a command asks for, one after the other, and where it refuses; the list file, and how the files of a source
+//! are gathered along it.
 //!
-//! The vocabulary of all commands: statuses, errors, what ends a command before it has its files, the call
-//! that fetches a file, and the calls that print a line. It knows no command, and nothing of what files say.
+//! The vocabulary of all commands: statuses, errors, what ends a command before it has its files, the call that fetches a file, and the calls
+//! that print a line. This crate knows no command, and nothing of what files say but the list.
 #![tactic(auto)]
 
 mod ending;
 mod files;
+mod gather;
 mod lines;
+mod list_fault;
+mod list_laws;
+mod listing;
+mod read_listing;
 mod refusal;
+mod source;
 mod status;
 
 pub use ending::Ending;
 pub use files::fetch;
+pub use gather::gather_source;
 pub use lines::{print_fault, printed, tell};
+pub use list_laws::{list_says, one_reading};
 pub use refusal::Refusal;
+pub use source::SourceNames;
 pub use status::Status;

@@ -1,13 +1,13 @@
 //! The calls that print a line. They take no memory, so that an error or a failed read is told even
 //! where there is none.
 ghost use Rattle.std.specs.Prelude.{◌≡◌, MatchResult};
-ghost use Rattle.fault_lines.specs.Lines.{fault_line};
+ghost use Rattle.tax_print.specs.FaultLines.{fault_line};
 ghost use Rattle.command_plans.specs.Printing.{Prints, Tells};
 ghost use Rattle.command_plans.specs.Views.{output_view};
 
 use crate::{Ending, Status};
-use fault_lines::{Fault, give_fault};
 use m_ports::{Failed, Sink};
+use tax_print::{Fault, give_fault};
 
 /// The status after a text that was given with this result, where this one belongs to the text.
 pub fn printed(given: Result<(), Failed>, own: Status) -> Status

@@ -1,9 +1,9 @@
 ghost use Rattle.std.specs.Prelude.{◌≡◌};
-ghost use Rattle.fault_lines.specs.Lines.{fault_line};
+ghost use Rattle.tax_print.specs.FaultLines.{fault_line};
 ghost use Rattle.command_plans.specs.Refusals.{refusal_line};
 
-use fault_lines::Fault;
 use m_places::Name;
+use tax_print::Fault;
 
 /// Why the input is refused before a command has its files.
 #[derive(Drop)]

@@ -7,4 +7,7 @@ pub mod Meaning
 pub mod Answers
 pub mod Inputs
 pub mod Weights
+pub mod Ascending
+pub mod Groups
+pub mod Kinds
 pub mod inner

@@ -4,7 +4,7 @@ ghost use Rattle.std.specs.Prelude.{◌≡◌};
 ghost use Rattle.driver_core.specs.ActionView.{action_of};
 
 use crate::CTerm;
-use input_kinds::KindCells;
+use crate::kind_cells::KindCells;
 use m_places::Seq;
 use std::marker::Model;
 

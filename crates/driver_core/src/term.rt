@@ -3,7 +3,7 @@
 ghost use Rattle.std.specs.Prelude.{◌≡◌};
 ghost use Rattle.driver_core.specs.FormulaView.{formula_of};
 
-use input_kinds::KindCells;
+use crate::kind_cells::KindCells;
 use m_fixed::{Op, Value};
 use std::marker::Model;
 

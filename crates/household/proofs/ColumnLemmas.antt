@@ -21,9 +21,9 @@ use Rattle.household.specs.Table.{amount_said, are_fitting, cells_read, column_o
 use Rattle.household.proofs.InputLemmas.{AllByRecursion-push, AreDifferent-push, code_known, if_ok, inputs_of-push, other_than_error, read_before, turns_keep}
 
 -- numbers below n, none of which stands twice
-record AreColumns (n : ℕ) (columns : List ℕ) : Type 0 where
-  known : AllByRecursion (λ input. input < n) columns
-  once : AreDifferent columns
+pub record AreColumns (n : ℕ) (columns : List ℕ) : Type 0 where
+  pub known : AllByRecursion (λ input. input < n) columns
+  pub once : AreDifferent columns
 
 -- without one in the midst, and without the last ones
 All-without : {X : Type 0} (P : X → Type 0) (xs ys : List X) (x : X) → AllByRecursion P (xs ++ x ∷ ys) → AllByRecursion P (xs ++ ys)
@@ -49,7 +49,7 @@ new_known n before (Some i) input h k =
     let same : i ≡ input = cc a.1 in
     (subst (λ (j : ℕ). j < n) same (k i refl), subst (λ (j : ℕ). is_input_among j before ≡ false) same a.0)
 
-columns_known : (inputs : List Coded) (fields : List (List ℕ)) (columns : List ℕ) → in_turn (column_of inputs) [] fields ≡ Ok columns → AreColumns (length inputs) columns
+pub columns_known : (inputs : List Coded) (fields : List (List ℕ)) (columns : List ℕ) → in_turn (column_of inputs) [] fields ≡ Ok columns → AreColumns (length inputs) columns
 columns_known inputs fields columns h =
     turns_keep (column_of inputs) (AreColumns (length inputs))
     (λ before code input q e.

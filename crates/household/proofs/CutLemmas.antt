@@ -1,60 +1,56 @@
 -- Going over records without reading them.
-use Rattle.std.proofs.Common.{◌≡◌, ℕ, ◌-◌, ◌*◌, ◌<◌, ◌≤◌, zero, suc, List, [], ◌∷◌, ◌++◌, length, length-append, length-drop, get_or, drop, take, true, false, refl, sym, ap, subst, ◌∙◌, arith}
-use Rattle.std.proofs.lemmas.List.{drop-drop}
-use Rattle.csv.specs.Machine.{step, is_end, ends_at_end, fields_after, field_after}
-use Rattle.csv.specs.Reading.{default_config}
-use Rattle.csv.specs.declared.parser.Action.{Action as CsvAction}
-use Rattle.csv.specs.declared.parser.State.{State}
+use Rattle.std.proofs.Common.{◌≡◌, ℕ, ◌+◌, ◌-◌, ◌*◌, ◌<◌, ◌≤◌, zero, suc, List, [], ◌∷◌, ◌++◌, length, length-append, length-drop, get_or, drop, refl, sym, ap, subst, ◌∙◌, arith}
+use Rattle.std.proofs.lemmas.List.{drop-drop, drop_all}
+use Rattle.csv.specs.Reading.{strip_bom}
 use Rattle.csv.specs.declared.parser.State.TheVariants as st
-use Rattle.household.specs.Reader.{records_from_state, state_of}
-use Rattle.household.specs.declared.records.Place.TheVariants.{Plain}
-use Rattle.household.specs.inner.Left.{IsPlainEnd}
-use Rattle.household.specs.declared.cuts.Cut.{Cut}
+use Rattle.household.specs.Reader.{records_from_state}
+use Rattle.household.specs.Records.{records_of}
 use Rattle.household.specs.declared.cuts.TheConstants.{BETWEEN}
-use Rattle.household.specs.inner.Cuts.{AreCuts, GoesOn, left_at}
-use Rattle.household.proofs.LeftLemmas.{byte_joins, last_ends}
-use Rattle.household.proofs.PlainLemmas.{drop_byte}
+use Rattle.household.specs.Lines.{HasNoQuote, IsLineEnd}
+use Rattle.household.specs.inner.Cuts.{AreCuts, IsCut, IsCutAfter, IsLine, left_at}
+use Rattle.household.proofs.LeftLemmas.{records_are_left}
+use Rattle.household.proofs.LineLemmas.{drop_byte, line_ends, no_mark_there, no_quote_drop, record_over, skips_end}
 
--- the record that the end of the bytes ends
-pub over_last : (left : List (List (List ℕ))) (s : State) (fields : List (List ℕ)) (field rest : List ℕ) → rest ≡ [] → ends_at_end s ≡ true → left ≡ records_from_state s fields field rest
-    → (read : List (List ℕ)) × (left ≡ read ∷ records_from_state st.StartRecord [] [] rest)
-over_last left s fields field rest none ends e = (
-  fields ++ field ∷ [],
-  e ∙ ap (records_from_state s fields field) none ∙ last_ends s fields field ends ∙ ap (λ (bytes : List ℕ). (fields ++ field ∷ []) ∷ records_from_state st.StartRecord [] [] bytes) (sym none),
-)
+-- ---- one record
 
--- what a reader that was within a record has left, a byte and perhaps some bytes of a field later
-pub over_byte : (left : List (List (List ℕ))) (bytes : List ℕ) (s : State) (a : CsvAction) (at : ℕ) (mid new : Cut) → at < length bytes
-    → ((fields : List (List ℕ)) × (field : List ℕ) × (left ≡ records_from_state s fields field (drop at bytes)))
-    → state_of mid.place ≡ (step default_config s (get_or bytes at 0)).0 → a ≡ (step default_config s (get_or bytes at 0)).1 → is_end a ≡ false → mid.at ≡ suc at → GoesOn bytes mid new
-    → (fields : List (List ℕ)) × (field : List ℕ) × (left ≡ records_from_state (state_of new.place) fields field (drop new.at bytes))
-over_byte left bytes s a at mid new below begun hs ha no_end m on =
-    let fields = begun.0 in
-    let field = begun.1 in
-    let byte = get_or bytes at 0 in
-    let next = on.same (fields_after a fields field) (field_after a byte field) in (
-      fields_after a fields field,
-      next.0,
-      begun.2 ∙ ap (records_from_state s fields field) (drop_byte at bytes below)
-          ∙ byte_joins s (state_of mid.place) a fields (fields_after a fields field) field (field_after a byte field) byte (drop (suc at) bytes) hs ha refl refl no_end
-          ∙ ap (λ k. records_from_state (state_of mid.place) (fields_after a fields field) (field_after a byte field) (drop k bytes)) (sym m)
-          ∙ next.1,
-    )
+-- a record that ends at the end of its line
+pub over_line : (bytes : List ℕ) (at end : ℕ) → HasNoQuote bytes → at < end → end ≤ length bytes → IsLine (end - at) (drop at bytes)
+    → IsCut bytes end × ((fields : List (List ℕ)) × (left_at bytes at ≡ fields ∷ left_at bytes end))
+over_line bytes at end q far within line = by (end - at) refl line
+  where
+    by : (n : ℕ) → n ≡ end - at → IsLine n (drop at bytes) → IsCut bytes end × ((fields : List (List ℕ)) × (left_at bytes at ≡ fields ∷ left_at bytes end))
+    by zero e l = absurd (omega (arith, e, far))
+    by (suc n) e l =
+        let there : drop (suc n) (drop at bytes) ≡ drop end bytes = drop-drop (suc n) at bytes ∙ ap (λ k. drop k bytes) (let same : at + suc n ≡ end = omega (arith, e, far) in same) in
+        let over = record_over n (drop at bytes) (no_quote_drop at bytes q) l in (
+          record { within = within; ends = subst IsLineEnd there (line_ends (suc n) (drop at bytes) l) },
+          (over.0, over.1 ∙ ap (λ l. over.0 ∷ records_from_state st.StartRecord [] [] l) there),
+        )
 
--- a reader that stays where it is
-pub stays : (bytes : List ℕ) (cut : Cut) → GoesOn bytes cut cut
-stays bytes cut = record { forward = omega arith; same = λ fields field. (field, refl) }
+-- a line without bytes is no record
+pub over_empty : (bytes : List ℕ) (at end : ℕ) → at < length bytes → end ≡ at → IsLine (end - at) (drop at bytes) → left_at bytes (suc at) ≡ left_at bytes at
+over_empty bytes at end below same line =
+    let none : end - at ≡ 0 = omega (arith, same) in
+    let here = drop_byte at bytes below in
+    let ends = subst IsLineEnd here (subst (λ n. IsLine n (drop at bytes)) none line) in
+    sym (ap (records_from_state st.StartRecord [] []) here ∙ skips_end (get_or bytes at 0) (drop (suc at) bytes) ends)
 
--- a reader that goes on to the end of a field without quotation marks
-pub to_plain_end : (bytes : List ℕ) (old new : Cut) → old.place ≡ Plain → new.place ≡ old.place → IsPlainEnd bytes old.at new.at → GoesOn bytes old new
-to_plain_end bytes old new plain same end = record {
-  forward = end.begins;
-  same = λ fields field. (
-    field ++ take (new.at - old.at) (drop old.at bytes),
-    ap (λ p. records_from_state (state_of p) fields field (drop old.at bytes)) plain ∙ end.joins fields field
-        ∙ ap (λ p. records_from_state (state_of p) fields (field ++ take (new.at - old.at) (drop old.at bytes)) (drop new.at bytes)) (sym (same ∙ plain)),
-  );
-}
+-- nothing is left at the end of the bytes
+pub at_end : (bytes : List ℕ) (at : ℕ) → length bytes ≤ at → left_at bytes at ≡ []
+at_end bytes at past = ap (records_from_state st.StartRecord [] []) (drop_all at bytes past)
+
+pub end_is_cut : (bytes : List ℕ) (at : ℕ) → at ≡ length bytes → IsCut bytes at
+end_is_cut bytes at e = record { within = omega (arith, e); ends = subst IsLineEnd (sym (drop_all at bytes (omega (arith, e)))) tt }
+
+-- a reader of the bytes from a cut on has the records that are left there
+pub read_from : (bytes : List ℕ) (cut : ℕ) → IsCut bytes cut → records_of (drop cut bytes) ≡ left_at bytes cut
+read_from bytes cut is = sym (records_are_left (drop cut bytes)) ∙ ap (records_from_state st.StartRecord [] []) (no_mark_there (drop cut bytes) is.ends)
+
+-- where the first record begins, all are left
+pub all_left : (bytes : List ℕ) (start : ℕ) → drop start bytes ≡ strip_bom bytes → left_at bytes start ≡ records_of bytes
+all_left bytes start e = ap (records_from_state st.StartRecord [] []) e ∙ records_are_left bytes
+
+-- ---- many records
 
 -- what a list has from a place on, where it has an element there
 drop_begun : {A : Type 0} (i : ℕ) (left new : List A) (x : A) → drop i left ≡ x ∷ new → (new ≡ drop (suc i) left) × (suc i ≤ length left)
@@ -88,34 +84,38 @@ each_push P [] x each last (suc n) d h = absurd (omega (arith, h))
 each_push P (y ∷ xs) x each last zero d h = each 0 d (omega arith)
 each_push P (y ∷ xs) x each last (suc n) d h = each_push (λ m. P (suc m)) xs x (λ m e k. each (suc m) e (omega (arith, k))) last n d (omega (arith, h))
 
--- the cuts so far, and the reader after the last one
-pub record CutsTo (bytes : List ℕ) (records : List (List (List ℕ))) (cuts : List Cut) (cut : Cut) : Type 0 where
-  pub each : (n : ℕ) (d : Cut) → n < length cuts → left_at bytes (get_or cuts n d) ≡ drop (n * BETWEEN) records
-  pub here : (n : ℕ) → length cuts ≡ suc n → left_at bytes cut ≡ drop (n * BETWEEN) records
+-- the cuts so far, and the last one of them
+pub record CutsTo (bytes : List ℕ) (records : List (List (List ℕ))) (cuts : List ℕ) (cut : ℕ) : Type 0 where
+  pub each : (n d : ℕ) → n < length cuts → IsCutAfter bytes records (n * BETWEEN) (get_or cuts n d)
+  pub here : (n : ℕ) → length cuts ≡ suc n → IsCutAfter bytes records (n * BETWEEN) cut
   pub some : 0 < length cuts
 
-pub cuts_first : (bytes : List ℕ) (cuts : List Cut) (first : Cut) → cuts ≡ [] ++ first ∷ [] → CutsTo bytes (left_at bytes first) cuts first
-cuts_first bytes cuts first e =
-    subst (λ (l : List Cut). CutsTo bytes (left_at bytes first) l first) (sym e)
-    (record { each = each_push (λ n cut. left_at bytes cut ≡ drop (n * BETWEEN) (left_at bytes first)) [] first (λ n d h. absurd (omega (arith, h))) refl; here = λ n h. (let none : 0 ≡ n = omega (arith, h) in subst (λ k. left_at bytes first ≡ drop (k * BETWEEN) (left_at bytes first)) none refl); some = omega arith })
-
-pub cuts_more : (bytes : List ℕ) (records : List (List (List ℕ))) (cuts more : List Cut) (old new : Cut) → CutsTo bytes records cuts old → more ≡ cuts ++ new ∷ [] → left_at bytes new ≡ drop BETWEEN (left_at bytes old)
-    → CutsTo bytes records more new
-cuts_more bytes records [] more old new so_far m e = absurd (omega (arith, so_far.some))
-cuts_more bytes records (c ∷ cs) more old new so_far m e =
-    let here : left_at bytes new ≡ drop (length (c ∷ cs) * BETWEEN) records =
-    e ∙ ap (drop BETWEEN) (so_far.here (length cs) refl) ∙ drop-drop BETWEEN (length cs * BETWEEN) records ∙ ap (λ k. drop k records) (omega arith) in
-    subst (λ (l : List Cut). CutsTo bytes records l new) (sym m)
+pub cuts_first : (bytes cuts : List ℕ) (first : ℕ) → IsCut bytes first → cuts ≡ [] ++ first ∷ [] → CutsTo bytes (left_at bytes first) cuts first
+cuts_first bytes cuts first is e =
+    subst (λ (l : List ℕ). CutsTo bytes (left_at bytes first) l first) (sym e)
     (record {
-      each = each_push (λ n cut. left_at bytes cut ≡ drop (n * BETWEEN) records) (c ∷ cs) new so_far.each here;
-      here = λ n h. (let same : length (c ∷ cs) ≡ n = let long = length-append (c ∷ cs) (new ∷ []) in omega (arith, h, long) in subst (λ k. left_at bytes new ≡ drop (k * BETWEEN) records) same here);
+      each = each_push (λ n cut. IsCutAfter bytes (left_at bytes first) (n * BETWEEN) cut) [] first (λ n d h. absurd (omega (arith, h))) (is, refl);
+      here = λ n h. (let none : 0 ≡ n = omega (arith, h) in subst (λ k. IsCutAfter bytes (left_at bytes first) (k * BETWEEN) first) none (is, refl));
+      some = omega arith;
+    })
+
+pub cuts_more : (bytes : List ℕ) (records : List (List (List ℕ))) (cuts more : List ℕ) (old new : ℕ) → CutsTo bytes records cuts old → more ≡ cuts ++ new ∷ [] → IsCut bytes new → left_at bytes new ≡ drop BETWEEN (left_at bytes old)
+    → CutsTo bytes records more new
+cuts_more bytes records [] more old new so_far m is e = absurd (omega (arith, so_far.some))
+cuts_more bytes records (c ∷ cs) more old new so_far m is e =
+    let here : left_at bytes new ≡ drop (length (c ∷ cs) * BETWEEN) records =
+    e ∙ ap (drop BETWEEN) (so_far.here (length cs) refl).1 ∙ drop-drop BETWEEN (length cs * BETWEEN) records ∙ ap (λ k. drop k records) (omega arith) in
+    subst (λ (l : List ℕ). CutsTo bytes records l new) (sym m)
+    (record {
+      each = each_push (λ n cut. IsCutAfter bytes records (n * BETWEEN) cut) (c ∷ cs) new so_far.each (is, here);
+      here = λ n h. (let same : length (c ∷ cs) ≡ n = let long = length-append (c ∷ cs) (new ∷ []) in omega (arith, h, long) in subst (λ k. IsCutAfter bytes records (k * BETWEEN) new) same (is, here));
       some = omega arith;
     })
 
 -- the last cut
-pub cuts_end : (bytes : List ℕ) (records : List (List (List ℕ))) (cuts : List Cut) (cut : Cut) → CutsTo bytes records cuts cut → length (left_at bytes cut) < BETWEEN → AreCuts bytes records cuts
+pub cuts_end : (bytes : List ℕ) (records : List (List (List ℕ))) (cuts : List ℕ) (cut : ℕ) → CutsTo bytes records cuts cut → length (left_at bytes cut) < BETWEEN → AreCuts bytes records cuts
 cuts_end bytes records [] cut so_far few = absurd (omega (arith, so_far.some))
 cuts_end bytes records (c ∷ cs) cut so_far few =
-    let long : length (left_at bytes cut) ≡ length (drop (length cs * BETWEEN) records) = ap length (so_far.here (length cs) refl) in
+    let long : length (left_at bytes cut) ≡ length (drop (length cs * BETWEEN) records) = ap length (so_far.here (length cs) refl).1 in
     let dropped = length-drop (length cs * BETWEEN) records in
     record { each = so_far.each; far = omega (arith, few, long, dropped) }

@@ -20,7 +20,7 @@ use Rattle.household.specs.Refusals.{LacksHeader, IsRefusedHousehold, IsRefusedT
 use Rattle.household.proofs.InputLemmas.{household_inputs, if_ok, read_before, row_parts, turns_keep, two_parts}
 
 -- each thing says its value
-turns_each : {A B F : Type 0} (read : List B → A → Result B F) (P : A → B → Type 0) → ((before : List B) (thing : A) (value : B) → read before thing ≡ Ok value → P thing value)
+pub turns_each : {A B F : Type 0} (read : List B → A → Result B F) (P : A → B → Type 0) → ((before : List B) (thing : A) (value : B) → read before thing ≡ Ok value → P thing value)
     → (before : List B) (things : List A) (values : List B) → in_turn read before things ≡ Ok values → (more : List B) × (values ≡ before ++ more) × AllZip P things more
 turns_each read P says before [] values h = let same : before ≡ values = cc in ([], sym (append-nil before ∙ same), tt)
 turns_each read P says before (thing ∷ things) values h =
@@ -76,7 +76,7 @@ if_err true r e fault h held failed = held refl h
 if_err false r e fault h held failed = let same : e ≡ fault = cc h in failed refl same
 
 -- there is room where one more is not too many
-room : (n m : ℕ) → leb n m ≡ false → m < n
+pub room : (n m : ℕ) → leb n m ≡ false → m < n
 room n m e = grind (arith, nat_tests)
 
 pub no_room : (n m : ℕ) → m < n → leb n m ≡ false
@@ -108,11 +108,11 @@ pub read_household_is : (inputs : List Coded) (bytes : List ℕ) (pairs : List (
 read_household_is inputs bytes pairs h = household_sound inputs bytes (records_of bytes) pairs refl h
 
 -- a number that stands again is not different
-inside : {X : Type 0} (P : X → Type 0) (xs ys : List X) (x : X) → AllByRecursion P (xs ++ x ∷ ys) → P x
+pub inside : {X : Type 0} (P : X → Type 0) (xs ys : List X) (x : X) → AllByRecursion P (xs ++ x ∷ ys) → P x
 inside P [] ys x h = h.0
 inside P (y ∷ xs) ys x h = inside P xs ys x h.1
 
-twice : (ms ns : List ℕ) (n : ℕ) → is_input_among n ms ≡ true → AreDifferent (ms ++ n ∷ ns) → ⊥
+pub twice : (ms ns : List ℕ) (n : ℕ) → is_input_among n ms ≡ true → AreDifferent (ms ++ n ∷ ns) → ⊥
 twice [] ns n e h = cc e
 twice (m ∷ ms) ns n e h =
     elim (or_cases (eqb m n) (is_input_among n ms) e) [

@@ -11,11 +11,11 @@ use Rattle.household.specs.Records.{records_of}
 use Rattle.household.specs.Reader.{records_from_state}
 
 -- the records from a state on
-abbrev behind : State → List ℕ → List (List (List ℕ))
+abbrev pub behind : State → List ℕ → List (List (List ℕ))
 behind s bytes = records_from_state s [] [] bytes
 
 -- they are the next record and those after it
-next_and_behind : (s : State) (fields : List (List ℕ)) (field bytes : List ℕ) → records_from_state s fields field bytes ≡ records_next behind (next_record default_config s fields field bytes)
+pub next_and_behind : (s : State) (fields : List (List ℕ)) (field bytes : List ℕ) → records_from_state s fields field bytes ≡ records_next behind (next_record default_config s fields field bytes)
 unfolding next_record
 next_and_behind s fields field [] =
     elim (ends_at_end s) as (λ b. cond b ((fields ++ field ∷ []) ∷ []) [] ≡ records_next behind (cond b (Some (fields ++ field ∷ [], st.StartRecord, [])) None)) [ true ↦ refl | false ↦ refl ]
@@ -119,9 +119,6 @@ byte_ends s s2 a fields fields2 field c rest hs ha hf ends =
 
 pub last_ends : (s : State) (fields : List (List ℕ)) (field : List ℕ) → ends_at_end s ≡ true → records_from_state s fields field [] ≡ (fields ++ field ∷ []) ∷ []
 last_ends s fields field e = cond-true (ends_at_end s) ((fields ++ field ∷ []) ∷ []) [] e
-
-pub none_ends : (s : State) (fields : List (List ℕ)) (field : List ℕ) → ends_at_end s ≡ false → records_from_state s fields field [] ≡ []
-none_ends s fields field e = cond-false (ends_at_end s) ((fields ++ field ∷ []) ∷ []) [] e
 
 -- the field at a place, and nothing where there is none
 pub field_there : (fields : List (List ℕ)) (place : ℕ) (field : List ℕ) → field_at fields place ≡ Some field → field ≡ get_or fields place []

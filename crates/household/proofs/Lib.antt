@@ -7,6 +7,8 @@ pub mod InputLemmas
 pub mod KeptLemmas
 pub mod LawLemmas
 pub mod LeftLemmas
+pub mod LineLemmas
 pub mod PartLemmas
-pub mod PlainLemmas
+pub mod ReaderLemmas
+pub mod TableLemmas
 pub mod ValueLemmas

@@ -2,7 +2,7 @@
 use Rattle.std.proofs.Common.{◌≡◌, ◌≢◌, ℕ, zero, suc, ◌+◌, ◌*◌, ◌/◌, ◌%◌, min, ◌<◌, ◌≤◌, arith, get_or, take, drop, List, [], ◌∷◌, ◌++◌, length, length-append, Result, Ok, Err, Vec, leb, Bool, true, false, refl, sym, ap, ◌∙◌, subst, append_assoc}
 use Rattle.std.specs.declared.alloc.Global.{Global}
 use Rattle.std.proofs.lemmas.List.{append-nil, drop-drop, drop_all, length-drop, length-take}
-use Rattle.std.proofs.lemmas.Bool.{cond-false}
+use Rattle.std.proofs.lemmas.Bool.{cond-false, cond-true, le-leb}
 use Rattle.std.proofs.lemmas.Bool.Decides.{nat_tests}
 use Rattle.std.proofs.Math.Nat.{mul_comm, mul_assoc, div-add-mod}
 use native.Mathlib.Nat.{suc-mul, zero-mul}
@@ -15,7 +15,7 @@ use Rattle.household.specs.declared.cuts.TheConstants.{BETWEEN}
 use Rattle.household.specs.declared.fault.HouseholdFault.{HouseholdFault}
 use Rattle.household.specs.declared.fault.HouseholdFault.TheVariants.{Memory, TooManyRows}
 use Rattle.household.specs.declared.table.Row.{Row}
-use Rattle.household.specs.declared.records.Records.{Records}
+use Rattle.household.specs.declared.reader.Records.{Records}
 use Rattle.household.specs.Household.{line_behind}
 use Rattle.household.specs.Reader.{IsNext, left_of}
 use Rattle.household.specs.InTurn.{if_read, in_turn}
@@ -254,6 +254,23 @@ has_room start many first second line rows f s some at =
     let same : second ≡ length rows.items = omega (arith, s, rows.ok) in
     let below = below_end many first some in
     (omega (arith, below, counted), subst (λ k. start * BETWEEN + k < ROWS) same at.0, subst (λ k. line ≡ line_behind (start * BETWEEN + k)) same at.1)
+
+-- the row that is next is one of its part, and is one too many
+pub is_full : (start many first second : ℕ) (rows : Vec Row Global) → first ≡ vec_len rows → second ≡ vec_len rows → first / BETWEEN < many → ROWS ≤ start * BETWEEN + second
+    → (length rows.items < many * BETWEEN) × (ROWS ≤ start * BETWEEN + length rows.items)
+is_full start many first second rows f s some far =
+    let counted : first ≡ length rows.items = omega (arith, f, rows.ok) in
+    let same : second ≡ length rows.items = omega (arith, s, rows.ok) in
+    let below = below_end many first some in
+    (omega (arith, below, counted), subst (λ k. ROWS ≤ start * BETWEEN + k) same far)
+
+pub too_many : (inputs : List Coded) (columns : List ℕ) (more n : ℕ) (rows : List Row) (left rest : List Record) (fields : Record) → left ≡ fields ∷ rest → 0 < n → ROWS ≤ more + length rows
+    → in_turn (table_row_behind inputs columns more) rows (take n left) ≡ Err TooManyRows
+too_many inputs columns more zero rows left rest fields e some far = absurd (omega (arith, some))
+too_many inputs columns more (suc n) rows left rest fields e some far =
+    ap (λ (ls : List Record). in_turn (table_row_behind inputs columns more) rows (take (suc n) ls)) e
+    ∙ ap (if_read (λ value. in_turn (table_row_behind inputs columns more) (rows ++ value ∷ []) (take n rest)))
+    (cond-true (leb ROWS (more + length rows)) (Err TooManyRows) (labelled inputs (line_behind (more + length rows)) columns fields) (le-leb ROWS (more + length rows) far))
 
 -- what the record that is next says, where it is not one too many
 here_says : (inputs : List Coded) (columns : List ℕ) (more line : ℕ) (rows : List Row) (fields : Record) → more + length rows < ROWS → line ≡ line_behind (more + length rows)

@@ -1,8 +1,11 @@
 pub mod InTurn
 pub mod Records
+pub mod Lines
+pub mod Plain
 pub mod Reader
 pub mod Marks
 pub mod Household
 pub mod Table
+pub mod TableRows
 pub mod Refusals
 pub mod inner

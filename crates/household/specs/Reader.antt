@@ -1,12 +1,9 @@
 -- What a reader of records has left, and what it does when it reads one.
-use Rattle.std.specs.Prelude.{◌≡◌, ℕ, List, [], ◌∷◌, ◌++◌, drop, Bool, true, false, if◌then◌else◌}
+use Rattle.std.specs.Prelude.{◌≡◌, ℕ, List, [], ◌∷◌, ◌++◌, Option, Some, None, Bool, true, false, if◌then◌else◌}
 use Rattle.csv.specs.Machine.{step, is_end, ends_at_end, fields_after, field_after}
-use Rattle.csv.specs.Reading.{default_config}
+use Rattle.csv.specs.Reading.{default_config, source_of}
 use Rattle.csv.specs.declared.parser.State.{State}
-use Rattle.csv.specs.declared.parser.State.TheVariants as st
-use Rattle.household.specs.declared.records.Place.{Place}
-use Rattle.household.specs.declared.records.Place.TheVariants.{Record, Field, Plain, Quoted, Quote, Return}
-use Rattle.household.specs.declared.records.Records.{Records}
+use Rattle.household.specs.declared.reader.Records.{Records}
 
 -- The records that a text gives from a state of the crate's machine on, with the fields and the bytes of
 -- the record that was begun.
@@ -17,18 +14,14 @@ records_from_state s fields field (c ∷ rest) =
     then fields_after (step default_config s c).1 fields field ∷ records_from_state (step default_config s c).0 [] [] rest
     else records_from_state (step default_config s c).0 (fields_after (step default_config s c).1 fields field) (field_after (step default_config s c).1 c field) rest
 
--- the state of the crate's machine at a place
-abbrev pub state_of : Place → State
-state_of Record = st.StartRecord
-state_of Field = st.StartField
-state_of Plain = st.InField
-state_of Quoted = st.InQuoted
-state_of Quote = st.AfterQuote
-state_of Return = st.AfterCr
+-- the records of the bytes that are left from a state on, and none where no more are given
+abbrev pub left_from : State → Option (List ℕ) → List (List (List ℕ))
+left_from s None = []
+left_from s (Some bytes) = records_from_state s [] [] bytes
 
--- the records that a reader has left
+-- the records that a reader has left; a reader that has failed has none
 abbrev pub left_of : Records → List (List (List ℕ))
-left_of records = records_from_state (state_of records.place) [] [] (drop records.at records.bytes.now)
+left_of records = left_from records.reader.state (source_of (λ bytes. Some bytes.now) records.reader)
 
 -- What a read did: a record with these fields was the next, and the reader is after it; or there was none.
 abbrev pub IsNext : Records → Bool → List (List ℕ) → Records → Type 0

@@ -1,73 +1,114 @@
-//! Where the records of a table begin, found without reading them.
-ghost use Rattle.std.specs.Prelude.{◌≡◌, ◌≤◌, IfOk, length};
-ghost use Rattle.csv.specs.Machine.{ends_at_end};
-ghost use Rattle.household.specs.Reader.{state_of};
-ghost use Rattle.household.specs.inner.Cuts.{AreCuts, GoesOn, GoesOver, GoesOverAll, left_at};
+//! Where the records of a table without quotation marks end, found without reading them: each ends where its line does.
+ghost use Rattle.std.specs.Prelude.{◌≡◌, ◌==◌, ◌-◌, ◌≤◌, IfOk, drop, length};
+ghost use Rattle.std.specs.List.{list_any};
+ghost use Rattle.csv.specs.Reading.{is_bom, strip_bom};
+ghost use Rattle.std.specs.Prelude.{◌<◌, get_or};
+ghost use Rattle.household.specs.Records.{records_of};
+ghost use Rattle.household.specs.Lines.{HasNoQuote};
+ghost use Rattle.household.specs.inner.Cuts.{AreCuts, GoesOver, GoesOverAll, IsCut, IsLine, left_at};
 
-use crate::records::{Place, ends_at_end, is_end, is_plain, plain_end, step_from};
+use memchr::{memchr, memchr2};
 use std::alloc::{AllocError, Global};
-
-/// A place between two records: where it is in the bytes, and where a reader stands there.
-#[derive(Clone, Copy)]
-pub(crate) struct Cut {
-    pub(crate) at: usize,
-    pub(crate) place: Place,
-}
 
 /// How many records there are from one cut to the next.
 pub(crate) const BETWEEN: usize = 256;
 
+/// Whether a quotation mark stands among bytes.
+pub(crate) fn has_quote(bytes: &[u8]) -> bool
+    ensures { result ≡ list_any (λ byte. byte == 34) bytes.now }
+{
+    memchr(b'"', bytes).is_some()
+}
+
+/// The place where the first record ends, or the end of the bytes if there is none.
+pub(crate) fn first_cut(bytes: &[u8]) -> usize
+    requires { HasNoQuote bytes.now }
+    ensures cut { IsCut bytes.now result }
+    ensures left { left_at bytes.now result ≡ drop 1 (records_of bytes.now) }
+{
+    match record_end(bytes, start_of(bytes)) {
+        Some(end) => end,
+        None => bytes.len(),
+    }
+}
+
 /// Cuts between the records that are left after this one: it, and one after each 256 records. Its only error is running out of memory.
-pub(crate) fn cuts_of(alloc: Global, bytes: &[u8], first: Cut) -> Result<Vec<Cut>, AllocError>
+pub(crate) fn cuts_of(alloc: Global, bytes: &[u8], first: usize) -> Result<Vec<usize>, AllocError>
+    requires quote { HasNoQuote bytes.now }
+    requires cut { IsCut bytes.now first }
     ensures { IfOk result (λ cuts. AreCuts bytes.now (left_at bytes.now first) cuts.items) }
 {
     let mut cuts = Vec::new(alloc);
     let mut cut = first;
     cuts.push(cut)?;
-    while go_over_all(bytes, &mut cut, BETWEEN) {
+    while let Some(next) = records_end(bytes, cut, BETWEEN) {
+        cut = next;
         cuts.push(cut)?;
     }
     Ok(cuts)
 }
 
-// Goes over so many records, and says whether there were so many.
-fn go_over_all(bytes: &[u8], cut: &mut Cut, count: usize) -> bool
-    ensures { GoesOverAll bytes.now count cut.old result cut.new }
+// The place where the last of so many records ends, if there are so many.
+fn records_end(bytes: &[u8], from: usize, count: usize) -> Option<usize>
+    requires quote { HasNoQuote bytes.now }
+    requires cut { IsCut bytes.now from }
+    ensures { GoesOverAll bytes.now count from result }
 {
+    let mut at = from;
     for _ in 0..count {
-        if !go_over(bytes, cut) {
-            return false;
+        match record_end(bytes, at) {
+            Some(end) => at = end,
+            None => return None,
         }
     }
-    true
+    Some(at)
 }
 
-// Goes over the next record, and says whether there was one.
-fn go_over(bytes: &[u8], cut: &mut Cut) -> bool
-    ensures { GoesOver bytes.now cut.old result cut.new }
+// The place where the next record ends, if there is one: lines without bytes are none.
+fn record_end(bytes: &[u8], from: usize) -> Option<usize>
+    requires quote { HasNoQuote bytes.now }
+    requires within { from ≤ length bytes.now }
+    ensures { GoesOver bytes.now from result }
 {
-    while cut.at < bytes.len() {
-        let step = step_from(cut.place, bytes[cut.at]);
-        cut.at += 1;
-        cut.place = step.place;
-        if is_end(step.action) {
-            return true;
+    let mut at = from;
+    while at < bytes.len() {
+        let end = line_end(bytes, at);
+        if end > at {
+            return Some(end);
         }
-        go_on(bytes, cut);
+        at += 1;
     }
-    if !ends_at_end(cut.place) {
-        return false;
-    }
-    cut.place = Place::Record;
-    true
+    None
 }
 
-// In a field without quotation marks, goes on to the next byte that ends it.
-fn go_on(bytes: &[u8], cut: &mut Cut)
-    requires { cut.old.at ≤ length bytes.now }
-    ensures { GoesOn bytes.now cut.old cut.new }
+// The place of the first line end from this place on, or the end of the bytes.
+fn line_end(bytes: &[u8], from: usize) -> usize
+    requires { from ≤ length bytes.now }
+    ensures forward { from ≤ result }
+    ensures within { result ≤ length bytes.now }
+    ensures line { IsLine (result - from) (drop from bytes.now) }
 {
-    if is_plain(cut.place) {
-        cut.at = plain_end(bytes, cut.at);
+    match memchr2(b'\r', b'\n', &bytes[from..]) {
+        Some(place) => from + place,
+        None => bytes.len(),
     }
+}
+
+// Whether the bytes begin with a byte order mark.
+fn is_mark(bytes: &[u8]) -> bool
+    requires { 2 < length bytes.now }
+    ensures { result ≡ is_bom (get_or bytes.now 0 0) (get_or bytes.now 1 0) (get_or bytes.now 2 0) }
+{
+    bytes[0] == 239 && bytes[1] == 187 && bytes[2] == 191
+}
+
+// Where the first record begins: after a byte order mark, if there is one.
+fn start_of(bytes: &[u8]) -> usize
+    ensures within { result ≤ length bytes.now }
+    ensures text { drop result bytes.now ≡ strip_bom bytes.now }
+{
+    if bytes.len() < 3 {
+        return 0;
+    }
+    if is_mark(bytes) { 3 } else { 0 }
 }

@@ -13,6 +13,7 @@ mod marks;
 mod pair;
 mod parts;
 mod read;
+mod reader;
 pub mod records;
 mod table;
 

@@ -4,15 +4,17 @@ ghost use Rattle.m_places.specs.Refusals.{Says};
 ghost use Rattle.m_places.specs.declared.limits.TheConstants.{ROWS};
 ghost use Rattle.household.specs.InTurn.{in_turn};
 ghost use Rattle.household.specs.Household.{line_behind};
+ghost use Rattle.household.specs.Records.{records_of};
 ghost use Rattle.household.specs.Table.{table_row};
 ghost use Rattle.household.specs.Reader.{left_of};
-ghost use Rattle.household.specs.inner.Cuts.{left_at};
+ghost use Rattle.household.specs.Lines.{HasNoQuote};
+ghost use Rattle.household.specs.inner.Cuts.{IsCut, left_at};
 ghost use Rattle.household.specs.inner.Parts.{AreCutsFrom, SaysPart, joined};
 ghost use Rattle.household.specs.declared.cuts.TheConstants.{BETWEEN};
 ghost use Rattle.household.specs.declared.fault.HouseholdFault.TheVariants.{Memory, TooManyRows};
 
-use crate::cuts::{BETWEEN, Cut, cuts_of};
-use crate::records::{Records, next_line, next_record};
+use crate::cuts::{BETWEEN, cuts_of, first_cut, has_quote};
+use crate::records::{Records, next_line, next_record, records_of};
 use crate::table::read_row;
 use crate::{Codes, HouseholdFault, Row};
 use csv::ByteRecord;
@@ -21,17 +23,55 @@ use std::alloc::Global;
 use std::thread;
 use std::thread::Threads;
 
-/// The rows that are left after this cut, or the fault of the first that has one, whatever the order in time.
+/// The rows after the first record of a table, or the fault of the first that has one, whatever the order in time. `records` has read
+/// the first: where a quotation mark stands in the file, it reads the rest, and else several workers read it.
 pub(crate) fn read_rows<R: Threads + Sync>(
     rt: &R,
     alloc: Global,
     bytes: &[u8],
-    first: Cut,
+    records: &mut Records<'_>,
     columns: &[u32],
     codes: &Codes,
 ) -> Result<Vec<Row>, HouseholdFault>
-    ensures { Says Memory result (λ rows. rows.items) (in_turn (table_row codes.now columns.now) [] (left_at bytes.now first)) }
+    requires { left_of records.old ≡ drop 1 (records_of bytes.now) }
+    ensures { Says Memory result (λ rows. rows.items) (in_turn (table_row codes.now columns.now) [] (left_of records.old)) }
 {
+    if has_quote(bytes) {
+        return read_left(alloc, records, columns, codes);
+    }
+    read_parts(rt, alloc, bytes, columns, codes)
+}
+
+// The rows of the records that are left, read one after another.
+fn read_left(
+    alloc: Global,
+    records: &mut Records<'_>,
+    columns: &[u32],
+    codes: &Codes,
+) -> Result<Vec<Row>, HouseholdFault>
+    ensures { Says Memory result (λ rows. rows.items) (in_turn (table_row codes.now columns.now) [] (left_of records.old)) }
+{
+    let mut row = ByteRecord::new(alloc);
+    let mut rows = Vec::new(alloc);
+    while next_record(records, &mut row)? {
+        let line = next_line(rows.len())?;
+        rows.push(read_row(alloc, &row, line, columns, codes)?)?;
+    }
+    Ok(rows)
+}
+
+// The rows after the first record of a table without quotation marks, read by several workers.
+fn read_parts<R: Threads + Sync>(
+    rt: &R,
+    alloc: Global,
+    bytes: &[u8],
+    columns: &[u32],
+    codes: &Codes,
+) -> Result<Vec<Row>, HouseholdFault>
+    requires { HasNoQuote bytes.now }
+    ensures { Says Memory result (λ rows. rows.items) (in_turn (table_row codes.now columns.now) [] (drop 1 (records_of bytes.now))) }
+{
+    let first = first_cut(bytes);
     let cuts = cuts_of(alloc, bytes, first)?;
     let many = cuts_at_once(rt, cuts.len());
     let parts = thread::map_chunks(
@@ -39,7 +79,7 @@ pub(crate) fn read_rows<R: Threads + Sync>(
         alloc,
         &cuts,
         many,
-        &|start: usize, cuts: &[Cut]| -> Result<Vec<Row>, HouseholdFault>
+        &|start: usize, cuts: &[usize]| -> Result<Vec<Row>, HouseholdFault>
             requires { (0 < length cuts.now) × AreCutsFrom bytes.now (left_at bytes.now first) start cuts.now }
             ensures { SaysPart codes.entry.now columns.entry.now (drop (start * BETWEEN) (left_at bytes.entry.now first))
                 (start * BETWEEN) (many * BETWEEN) result }
@@ -65,34 +105,47 @@ fn cuts_at_once<R: Threads>(rt: &R, cuts: usize) -> usize
 fn read_part(
     alloc: Global,
     bytes: &[u8],
-    first: Cut,
+    first: usize,
     start: usize,
     many: usize,
     columns: &[u32],
     codes: &Codes,
 ) -> Result<Vec<Row>, HouseholdFault>
+    requires { IsCut bytes.now first }
     ensures { SaysPart codes.now columns.now (left_at bytes.now first) (start * BETWEEN) (many * BETWEEN) result }
 {
-    let mut records = reader_at(alloc, bytes, first);
+    let mut records = records_at(alloc, bytes, first);
+    let rows = read_many(alloc, &mut records, start, many, columns, codes);
+    drop(records);
+    rows
+}
+
+// The rows of the next records, as many as stand between so many cuts, of which the first has this number, or their fault.
+fn read_many(
+    alloc: Global,
+    records: &mut Records<'_>,
+    start: usize,
+    many: usize,
+    columns: &[u32],
+    codes: &Codes,
+) -> Result<Vec<Row>, HouseholdFault>
+    ensures { SaysPart codes.now columns.now (left_of records.old) (start * BETWEEN) (many * BETWEEN) result }
+{
     let mut row = ByteRecord::new(alloc);
     let mut rows = Vec::new(alloc);
-    while rows.len() / BETWEEN < many && next_record(&mut records, &mut row)? {
+    while rows.len() / BETWEEN < many && next_record(records, &mut row)? {
         let line = line_of(start, rows.len())?;
         rows.push(read_row(alloc, &row, line, columns, codes)?)?;
     }
     Ok(rows)
 }
 
-// A reader that stands at this cut.
-fn reader_at<'a>(alloc: Global, bytes: &'a [u8], cut: Cut) -> Records<'a>
+// A reader of the records after this cut.
+fn records_at<'a>(alloc: Global, bytes: &'a [u8], cut: usize) -> Records<'a>
+    requires { IsCut bytes.now cut }
     ensures { left_of result ≡ left_at bytes.now cut }
 {
-    Records {
-        bytes,
-        at: cut.at,
-        place: cut.place,
-        field: Vec::new(alloc),
-    }
+    records_of(alloc, &bytes[cut..])
 }
 
 // The line of the record after so many of a part, whose first cut has this number.

@@ -1,5 +1,6 @@
-ghost use Rattle.std.specs.Prelude.{◌≡◌, ◌+◌, [], drop, length, nat_le, IfOk, Ok, Err};
+ghost use Rattle.std.specs.Prelude.{◌≡◌, ◌+◌, ◌≤◌, [], drop, length, nat_le, IfOk, Ok, Err};
 ghost use Rattle.std.specs.List.{AllByRecursion, list_all};
+ghost use Rattle.std.specs.Vec.{vec_capacity};
 ghost use Rattle.csv.specs.Records.{fields_of};
 ghost use Rattle.m_places.specs.Refusals.{Says};
 ghost use Rattle.household.specs.InTurn.{in_turn};
@@ -8,7 +9,6 @@ ghost use Rattle.m_fixed.specs.Text.{text_value, amount_read};
 ghost use Rattle.household.specs.Table.{amount_said, cells_read, column_of, is_label, is_table_header, labelled, pairs_read, table_of};
 ghost use Rattle.household.specs.declared.fault.HouseholdFault.TheVariants.{Memory};
 
-use crate::cuts::Cut;
 use crate::marks::mark;
 use crate::parts::read_rows;
 use crate::records::{field_at, next_record, records_of};
@@ -16,7 +16,7 @@ use crate::{Codes, Household, HouseholdFault, Pair};
 use csv::ByteRecord;
 use m_fixed::read_amount;
 use m_places::{Name, Seq};
-use std::alloc::Global;
+use std::alloc::{AllocError, Global};
 use std::thread::Threads;
 
 /// A row of a table: a household with a label.
@@ -49,11 +49,7 @@ pub fn read_table<R: Threads + Sync>(
         return Err(HouseholdFault::BadHeader);
     }
     let columns = read_columns(alloc, &row, codes)?;
-    let first = Cut {
-        at: records.at,
-        place: records.place,
-    };
-    let rows = read_rows(rt, alloc, records.bytes, first, &columns, codes)?;
+    let rows = read_rows(rt, alloc, bytes, &mut records, &columns, codes)?;
     Ok(Seq::from_vec(rows))
 }
 
@@ -147,7 +143,7 @@ fn read_cells(
     requires { length (fields_of row.now) ≡ length columns.now + 1 }
     ensures { Says Memory result (λ pairs. pairs.items) (cells_read line [] columns.now (drop 1 (fields_of row.now))) }
 {
-    let mut pairs = Vec::with_capacity(alloc, count_filled(row))?;
+    let mut pairs = room_for(alloc, row)?;
     for column in 0..columns.len() {
         let cell = field_at(row, column + 1);
         if !cell.is_empty() {
@@ -168,8 +164,18 @@ pub fn read_cell(cell: &[u8], input: u32, line: u32) -> Result<Pair, HouseholdFa
     }
 }
 
-// How many cells of a record aren't empty, so that a row takes no more memory than its pairs.
-fn count_filled(row: &ByteRecord) -> usize {
+// Room for the pairs of a record's cells, so that a row takes no more memory than they need. Its only error is running out of memory.
+fn room_for(alloc: Global, row: &ByteRecord) -> Result<Vec<Pair>, AllocError>
+    ensures none { IfOk result (λ pairs. pairs.items ≡ []) }
+    ensures room { IfOk result (λ pairs. vec_capacity pairs ≤ length (fields_of row.now)) }
+{
+    Vec::with_capacity(alloc, count_filled(row))
+}
+
+// How many cells of a record aren't empty.
+fn count_filled(row: &ByteRecord) -> usize
+    ensures { result ≤ length (fields_of row.now) }
+{
     let mut count: usize = 0;
     for place in 1..row.len() {
         if !field_at(row, place).is_empty() {

@@ -3,3 +3,7 @@ pub mod OutputLemmas
 pub mod ReplyLemmas
 pub mod SeatLemmas
 pub mod TypeLemmas
+pub mod ByteLemmas
+pub mod LineLemmas
+pub mod GoingLemmas
+pub mod TurnLemmas

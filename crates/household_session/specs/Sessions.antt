@@ -1,6 +1,6 @@
 -- A session: a household whose amounts are edited, and what it is shown.
 use Rattle.std.specs.Prelude.{ℕ, ℤ, List, [], ◌∷◌, ◌++◌, codes, slice_set, Option, Some, None, Result, Ok, Err, if◌then◌else◌}
-use Rattle.text_pieces.specs.Pieces.{joined}
+use Rattle.m_text.specs.Pieces.{joined}
 use Rattle.m_fixed.specs.declared.amount.Value.{Value}
 use Rattle.m_fixed.specs.declared.amount.Value.TheVariants.{Undef, Num}
 use Rattle.m_fixed.specs.declared.read.AmountFault.{AmountFault}
@@ -12,7 +12,7 @@ use Rattle.observables.specs.Inputs.{codes_of}
 use Rattle.flat_code.specs.declared.program.Flat.{Flat}
 use Rattle.flat_code.specs.Runs.{flat_run}
 use Rattle.household.specs.Household.{is_fitting, values_of}
-use Rattle.text_pieces.specs.Pieces.{new_line}
+use Rattle.m_text.specs.Pieces.{new_line}
 use Rattle.tax_print.specs.Lines.{answer_lines}
 use Rattle.household_session.specs.declared.fault.EditFault.{EditFault}
 use Rattle.household_session.specs.declared.fault.EditFault.TheVariants.{UnknownCode, BadAmount, NotOfType}

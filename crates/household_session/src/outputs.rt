@@ -1,6 +1,6 @@
 //! The lines of an answer, from a settled sheet and without the answer as a list.
 ghost use Rattle.std.specs.Prelude.{◌≡◌, ◌<◌, ◌^◌, map, length};
-ghost use Rattle.text_pieces.specs.Giving.{Gives};
+ghost use Rattle.m_ports.specs.Giving.{Gives};
 ghost use Rattle.flat_code.specs.Faces.{IsFaceOf};
 ghost use Rattle.flat_code.specs.Runs.{flat_run, node_values, value_at};
 ghost use Rattle.tax_print.specs.Lines.{answer_lines, outputs_lines};

@@ -1,7 +1,7 @@
 //! A session, its edits and its shows.
 ghost use Rattle.std.specs.Prelude.{◌≡◌, ◌+◌, ◌*◌, ◌<◌, IfOk, IfSome, length};
 ghost use Rattle.std.specs.List.{AllByRecursion};
-ghost use Rattle.text_pieces.specs.Giving.{Gives};
+ghost use Rattle.m_ports.specs.Giving.{Gives};
 ghost use Rattle.observables.specs.Inputs.{AreValuesOf};
 ghost use Rattle.flat_code.specs.Faces.{IsFaceOf};
 ghost use Rattle.flat_code.specs.Runs.{value_at};
@@ -18,14 +18,12 @@ use crate::seat::put_all;
 use flat_code::Tidy;
 use household::{Codes, Household};
 use m_fixed::{Value, read_amount};
-use m_ports::{Failed, Sink};
+use m_ports::{Failed, Sink, give_pieces};
 use observables::Face;
 use std::alloc::{AllocError, Global};
 use std::marker::Model;
 use std::sync::ledger::Ledger;
-use steps::Steps;
-use text_pieces::give_pieces;
-use value_sheet::Sheet;
+use value_sheet::{Sheet, Steps};
 
 /// A household of a tidy program, whose amounts can be edited and whose answer can be shown. Contracts see the program,
 /// what it shows of itself, the value of each input as it is now, and what was put since the last show.

@@ -10,7 +10,7 @@ use Rattle.m_ast.specs.Items.{variables_of, variable_size, variable_cells}
 use Rattle.m_symbols.specs.declared.fault.DeclareFault.{DeclareFault}
 use Rattle.m_symbols.specs.Declarations.{Declared, declared_by, placed_from}
 use Rattle.m_symbols.specs.Faults.{first_of, wrong_size, name_fault, code_fault, size_fault, cells_fault, variable_fault, fault_at, fault_behind, first_fault}
-use Rattle.plain_rules.specs.Plain.{HasACell, TablesHaveCells}
+use Rattle.m_symbols.specs.TableSizes.{HasACell, TablesHaveCells}
 
 abbrev IsSized : VariableItem → Type 0
 IsSized v = variable_size v ≢ Some 0

@@ -11,7 +11,7 @@ use Rattle.m_ast.specs.declared.item.VerifItem.{VerifItem}
 use Rattle.m_ast.specs.declared.item.Item.{Item}
 use Rattle.m_ast.specs.declared.item.Item.TheVariants.{Variable, Rule, Verif, Error, Silent}
 use Rattle.m_symbols.specs.Declarations.{Declared}
-use Rattle.plain_rules.specs.declared.rules.Plain.{Plain}
+use Rattle.m_ast.specs.declared.plain_rules.Plain.{Plain}
 use Rattle.index_expand.specs.declared.fault.ExpandFault.{ExpandFault}
 use Rattle.index_expand.specs.declared.fault.ExpandFault.TheVariants.{TooManyParts, Memory}
 use Rattle.index_expand.specs.Expansion.{condition_of, item_conditions}

@@ -12,7 +12,7 @@ use Rattle.m_ast.specs.declared.term.Link.{Link}
 use Rattle.m_ast.specs.declared.term.Member.{Member}
 use Rattle.m_ast.specs.Syntax.{Syntax, cell, apply, chain, among, loop}
 use Rattle.m_ast.specs.View.{terms_of, links_of, members_of}
-use Rattle.plain_rules.specs.View.{links_of as plain_links_of, members_of as plain_members_of}
+use Rattle.m_ast.specs.PlainView.{links_of as plain_links_of, members_of as plain_members_of}
 use Rattle.loop_values.specs.Values.{index_values}
 use Rattle.loop_values.specs.Headers.{instances, instance_count}
 use Rattle.loop_values.specs.Letters.{Letters, bind, replaced}

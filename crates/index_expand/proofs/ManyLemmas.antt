@@ -13,7 +13,7 @@ use Rattle.m_ast.specs.declared.item.Slot.{Slot}
 use Rattle.m_ast.specs.declared.item.Slot.TheVariants.{Whole, Cell, Every}
 use Rattle.m_symbols.specs.declared.variable.Variable.{Variable}
 use Rattle.m_symbols.specs.Declarations.{Declared}
-use Rattle.plain_rules.specs.Plain.{HasACell, TablesHaveCells, size_among, table_size}
+use Rattle.m_symbols.specs.TableSizes.{HasACell, TablesHaveCells, size_among, table_size}
 use Rattle.loop_values.specs.Letters.{Letters, no_letters, replaced}
 use Rattle.loop_values.specs.Headers.{instances, instance_count, all_indexes}
 use Rattle.loop_values.proofs.Counts.{length_instances}

@@ -14,8 +14,9 @@ use Rattle.m_ast.specs.declared.item.Slot.TheVariants.{Whole, Cell, Every}
 use Rattle.m_ast.specs.Syntax.{Syntax, lit, named, the_x, cell, apply, chain, among, loop, Terms, no_terms, a_term, Links, no_links, a_link, Members, no_members, a_member}
 use Rattle.m_ast.specs.Whole.{IsWhole, AreWholeTerms, AreWholeLinks, AreWholeMembers, HasNoLoop, HaveNoLoopTerms, HaveNoLoopLinks, HaveNoLoopMembers, IsWholeItem, IsWholeFormula, IsWholeCheck}
 use Rattle.m_symbols.specs.Declarations.{Declared}
-use Rattle.plain_rules.specs.declared.rules.Plain.{Plain}
-use Rattle.plain_rules.specs.Plain.{table_size, IsPlain, IsPlainDefinition, IsPlainCondition}
+use Rattle.m_ast.specs.declared.plain_rules.Plain.{Plain}
+use Rattle.m_symbols.specs.TableSizes.{table_size}
+use Rattle.index_expand.specs.Plain.{IsPlain, IsPlainDefinition, IsPlainCondition}
 use Rattle.loop_values.specs.Letters.{Letters, no_letters, replaced}
 use Rattle.loop_values.specs.Headers.{instances, all_indexes}
 use Rattle.index_expand.specs.declared.fault.ExpandFault.{ExpandFault}

@@ -7,7 +7,7 @@ use Rattle.m_ast.specs.Items.{variable_size}
 use Rattle.m_names.specs.Names.{index_of}
 use Rattle.m_symbols.specs.declared.variable.Variable.{Variable}
 use Rattle.m_symbols.specs.Declarations.{names_of, name_of}
-use Rattle.plain_rules.specs.Plain.{size_among}
+use Rattle.m_symbols.specs.TableSizes.{size_among}
 
 step_none : (b : Bool) (o : Option ℕ) (here rest : Option ℕ) → cond b (Some 0) (option_map (λ i. i + 1) o) ≡ None → (o ≡ None → rest ≡ None) → cond b here rest ≡ None
 step_none true o here rest e f = cc

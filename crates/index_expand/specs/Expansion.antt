@@ -10,10 +10,10 @@ use Rattle.m_ast.specs.declared.item.Item.TheVariants.{Rule, Verif}
 use Rattle.m_ast.specs.declared.item.Slot.{Slot}
 use Rattle.m_ast.specs.declared.item.Slot.TheVariants.{Whole, Cell, Every}
 use Rattle.m_symbols.specs.Declarations.{Declared}
-use Rattle.plain_rules.specs.declared.rules.Plain.{Plain}
-use Rattle.plain_rules.specs.declared.rules.Definition.{Definition}
-use Rattle.plain_rules.specs.declared.rules.Condition.{Condition}
-use Rattle.plain_rules.specs.Plain.{table_size}
+use Rattle.m_ast.specs.declared.plain_rules.Plain.{Plain}
+use Rattle.m_ast.specs.declared.plain_rules.Definition.{Definition}
+use Rattle.m_ast.specs.declared.plain_rules.Condition.{Condition}
+use Rattle.m_symbols.specs.TableSizes.{table_size}
 use Rattle.loop_values.specs.Letters.{Letters, no_letters, replaced}
 use Rattle.loop_values.specs.Headers.{instances, all_indexes}
 use Rattle.index_expand.specs.Terms.{expanded}

@@ -1,5 +1,6 @@
 pub mod Terms
 pub mod Parts
+pub mod Plain
 pub mod LoopFaults
 pub mod Expansion
 pub mod Faults

@@ -3,7 +3,7 @@
 ghost use Rattle.std.specs.Prelude.{◌≡◌, ◌∷◌, ◌++◌, [], ◌<◌, ◌≤◌, IfOk, OnOk, IsTrue, length};
 ghost use Rattle.std.specs.Bool.{OnTrue};
 ghost use Rattle.m_fixed.specs.Text.{only_digits};
-ghost use Rattle.plain_rules.specs.View.{syntax_of};
+ghost use Rattle.m_ast.specs.PlainView.{syntax_of};
 ghost use Rattle.m_ast.specs.Syntax as tree;
 ghost use Rattle.loop_values.specs.Letters.{replaced};
 ghost use Rattle.index_expand.specs.Terms as spec;
@@ -11,9 +11,9 @@ ghost use Rattle.index_expand.specs.inner.Operands.{links_sum, chain_of};
 
 use crate::words::Words;
 use loop_values::{is_digits, number, replaced};
+use m_ast::{PLink, PMember, PNode, PTerm, plain};
 use m_fixed::{Amount, Op, Value};
 use m_places::{Name, Place, SharedName};
-use plain_rules::{PLink, PMember, PNode, PTerm, plain};
 use std::alloc::{AllocError, Global};
 
 /// Drops what was made before memory ran out, and answers the error.

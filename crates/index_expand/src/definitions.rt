@@ -2,7 +2,7 @@
 ghost use Rattle.std.specs.Prelude.{◌≡◌, ◌+◌, ◌∷◌, ◌≤◌, [], IfOk, OnOk, length, map};
 ghost use Rattle.std.specs.List.{range_with_len};
 ghost use Rattle.m_places.specs.Refusals.{Outcome};
-ghost use Rattle.plain_rules.specs.Plain.{table_size};
+ghost use Rattle.m_symbols.specs.TableSizes.{table_size};
 ghost use Rattle.index_expand.specs.Expansion.{defined, defined_cell, definitions_at};
 ghost use Rattle.index_expand.specs.Terms.{expanded};
 ghost use Rattle.index_expand.specs.inner.Meanings.{meaning};
@@ -15,10 +15,9 @@ use crate::template::Template;
 use crate::terms::expanded;
 use crate::words::Words;
 use loop_values::replaced;
-use m_ast::{Role, Slot};
+use m_ast::{Definition, PTerm, Role, Slot};
 use m_places::Name;
 use m_symbols::Symbols;
-use plain_rules::{Definition, PTerm};
 use std::alloc::AllocError;
 
 /// Puts the definitions of one instance of a formula after definitions, where so many parts were counted before, and answers

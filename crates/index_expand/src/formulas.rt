@@ -2,7 +2,7 @@
 ghost use Rattle.std.specs.Prelude.{◌≡◌, ◌+◌, ◌∷◌, ◌≤◌, IfSome, OnOk, length};
 ghost use Rattle.std.specs.List.{flat_map};
 ghost use Rattle.m_places.specs.Refusals.{Outcome};
-ghost use Rattle.plain_rules.specs.Plain.{TablesHaveCells};
+ghost use Rattle.m_symbols.specs.TableSizes.{TablesHaveCells};
 ghost use Rattle.m_symbols.specs.Declarations.{Declared};
 ghost use Rattle.loop_values.specs.Headers.{IsSingle, instances};
 ghost use Rattle.loop_values.specs.Letters.{bind, no_letters};
@@ -18,10 +18,9 @@ use crate::parts::{MOST, parts};
 use crate::template::{Binding, Template};
 use crate::words::Words;
 use loop_values::{headers_count, index_count, index_values, kept_indexes, only_value};
-use m_ast::{Formula, Index, Term};
+use m_ast::{Definition, Formula, Index, Term};
 use m_places::{Name, Place};
 use m_symbols::Symbols;
-use plain_rules::Definition;
 use std::mem::replace;
 
 /// Puts the definitions of a formula after definitions, where so many parts were counted before, and answers how many there

@@ -4,7 +4,8 @@ ghost use Rattle.std.specs.List.{flat_map, list_any, sum_by};
 ghost use Rattle.std.specs.Str.{bytes_eq};
 ghost use Rattle.m_places.specs.Refusals.{Outcome};
 ghost use Rattle.m_ast.specs.Whole.{IsWholeItem};
-ghost use Rattle.plain_rules.specs.Plain.{IsPlain, TablesHaveCells};
+ghost use Rattle.m_symbols.specs.TableSizes.{TablesHaveCells};
+ghost use Rattle.index_expand.specs.Plain.{IsPlain};
 ghost use Rattle.loop_values.specs.Letters as spec;
 ghost use Rattle.index_expand.specs.Expansion.{expansion, counts_in, formula_definitions, item_definitions, item_conditions, condition_of};
 ghost use Rattle.index_expand.specs.Faults.{expand_fault, formula_parts, check_parts, item_parts, item_place, too_many};
@@ -20,10 +21,9 @@ use crate::parts::{MOST, parts};
 use crate::terms::expanded;
 use crate::words::Words;
 use loop_values::no_letters;
-use m_ast::{CheckItem, Formula, Item, Term, VerifItem};
+use m_ast::{CheckItem, Condition, Definition, Formula, Item, PTerm, Plain, Term, VerifItem};
 use m_places::{Name, Place, Seq, SharedName};
 use m_symbols::Symbols;
-use plain_rules::{Condition, Definition, PTerm, Plain};
 use std::alloc::{AllocError, Global};
 
 /// The rules and verifications of an application without loops, or the fault of the items.

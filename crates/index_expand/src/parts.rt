@@ -4,9 +4,8 @@ ghost use Rattle.m_ast.specs.View.{terms_of, links_of, members_of};
 ghost use Rattle.index_expand.specs.Parts as spec;
 
 use loop_values::instance_count;
-use m_ast::{Link, Member, Node, Term};
+use m_ast::{Link, Member, Node, Term, is_single};
 use m_places::limits::PARTS;
-use plain_rules::is_single;
 
 /// The most parts that count. Counts stop here.
 pub(crate) const MOST: u64 = PARTS as u64;

@@ -14,10 +14,9 @@ use crate::build::{
 use crate::template::Binding;
 use crate::words::Words;
 use loop_values::{bind_singles, index_values, put_back, single_count};
-use m_ast::{Header, Index, Link, Member, Node, Term};
+use m_ast::{Header, Index, Link, Member, Node, PLink, PMember, PNode, PTerm, Term};
 use m_fixed::Op;
 use m_places::{Name, Place};
-use plain_rules::{PLink, PMember, PNode, PTerm};
 use std::alloc::AllocError;
 use std::mem::replace;
 

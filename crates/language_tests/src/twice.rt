@@ -1,13 +1,12 @@
 //! What is declared twice: the places of both declarations. A line of the program tells the later one alone.
 ghost use Rattle.std.specs.Prelude.{◌≤◌, length};
-ghost use Rattle.rule_text.specs.Limits.{TextsAreWithin};
+ghost use Rattle.m_places.specs.SourceLimits.{TextsAreWithin};
 
-use crate::workers::text_of;
+use crate::meeting::text_of;
 use m_ast::Item;
-use m_places::Open;
-use m_read_all::read_all;
+use m_places::{Open, Text};
 use m_symbols::{DeclareFault, declare};
-use rule_text::Text;
+use rule_base::read_all;
 use std::alloc::Global;
 use std::test::Fail;
 use std::thread::Threads;

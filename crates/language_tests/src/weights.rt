@@ -1,6 +1,5 @@
 //! What drivers cost whose functions call each other, over a base without rules.
-use driver_core::{CCommand, CCommandNode, Core};
-use driver_weight::weight;
+use driver_core::{CCommand, CCommandNode, Core, weight};
 use m_places::Seq;
 use micro_m::Base;
 use std::alloc::Global;

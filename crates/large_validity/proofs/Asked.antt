@@ -3,7 +3,7 @@ use Rattle.std.proofs.Common.{◌≡◌, ◌≢◌, ℕ, zero, suc, ◌+◌, ◌
 use Rattle.std.specs.List.{AllByRecursion, sum_by}
 use Rattle.std.proofs.lemmas.Bool.{ne_eqb}
 use Rattle.std.proofs.lemmas.List.Sums.{sum_by-cons, sum_by-append}
-use Rattle.text_pieces.specs.Pieces.{joined, new_line}
+use Rattle.m_text.specs.Pieces.{joined, new_line}
 use Rattle.m_places.specs.declared.place.Place.{Place}
 use Rattle.m_places.specs.declared.limits.TheConstants.{DRIVER_WEIGHT}
 use Rattle.m_text.specs.Bytes.{IsDigit}
@@ -13,8 +13,8 @@ use Rattle.m_ast.specs.Items.{variable_size}
 use Rattle.m_text.specs.Lines.{lines_of, onto_first, begins_with_feed}
 use Rattle.m_symbols.specs.Declarations.{Declared}
 use Rattle.m_text.specs.Parts.{with_first}
-use Rattle.m_requests.specs.Cells.{split_at_bracket, request_cell, named_cell, cell_by}
-use Rattle.m_requests.specs.Requests.{lines_said, few, requests_said}
+use Rattle.m_symbols.specs.Cells.{split_at_bracket, request_cell, named_cell, cell_by}
+use Rattle.m_symbols.specs.Requests.{lines_said, few, requests_said}
 use Rattle.driver_core.specs.Weights.{definition_weight, check_weight, base_weight, weight_of}
 use Rattle.m_compile.specs.Sources.{running}
 use Rattle.large_validity.proofs.Numerals.{whole_decimal}

@@ -12,8 +12,8 @@ use Rattle.micro_m.specs.Trees.{Tree, lit, cell, apply, chain, none, more, end, 
 use Rattle.micro_m.specs.Bases.{Definition as CellDefinition, is_among}
 use Rattle.micro_m.specs.declared.base.Base.{Base}
 use Rattle.m_symbols.specs.Declarations.{Declared}
-use Rattle.m_requests.specs.Cells.{variable_named}
-use Rattle.plain_rules.specs.declared.rules.Definition.{Definition}
+use Rattle.m_symbols.specs.Cells.{variable_named}
+use Rattle.m_ast.specs.declared.plain_rules.Definition.{Definition}
 use Rattle.m_resolve.specs.Terms.{if_said, term_said, cell_said, cell_of_variable}
 use Rattle.m_resolve.specs.Bases.{target_of, target_said, new_target, cells_of, definition_said, definitions_said, conditions_said, label_of, base_with, resolved}
 use Rattle.large_validity.proofs.Names.{input_name, sum_name}

@@ -9,7 +9,7 @@ use Rattle.m_names.specs.Names.{has, index_of}
 use Rattle.m_names.proofs.NameLemmas.{or-false, itself}
 use Rattle.m_symbols.specs.declared.variable.Variable.{Variable}
 use Rattle.m_symbols.specs.Declarations.{names_of}
-use Rattle.m_requests.specs.Cells.{variable_named}
+use Rattle.m_symbols.specs.Cells.{variable_named}
 use Rattle.std.proofs.lemmas.List.{map-append}
 use Rattle.large_validity.proofs.Names.{names, input_name, sum_name, new_input, new_sum}
 use Rattle.large_validity.proofs.Variables.{variables, input_variable, sum_variable, declared}

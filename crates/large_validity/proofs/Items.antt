@@ -21,10 +21,10 @@ use Rattle.m_ast.specs.declared.variable.Role.TheVariants.{Input, Computed}
 use Rattle.m_lexer.specs.Chains.{First, first, further, ended}
 use Rattle.m_terms.specs.Tokens.{joined, at, is_name, is_not_small, is_whole}
 use Rattle.m_terms.specs.Grammar.{two, link, SpellsPrim, SpellsProduct, SpellsSum, SpellsExpr, SpellsInner, gather, number, word, called_two, plain, affirmed, alone, compared}
-use Rattle.declaration_items.specs.Tokens.{name, placed}
-use Rattle.declaration_items.specs.Grammar.{input, computed, error, attributes, attribute, attributes_of, with_one, without, positive, ending, no_type, no_table, applications, variable, error_item, a_variable, an_error, no_attributes}
-use Rattle.rule_items.specs.Many.{no_more, one_more, one as one_of}
-use Rattle.rule_items.specs.Grammar.{SpellsHead, head, head_of, formula, formula_of, no_index, unchained, rule, rule_of, check, check_of, verification, verification_of}
+use Rattle.m_items.specs.Tokens.{name, placed}
+use Rattle.m_items.specs.DeclarationGrammar.{input, computed, error, attributes, attribute, attributes_of, with_one, without, positive, ending, no_type, no_table, applications, variable, error_item, a_variable, an_error, no_attributes}
+use Rattle.m_items.specs.Many.{no_more, one_more, one as one_of}
+use Rattle.m_items.specs.RuleGrammar.{SpellsHead, head, head_of, formula, formula_of, no_index, unchained, rule, rule_of, check, check_of, verification, verification_of}
 use Rattle.m_items.specs.Grammar.{SpellsItems, a_declaration, a_rule, a_verification}
 use Rattle.large_validity.proofs.Numerals.{whole_decimal, one_digit, short_decimal}
 use Rattle.large_validity.proofs.Pieces.{Piece, space, reserved, digits, named as named_piece, amount, after, tokens_before}

@@ -15,9 +15,9 @@ use Rattle.m_ast.specs.declared.item.Item.{Item}
 use Rattle.m_ast.specs.declared.item.Slot.TheVariants.{Whole}
 use Rattle.m_symbols.specs.Declarations.{Declared}
 use Rattle.loop_values.specs.Letters.{Letters, no_letters, replaced}
-use Rattle.plain_rules.specs.declared.rules.Plain.{Plain}
-use Rattle.plain_rules.specs.declared.rules.Definition.{Definition}
-use Rattle.plain_rules.specs.declared.rules.Condition.{Condition}
+use Rattle.m_ast.specs.declared.plain_rules.Plain.{Plain}
+use Rattle.m_ast.specs.declared.plain_rules.Definition.{Definition}
+use Rattle.m_ast.specs.declared.plain_rules.Condition.{Condition}
 use Rattle.index_expand.specs.declared.fault.ExpandFault.TheVariants.{TooManyParts}
 use Rattle.index_expand.specs.LoopFaults.{Scope, no_scope, is_unbound_letter, word_faults, term_faults, item_faults, least}
 use Rattle.index_expand.specs.Terms.{expanded, word_term}

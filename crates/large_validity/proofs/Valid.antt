@@ -1,9 +1,9 @@
 -- The source of `large N` is valid.
 use Rattle.std.proofs.Common.{ℕ, ◌+◌, ◌-◌, ◌≤◌, [], ◌∷◌, None, sym, ap, ◌∙◌, subst, append-nil}
-use Rattle.rule_text.specs.declared.Text.{Text}
+use Rattle.m_places.specs.declared.source.Text.{Text}
 use Rattle.m_lexer.specs.Tokens.{start_of}
 use Rattle.m_places.specs.declared.place.Place.{Place}
-use Rattle.m_read_all.specs.Files.{SaysItems, SayAll, no_files, a_file}
+use Rattle.rule_base.specs.Files.{SaysItems, SayAll, no_files, a_file}
 use Rattle.m_resolve.specs.Bases.{resolved}
 use Rattle.m_compile.specs.Sources.{without, IsValid}
 use Rattle.m_large.specs.Large.{base_name, base_text}

@@ -1,7 +1,7 @@
 -- What `large N` computes, as texts.
 use Rattle.std.specs.Prelude.{ℕ, ◌-◌, List, [], ◌∷◌, codes, decimal, Some, None}
-use Rattle.text_pieces.specs.Pieces.{joined, new_line}
-use Rattle.rule_text.specs.declared.Source.{Source}
+use Rattle.m_text.specs.Pieces.{joined, new_line}
+use Rattle.m_places.specs.declared.source.Source.{Source}
 use Rattle.m_large.specs.Large.{base_name, base_text}
 
 -- what is asked for: the last of the sums

@@ -2,4 +2,6 @@ pub mod Syntax
 pub mod View
 pub mod Whole
 pub mod Items
+pub mod PlainView
+pub mod Members
 pub mod inner

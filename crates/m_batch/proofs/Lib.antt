@@ -1,4 +1,9 @@
+pub mod CountLemmas
+pub mod OrderLemmas
 pub mod OutputLemmas
 pub mod PartLemmas
 pub mod PlaceLemmas
+pub mod PrintLemmas
 pub mod RowLemmas
+pub mod RunLemmas
+pub mod WritingLemmas

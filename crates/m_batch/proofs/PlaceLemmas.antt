@@ -11,7 +11,7 @@ use Rattle.flat_code.specs.Runs.{value_at as at}
 use Rattle.household.specs.declared.table.Row.{Row}
 use Rattle.household.specs.Household.{inputs_of, value_at, values_of}
 use Rattle.household.proofs.ValueLemmas.{length-values_of, input_in_range}
-use Rattle.column_machine.specs.Rows.{row_at, row_inputs}
+use Rattle.m_batch.specs.inner.Rows.{row_at, row_inputs}
 use Rattle.m_batch.specs.Batch.{HasInputsBelow}
 use Rattle.m_batch.specs.declared.places.Places.{Places}
 use Rattle.m_batch.specs.inner.Places.{place_of, IsPlacing, HasPlaces, RowHasPlaces, KeepPlaces, ArePlaced, IsFilled}

@@ -2,13 +2,14 @@
 ghost use Rattle.std.specs.Prelude.{◌≡◌, ◌<◌, ◌≤◌, ◌++◌, ℕ, IfOk, OnOk, OnErr, length, slice_index_or};
 ghost use Rattle.std.specs.List.{AllByRecursion};
 ghost use Rattle.household.specs.declared.table.Row.{Row};
-ghost use Rattle.column_machine.specs.Rows.{answer_in};
+ghost use Rattle.m_batch.specs.inner.Rows.{answer_in};
 ghost use Rattle.m_batch.specs.Batch.{HasInputsBelow, answers_of, row_answer};
 ghost use Rattle.m_batch.specs.inner.Places.{ArePlaced, AreRows};
 
+use crate::columns::Columns;
 use crate::places::{Places, place_inputs};
+use crate::room::BLOCK;
 use crate::rows::put_rows;
-use column_machine::{BLOCK, Columns};
 use household::Row;
 use m_fixed::Value;
 use observables::Answer;

@@ -3,7 +3,7 @@ ghost use Rattle.std.specs.Prelude.{◌≡◌, ◌<◌, ◌≤◌, ℕ, [], leng
 ghost use Rattle.std.specs.List.{AllByRecursion};
 ghost use Rattle.household.specs.declared.table.Row.{Row};
 ghost use Rattle.household.specs.Household.{values_of};
-ghost use Rattle.column_machine.specs.Rows.{row_at, row_inputs};
+ghost use Rattle.m_batch.specs.inner.Rows.{row_at, row_inputs};
 ghost use Rattle.m_batch.specs.inner.Places.{IsPlacing, HasPlaces, IsFilled, AreRows, RowHasPlaces};
 
 use crate::places::Places;

@@ -5,6 +5,7 @@ pub mod Found
 pub mod SeenLemmas
 pub mod Cells
 pub mod Few
+pub mod CaseLaws
 pub mod CaseLemmas
 pub mod Told
 pub mod Records

@@ -1,4 +1,5 @@
 pub mod Columns
 pub mod Cases
+pub mod CaseRows
 pub mod Mismatches
 pub mod inner

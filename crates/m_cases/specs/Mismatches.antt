@@ -1,7 +1,7 @@
 -- Which expectations are met, and the lines of those that aren't.
 use Rattle.std.specs.Prelude.{◌≡◌, ℕ, ◌+◌, ◌<◌, Bool, true, false, List, [], ◌∷◌, ◌++◌, length, drop, Option, Some, None, codes, decimal, slice_index_or, if◌then◌else◌}
 use Rattle.std.specs.Ordering.{int_eq}
-use Rattle.text_pieces.specs.Pieces.{joined, new_line}
+use Rattle.m_text.specs.Pieces.{joined, new_line}
 use Rattle.m_fixed.specs.declared.amount.Value.{Value}
 use Rattle.m_fixed.specs.declared.amount.Value.TheVariants.{Undef, Num, Over}
 use Rattle.m_fixed.specs.Text.{printed}

@@ -7,6 +7,7 @@ mod cases;
 mod columns;
 mod expected;
 mod fault;
+pub mod laws;
 mod mismatches;
 mod outputs;
 

@@ -2,8 +2,8 @@
 ghost use Rattle.std.specs.Prelude.{◌≡◌, ◌<◌, ◌+◌, ◌∷◌, [], IfOk, codes, length, slice_index_or};
 ghost use Rattle.std.specs.Ordering.{int_eq};
 ghost use Rattle.m_fixed.specs.Text.{printed};
-ghost use Rattle.text_pieces.specs.Giving.{Gives};
-ghost use Rattle.text_pieces.specs.Pieces.{joined, new_line};
+ghost use Rattle.m_ports.specs.Giving.{Gives};
+ghost use Rattle.m_text.specs.Pieces.{joined, new_line};
 ghost use Rattle.observables.specs.Outputs.{names_of, notes_of};
 ghost use Rattle.m_cases.specs.Cases.{AreExpected};
 ghost use Rattle.m_cases.specs.Mismatches.{HasOutput, HasValueEach, answer_values, count_line, expected_text, got_of, is_met};
@@ -13,9 +13,8 @@ use crate::Expected;
 use itoa::Buffer;
 use m_fixed::{Amount, Value, write_amount};
 use m_places::Name;
-use m_ports::{Failed, Sink};
+use m_ports::{Failed, Sink, give_pieces};
 use observables::{Answer, Face, FaceOutput};
-use text_pieces::give_pieces;
 
 /// Whether what is expected of the output with this number is met by an answer: a stop by each answer that stops, and a value by an
 /// answer that has it at that output. The number is that of the face's output, from 0, notes before names: what `read_cases` reads of

@@ -1,6 +1,6 @@
 -- Cases have one answer.
 use Rattle.std.proofs.Common.{◌≡◌, ℕ, zero, suc, List, Some, Result, Ok, Err, refl, ap, subst}
-use Rattle.rule_text.specs.declared.Source.{Source}
+use Rattle.m_places.specs.declared.source.Source.{Source}
 use Rattle.m_cases.specs.Cases.{cases_of}
 use Rattle.m_cases.specs.declared.cases.Cases.{Cases}
 use Rattle.m_cases.specs.declared.fault.CasesFault.{CasesFault}

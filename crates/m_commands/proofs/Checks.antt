@@ -1,8 +1,8 @@
 -- A check has one answer.
 use Rattle.std.proofs.Common.{◌≡◌, ℕ, ◌+◌, ℤ, List, Some, Ok, Err, refl, ap, subst}
-use Rattle.rule_text.specs.declared.Source.{Source}
-use Rattle.fault_lines.specs.Lines.{report_line}
-use Rattle.fault_lines.specs.declared.fault.ReportFault.TheVariants as words
+use Rattle.m_places.specs.declared.source.Source.{Source}
+use Rattle.tax_print.specs.FaultLines.{report_line}
+use Rattle.tax_print.specs.declared.fault.ReportFault.TheVariants as words
 use Rattle.household.specs.Household.{household_of}
 use Rattle.m_symbols.specs.Declarations.{Declared}
 use Rattle.micro_m.specs.declared.base.Base.{Base}

@@ -1,10 +1,11 @@
 -- The clauses on the text, where nothing failed, where a write did, and where there was no memory.
-use Rattle.std.proofs.Common.{◌≡◌, ℕ, List, Some, Ok, Err, refl, sym, ap, ◌∙◌, subst, inl, inr}
+use Rattle.std.proofs.Common.{◌≡◌, ℕ, true, false, List, Option, Some, Ok, Err, refl, sym, ap, ◌∙◌, subst, inl, inr}
 use Rattle.std.specs.Prelude.{◌⊎◌}
+use Rattle.std.specs.Option.{option_map_or}
 use Rattle.std.specs.Io.KnownBytes.{append_known}
 use Rattle.m_ports.specs.Sink.{AppendsPrefix}
-use Rattle.fault_lines.specs.Lines.{usage_line, unreadable_line}
-use Rattle.command_plans.specs.Plan.{end_of, gathered}
+use Rattle.tax_print.specs.FaultLines.{usage_line, unreadable_line}
+use Rattle.command_plans.specs.Plan.{asks_file, end_of, gathered}
 use Rattle.command_plans.specs.Printing.{Prints}
 use Rattle.command_plans.specs.Refusals.{refusal_line}
 use Rattle.command_plans.specs.Status.{IsFaultless, IsOfEnd}
@@ -17,23 +18,28 @@ use Rattle.command_plans.specs.declared.status.Status.TheVariants.{Done, Memory,
 use Rattle.command_plans.proofs.Walks.{walks_to_end, walks_fit}
 use Rattle.m_commands.specs.Answer.{Replies}
 use Rattle.m_commands.specs.Command.{command_of, plan_of}
-use Rattle.m_commands.specs.Clauses.{IsTyped, PrintsOutput, StopsInFront, WritesFront, IsWholeText, output, unreadable, cut_off, cuts_off}
+use Rattle.m_commands.specs.Clauses.{IsTold, IsTyped, PrintsOutput, StopsInFront, WritesFront, IsWholeText, output, unreadable, cut_off, cuts_off}
 use Rattle.m_commands.specs.Output.{Output, usage, refuses, answers}
 use Rattle.m_commands.specs.declared.command.Command.{Command}
 use Rattle.m_commands.specs.declared.work.Work.{Work}
 use Rattle.m_commands.specs.inner.Courses.{Course, IsWorkOf, is_no_command, has_no_memory, ended, answered}
 use Rattle.m_commands.proofs.Ways.{Way, way_of, tells, lacks_memory, breaks_off, serves_all, serves_part, serves_most, serves_front, serve_reads, typed_all, typed_rest}
 
+-- a command whose plan asks for a file has files that are told
+pub asking : (words : List (List ℕ)) (disk : Disk) (before : FilesView) (command : Command) → IsTold words before disk → command_of words ≡ Some command
+    → asks_file (plan_of command) ≡ true → before.told ≡ Some disk
+asking words disk before command t c a = t (ap (λ (o : Option Command). option_map_or (λ (x : Command). asks_file (plan_of x)) o false) c ∙ a)
+
 -- a plan that was refused has an output
-refused_output : (words : List (List ℕ)) (disk : Disk) (typed : List ℕ) (before after : FilesView) (command : Command) (refusal : Refusal) → before.told ≡ Some disk → command_of words ≡ Some command
+refused_output : (words : List (List ℕ)) (disk : Disk) (typed : List ℕ) (before after : FilesView) (command : Command) (refusal : Refusal) → IsTold words before disk → command_of words ≡ Some command
     → GoesAlong (plan_of command) before after (Err (ending.Refused refusal)) → Output words disk typed (refusal_line refusal) Refused
 refused_output words disk typed before after command refusal t c g =
-    refuses command c (walks_to_end before.told disk (plan_of command) g.made g.spent (Err (ending.Refused refusal)) g.walk t)
+    refuses command c (walks_to_end before.told disk (plan_of command) g.made g.spent (Err (ending.Refused refusal)) g.walk (asking words disk before command t c))
 
 -- what a plan has gathered
-pub gathers : (disk : Disk) (before after : FilesView) (command : Command) (work : Work) → before.told ≡ Some disk → GoesAlong (plan_of command) before after (Ok work)
-    → end_of disk (plan_of command) ≡ gathered work
-gathers disk before after command work t g = walks_to_end before.told disk (plan_of command) g.made g.spent (Ok work) g.walk t
+pub gathers : (words : List (List ℕ)) (disk : Disk) (before after : FilesView) (command : Command) (work : Work) → IsTold words before disk → command_of words ≡ Some command
+    → GoesAlong (plan_of command) before after (Ok work) → end_of disk (plan_of command) ≡ gathered work
+gathers words disk before after command work t c g = walks_to_end before.told disk (plan_of command) g.made g.spent (Ok work) g.walk (asking words disk before command t c)
 
 -- an output that was printed
 shown : (words : List (List ℕ)) (disk : Disk) (typed text : List ℕ) (own : Status) (old new : OutputView) (status : Status)
@@ -73,7 +79,7 @@ text_of words before after heard told old new status (ended command (ending.Refu
 text_of words before after heard told old new status (ended command (ending.Unreadable name) c g h p) disk typed t i f = absurd (read_failed (unreadable_line name) old new status p f)
 text_of words before after heard told old new status (ended command ending.Memory c g h p) disk typed t i f = absurd (subst IsFaultless p.1 f)
 text_of words before after heard told old new status (answered command work c g k a) disk typed t i f =
-    text_way words disk typed heard told old new status command work c (gathers disk before after command work t g) k i f (way_of work heard told old new status a)
+    text_way words disk typed heard told old new status command work c (gathers words disk before after command work t c g) k i f (way_of work heard told old new status a)
 
 -- ---- where a write failed
 
@@ -114,7 +120,7 @@ writing_of words before after heard told old new status (ended command (ending.U
     (unreadable g.attempts (walks_fit before.told (plan_of command) g.made g.spent (Err (ending.Unreadable name)) g.walk) refl)
 writing_of words before after heard told old new status (ended command ending.Memory c g h p) disk typed t i e = cc (p.1, e)
 writing_of words before after heard told old new status (answered command work c g k a) disk typed t i e =
-    writing_way words disk typed before after heard told old new status command work c (gathers disk before after command work t g) k i e (way_of work heard told old new status a)
+    writing_way words disk typed before after heard told old new status command work c (gathers words disk before after command work t c g) k i e (way_of work heard told old new status a)
 
 -- ---- where there was no memory
 
@@ -141,4 +147,4 @@ stopping_of words before after heard told old new status (ended command (ending.
 stopping_of words before after heard told old new status (ended command (ending.Unreadable name) c g h p) disk typed t m = absurd (no_memory_told (unreadable_line name) ReadFault old new status p (λ x. cc) m)
 stopping_of words before after heard told old new status (ended command ending.Memory c g h p) disk typed t m = inl (ap (λ (x : OutputView). x.written) p.0)
 stopping_of words before after heard told old new status (answered command work c g k a) disk typed t m =
-    stopping_way words disk typed heard told old new status command work c (gathers disk before after command work t g) m (way_of work heard told old new status a)
+    stopping_way words disk typed heard told old new status command work c (gathers words disk before after command work t c g) m (way_of work heard told old new status a)

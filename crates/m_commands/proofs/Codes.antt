@@ -1,7 +1,7 @@
 -- A source has one compiling, and a code file one answer.
 use Rattle.std.proofs.Common.{◌≡◌, ◌≢◌, ℕ, ℤ, List, [], length, None, Some, Ok, Err, refl, sym, ap, ◌∙◌, subst}
 use Rattle.m_fixed.specs.declared.amount.Value.{Value}
-use Rattle.rule_text.specs.declared.Source.{Source}
+use Rattle.m_places.specs.declared.source.Source.{Source}
 use Rattle.code_file.specs.Reading.{IsCodeFault, IsFormOf}
 use Rattle.code_file.specs.declared.fault.CodeFault.{CodeFault}
 use Rattle.code_file.specs.declared.fault.CodeFault.TheVariants.{Memory}
@@ -46,17 +46,13 @@ pub record IsSameCode (one other : Loaded) : Type 0 where
 pub one_loaded : (code : List ℕ) (one other : Loaded) → IsFormOf code one → IsFormOf code other → IsSameCode one other
 one_loaded code one other a b = let same = one-form code one other a b in record { code = same.0; inputs = same.1; labels = same.2; outputs = same.3 }
 
--- a fault that has a line isn't running out of memory
-is_no_memory : (fault : CodeFault) (line : List ℕ) → code_fault_line fault ≡ Some line → fault ≢ Memory
-is_no_memory fault line k m = let none : code_fault_line fault ≡ None = ap code_fault_line m in cc (none, k)
-
 -- the form of loaded code has no fault
 pub no_form_and_fault : (code line : List ℕ) (loaded : Loaded) (fault : CodeFault) → IsFormOf code loaded → IsCodeFault code fault → code_fault_line fault ≡ Some line → ⊥
-no_form_and_fault code line loaded fault form f k = no-fault-of-form code loaded fault (is_no_memory fault line k) form f
+no_form_and_fault code line loaded fault form f k = no-fault-of-form code loaded fault form f
 
 -- a code file has one fault
 one_code_fault : (code line other_line : List ℕ) (fault other : CodeFault) → IsCodeFault code fault → IsCodeFault code other → code_fault_line fault ≡ Some line → code_fault_line other ≡ Some other_line → fault ≡ other
-one_code_fault code line other_line fault other f g k l = one-fault code fault other (is_no_memory fault line k) (is_no_memory other other_line l) f g
+one_code_fault code line other_line fault other f g k l = one-fault code fault other f g
 
 -- ---- what code is to households
 

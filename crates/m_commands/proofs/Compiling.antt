@@ -3,14 +3,14 @@ use Rattle.std.proofs.Common.{◌≡◌, ℕ, Bool, true, false, List, [], lengt
 use Rattle.std.specs.Option.{option_map_or}
 use Rattle.code_file.specs.Reading.{IsFormOf}
 use Rattle.code_file.specs.declared.loaded.Loaded.{Loaded}
-use Rattle.fault_lines.specs.Lines.{too_long_line}
-use Rattle.rule_text.specs.declared.Source.{Source}
+use Rattle.tax_print.specs.FaultLines.{too_long_line}
+use Rattle.m_places.specs.declared.source.Source.{Source}
 use Rattle.command_plans.specs.Plan.{Plan, End, done, refuses, asks, and_then, asked, end_of, gathered, refused}
 use Rattle.command_plans.specs.Views.{Disk, FilesView, InputView, OutputView}
 use Rattle.command_plans.specs.declared.status.Status.{Status}
 use Rattle.command_plans.specs.declared.status.Status.TheVariants.{Done}
-use Rattle.m_source.specs.Source.{source_plan}
-use Rattle.m_source.specs.declared.source.SourceNames.{SourceNames}
+use Rattle.command_plans.specs.Source.{source_plan}
+use Rattle.command_plans.specs.declared.source.SourceNames.{SourceNames}
 use Rattle.command_answers.specs.Compiles.{CompileReplies, is_refused, is_compiled}
 use Rattle.command_answers.specs.Prepared.{IsPreparedCode}
 use Rattle.m_commands.specs.Answer.{Replies}
@@ -66,6 +66,6 @@ code_output words disk names text status c d (answers command gathers e g r) =
 pub writes_of : (words : List (List ℕ)) (before after : FilesView) (heard told : InputView) (old new : OutputView) (status : Status) → Course words before after heard told old new status → WritesCode words before old new status
 writes_of words before after heard told old new status course disk names t c d =
     let r : reads_input words ≡ false = ap (λ o. option_map_or takes_input o false) c in
-    let o = text_of words before after heard told old new status course disk [] t (λ s. cc (r, s)) (rw d tt) in
+    let o = text_of words before after heard told old new status course disk [] (λ _. t) (λ s. cc (r, s)) (rw d tt) in
     let w = code_output words disk names o.0 status c d o.2 in
     (w.0, w.1, o.0, w.2, w.3, w.4, o.1)

@@ -2,7 +2,7 @@
 use Rattle.std.proofs.Common.{◌≡◌, true, false, ℕ, List, Option, Some, None, sym, ap, ◌∙◌, inl, inr}
 use Rattle.std.specs.Option.{option_map_or}
 use Rattle.std.specs.Io.KnownBytes.{IsAtEnd}
-use Rattle.fault_lines.specs.Lines.{unreadable_line, usage_line}
+use Rattle.tax_print.specs.FaultLines.{unreadable_line, usage_line}
 use Rattle.command_plans.specs.Printing.{Prints}
 use Rattle.command_plans.specs.Refusals.{refusal_line}
 use Rattle.command_plans.specs.Views.{FilesView, InputView, OutputView}

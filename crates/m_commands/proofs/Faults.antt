@@ -2,7 +2,7 @@
 use Rattle.std.proofs.Common.{◌≡◌, ◌<◌, ℕ, Bool, true, false, List, Some, sym, ap, ◌∙◌, subst, arith, inl, inr}
 use Rattle.std.specs.Prelude.{◌⊎◌}
 use Rattle.m_ports.specs.Counts.{Rose}
-use Rattle.fault_lines.specs.Lines.{usage_line, unreadable_line}
+use Rattle.tax_print.specs.FaultLines.{usage_line, unreadable_line}
 use Rattle.command_plans.specs.Printing.{Prints}
 use Rattle.command_plans.specs.Refusals.{refusal_line}
 use Rattle.command_plans.specs.Status.{IsOfEnd}

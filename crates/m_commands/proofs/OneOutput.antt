@@ -2,8 +2,8 @@
 use Rattle.std.proofs.Common.{◌≡◌, ◌<◌, ℕ, ℤ, List, ◌++◌, length, Ok, refl, sym, ap, ◌∙◌, subst, arith, length-append}
 use Rattle.std.proofs.Common.{take}
 use Rattle.std.proofs.lemmas.List.{take-append-le, take_all}
-use Rattle.rule_text.specs.declared.Source.{Source}
-use Rattle.fault_lines.specs.Lines.{input_too_long_line}
+use Rattle.m_places.specs.declared.source.Source.{Source}
+use Rattle.tax_print.specs.FaultLines.{input_too_long_line}
 use Rattle.household.specs.Household.{household_of}
 use Rattle.household.specs.Table.{table_of}
 use Rattle.household.specs.declared.table.Row.{Row}

@@ -8,7 +8,7 @@ use Rattle.m_ports.specs.declared.files.Attempt.{Attempt}
 use Rattle.command_plans.specs.Attempts.{BeginsWith, names_tried, NoneFailed}
 use Rattle.command_plans.specs.Plan.{names_fetched}
 use Rattle.command_plans.specs.Printing.{Prints}
-use Rattle.fault_lines.specs.Lines.{usage_line, unreadable_line}
+use Rattle.tax_print.specs.FaultLines.{usage_line, unreadable_line}
 use Rattle.command_plans.specs.Refusals.{refusal_line}
 use Rattle.command_plans.specs.Status.{IsOfEnd}
 use Rattle.command_plans.specs.Trips.{GoesAlong}
@@ -111,7 +111,7 @@ reading_way words before after heard told old new status command work c g k (ser
 reading_way words before after heard told old new status command work c g k (serves_part taken text s moved rose cut p) = λ e. (
   serve_reads words command work c k s,
   rose,
-  λ disk typed t h. (taken, text, moved, whole text old new status p e, cuts_off command work c (gathers disk before after command work t g) cut),
+  λ disk typed t h. (taken, text, moved, whole text old new status p e, cuts_off command work c (gathers words disk before after command work (λ _. t) c g) cut),
 )
 reading_way words before after heard told old new status command work c g k (serves_most taken text s moved full calm r p) = λ e. absurd (not_read text Refused old new status (λ x. cc) p e)
 reading_way words before after heard told old new status command work c g k (serves_front s calm fronts rose is) = λ e. cc (is, e)

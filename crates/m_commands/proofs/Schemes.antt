@@ -1,8 +1,8 @@
 -- A source has one scheme, and isn't refused where it has one.
 use Rattle.std.proofs.Common.{◌≡◌, ℕ, List, Some, Result, Ok, Err, refl, sym, ◌∙◌, subst}
-use Rattle.rule_text.specs.declared.Source.{Source}
-use Rattle.rule_text.specs.declared.Text.{Text}
-use Rattle.fault_lines.specs.Lines.{cycle_line, recursion_line}
+use Rattle.m_places.specs.declared.source.Source.{Source}
+use Rattle.m_places.specs.declared.source.Text.{Text}
+use Rattle.tax_print.specs.FaultLines.{cycle_line, recursion_line}
 use Rattle.household.specs.declared.fault.HouseholdFault.{HouseholdFault}
 use Rattle.observables.specs.declared.inputs.Coded.{Coded}
 use Rattle.m_compile.specs.Lines.{source_line}

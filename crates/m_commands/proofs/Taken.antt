@@ -10,8 +10,8 @@ use Rattle.command_plans.specs.declared.status.Status.{Status}
 use Rattle.command_plans.specs.declared.status.Status.TheVariants.{Done, Refused, Usage, ReadFault, WriteFault, Memory, Stopped}
 use Rattle.command_plans.proofs.Walks.{walks_within}
 use Rattle.command_plans.proofs.Within.{KeepsWithin, within_more, within_then}
-use Rattle.m_source.specs.Source.{source_plan}
-use Rattle.m_source.proofs.Within.{source_within}
+use Rattle.command_plans.specs.Source.{source_plan}
+use Rattle.command_plans.proofs.SourceWithin.{source_within}
 use Rattle.m_commands.specs.Command.{command_of, plan_of, file_limit, limit_of, rules_only}
 use Rattle.m_commands.specs.declared.command.Command.{Command}
 use Rattle.m_commands.specs.declared.command.Command.TheVariants.{Run, Serve, Batch, Large, Compile, Exec, Check, Lint, Cases}

@@ -1,5 +1,6 @@
 -- What is valid is answered.
-use Rattle.std.proofs.Common.{◌≡◌, ◌<◌, ℕ, true, List, [], ◌∷◌, ◌++◌, length, Some, Err, sym, ap, subst, arith, inl, inr}
+use Rattle.std.proofs.Common.{◌≡◌, ◌<◌, ◌+◌, ℕ, Bool, true, List, [], ◌∷◌, ◌++◌, length, Some, Err, refl, sym, ap, ◌∙◌, subst, zero-add, arith, inl, inr}
+use Rattle.std.specs.Prelude.{if◌then◌else◌}
 use Rattle.m_places.specs.declared.limits.TheConstants.{INPUT_BYTES}
 use Rattle.m_ports.specs.Counts.{Rose}
 use Rattle.m_ports.specs.Files.{failed_count}
@@ -8,7 +9,7 @@ use Rattle.m_ports.proofs.FileLemmas.{failed_count-append}
 use Rattle.observables.specs.Answers.{Told, values, stopped}
 use Rattle.household.specs.Household.{household_of}
 use Rattle.household.specs.Table.{table_of}
-use Rattle.command_plans.specs.Attempts.{LastFailed}
+use Rattle.command_plans.specs.Attempts.{NoneFailed, LastFailed}
 use Rattle.command_plans.specs.Plan.{end_of, gathered, refused}
 use Rattle.command_plans.specs.Printing.{Prints}
 use Rattle.command_plans.specs.Refusals.{refusal_line}
@@ -34,7 +35,7 @@ use Rattle.m_commands.specs.declared.command.Command.{Command}
 use Rattle.m_commands.specs.declared.work.Work.{Work}
 use Rattle.m_commands.specs.declared.work.Work.TheVariants.{Run, Serve, Batch, Large, Compile, Exec, Check, Lint, Cases}
 use Rattle.m_commands.specs.inner.Courses.{Course, IsWorkOf, is_no_command, has_no_memory, ended, answered}
-use Rattle.m_commands.proofs.Clauses.{gathers}
+use Rattle.m_commands.proofs.Clauses.{asking, gathers}
 use Rattle.m_commands.proofs.Cases.{compared_complete}
 use Rattle.m_commands.proofs.Checks.{checked_complete}
 use Rattle.m_commands.proofs.Codes.{compiled_not_refused, code_not_refused, rows_not_refused}
@@ -86,10 +87,14 @@ has_answer words disk command work valid c e =
     let w : valid.work ≡ work = cc (q, valid.gathers) in
     subst HasAnswer w valid.answer
 
--- the count of failed attempts rose where the last one failed
-rose : (before after : FilesView) (made : List Attempt) (name : List ℕ) → after.attempts ≡ before.attempts ++ made → LastFailed made name → failed_count before.attempts < failed_count after.attempts
+none_counted : (made : List Attempt) → NoneFailed made → failed_count made ≡ 0
+none_counted [] h = refl
+none_counted (attempt ∷ made) h = ap (λ (failed : Bool). (if failed then 1 else 0) + failed_count made) h.0 ∙ zero-add (failed_count made) ∙ none_counted made h.1
+
+-- the count of failed attempts rose by one where the last one failed
+rose : (before after : FilesView) (made : List Attempt) (name : List ℕ) → after.attempts ≡ before.attempts ++ made → LastFailed made name → failed_count after.attempts ≡ failed_count before.attempts + 1
 rose before after made name a l =
-    omega (arith, ap failed_count a, failed_count-append before.attempts made, ap failed_count l.last, failed_count-append l.before (record { name = name; failed = true } ∷ []))
+    omega (arith, ap failed_count a, failed_count-append before.attempts made, ap failed_count l.last, failed_count-append l.before (record { name = name; failed = true } ∷ []), none_counted l.before l.others)
 
 -- an answer that was printed is complete
 complete : (text : List ℕ) (own : Status) (old new : OutputView) (status : Status) → Prints text own old new status → IsComplete own → (Rose old.faults new.faults → ⊥) → IsComplete status
@@ -113,10 +118,10 @@ pub complete_of : (words : List (List ℕ)) (before after : FilesView) (heard to
 complete_of words before after heard told old new status (is_no_command n s h p) disk t valid quiet few = let i = valid.is_command in cc (n, i)
 complete_of words before after heard told old new status (has_no_memory s h o m) disk t valid quiet few = subst IsComplete (sym m) tt
 complete_of words before after heard told old new status (ended command (ending.Refused refusal) c g h p) disk t valid quiet few =
-    absurd (not_refused words disk command (refusal_line refusal) valid c (walks_to_end before.told disk (plan_of command) g.made g.spent (Err (ending.Refused refusal)) g.walk t))
+    absurd (not_refused words disk command (refusal_line refusal) valid c (walks_to_end before.told disk (plan_of command) g.made g.spent (Err (ending.Refused refusal)) g.walk (asking words disk before command t c)))
 complete_of words before after heard told old new status (ended command (ending.Unreadable name) c g h p) disk t valid quiet few =
     absurd (quiet.0 (inl (rose before after g.made name g.attempts (walks_fit before.told (plan_of command) g.made g.spent (Err (ending.Unreadable name)) g.walk))))
 complete_of words before after heard told old new status (ended command ending.Memory c g h p) disk t valid quiet few = subst IsComplete (sym p.1) tt
 complete_of words before after heard told old new status (answered command work c g k a) disk t valid quiet few =
-    complete_way words command work heard told old new status c k (has_answer words disk command work valid c (gathers disk before after command work t g)) quiet.1 quiet.2 few
+    complete_way words command work heard told old new status c k (has_answer words disk command work valid c (gathers words disk before after command work t c g)) quiet.1 quiet.2 few
     (way_of work heard told old new status a)

@@ -8,7 +8,7 @@ use Rattle.m_places.specs.declared.limits.TheConstants.{INPUT_BYTES}
 use Rattle.m_ports.specs.Counts.{Rose}
 use Rattle.m_ports.specs.Sink.{AppendsPrefix}
 use Rattle.m_ports.proofs.SinkLemmas.{AppendsPrefix-before}
-use Rattle.fault_lines.specs.Lines.{input_too_long_line, unreadable_input_line}
+use Rattle.tax_print.specs.FaultLines.{input_too_long_line, unreadable_input_line}
 use Rattle.command_plans.specs.Printing.{Appends, Breaks, Prints, printed, no_memory}
 use Rattle.command_plans.specs.Status.{IsOfEnd}
 use Rattle.command_plans.specs.Views.{InputView, OutputView}
@@ -21,7 +21,7 @@ use Rattle.code_answers.specs.Schemes.{Scheme}
 use Rattle.command_answers.specs.Serves.{IsSession}
 use Rattle.command_answers.specs.Sessions.{ended_replies, session_replies}
 use Rattle.command_answers.proofs.SessionLemmas.{ended_begins, whole_begins}
-use Rattle.rule_text.specs.declared.Source.{Source}
+use Rattle.m_places.specs.declared.source.Source.{Source}
 use Rattle.why_session.specs.Explains.{Explaining}
 use Rattle.m_commands.specs.Answer.{CutOff, Replies}
 use Rattle.m_commands.specs.Command.{command_of, reads_input, takes_input, writes_early, writes_in_parts}

@@ -1,7 +1,7 @@
 -- What a command answers with what it has gathered.
 use Rattle.std.specs.Prelude.{ℕ, ◌≤◌, List, length}
 use Rattle.m_places.specs.declared.limits.TheConstants.{CODE_FILE_BYTES, LARGE}
-use Rattle.rule_text.specs.Limits.{SourceKeepsLimits}
+use Rattle.m_places.specs.SourceLimits.{SourceKeepsLimits}
 use Rattle.command_plans.specs.declared.status.Status.{Status}
 use Rattle.command_answers.specs.Batches.{BatchReplies, BatchHasAnswer}
 use Rattle.command_answers.specs.Cases.{CasesReplies, CasesHasAnswer}

@@ -4,37 +4,41 @@ use Rattle.std.specs.Io.KnownBytes.{append_known, prepend_known}
 use Rattle.m_places.specs.declared.limits.TheConstants.{INPUT_BYTES}
 use Rattle.code_file.specs.Reading.{IsFormOf}
 use Rattle.code_file.specs.declared.loaded.Loaded.{Loaded}
-use Rattle.rule_text.specs.declared.Source.{Source}
+use Rattle.m_places.specs.declared.source.Source.{Source}
 use Rattle.m_ports.specs.Counts.{Rose}
 use Rattle.m_ports.specs.Files.{failed_count}
 use Rattle.m_ports.specs.Sink.{AppendsPrefix}
 use Rattle.m_ports.specs.declared.files.Attempt.{Attempt}
 use Rattle.command_plans.specs.Attempts.{BeginsWith, names_tried, NoneFailed, LastFailed}
-use Rattle.fault_lines.specs.Lines.{unreadable_line}
+use Rattle.tax_print.specs.FaultLines.{unreadable_line}
 use Rattle.command_plans.specs.Plan.{end_of, gathered}
 use Rattle.command_plans.specs.Status.{IsFaultless, IsComplete}
 use Rattle.command_plans.specs.Views.{Disk, FilesView, InputView, OutputView}
 use Rattle.command_plans.specs.declared.status.Status.{Status}
 use Rattle.command_plans.specs.declared.status.Status.TheVariants.{Done, Refused, Usage, ReadFault, WriteFault, Memory}
-use Rattle.m_source.specs.Source.{source_plan}
-use Rattle.m_source.specs.declared.source.SourceNames.{SourceNames}
+use Rattle.command_plans.specs.Source.{source_plan}
+use Rattle.command_plans.specs.declared.source.SourceNames.{SourceNames}
 use Rattle.command_answers.specs.Prepared.{IsPreparedCode}
 use Rattle.m_commands.specs.Answer.{CutOff}
-use Rattle.m_commands.specs.Command.{command_of, plan_of, reads_input}
+use Rattle.m_commands.specs.Command.{command_of, plan_of, reads_files, reads_input}
 use Rattle.m_commands.specs.Output.{fetches_of, Output, IsValidCommand}
 use Rattle.m_commands.specs.declared.command.Command.{Command}
 use Rattle.m_commands.specs.declared.command.Command.TheVariants.{Compile}
 use Rattle.m_commands.specs.declared.work.Work.{Work}
 
+-- what is known of the files, where the command fetches one
+abbrev pub IsTold : List (List ℕ) → FilesView → Disk → Type 0
+IsTold words files disk = reads_files words ≡ true → files.told ≡ Some disk
+
 -- what is known of the input, where the command reads it
 abbrev pub IsTyped : List (List ℕ) → InputView → List ℕ → Type 0
 IsTyped words input typed = reads_input words ≡ true → input.left ≡ Some typed
 
--- Where the files and the input are told and nothing failed, the text that is appended and the status
--- are an `Output`.
+-- Where the files and the input are told, as far as the command reads them, and nothing failed, the text that is appended and the
+-- status are an `Output`.
 abbrev pub PrintsOutput : List (List ℕ) → FilesView → InputView → OutputView → OutputView → Status → Type 0
 PrintsOutput words files input old new status =
-    (disk : Disk) (typed : List ℕ) → files.told ≡ Some disk → IsTyped words input typed → IsFaultless status
+    (disk : Disk) (typed : List ℕ) → IsTold words files disk → IsTyped words input typed → IsFaultless status
     → (text : List ℕ) × (new.written ≡ append_known old.written text) × Output words disk typed text status
 
 -- the text of a command whose read of the input fails after these bytes
@@ -75,16 +79,16 @@ pub data IsWholeText (words : List (List ℕ)) (disk : Disk) (typed : List ℕ) 
       → IsWholeText words disk typed before after heard told text
   cut_off : (taken : List ℕ) → heard.left ≡ prepend_known taken told.left → Rose heard.faults told.faults → IsCutOff words disk taken text → IsWholeText words disk typed before after heard told text
 
--- Where the files and the input are told and a write failed, what is appended is the prefix of a whole text.
+-- Where the files and the input are told, as far as the command reads them, and a write failed, what is appended is the prefix of a whole text.
 abbrev pub WritesFront : List (List ℕ) → FilesView → FilesView → InputView → InputView → OutputView → OutputView → Status → Type 0
 WritesFront words before after heard told old new status =
-    (disk : Disk) (typed : List ℕ) → before.told ≡ Some disk → IsTyped words heard typed → status ≡ WriteFault
+    (disk : Disk) (typed : List ℕ) → IsTold words before disk → IsTyped words heard typed → status ≡ WriteFault
     → (text : List ℕ) × IsWholeText words disk typed before after heard told text × AppendsPrefix old.written new.written text
 
--- Where the files are told and there was no memory, nothing is appended or the prefix of an output.
+-- Where the files are told, if the command fetches one, and there was no memory, nothing is appended or the prefix of an output.
 abbrev pub StopsInFront : List (List ℕ) → FilesView → OutputView → OutputView → Status → Type 0
 StopsInFront words before old new status =
-    (disk : Disk) (typed : List ℕ) → before.told ≡ Some disk → status ≡ Memory
+    (disk : Disk) (typed : List ℕ) → IsTold words before disk → status ≡ Memory
     → (new.written ≡ old.written) ⊎ ((text : List ℕ) × (own : Status) × Output words disk typed text own × AppendsPrefix old.written new.written text)
 
 -- Where the files are told, `compile` that did all of its work has written a code file, of what its source is compiled to: code that is to households
@@ -104,10 +108,10 @@ NothingFailed before after heard told old new =
 abbrev pub TakesFew : List (List ℕ) → InputView → InputView → Type 0
 TakesFew words heard told = reads_input words ≡ true → (taken : List ℕ) → heard.left ≡ prepend_known taken told.left → length taken < INPUT_BYTES
 
--- What is valid is answered, unless a read, a write or memory failed.
+-- What is valid is answered, unless a read, a write or memory failed. Over files that the command doesn't fetch nothing has to be told.
 abbrev pub AnswersValid : List (List ℕ) → FilesView → FilesView → InputView → InputView → OutputView → OutputView → Status → Type 0
 AnswersValid words before after heard told old new status =
-    (disk : Disk) → before.told ≡ Some disk → IsValidCommand words disk → NothingFailed before after heard told old new → TakesFew words heard told → IsComplete status
+    (disk : Disk) → IsTold words before disk → IsValidCommand words disk → NothingFailed before after heard told old new → TakesFew words heard told → IsComplete status
 
 -- The usage line is printed only for words that are no command, and for these always but where a write
 -- or memory failed.

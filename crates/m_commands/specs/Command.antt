@@ -5,10 +5,10 @@ use Rattle.std.specs.Option.{option_map, option_map_or, option_or}
 use Rattle.std.specs.Str.{bytes_eq, is_utf8}
 use Rattle.m_places.specs.declared.limits.TheConstants.{CODE_FILE_BYTES, FILE_BYTES, LARGE}
 use Rattle.m_text.specs.Numbers.{whole_number}
-use Rattle.command_plans.specs.Plan.{Plan, done, file_plan, and_then}
-use Rattle.m_source.specs.Source.{source_plan}
-use Rattle.m_source.specs.declared.source.SourceNames.{SourceNames}
-use Rattle.rule_text.specs.declared.Source.{Source}
+use Rattle.command_plans.specs.Plan.{Plan, done, asks_file, file_plan, and_then}
+use Rattle.command_plans.specs.Source.{source_plan}
+use Rattle.command_plans.specs.declared.source.SourceNames.{SourceNames}
+use Rattle.m_places.specs.declared.source.Source.{Source}
 use Rattle.m_commands.specs.declared.command.Command.{Command}
 use Rattle.m_commands.specs.declared.command.Command.TheVariants.{Run, Serve, Batch, Large, Compile, Exec, Check, Lint, Cases}
 use Rattle.m_commands.specs.declared.command.Form.{Form}
@@ -133,6 +133,10 @@ plan_of (Exec code household) = exec_plan code household
 plan_of (Check list household report) = check_plan list household report
 plan_of (Lint names) = lint_plan names
 plan_of (Cases names table) = work_plan names table work.Cases
+
+-- whether the words are a command that fetches a file: one whose plan asks for one
+abbrev pub reads_files : List (List ℕ) → Bool
+reads_files words = option_map_or (λ command. asks_file (plan_of command)) (command_of words) false
 
 -- the most bytes of a file that a command fetches; `large N` fetches none
 abbrev pub file_limit : Command → ℕ

@@ -1,8 +1,8 @@
 -- What is fetched and what is printed for these words, files and input.
 use Rattle.std.specs.Prelude.{◌≡◌, ℕ, ℤ, List, [], ◌++◌, Some, None}
 use Rattle.std.specs.Option.{option_map_or}
-use Rattle.fault_lines.specs.Lines.{usage_line, cycle_line, input_too_long_line, recursion_line}
-use Rattle.rule_text.specs.declared.Source.{Source}
+use Rattle.tax_print.specs.FaultLines.{usage_line, cycle_line, input_too_long_line, recursion_line}
+use Rattle.m_places.specs.declared.source.Source.{Source}
 use Rattle.code_file.specs.Reading.{IsFormOf}
 use Rattle.code_file.specs.declared.loaded.Loaded.{Loaded}
 use Rattle.m_symbols.specs.Declarations.{Declared}

@@ -3,9 +3,9 @@ ghost use Rattle.std.specs.Prelude.{◌≡◌, IfOk, IfSome};
 ghost use Rattle.m_commands.specs.Command.{IsInReach, check_command, command_of, compile_command, exec_command};
 ghost use Rattle.m_commands.specs.Command.{form_of, large_command, large_number, lint_command, of_form, source_command};
 
+use command_plans::SourceNames;
 use m_places::limits::LARGE;
 use m_places::{Name, Word};
-use m_source::SourceNames;
 use m_text::{is_text, whole_number};
 use std::alloc::{AllocError, Global};
 

@@ -1,6 +1,6 @@
 //! The files of a command, gathered along its plan.
 ghost use Rattle.std.specs.Prelude.{◌≡◌, IfOk, None, Some};
-ghost use Rattle.rule_text.specs.Limits.{SourceKeepsLimits};
+ghost use Rattle.m_places.specs.SourceLimits.{SourceKeepsLimits};
 ghost use Rattle.command_plans.specs.Trips.{GoesAlong};
 ghost use Rattle.command_plans.specs.Views.{files_view};
 ghost use Rattle.m_commands.specs.Answer.{WorkKeepsLimits};
@@ -9,12 +9,10 @@ ghost use Rattle.m_commands.specs.inner.Courses.{IsWorkOf, work_form};
 
 use crate::command::{Command, Form};
 use crate::work::Work;
-use command_plans::{Ending, fetch};
+use command_plans::{Ending, SourceNames, fetch, gather_source};
 use m_places::limits::{CODE_FILE_BYTES, FILE_BYTES};
-use m_places::{Name, Seq};
+use m_places::{Name, Seq, Source};
 use m_ports::Files;
-use m_source::{SourceNames, gather_source};
-use rule_text::Source;
 use std::alloc::{AllocError, Global};
 
 /// Gathers the files of a command. What ends it before it has them is the error.

@@ -5,7 +5,7 @@ ghost use Rattle.command_plans.specs.declared.status.Status.TheVariants.{Done};
 ghost use Rattle.command_answers.specs.Compiles.{CompileReplies};
 ghost use Rattle.code_answers.specs.Execs.{ExecHasAnswer, ExecReplies};
 ghost use Rattle.command_answers.specs.Runs.{RunHasAnswer, RunReplies};
-ghost use Rattle.rule_text.specs.declared.Source.{Source};
+ghost use Rattle.m_places.specs.declared.source.Source.{Source};
 ghost use Rattle.std.specs.List.{AllByRecursion};
 ghost use Rattle.m_symbols.specs.Declarations.{Declared};
 ghost use Rattle.micro_m.specs.declared.base.Base.{Base};

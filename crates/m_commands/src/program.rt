@@ -14,11 +14,11 @@ use crate::answer::answer;
 use crate::command::{Command, command_of};
 use crate::gather::gather;
 use command_plans::{Status, print_fault, tell};
-use fault_lines::Fault;
 use m_places::Word;
 use m_ports::{Files, Sink, Source};
 use std::alloc::Global;
 use std::thread::Threads;
+use tax_print::Fault;
 
 // Does the command that the words are.
 fn perform<R: Threads + Sync, F: Files, S: Source, K: Sink>(
@@ -84,8 +84,8 @@ pub fn m_tax<R: Threads + Sync, F: Files, S: Source, K: Sink>(
     input: &mut S,
     out: &mut K,
 ) -> Status
-    // Where the files and the input are told, and neither reading, writing nor memory failed, the text
-    // that is appended and the status are an `Output` of the words and the files.
+    // Where the files and the input are told, as far as the command reads them, and neither reading, writing nor memory failed, the
+    // text that is appended and the status are an `Output` of the words and the files.
     ensures text { PrintsOutput words.now (files_view F.told F.attempts F.taken files.old) (input_view S.left S.faults input.old)
         (output_view K.written K.faults out.old) (output_view K.written K.faults out.new) result }
 

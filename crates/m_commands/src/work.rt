@@ -1,5 +1,4 @@
-use m_places::Seq;
-use rule_text::Source;
+use m_places::{Seq, Source};
 
 /// What a command has gathered, and is left to answer.
 #[derive(Drop)]

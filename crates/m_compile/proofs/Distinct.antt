@@ -23,7 +23,7 @@ use Rattle.observables.specs.declared.inputs.Coded.{Coded}
 use Rattle.observables.specs.declared.inputs.InputType.{InputType}
 use Rattle.observables.specs.Inputs.{codes_of as codes_shown}
 use Rattle.rule_base.specs.Base.{IsBaseOf}
-use Rattle.rule_text.specs.declared.Text.{Text}
+use Rattle.m_places.specs.declared.source.Text.{Text}
 use Rattle.driver_core.specs.Inputs.{input_said, inputs_said, type_said}
 
 parts : (a b : Option DeclareFault) → first_of a b ≡ None → (a ≡ None) × (b ≡ None)

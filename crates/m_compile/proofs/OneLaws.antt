@@ -1,15 +1,15 @@
 -- A source says one thing or has one fault, and not both; nor have its rule files.
 use Rattle.std.proofs.Common.{◌≡◌, ◌<◌, ℕ, List, Option, Some, Result, Ok, Err, refl, ap, ◌∙◌, subst, arith}
 use Rattle.m_places.specs.declared.limits.TheConstants.{DRIVER_WEIGHT}
-use Rattle.rule_text.specs.declared.Source.{Source}
-use Rattle.rule_text.specs.declared.Text.{Text}
+use Rattle.m_places.specs.declared.source.Source.{Source}
+use Rattle.m_places.specs.declared.source.Text.{Text}
 use Rattle.m_symbols.specs.Declarations.{Declared}
 use Rattle.micro_m.specs.declared.base.Base.{Base}
 use Rattle.micro_m.specs.Reads.{HasNoCycle}
 use Rattle.driver_core.specs.declared.program.Core.{Core}
 use Rattle.driver_core.specs.Weights.{weight_of}
-use Rattle.m_requests.specs.declared.fault.RequestFault.{RequestFault}
-use Rattle.m_requests.specs.Requests.{requests_said}
+use Rattle.m_symbols.specs.declared.request_fault.RequestFault.{RequestFault}
+use Rattle.m_symbols.specs.Requests.{requests_said}
 use Rattle.mpp_lexer.specs.declared.fault.DriverFault.{DriverFault}
 use Rattle.mpp_parser.specs.declared.command.Driver.{Driver}
 use Rattle.mpp_parser.specs.Faults.{IsDriver, IsFault}

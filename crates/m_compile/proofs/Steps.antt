@@ -6,10 +6,10 @@ use Rattle.std.specs.Prelude.{take, drop}
 use Rattle.std.specs.List.{AllByRecursion}
 use Rattle.m_places.specs.Refusals.{Outcome}
 use Rattle.m_places.specs.declared.limits.TheConstants.{DRIVER_WEIGHT, PARTS, REQUESTS}
-use Rattle.rule_text.specs.declared.Source.{Source}
-use Rattle.rule_text.specs.declared.Text.{Text}
+use Rattle.m_places.specs.declared.source.Source.{Source}
+use Rattle.m_places.specs.declared.source.Text.{Text}
 use Rattle.m_symbols.specs.Declarations.{Declared, inputs_from}
-use Rattle.m_requests.specs.Cells.{cell_name, returned_cells}
+use Rattle.m_symbols.specs.Cells.{cell_name, returned_cells}
 use Rattle.observables.specs.declared.face.Face.{Face}
 use Rattle.observables.specs.declared.face.FaceLabel.{FaceLabel}
 use Rattle.observables.specs.declared.face.FaceLabel.TheVariants.{Verif}
@@ -26,11 +26,11 @@ use Rattle.micro_m.specs.Reads.{HasNoCycle}
 use Rattle.driver_core.specs.declared.program.Core.{Core}
 use Rattle.driver_core.specs.Inputs.{inputs_said}
 use Rattle.driver_core.specs.Weights.{weight_of}
-use Rattle.m_requests.specs.Requests.{requests_said, lines_said, few}
+use Rattle.m_symbols.specs.Requests.{requests_said, lines_said, few}
 use Rattle.m_text.specs.Lines.{lines_of}
-use Rattle.m_requests.specs.declared.fault.RequestFault.{RequestFault}
-use Rattle.m_requests.specs.declared.fault.RequestFault.TheVariants as requests
-use Rattle.m_requests.specs.declared.fault.RequestFault.TheVariants.{TooManyRequests}
+use Rattle.m_symbols.specs.declared.request_fault.RequestFault.{RequestFault}
+use Rattle.m_symbols.specs.declared.request_fault.RequestFault.TheVariants as requests
+use Rattle.m_symbols.specs.declared.request_fault.RequestFault.TheVariants.{TooManyRequests}
 use Rattle.mpp_lexer.specs.declared.fault.DriverFault.{DriverFault}
 use Rattle.mpp_lexer.specs.declared.fault.DriverFault.TheVariants as lines
 use Rattle.mpp_parser.specs.declared.command.Driver.{Driver}

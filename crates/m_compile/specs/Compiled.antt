@@ -3,7 +3,7 @@ use Rattle.std.specs.Prelude.{◌≡◌, ℕ, ◌<◌, ◌≤◌, List, Option, 
 use Rattle.std.specs.List.{AllByRecursion}
 use Rattle.m_fixed.specs.declared.amount.Value.{Value}
 use Rattle.m_names.specs.Names.{AreDistinct}
-use Rattle.rule_text.specs.declared.Source.{Source}
+use Rattle.m_places.specs.declared.source.Source.{Source}
 use Rattle.m_symbols.specs.Declarations.{Declared}
 use Rattle.micro_m.specs.declared.base.Base.{Base}
 use Rattle.observables.specs.declared.face.Face.{Face}
@@ -18,7 +18,7 @@ use Rattle.flat_code.specs.Tidy.{IsTidy}
 use Rattle.register_alloc.specs.Allocation.{IsAllocation}
 use Rattle.driver_core.specs.declared.program.Core.{Core}
 use Rattle.driver_core.specs.Inputs.{inputs_said}
-use Rattle.m_requests.specs.Cells.{cell_name}
+use Rattle.m_symbols.specs.Cells.{cell_name}
 use Rattle.mpp_inline.specs.Inlined.{IsDriverLine, most_nodes}
 use Rattle.code_file.specs.Printable.{IsPrintable}
 use Rattle.m_compile.specs.declared.compiling.Compiled.{Compiled}

@@ -1,7 +1,7 @@
 -- The line of each fault of a source.
 use Rattle.std.specs.Prelude.{ℕ, List, Option, Some, None, map, slice_index_or, []}
 use Rattle.m_places.specs.declared.place.Place.{Place}
-use Rattle.rule_text.specs.declared.Text.{Text}
+use Rattle.m_places.specs.declared.source.Text.{Text}
 use Rattle.m_lexer.specs.declared.fault.LexFault.{LexFault}
 use Rattle.m_lexer.specs.declared.fault.LexFault.TheVariants as lex
 use Rattle.m_items.specs.declared.fault.ParseFault.{ParseFault}
@@ -14,17 +14,17 @@ use Rattle.m_resolve.specs.declared.fault.ResolveFault.{ResolveFault}
 use Rattle.m_resolve.specs.declared.fault.ResolveFault.TheVariants as resolve
 use Rattle.rule_base.specs.declared.fault.RuleFault.{RuleFault}
 use Rattle.rule_base.specs.declared.fault.RuleFault.TheVariants as rules
-use Rattle.m_requests.specs.declared.fault.RequestFault.{RequestFault}
-use Rattle.m_requests.specs.declared.fault.RequestFault.TheVariants as requests
+use Rattle.m_symbols.specs.declared.request_fault.RequestFault.{RequestFault}
+use Rattle.m_symbols.specs.declared.request_fault.RequestFault.TheVariants as requests
 use Rattle.mpp_lexer.specs.declared.fault.DriverFault.{DriverFault}
 use Rattle.mpp_lexer.specs.declared.fault.DriverFault.TheVariants as driver
 use Rattle.mpp_core.specs.declared.fault.CoreFault.{CoreFault}
 use Rattle.mpp_core.specs.declared.fault.CoreFault.TheVariants as core
-use Rattle.fault_lines.specs.Lines.{place_line, name_line, cycle_line, driver_line, driver_name_line, no_main_line, recursion_line, too_large_line, request_line, too_many_requests_line}
-use Rattle.fault_lines.specs.declared.fault.DriverFault.TheVariants as in_line
-use Rattle.fault_lines.specs.declared.fault.DriverNameFault.TheVariants as of_name
-use Rattle.fault_lines.specs.declared.fault.PlaceFault.TheVariants as at_place
-use Rattle.fault_lines.specs.declared.fault.NameFault.TheVariants as at_name
+use Rattle.tax_print.specs.FaultLines.{place_line, name_line, cycle_line, driver_line, driver_name_line, no_main_line, recursion_line, too_large_line, request_line, too_many_requests_line}
+use Rattle.tax_print.specs.declared.fault.DriverFault.TheVariants as in_line
+use Rattle.tax_print.specs.declared.fault.DriverNameFault.TheVariants as of_name
+use Rattle.tax_print.specs.declared.fault.PlaceFault.TheVariants as at_place
+use Rattle.tax_print.specs.declared.fault.NameFault.TheVariants as at_name
 use Rattle.m_compile.specs.declared.fault.SourceFault.{SourceFault}
 use Rattle.m_compile.specs.declared.fault.SourceFault.TheVariants as source
 

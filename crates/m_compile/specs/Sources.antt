@@ -1,13 +1,13 @@
 -- What a source says: its declarations, the base of its rules, its driver, and what is asked for.
 use Rattle.std.specs.Prelude.{◌≡◌, ℕ, ◌≤◌, List, Option, Some, None, Ok}
 use Rattle.m_places.specs.declared.limits.TheConstants.{DRIVER_WEIGHT}
-use Rattle.rule_text.specs.declared.Source.{Source}
+use Rattle.m_places.specs.declared.source.Source.{Source}
 use Rattle.m_symbols.specs.Declarations.{Declared}
 use Rattle.micro_m.specs.declared.base.Base.{Base}
 use Rattle.micro_m.specs.Reads.{HasNoCycle}
 use Rattle.driver_core.specs.declared.program.Core.{Core}
 use Rattle.driver_core.specs.Weights.{weight_of}
-use Rattle.m_requests.specs.Requests.{requests_said}
+use Rattle.m_symbols.specs.Requests.{requests_said}
 use Rattle.mpp_parser.specs.declared.command.Driver.{Driver}
 use Rattle.mpp_parser.specs.Faults.{IsDriver}
 use Rattle.mpp_core.specs.Cores.{IsCore, plain_core}

@@ -2,9 +2,9 @@
 
 ghost use Rattle.std.specs.Prelude.{◌≡◌, IfOk, length};
 ghost use Rattle.m_places.specs.Refusals.{Outcome};
-ghost use Rattle.rule_text.specs.Limits.{TextsAreWithin};
+ghost use Rattle.m_places.specs.SourceLimits.{TextsAreWithin};
 ghost use Rattle.m_symbols.specs.Declarations.{owners_from};
-ghost use Rattle.m_requests.specs.Placed.{IsPlaced};
+ghost use Rattle.m_symbols.specs.Placed.{IsPlaced};
 ghost use Rattle.micro_m.specs.Bases.{IsValidBase};
 ghost use Rattle.micro_m.specs.Reads.{HasNoCycle};
 ghost use Rattle.rule_order.specs.Orders.{IsOrder};
@@ -13,8 +13,8 @@ ghost use Rattle.m_compile.specs.Faults.{IsBaseFault};
 ghost use Rattle.m_compile.specs.declared.fault.SourceFault.TheVariants.{Memory};
 
 use crate::SourceFault;
+use m_places::Text;
 use rule_base::{RuleBase, rule_base};
-use rule_text::Text;
 use std::alloc::Global;
 use std::thread::Threads;
 

@@ -2,7 +2,7 @@
 
 ghost use Rattle.std.specs.Prelude.{◌≡◌, ◌<◌, ◌++◌, [], All, IfOk, OnOk, IsTrue, is_some, length, map};
 ghost use Rattle.std.specs.List.{AllByRecursion, cons_option};
-ghost use Rattle.m_requests.specs.Cells.{cell_name};
+ghost use Rattle.m_symbols.specs.Cells.{cell_name};
 ghost use Rattle.m_symbols.specs.Declarations.{owners_from};
 ghost use Rattle.observables.specs.declared.face.FaceOutput.TheVariants.{Named, Noted};
 ghost use Rattle.observables.specs.Outputs.{verif_at};
@@ -10,8 +10,7 @@ ghost use Rattle.driver_core.specs.Inputs.{input_said, inputs_said, type_said};
 
 use m_ast::Role;
 use m_places::{Name, Seq};
-use m_requests::cell_names;
-use m_symbols::{Symbols, Variable};
+use m_symbols::{Symbols, Variable, cell_names};
 use observables::{Coded, Face, FaceLabel, FaceOutput, InputType, type_of};
 use std::alloc::{AllocError, Global};
 

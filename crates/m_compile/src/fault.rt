@@ -4,7 +4,7 @@ ghost use Rattle.std.specs.Prelude.{◌≡◌};
 ghost use Rattle.m_compile.specs.declared.fault.SourceFault.TheVariants.{Memory};
 ghost use Rattle.m_compile.specs.inner.Steps.{rule_step, driver_step, core_step, request_step, inline_step};
 
-use m_requests::RequestFault;
+use m_symbols::RequestFault;
 use mpp_core::CoreFault;
 use mpp_inline::InlineFault;
 use mpp_lexer::DriverFault;

@@ -1,7 +1,7 @@
 //! What holds of the definitions: a source says one thing or has one fault, and not both, and so do rule files by themselves.
 ghost use Rattle.std.specs.Prelude.{◌≡◌, ℕ, List, Option};
-ghost use Rattle.rule_text.specs.declared.Source.{Source};
-ghost use Rattle.rule_text.specs.declared.Text.{Text};
+ghost use Rattle.m_places.specs.declared.source.Source.{Source};
+ghost use Rattle.m_places.specs.declared.source.Text.{Text};
 ghost use Rattle.m_symbols.specs.Declarations.{Declared};
 ghost use Rattle.micro_m.specs.declared.base.Base.{Base};
 ghost use Rattle.micro_m.specs.Reads.{HasNoCycle};

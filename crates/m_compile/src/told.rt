@@ -2,23 +2,21 @@
 
 ghost use Rattle.std.specs.Prelude.{◌≡◌};
 ghost use Rattle.std.specs.Option.{option_map};
-ghost use Rattle.fault_lines.specs.Lines.{fault_line, place_line, name_line, driver_name_line};
+ghost use Rattle.tax_print.specs.FaultLines.{fault_line, place_line, name_line, driver_name_line};
 ghost use Rattle.m_compile.specs.Lines.{file_of, source_line, rule_line, lex_line, parse_line, declare_line};
 ghost use Rattle.m_compile.specs.Lines.{expand_line, resolve_line, driver_fault_line, core_line, request_fault_line};
 
 use crate::SourceFault;
-use fault_lines::{DriverFault as LineFault, DriverNameFault, Fault, NameFault, PlaceFault};
 use index_expand::ExpandFault;
 use m_items::ParseFault;
 use m_lexer::LexFault;
-use m_places::{Name, Place};
-use m_requests::RequestFault;
+use m_places::{Name, Place, Text};
 use m_resolve::ResolveFault;
-use m_symbols::DeclareFault;
+use m_symbols::{DeclareFault, RequestFault};
 use mpp_core::CoreFault;
 use mpp_lexer::DriverFault;
 use rule_base::RuleFault;
-use rule_text::Text;
+use tax_print::{DriverFault as LineFault, DriverNameFault, Fault, NameFault, PlaceFault};
 
 /// What a fault of a source is told as, where these are its rule files: its line names the file, the line and the byte.
 /// Nothing is told of running out of memory.

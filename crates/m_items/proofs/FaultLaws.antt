@@ -7,8 +7,8 @@ use Rattle.m_lexer.specs.declared.token.Token.{Token}
 use Rattle.m_ast.specs.declared.item.Item.{Item}
 use Rattle.m_ast.specs.Whole.{IsWholeItem}
 use Rattle.m_terms.specs.Depth.{first_too_deep}
-use Rattle.declaration_items.specs.Grammar.{SpellsDeclaration, a_variable, an_error, an_application, a_chaining}
-use Rattle.rule_items.proofs.WholeLaws.{rule_whole, verification_whole, many_each}
+use Rattle.m_items.specs.DeclarationGrammar.{SpellsDeclaration, a_variable, an_error, an_application, a_chaining}
+use Rattle.m_items.proofs.WholeLaws.{rule_whole, verification_whole, many_each}
 use Rattle.m_items.specs.declared.fault.ParseFault.{ParseFault}
 use Rattle.m_items.specs.declared.fault.ParseFault.TheVariants.{TooDeep, Syntax, Memory}
 use Rattle.m_items.specs.Grammar.{SpellsItem, a_declaration, a_rule, a_verification, SpellsItems}
@@ -61,27 +61,27 @@ one_stop a b =
     let g : a.token ≡ b.token = cc in
     sym a.placed ∙ (ap (λ (t : Token). t.place) g ∙ b.placed)
 
-pub no_list_and_fault : (is : List Item) (ts : List Token) (fault : ParseFault) → IsShallow ts → SpellsItems is ts [] → fault ≢ Memory → IsParseFault ts fault → ⊥
-no_list_and_fault is ts (TooDeep p) h d n f = absurd (cc)
-no_list_and_fault is ts (Syntax p) h d n f = all_or_part d f.stops
-no_list_and_fault is ts Memory h d n f = n refl
+pub no_list_and_fault : (is : List Item) (ts : List Token) (fault : ParseFault) → IsShallow ts → SpellsItems is ts [] → IsParseFault ts fault → ⊥
+no_list_and_fault is ts (TooDeep p) h d f = absurd (cc)
+no_list_and_fault is ts (Syntax p) h d f = all_or_part d f.stops
+no_list_and_fault is ts Memory h d f = f
 
-pub one_fault : (ts : List Token) (f g : ParseFault) → f ≢ Memory → g ≢ Memory → IsParseFault ts f → IsParseFault ts g → f ≡ g
-one_fault ts (TooDeep p) (TooDeep q) m n a b = cc
-one_fault ts (TooDeep p) (Syntax q) m n a b = let h = b.shallow in absurd (cc)
-one_fault ts (Syntax p) (TooDeep q) m n a b = let h = a.shallow in absurd (cc)
-one_fault ts (Syntax p) (Syntax q) m n a b = ap Syntax (one_stop a.stops b.stops)
-one_fault ts Memory g m n a b = absurd (m refl)
-one_fault ts f Memory m n a b = absurd (n refl)
+pub one_fault : (ts : List Token) (f g : ParseFault) → IsParseFault ts f → IsParseFault ts g → f ≡ g
+one_fault ts (TooDeep p) (TooDeep q) a b = cc
+one_fault ts (TooDeep p) (Syntax q) a b = let h = b.shallow in absurd (cc)
+one_fault ts (Syntax p) (TooDeep q) a b = let h = a.shallow in absurd (cc)
+one_fault ts (Syntax p) (Syntax q) a b = ap Syntax (one_stop a.stops b.stops)
+one_fault ts Memory g a b = absurd a
+one_fault ts f Memory a b = absurd b
 
 -- a list of items, or a fault
-pub list_or_fault : (ts : List Token) → (IsShallow ts × ((items : List Item) × SpellsItems items ts [])) ⊎ ((fault : ParseFault) × (fault ≢ Memory) × IsParseFault ts fault)
+pub list_or_fault : (ts : List Token) → (IsShallow ts × ((items : List Item) × SpellsItems items ts [])) ⊎ ((fault : ParseFault) × IsParseFault ts fault)
 list_or_fault ts = go (first_too_deep BRACKET_DEPTH 0 ts) refl
   where
-    ended : IsShallow ts → (rest : List Token) → (items_at ts).1 ≡ rest → (IsShallow ts × ((items : List Item) × SpellsItems items ts [])) ⊎ ((fault : ParseFault) × (fault ≢ Memory) × IsParseFault ts fault)
+    ended : IsShallow ts → (rest : List Token) → (items_at ts).1 ≡ rest → (IsShallow ts × ((items : List Item) × SpellsItems items ts [])) ⊎ ((fault : ParseFault) × IsParseFault ts fault)
     ended h [] e = inl (h, ((items_at ts).0, read_all ts refl e))
-    ended h (t ∷ others) e = inr (Syntax t.place, (λ c. absurd (cc)), record { shallow = h; stops = read_stops ts refl e })
+    ended h (t ∷ others) e = inr (Syntax t.place, record { shallow = h; stops = read_stops ts refl e })
 
-    go : (o : Option Place) → first_too_deep BRACKET_DEPTH 0 ts ≡ o → (IsShallow ts × ((items : List Item) × SpellsItems items ts [])) ⊎ ((fault : ParseFault) × (fault ≢ Memory) × IsParseFault ts fault)
+    go : (o : Option Place) → first_too_deep BRACKET_DEPTH 0 ts ≡ o → (IsShallow ts × ((items : List Item) × SpellsItems items ts [])) ⊎ ((fault : ParseFault) × IsParseFault ts fault)
     go None h = ended h (items_at ts).1 refl
-    go (Some p) h = inr (TooDeep p, (λ c. absurd (cc)), h)
+    go (Some p) h = inr (TooDeep p, h)

@@ -20,21 +20,21 @@ use Rattle.m_terms.specs.inner.Reading.{begins_by}
 use Rattle.m_lexer.proofs.ChainSound.{Each, absent, here, bind_each, Sound}
 use Rattle.m_terms.proofs.Passes.{Passes}
 use Rattle.m_lexer.proofs.ChainComplete.{open_complete}
-use Rattle.declaration_items.specs.Tokens.{name, SpellsSign, SpellsKeyAt}
-use Rattle.declaration_items.specs.Grammar.{SpellsDeclaration}
-use Rattle.declaration_items.specs.Standing.{BeginsDeclaration, by_name, by_application, by_chaining}
-use Rattle.declaration_items.specs.inner.Reading.{sign_at, key_at, named_at, declared_at, declaration_at}
-use Rattle.declaration_items.proofs.Answered.{declaration_begins}
-use Rattle.declaration_items.proofs.FirstTokens.{BeginsWith, begins_with, nothing_opened, no_place_opened, sign_first, key_first, key_place_first, key_begins, BeginsWithWord, a_word, name_first}
-use Rattle.declaration_items.proofs.SoundLaws.{declaration_sound}
-use Rattle.declaration_items.proofs.CompleteLaws.{declaration_complete}
-use Rattle.declaration_items.proofs.PassLaws.{declaration_passes}
-use Rattle.rule_items.specs.Grammar.{head, SpellsSlot, no_index, every_cell, one_cell, SpellsFormula, formula, SpellsRule, rule, SpellsCheck, check, SpellsVerification, verification}
-use Rattle.rule_items.specs.inner.Reading.{rule_at, verification_at}
-use Rattle.rule_items.proofs.SoundLaws.{rule_sound, verification_sound}
-use Rattle.rule_items.proofs.PassLaws.{rule_passes, verification_passes}
-use Rattle.rule_items.proofs.CompleteLaws.{placed_word_first}
-use Rattle.rule_items.proofs.RunLaws.{RunsOn, just, beyond, rule_runs, verification_runs}
+use Rattle.m_items.specs.Tokens.{name, SpellsSign, SpellsKeyAt}
+use Rattle.m_items.specs.DeclarationGrammar.{SpellsDeclaration}
+use Rattle.m_items.specs.Standing.{BeginsDeclaration, by_name, by_application, by_chaining}
+use Rattle.m_items.specs.inner.DeclarationReading.{sign_at, key_at, named_at, declared_at, declaration_at}
+use Rattle.m_items.proofs.Answered.{declaration_begins}
+use Rattle.m_items.proofs.FirstTokens.{BeginsWith, begins_with, nothing_opened, no_place_opened, sign_first, key_first, key_place_first, key_begins, BeginsWithWord, a_word, name_first}
+use Rattle.m_items.proofs.DeclarationSoundLaws.{declaration_sound}
+use Rattle.m_items.proofs.DeclarationCompleteLaws.{declaration_complete}
+use Rattle.m_items.proofs.DeclarationPassLaws.{declaration_passes}
+use Rattle.m_items.specs.RuleGrammar.{head, SpellsSlot, no_index, every_cell, one_cell, SpellsFormula, formula, SpellsRule, rule, SpellsCheck, check, SpellsVerification, verification}
+use Rattle.m_items.specs.inner.RuleReading.{rule_at, verification_at}
+use Rattle.m_items.proofs.RuleSoundLaws.{rule_sound, verification_sound}
+use Rattle.m_items.proofs.RulePassLaws.{rule_passes, verification_passes}
+use Rattle.m_items.proofs.RuleCompleteLaws.{placed_word_first}
+use Rattle.m_items.proofs.RunLaws.{RunsOn, just, beyond, rule_runs, verification_runs}
 use Rattle.m_items.specs.Grammar.{SpellsItem, a_declaration, a_rule, a_verification}
 use Rattle.m_items.specs.inner.Reading.{item_at}
 

@@ -4,11 +4,11 @@ use Rattle.std.proofs.lemmas.List.{append-nil}
 use Rattle.m_lexer.specs.declared.token.Token.{Token}
 use Rattle.m_ast.specs.declared.item.Item.{Item}
 use Rattle.m_terms.proofs.Passes.{behind_shorter}
-use Rattle.rule_items.specs.Many.{no_more, one_more}
-use Rattle.rule_items.specs.inner.Reading.{many_at}
-use Rattle.rule_items.proofs.Manys.{Going, many_start, many_turn, many_stop}
-use Rattle.rule_items.proofs.SoundLaws.{many_sound}
-use Rattle.rule_items.proofs.RunLaws.{found_at, going_shrinks}
+use Rattle.m_items.specs.Many.{no_more, one_more}
+use Rattle.m_items.specs.inner.RuleReading.{many_at}
+use Rattle.m_items.proofs.Manys.{Going, many_start, many_turn, many_stop}
+use Rattle.m_items.proofs.RuleSoundLaws.{many_sound}
+use Rattle.m_items.proofs.RunLaws.{found_at, going_shrinks}
 use Rattle.m_items.specs.Grammar.{SpellsItem, SpellsItems}
 use Rattle.m_items.specs.Faults.{IsLongest}
 use Rattle.m_items.specs.inner.Reading.{item_at, items_at}

@@ -4,9 +4,9 @@ use Rattle.m_lexer.specs.declared.token.Token.{Token}
 use Rattle.m_ast.specs.declared.item.Item.{Item}
 use Rattle.m_ast.specs.declared.item.Item.TheVariants.{Rule, Verif}
 use Rattle.m_terms.proofs.Passes.{behind_shorter}
-use Rattle.declaration_items.proofs.Answered.{declaration_one}
-use Rattle.rule_items.specs.Many.{no_more, one_more}
-use Rattle.rule_items.proofs.OneLaws.{rule_one, verification_one}
+use Rattle.m_items.proofs.Answered.{declaration_one}
+use Rattle.m_items.specs.Many.{no_more, one_more}
+use Rattle.m_items.proofs.RuleOneLaws.{rule_one, verification_one}
 use Rattle.m_items.specs.Grammar.{SpellsItem, a_declaration, a_rule, a_verification, SpellsItems}
 use Rattle.m_items.specs.inner.Reading.{item_at}
 use Rattle.m_items.proofs.ItemLaws.{item_passes, ItemRuns, exact, longer, item_runs, rule_begins, verification_begins, no_rule_declared, no_verification_declared, no_rule_verified}

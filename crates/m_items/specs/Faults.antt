@@ -31,8 +31,8 @@ pub record IsSyntaxFault (tokens : List Token) (place : Place) : Type 0 where
   pub shallow : IsShallow tokens
   pub stops : StopsAt tokens place
 
--- A place that is too deep, else the place where items end before the tokens do. Running out of memory may come anywhere.
+-- A place that is too deep, else the place where items end before the tokens do. Running out of memory is none.
 abbrev pub IsParseFault : List Token → ParseFault → Type 0
 IsParseFault tokens (TooDeep place) = first_too_deep BRACKET_DEPTH 0 tokens ≡ Some place
 IsParseFault tokens (Syntax place) = IsSyntaxFault tokens place
-IsParseFault tokens Memory = Unit {0}
+IsParseFault tokens Memory = ⊥

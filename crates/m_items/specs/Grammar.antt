@@ -6,9 +6,9 @@ use Rattle.m_ast.specs.declared.item.Item.{Item}
 use Rattle.m_ast.specs.declared.item.Item.TheVariants.{Rule, Verif}
 use Rattle.m_ast.specs.declared.item.RuleItem.{RuleItem}
 use Rattle.m_ast.specs.declared.item.VerifItem.{VerifItem}
-use Rattle.declaration_items.specs.Grammar.{SpellsDeclaration}
-use Rattle.rule_items.specs.Many.{Many}
-use Rattle.rule_items.specs.Grammar.{SpellsRule, SpellsVerification}
+use Rattle.m_items.specs.DeclarationGrammar.{SpellsDeclaration}
+use Rattle.m_items.specs.Many.{Many}
+use Rattle.m_items.specs.RuleGrammar.{SpellsRule, SpellsVerification}
 
 -- item := declaration | rule | verif
 pub data SpellsItem : Item → List Token → List Token → Type 0 where

@@ -1,13 +1,16 @@
 //! Items, one after the other.
 ghost use Rattle.std.specs.Prelude.{◌≡◌, ◌<◌, ◌≤◌, [], length, IfOk, OnOk, IfSome};
-ghost use Rattle.declaration_items.specs.inner.Reading.{Gives};
-ghost use Rattle.rule_items.specs.inner.Reading.{GivesOne};
+ghost use Rattle.m_items.specs.inner.DeclarationReading.{Gives};
+ghost use Rattle.m_items.specs.inner.RuleReading.{GivesOne};
 ghost use Rattle.m_items.specs.inner.Reading.{item_at, items_at};
 
-use declaration_items::{Cursor, ItemFault, declaration};
+use crate::cursor::Cursor;
+use crate::declarations::declaration;
+use crate::item_fault::ItemFault;
+use crate::rule::read_rule;
+use crate::verification::read_verification;
 use m_ast::Item;
 use m_lexer::Key;
-use rule_items::{read_rule, read_verification};
 use std::alloc::{AllocError, Global};
 
 // An item.

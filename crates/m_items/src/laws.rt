@@ -1,9 +1,8 @@
 //! Laws of the grammar, as functions that do nothing.
-ghost use Rattle.std.specs.Prelude.{◌≡◌, ◌≢◌, ◌⊎◌, List, []};
+ghost use Rattle.std.specs.Prelude.{◌≡◌, ◌⊎◌, List, []};
 ghost use Rattle.m_lexer.specs.declared.token.Token.{Token};
 ghost use Rattle.m_ast.specs.declared.item.Item.{Item};
 ghost use Rattle.m_items.specs.declared.fault.ParseFault.{ParseFault};
-ghost use Rattle.m_items.specs.declared.fault.ParseFault.TheVariants.{Memory};
 ghost use Rattle.m_items.specs.Grammar.{SpellsItems};
 ghost use Rattle.m_items.specs.Faults.{IsShallow, IsParseFault};
 
@@ -14,17 +13,16 @@ pub fn one_item_list()
 
 /// Tokens have at most one fault.
 pub fn one_fault()
-    ensures { (tokens : List Token) (f g : ParseFault) → f ≢ Memory → g ≢ Memory → IsParseFault tokens f → IsParseFault tokens g → f ≡ g }
+    ensures { (tokens : List Token) (f g : ParseFault) → IsParseFault tokens f → IsParseFault tokens g → f ≡ g }
 {}
 
 /// Tokens that spell items, and are nowhere too deep, have no fault.
 pub fn no_items_and_fault()
-    ensures { (is : List Item) (tokens : List Token) (fault : ParseFault) → IsShallow tokens → SpellsItems is tokens [] → fault ≢ Memory
-        → IsParseFault tokens fault → ⊥ }
+    ensures { (is : List Item) (tokens : List Token) (fault : ParseFault) → IsShallow tokens → SpellsItems is tokens [] → IsParseFault tokens fault → ⊥ }
 {}
 
 /// Tokens spell items and are nowhere too deep, or they have a fault.
 pub fn items_or_fault()
     ensures { (tokens : List Token) → (IsShallow tokens × ((items : List Item) × SpellsItems items tokens []))
-        ⊎ ((fault : ParseFault) × (fault ≢ Memory) × IsParseFault tokens fault) }
+        ⊎ ((fault : ParseFault) × IsParseFault tokens fault) }
 {}

@@ -6,9 +6,9 @@ ghost use Rattle.m_items.specs.declared.fault.ParseFault.TheVariants.{Memory};
 ghost use Rattle.m_items.specs.Grammar.{SpellsItems};
 ghost use Rattle.m_items.specs.Faults.{IsShallow, IsParseFault};
 
+use crate::cursor::Cursor;
 use crate::fault::ParseFault;
 use crate::items::read_items;
-use declaration_items::Cursor;
 use m_ast::Item;
 use m_lexer::Token;
 use m_places::Seq;

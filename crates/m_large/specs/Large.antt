@@ -1,6 +1,6 @@
 -- The rule base and the household of `large N`, as functions of N.
 use Rattle.std.specs.Prelude.{ℕ, zero, suc, ◌+◌, ◌-◌, ◌*◌, ◌%◌, List, [], ◌∷◌, ◌++◌, codes, decimal}
-use Rattle.text_pieces.specs.Pieces.{new_line, joined}
+use Rattle.m_text.specs.Pieces.{new_line, joined}
 
 abbrev pub base_name : List ℕ
 base_name = codes "large.m"

@@ -1,14 +1,13 @@
 ghost use Rattle.std.specs.Prelude.{◌≡◌, ◌∷◌, [], ◌++◌, ◌+◌, ◌-◌, ◌<◌, ◌≤◌, ◌^◌, IfOk, OnOk, codes, decimal};
 ghost use Rattle.m_places.specs.declared.limits.TheConstants.{LARGE};
-ghost use Rattle.text_pieces.specs.Pieces.{joined};
-ghost use Rattle.text_pieces.specs.Pieces.{new_line};
+ghost use Rattle.m_text.specs.Pieces.{joined};
+ghost use Rattle.m_text.specs.Pieces.{new_line};
 ghost use Rattle.m_large.specs.Large.{base_name, base_text, declarations, rule, rules, first_rule, check};
 
 use itoa::Buffer;
-use m_places::{Name, Seq};
-use rule_text::Text;
+use m_places::{Name, Seq, Text};
+use m_text::append_pieces;
 use std::alloc::{AllocError, Global};
-use text_pieces::append_pieces;
 
 /// The rule file `large.m` of `large N`, for the application `iliad`. Its only error is running out of memory.
 ///

@@ -1,12 +1,12 @@
 ghost use Rattle.std.specs.Prelude.{◌≡◌, ◌∷◌, [], ◌++◌, ◌≤◌, IfOk, OnOk, codes};
 ghost use Rattle.m_places.specs.declared.limits.TheConstants.{LARGE};
-ghost use Rattle.text_pieces.specs.Pieces.{joined};
-ghost use Rattle.text_pieces.specs.Pieces.{new_line};
+ghost use Rattle.m_text.specs.Pieces.{joined};
+ghost use Rattle.m_text.specs.Pieces.{new_line};
 ghost use Rattle.m_large.specs.Large.{household_text, rows};
 
 use itoa::Buffer;
+use m_text::append_pieces;
 use std::alloc::{AllocError, Global};
-use text_pieces::append_pieces;
 
 /// The household of `large N`: a row for each input of `large_base`. Its only error is running out of memory.
 ///

@@ -9,4 +9,4 @@ mod household;
 
 pub use base::large_base;
 pub use household::large_household;
-pub use rule_text::Text;
+pub use m_places::Text;

@@ -3,11 +3,11 @@ use Rattle.std.proofs.Common.{◌≡◌, ℕ, zero, suc, ◌+◌, ◌-◌, ◌<�
 use Rattle.std.specs.Prelude.{codes}
 use Rattle.std.specs.Option.{option_map_or}
 use Rattle.std.proofs.lemmas.List.{drop_more}
-use Rattle.text_pieces.specs.Giving.{Gives}
+use Rattle.m_ports.specs.Giving.{Gives}
 use Rattle.m_ast.specs.Items.{variable_size}
 use Rattle.m_symbols.specs.declared.variable.Variable.{Variable}
 use Rattle.m_symbols.specs.Declarations.{Declared, owners_from, inputs_from}
-use Rattle.m_requests.specs.Cells.{cell_text, printed_cell, cell_name}
+use Rattle.m_symbols.specs.Cells.{cell_text, printed_cell, cell_name}
 use Rattle.micro_m.specs.declared.base.Base.{Base}
 use Rattle.m_lint.specs.declared.finding.Finding.{Finding}
 use Rattle.m_lint.specs.Findings.{IsWithinCounts, AreWithinCounts}

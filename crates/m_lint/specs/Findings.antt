@@ -22,7 +22,7 @@ use Rattle.flat_code.specs.Facts.{facts}
 use Rattle.m_ast.specs.Items.{is_input, is_constant}
 use Rattle.m_symbols.specs.declared.variable.Variable.{Variable}
 use Rattle.m_symbols.specs.Declarations.{Declared}
-use Rattle.m_requests.specs.Cells.{owner_of}
+use Rattle.m_symbols.specs.Cells.{owner_of}
 use Rattle.micro_m.specs.declared.base.Base.{Base}
 use Rattle.micro_m.specs.Bases.{is_among, targets_of}
 use Rattle.m_lint.specs.declared.finding.Finding.{Finding}

@@ -1,11 +1,11 @@
 -- Findings as lines, each with its line feed.
 use Rattle.std.specs.Prelude.{ℕ, List, [], ◌∷◌, ◌++◌, codes, Option, slice_get, slice_index_or}
 use Rattle.std.specs.Option.{option_map_or}
-use Rattle.text_pieces.specs.Pieces.{joined, new_line}
+use Rattle.m_text.specs.Pieces.{joined, new_line}
 use Rattle.m_places.specs.declared.verification.Label.{Label}
 use Rattle.m_symbols.specs.declared.variable.Variable.{Variable}
 use Rattle.m_symbols.specs.Declarations.{Declared, code_of, inputs_from}
-use Rattle.m_requests.specs.Cells.{cell_name}
+use Rattle.m_symbols.specs.Cells.{cell_name}
 use Rattle.micro_m.specs.declared.base.Base.{Base}
 use Rattle.m_lint.specs.declared.finding.Finding.{Finding}
 use Rattle.m_lint.specs.declared.finding.Finding.TheVariants.{NeverDefined, NeverStops, Unused}

@@ -1,9 +1,9 @@
 //! Findings as lines.
 
 ghost use Rattle.std.specs.Prelude.{◌≡◌, Some, length, option_copied};
-ghost use Rattle.text_pieces.specs.Giving.{Gives};
+ghost use Rattle.m_ports.specs.Giving.{Gives};
 ghost use Rattle.m_symbols.specs.Declarations.{owners_from, inputs_from};
-ghost use Rattle.m_requests.specs.Cells.{printed_cell, cell_text};
+ghost use Rattle.m_symbols.specs.Cells.{printed_cell, cell_text};
 ghost use Rattle.micro_m.specs.Bases.{IsValidBase};
 ghost use Rattle.m_lint.specs.Findings.{AreWithinCounts, IsWithinCounts, label_of_check};
 ghost use Rattle.m_lint.specs.Lines.{cell_line, check_line, stops_line, input_line, own_code, finding_line, findings_text};
@@ -12,10 +12,9 @@ use crate::Finding;
 use itoa::Buffer;
 use m_ast::Role;
 use m_places::Label;
-use m_ports::{Failed, Sink};
+use m_ports::{Failed, Sink, give_pieces};
 use m_symbols::{Symbols, Variable};
 use micro_m::Base;
-use text_pieces::give_pieces;
 
 /// Writes the lines of findings: `never defined IRN` by the cell's printed name, `never stops 2000 A20` by the label of the check, or
 /// `unused input 1AJ` by the input's code, each with its line feed. On a failure a prefix of the lines was appended. It takes no memory.

@@ -11,7 +11,7 @@ pub record IsFirstRepeat (names : List (List ℕ)) (earlier later : ℕ) : Type 
   pub distinct : AreDistinct (take later names)
   pub first : index_of (slice_index_or names later []) (take later names) ≡ Some earlier
 
--- what a fault says of the names
+-- what a fault says of the names; running out of memory says nothing of them
 abbrev pub Repeats : List (List ℕ) → NamesFault → Type 0
 Repeats names (Repeated earlier later) = IsFirstRepeat names earlier later
-Repeats names Memory = Unit {0}
+Repeats names Memory = ⊥

@@ -1,7 +1,7 @@
-//! What every other crate speaks of: names, and names that many own, places in rule files, lists that
-//! contracts see as lists, the kinds and labels of verifications, gates for workers, and the limits of the program.
+//! What every other crate speaks of: names, and names that many own, places in rule files, lists that contracts see as lists, the kinds
+//! and labels of verifications, what is compiled as bytes, gates for workers, and the limits of the program.
 //!
-//! This crate stands on `std` and `smallvec` alone, and knows nothing of files, tokens or amounts.
+//! This crate stands on `std` and `smallvec` alone, and knows nothing of files on a disk, tokens or amounts.
 #![tactic(auto)]
 
 mod gate;
@@ -10,6 +10,7 @@ mod name;
 mod place;
 mod seq;
 mod shared;
+mod source;
 mod verification;
 
 pub use gate::{Gate, Open};
@@ -17,4 +18,5 @@ pub use name::{Name, Word};
 pub use place::Place;
 pub use seq::Seq;
 pub use shared::SharedName;
+pub use source::{Source, Text};
 pub use verification::{ErrorKind, Label};

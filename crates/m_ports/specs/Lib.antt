@@ -1,5 +1,9 @@
 pub mod Counts
+pub mod Edge
 pub mod Files
 pub mod MemFiles
 pub mod MemStream
 pub mod Sink
+pub mod Giving
+pub mod Texts
+pub mod Buffers

@@ -1,43 +1,53 @@
-//! Real files and streams as files, inputs and outputs: thin adapters, which tell nothing of content.
+//! Real files and streams as files, inputs and outputs: thin adapters over an opener, a reader and a writer.
 //!
-//! What a real file, pipe or terminal holds is known to no contract, so these are the trusted edge: of
-//! content the contracts speak only over a reader or a writer that tells its own bytes. The counts are
-//! what an adapter counts of its own calls, and not what the system did. Every error that the system
-//! gives is a fault, also one that std's own loops would try again.
-ghost use Rattle.std.specs.Prelude.{◌≡◌, ◌<◌, ◌≤◌, ◌+◌, [], ◌++◌, false, length, IfOk, IfSome, OnErr, IsErrOf};
+//! Each of those may tell its bytes and count its faults. The adapters tell the bytes of an opener alone, and each counts a fault exactly
+//! where a call of what it stands over failed. What a real file, pipe or terminal holds and does is known to no contract, so the calls
+//! of `edge` that reach the system are trusted. Every error that the system gives is a fault, also one that std's own loops would try again.
+ghost use Rattle.std.specs.Prelude.{◌≡◌, ◌<◌, ◌≤◌, ◌+◌, [], ◌++◌, true, false, length, IfOk, IfSome, OnOk, OnErr, IsErrOf};
 ghost use Rattle.std.specs.Str.{is_utf8};
 ghost use Rattle.std.specs.Io.KnownBytes.{ReadConsumes, WriteAppends};
-ghost use Rattle.m_ports.specs.Files.{attempt_of, Holds, IsMissing, IsRefused};
-ghost use Rattle.m_ports.specs.Counts.{Rose, RoseBy, RoseByMore, RoseByMoved, faults_after};
+ghost use Rattle.m_ports.specs.Files.{attempt_of, Holds, HoldsMoreThan, IsMissing, IsRefused};
+ghost use Rattle.m_ports.specs.Counts.{Rose, RoseBy, RoseByMore, RoseByMoved, faults_after, after_failure};
+ghost use Rattle.m_ports.specs.Edge.{after_fetch};
 
 use crate::counts::count_up;
+use crate::edge::{Disk, Opener, Reader, Writer};
 use crate::files::note;
 use crate::{Attempt, Failed, FetchFault, Files, Sink, Source};
 use m_places::Name;
 use std::alloc::Global;
-use std::fs::File;
-use std::io::{Read, Write};
 use std::rt;
 
 /// How many bytes a file is read at a time.
 const PIECE: usize = 8192;
 
-/// The files of the system, by their paths. A name that isn't UTF-8 is that of no file.
+/// Files that an opener opens by their names. A name that isn't UTF-8 is that of no file.
 #[derive(Drop)]
-pub struct HostFiles<'a, H> {
-    rt: &'a H,
+pub struct HostFiles<O> {
+    opener: O,
     attempts: Vec<Attempt>,
     taken: u64,
 }
 
-impl<'a, H: rt::Files> HostFiles<'a, H> {
+impl<'a, H: rt::Files> HostFiles<Disk<'a, H>> {
     /// The files that this runtime opens. It takes no memory.
-    pub fn new(alloc: Global, rt: &'a H) -> HostFiles<'a, H>
-        ensures attempts { ⟦<HostFiles<'a, H> as Files>⟧.attempts result ≡ [] }
-        ensures taken { ⟦<HostFiles<'a, H> as Files>⟧.taken result ≡ 0 }
+    pub fn new(alloc: Global, rt: &'a H) -> HostFiles<Disk<'a, H>>
+        ensures attempts { ⟦<HostFiles<Disk<'a, H>> as Files>⟧.attempts result ≡ [] }
+        ensures taken { ⟦<HostFiles<Disk<'a, H>> as Files>⟧.taken result ≡ 0 }
+    {
+        HostFiles::over(alloc, Disk::new(rt))
+    }
+}
+
+impl<O: Opener> HostFiles<O> {
+    /// The files of this opener. It takes no memory.
+    pub fn over(alloc: Global, opener: O) -> HostFiles<O>
+        ensures opener { result.opener ≡ opener }
+        ensures attempts { ⟦<HostFiles<O> as Files>⟧.attempts result ≡ [] }
+        ensures taken { ⟦<HostFiles<O> as Files>⟧.taken result ≡ 0 }
     {
         HostFiles {
-            rt,
+            opener,
             attempts: Vec::new(alloc),
             taken: 0,
         }
@@ -58,19 +68,20 @@ fn next_piece(room: u64) -> usize
     }
 }
 
-/// Takes to the end, or one byte past the limit. Where the source tells what is left, `Ok` gives all of that. It fails only
-/// where the source did.
-pub fn read_whole<S: Source>(
-    source: &mut S,
+/// Reads the file that is open to its end, or one byte past the limit. Where the opener tells what is left, `Ok` gives all of that. It fails
+/// only where a call of the opener did, which is then the last.
+pub fn read_whole<O: Opener>(
+    opener: &mut O,
     alloc: Global,
     limit: u64,
     taken: &mut u64,
 ) -> Result<Vec<u8>, FetchFault>
-    ensures whole { IfOk result (λ bytes. IfSome (S.left source.old) (λ content. bytes.items ≡ content)) }
+    ensures whole { IfOk result (λ bytes. IfSome (O.remaining opener.old) (λ content. bytes.items ≡ content)) }
     ensures within { IfOk result (λ bytes. length bytes.items ≤ limit) }
-    ensures too_long { IsErrOf result FetchFault.TooLong → IfSome (S.left source.old) (λ content. limit < length content) }
-    ensures failed { IsErrOf result FetchFault.Failed → Rose (S.faults source.old) (S.faults source.new) }
-    ensures moved { RoseByMoved (S.left source.old) (S.left source.new) taken.old taken.new }
+    ensures too_long { IsErrOf result FetchFault.TooLong → IfSome (O.remaining opener.old) (λ content. limit < length content) }
+    ensures failures { O.failures opener.new ≡ after_fetch result (O.failures opener.old) }
+    ensures same { O.told opener.new ≡ O.told opener.old }
+    ensures moved { RoseByMoved (O.remaining opener.old) (O.remaining opener.new) taken.old taken.new }
     ensures took_more { IsErrOf result FetchFault.TooLong → RoseByMore limit taken.old taken.new }
     ensures counted_whole { IfOk result (λ bytes. RoseBy (length bytes.items) taken.old taken.new) }
     ensures counted { taken.old ≤ taken.new }
@@ -81,10 +92,10 @@ pub fn read_whole<S: Source>(
     let mut piece = [0; PIECE];
     loop {
         let room = limit - bytes.len() as u64;
-        let count = match source.take(&mut piece[..next_piece(room)]) {
+        let count = match opener.read_open(&mut piece[..next_piece(room)]) {
             Ok(0) => return Ok(bytes),
             Ok(count) => count,
-            Err(Failed) => return Err(FetchFault::Failed),
+            Err(_) => return Err(FetchFault::Failed),
         };
         *taken = before
             .saturating_add(bytes.len() as u64)
@@ -96,16 +107,21 @@ pub fn read_whole<S: Source>(
     }
 }
 
-/// Opens the file of this name and reads it.
-fn read_file<H: rt::Files>(
-    rt: &H,
+/// Opens the file of this name, reads it and closes it. Each fault of the opener is told, and nothing else is.
+fn read_file<O: Opener>(
+    opener: &mut O,
     alloc: Global,
     name: &[u8],
     limit: u64,
     taken: &mut u64,
 ) -> Result<Vec<u8>, FetchFault>
+    ensures whole { IfOk result (λ bytes. Holds (O.told opener.old) name.now bytes.items) }
     ensures within { IfOk result (λ bytes. length bytes.items ≤ limit) }
-    ensures not_text { is_utf8 name.now ≡ false → IsErrOf result FetchFault.Failed }
+    ensures missing { IsMissing (O.told opener.old) name.now → IsRefused result }
+    ensures too_long { IsErrOf result FetchFault.TooLong → HoldsMoreThan limit (O.told opener.old) name.now }
+    ensures failures { is_utf8 name.now ≡ true → O.failures opener.new ≡ after_fetch result (O.failures opener.old) }
+    ensures not_text { is_utf8 name.now ≡ false → IsErrOf result FetchFault.Failed × (opener.new ≡ opener.old) }
+    ensures same { O.told opener.new ≡ O.told opener.old }
     ensures took_more { IsErrOf result FetchFault.TooLong → RoseByMore limit taken.old taken.new }
     ensures counted_whole { IfOk result (λ bytes. RoseBy (length bytes.items) taken.old taken.new) }
     ensures counted { taken.old ≤ taken.new }
@@ -114,29 +130,34 @@ fn read_file<H: rt::Files>(
     let Ok(path) = str::from_utf8(name) else {
         return Err(FetchFault::Failed);
     };
-    match File::open(rt, path) {
-        Ok(file) => read_whole(&mut HostSource::new(file), alloc, limit, taken),
+    match opener.open(path) {
+        Ok(()) => {
+            let answer = read_whole(opener, alloc, limit, taken);
+            opener.close();
+            answer
+        }
         Err(_) => Err(FetchFault::Failed),
     }
 }
 
-impl<'a, H: rt::Files> Files for HostFiles<'a, H> {
-    ghost use Rattle.std.specs.Prelude.{None};
-
-    ghost told = { λ _. None };
+impl<O: Opener> Files for HostFiles<O> {
+    ghost told = { λ s. O.told s.opener };
 
     ghost attempts = { λ s. s.attempts.items };
 
     ghost taken = { λ s. s.taken };
 
     /// Opens the file of this path and reads it to its end, or one byte past the limit. A name that
-    /// isn't UTF-8 is refused.
+    /// isn't UTF-8 is refused, and nothing is opened.
     fn fetch(&mut self, alloc: Global, name: &Name, limit: u64) -> Result<Vec<u8>, FetchFault>
         ensures attempt { self.new.attempts.items ≡ self.old.attempts.items ++ attempt_of name.now result }
-        ensures whole { IfOk result (λ bytes. Holds None name.now bytes.items) }
+        ensures whole { IfOk result (λ bytes. Holds (O.told self.old.opener) name.now bytes.items) }
         ensures within { IfOk result (λ bytes. length bytes.items ≤ limit) }
-        ensures missing { IsMissing None name.now → IsRefused result }
-        ensures not_text { is_utf8 name.now ≡ false → IsRefused result }
+        ensures missing { IsMissing (O.told self.old.opener) name.now → IsRefused result }
+        ensures too_long { IsErrOf result FetchFault.TooLong → HoldsMoreThan limit (O.told self.old.opener) name.now }
+        ensures failures { is_utf8 name.now ≡ true → O.failures self.new.opener ≡ after_fetch result (O.failures self.old.opener) }
+        ensures not_text { is_utf8 name.now ≡ false → IsRefused result × (self.new.opener ≡ self.old.opener) }
+        ensures same { O.told self.new.opener ≡ O.told self.old.opener }
         ensures took_more { IsErrOf result FetchFault.TooLong → RoseByMore limit self.old.taken self.new.taken }
         ensures counted_whole { IfOk result (λ bytes. RoseBy (length bytes.items) self.old.taken self.new.taken) }
         ensures counted { self.old.taken ≤ self.new.taken }
@@ -144,7 +165,13 @@ impl<'a, H: rt::Files> Files for HostFiles<'a, H> {
     {
         let copy = name.copy(alloc)?;
         self.attempts.reserve(1)?;
-        let answer = read_file(self.rt, alloc, name.bytes(), limit, &mut self.taken);
+        let answer = read_file(
+            &mut self.opener,
+            alloc,
+            name.bytes(),
+            limit,
+            &mut self.taken,
+        );
         note(&mut self.attempts, copy, &answer);
         answer
     }
@@ -158,7 +185,7 @@ pub struct HostSource<R> {
     faults: u64,
 }
 
-impl<R: Read> HostSource<R> {
+impl<R: Reader> HostSource<R> {
     /// The input that this reader gives. It takes no memory.
     pub fn new(reader: R) -> HostSource<R>
         ensures reader { result.reader ≡ reader }
@@ -168,7 +195,7 @@ impl<R: Read> HostSource<R> {
     }
 }
 
-impl<R: Read> Source for HostSource<R> {
+impl<R: Reader> Source for HostSource<R> {
     ghost use Rattle.std.specs.Prelude.{None};
 
     ghost left = { λ _. None };
@@ -181,10 +208,12 @@ impl<R: Read> Source for HostSource<R> {
         ensures within { IfOk result (λ n. n ≤ length piece.new) }
         ensures bytes { ReadConsumes (R.remaining self.old.reader) (R.remaining self.new.reader) result piece.new }
         ensures faults { self.new.faults ≡ faults_after result self.old.faults }
+        ensures reader_failed { OnErr result (R.failures self.new.reader ≡ after_failure (R.failures self.old.reader)) }
+        ensures reader_faultless { OnOk result (R.failures self.new.reader ≡ R.failures self.old.reader) }
         ensures failed { OnErr result (Rose self.old.faults self.new.faults) }
         ensures counted { self.old.faults ≤ self.new.faults }
     {
-        match self.reader.read(piece) {
+        match self.reader.read_piece(piece) {
             Ok(count) => Ok(count),
             Err(_) => {
                 self.faults = count_up(self.faults);
@@ -203,7 +232,7 @@ pub struct HostSink<W> {
     faults: u64,
 }
 
-impl<W: Write> HostSink<W> {
+impl<W: Writer> HostSink<W> {
     /// The output that this writer takes. It takes no memory.
     pub fn new(writer: W) -> HostSink<W>
         ensures writer { result.writer ≡ writer }
@@ -213,7 +242,7 @@ impl<W: Write> HostSink<W> {
     }
 }
 
-impl<W: Write> Sink for HostSink<W> {
+impl<W: Writer> Sink for HostSink<W> {
     ghost use Rattle.std.specs.Prelude.{None};
 
     ghost written = { λ _. None };
@@ -225,10 +254,12 @@ impl<W: Write> Sink for HostSink<W> {
         ensures some { IfOk result (λ n. 0 < length piece.now → 0 < n) }
         ensures bytes { WriteAppends (W.contents self.old.writer) (W.contents self.new.writer) result piece.now }
         ensures faults { self.new.faults ≡ faults_after result self.old.faults }
+        ensures writer_failed { OnErr result (W.failures self.new.writer ≡ after_failure (W.failures self.old.writer)) }
+        ensures writer_faultless { OnOk result (W.failures self.new.writer ≡ W.failures self.old.writer) }
         ensures failed { OnErr result (Rose self.old.faults self.new.faults) }
         ensures counted { self.old.faults ≤ self.new.faults }
     {
-        match self.writer.write(piece) {
+        match self.writer.write_piece(piece) {
             Ok(count) if count > 0 || piece.is_empty() => Ok(count),
             _ => {
                 self.faults = count_up(self.faults);

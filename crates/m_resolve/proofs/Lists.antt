@@ -3,9 +3,9 @@ use Rattle.std.proofs.Common.{◌≡◌, ◌<◌, ◌+◌, ℕ, suc, List, [], �
 use Rattle.std.proofs.Math.Seq.{drop-cons}
 use Rattle.m_ast.specs.Syntax.{Syntax}
 use Rattle.m_ast.specs.View.{terms_of}
-use Rattle.plain_rules.specs.View.{links_of, members_of}
-use Rattle.plain_rules.specs.declared.term.PLink.{PLink}
-use Rattle.plain_rules.specs.declared.term.PMember.{PMember}
+use Rattle.m_ast.specs.PlainView.{links_of, members_of}
+use Rattle.m_ast.specs.declared.plain_term.PLink.{PLink}
+use Rattle.m_ast.specs.declared.plain_term.PMember.{PMember}
 use Rattle.m_symbols.specs.Declarations.{Declared}
 use Rattle.micro_m.specs.Trees.{Tree, chain}
 use Rattle.micro_m.specs.Views.{steps_of}
@@ -13,8 +13,8 @@ use Rattle.micro_m.specs.declared.term.Step.{Step}
 use Rattle.m_fixed.specs.declared.operator.Op.TheVariants.{Or}
 use Rattle.m_resolve.specs.Terms.{if_said, term_said, terms_said, links_said, members_said, member_said}
 use Rattle.micro_m.specs.Bases.{Definition as CellDefinition}
-use Rattle.plain_rules.specs.declared.rules.Definition.{Definition}
-use Rattle.plain_rules.specs.declared.rules.Condition.{Condition}
+use Rattle.m_ast.specs.declared.plain_rules.Definition.{Definition}
+use Rattle.m_ast.specs.declared.plain_rules.Condition.{Condition}
 use Rattle.m_resolve.specs.Bases.{Checks, conditions_said, label_said, error_named, definitions_said, new_target, cells_of, target_said}
 use Rattle.m_resolve.specs.declared.fault.ResolveFault.{ResolveFault}
 

@@ -3,7 +3,7 @@ use Rattle.std.proofs.Common.{◌≡◌, ◌<◌, ℕ, Bool, true, false, cond, 
 use Rattle.m_places.specs.declared.place.Place.{Place}
 use Rattle.m_symbols.specs.Declarations.{Declared}
 use Rattle.micro_m.specs.Bases.{is_among}
-use Rattle.m_requests.specs.Cells.{cell_name}
+use Rattle.m_symbols.specs.Cells.{cell_name}
 use Rattle.m_resolve.specs.Terms.{if_said}
 use Rattle.m_resolve.specs.Bases.{new_target}
 use Rattle.m_resolve.specs.declared.fault.ResolveFault.{ResolveFault}

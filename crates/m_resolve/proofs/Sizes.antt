@@ -2,9 +2,9 @@
 use Rattle.std.proofs.Common.{◌≡◌, ◌≤◌, ◌<◌, ◌+◌, ℕ, zero, suc, List, [], ◌∷◌, length, get_or, ap, arith}
 use Rattle.m_ast.specs.Syntax.{Syntax, nodes, nodes_of_terms, nodes_of_links, nodes_of_members}
 use Rattle.m_ast.specs.View.{terms_of}
-use Rattle.plain_rules.specs.View.{links_of, members_of}
-use Rattle.plain_rules.specs.declared.term.PLink.{PLink}
-use Rattle.plain_rules.specs.declared.term.PMember.{PMember}
+use Rattle.m_ast.specs.PlainView.{links_of, members_of}
+use Rattle.m_ast.specs.declared.plain_term.PLink.{PLink}
+use Rattle.m_ast.specs.declared.plain_term.PMember.{PMember}
 
 pub term_size : (all : List Syntax) (i : ℕ) (a : Syntax) → i < length all → a ≡ get_or all i a → nodes a ≤ nodes_of_terms (terms_of all)
 term_size [] i a h e = absurd (omega arith)

@@ -13,10 +13,10 @@ use Rattle.m_ast.specs.declared.variable.Role.{Role}
 use Rattle.m_ast.specs.declared.variable.Role.TheVariants.{Input, Computed, Constant}
 use Rattle.m_symbols.specs.declared.variable.Variable.{Variable}
 use Rattle.m_symbols.specs.Declarations.{Declared, names_of, owners_from}
-use Rattle.m_requests.specs.Cells.{variable_named}
-use Rattle.m_requests.specs.Placed.{IsPlaced}
-use Rattle.m_requests.proofs.Placing.{placed_ends, fits, table_sized}
-use Rattle.plain_rules.specs.declared.rules.Definition.{Definition}
+use Rattle.m_symbols.specs.Cells.{variable_named}
+use Rattle.m_symbols.specs.Placed.{IsPlaced}
+use Rattle.m_symbols.proofs.Placing.{placed_ends, fits, table_sized}
+use Rattle.m_ast.specs.declared.plain_rules.Definition.{Definition}
 use Rattle.m_resolve.specs.Bases.{target_in, target_of, target_said, computed_target, table_target}
 use Rattle.m_resolve.specs.declared.fault.ResolveFault.{ResolveFault}
 use Rattle.m_resolve.specs.declared.fault.ResolveFault.TheVariants.{BadTarget, Memory}

@@ -21,13 +21,13 @@ use Rattle.micro_m.specs.declared.base.Base.{Base}
 use Rattle.micro_m.specs.Bases.{Definition as CellDefinition, is_among, AreDistinctCells, IsWithin, AreWithin, StepsAreWithin, IsValidBase}
 use Rattle.micro_m.specs.Failures.{Check}
 use Rattle.micro_m.proofs.NumberLemmas.{AreDistinct-push}
-use Rattle.m_requests.specs.Cells.{variable_named}
-use Rattle.m_requests.specs.Placed.{IsPlaced, items_of}
-use Rattle.m_requests.proofs.Placing.{placed_ends}
-use Rattle.plain_rules.specs.Members.{is_single}
-use Rattle.plain_rules.specs.declared.rules.Plain.{Plain}
-use Rattle.plain_rules.specs.declared.rules.Definition.{Definition}
-use Rattle.plain_rules.specs.declared.rules.Condition.{Condition}
+use Rattle.m_symbols.specs.Cells.{variable_named}
+use Rattle.m_symbols.specs.Placed.{IsPlaced, items_of}
+use Rattle.m_symbols.proofs.Placing.{placed_ends}
+use Rattle.m_ast.specs.Members.{is_single}
+use Rattle.m_ast.specs.declared.plain_rules.Plain.{Plain}
+use Rattle.m_ast.specs.declared.plain_rules.Definition.{Definition}
+use Rattle.m_ast.specs.declared.plain_rules.Condition.{Condition}
 use Rattle.m_resolve.specs.Terms.{if_said, cell_said, cell_of_variable, whole_cell, table_said, table_of_variable, table_cells, member_by, any_of, membership, term_said, terms_said, links_said, members_said}
 use Rattle.m_resolve.specs.Bases.{target_said, new_target, cells_of, definition_said, definitions_said, Checks, with_condition, conditions_said, label_said, error_named, constant_in, constants_of, base_with, resolved}
 use Rattle.m_resolve.specs.declared.fault.ResolveFault.{ResolveFault}

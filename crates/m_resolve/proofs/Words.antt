@@ -4,7 +4,7 @@ use Rattle.std.specs.Option.{option_map}
 use Rattle.std.proofs.lemmas.List.{take_more, map-append, length-map}
 use Rattle.std.proofs.lemmas.Option.{get_or_from_slice_get, slice_get-map, slice_get_read}
 use Rattle.m_ast.specs.declared.item.ErrorItem.{ErrorItem}
-use Rattle.plain_rules.specs.declared.rules.Condition.{Condition}
+use Rattle.m_ast.specs.declared.plain_rules.Condition.{Condition}
 use Rattle.m_resolve.specs.declared.checks.ErrorWords.{ErrorWords}
 use Rattle.m_resolve.specs.Bases.{label_said}
 use Rattle.m_resolve.specs.inner.Words.{words_of, label_with, said_with}

@@ -15,10 +15,10 @@ use Rattle.m_symbols.specs.Declarations.{Declared, owners_from, error_names_of}
 use Rattle.micro_m.specs.Bases.{Definition as CellDefinition, is_among}
 use Rattle.micro_m.specs.Failures.{Check}
 use Rattle.micro_m.specs.declared.base.Base.{Base}
-use Rattle.m_requests.specs.Cells.{cell_name, variable_named}
-use Rattle.plain_rules.specs.declared.rules.Plain.{Plain}
-use Rattle.plain_rules.specs.declared.rules.Definition.{Definition}
-use Rattle.plain_rules.specs.declared.rules.Condition.{Condition}
+use Rattle.m_symbols.specs.Cells.{cell_name, variable_named}
+use Rattle.m_ast.specs.declared.plain_rules.Plain.{Plain}
+use Rattle.m_ast.specs.declared.plain_rules.Definition.{Definition}
+use Rattle.m_ast.specs.declared.plain_rules.Condition.{Condition}
 use Rattle.m_resolve.specs.declared.fault.ResolveFault.{ResolveFault}
 use Rattle.m_resolve.specs.declared.fault.ResolveFault.TheVariants.{UnknownName, NotATable, IsATable, BadTarget, DefinedTwice, UnknownError}
 use Rattle.m_resolve.specs.Terms.{if_said, term_said}

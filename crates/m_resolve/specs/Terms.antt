@@ -10,8 +10,8 @@ use Rattle.m_symbols.specs.Declarations.{Declared}
 use Rattle.micro_m.specs.Trees.{Tree, lit as lit_tree, cell as cell_tree, pick, apply as apply_tree, chain as chain_tree, none, more}
 use Rattle.micro_m.specs.Views.{trees_of, steps_of}
 use Rattle.micro_m.specs.declared.term.Step.{Step}
-use Rattle.m_requests.specs.Cells.{variable_named}
-use Rattle.plain_rules.specs.Members.{is_single}
+use Rattle.m_symbols.specs.Cells.{variable_named}
+use Rattle.m_ast.specs.Members.{is_single}
 use Rattle.m_resolve.specs.declared.fault.ResolveFault.{ResolveFault}
 use Rattle.m_resolve.specs.declared.fault.ResolveFault.TheVariants.{UnknownName, NotATable, IsATable}
 

@@ -10,11 +10,10 @@ ghost use Rattle.m_resolve.specs.declared.fault.ResolveFault.TheVariants.{Memory
 
 use crate::ResolveFault;
 use crate::terms::term;
-use m_ast::ErrorItem;
+use m_ast::{Condition, ErrorItem};
 use m_places::{ErrorKind, Label, Name, Place, SharedName};
 use m_symbols::Symbols;
 use micro_m::MTerm;
-use plain_rules::Condition;
 use std::alloc::{AllocError, Global};
 
 /// Checks over cells, each with the number of its label, and the labels.

@@ -5,7 +5,7 @@ ghost use Rattle.m_places.specs.Refusals.{Says};
 ghost use Rattle.m_places.specs.declared.place.Place.{Place};
 ghost use Rattle.m_symbols.specs.Declarations.{owners_from};
 ghost use Rattle.micro_m.specs.Bases.{Definition as CellDefinition, is_among};
-ghost use Rattle.m_requests.specs.Placed.{IsPlaced};
+ghost use Rattle.m_symbols.specs.Placed.{IsPlaced};
 ghost use Rattle.m_resolve.specs.Terms.{if_said, term_said};
 ghost use Rattle.m_resolve.specs.Bases.{definitions_said, definition_said, target_said, new_target, cells_of};
 ghost use Rattle.m_resolve.specs.inner.Marks.{Marks};
@@ -14,11 +14,10 @@ ghost use Rattle.m_resolve.specs.declared.fault.ResolveFault.TheVariants.{Memory
 use crate::ResolveFault;
 use crate::targets::target;
 use crate::terms::term;
+use m_ast::Definition;
 use m_places::Place;
-use m_requests::cell_name;
-use m_symbols::Symbols;
+use m_symbols::{Symbols, cell_name};
 use micro_m::MTerm;
-use plain_rules::Definition;
 use std::alloc::Global;
 
 /// Definitions over cells, in order, or the fault of the first that has one.

@@ -3,7 +3,7 @@
 ghost use Rattle.std.specs.Prelude.{◌≡◌, Ok, Err};
 ghost use Rattle.std.specs.Option.{option_copied};
 ghost use Rattle.m_places.specs.Refusals.{Says};
-ghost use Rattle.m_requests.specs.Cells.{variable_named};
+ghost use Rattle.m_symbols.specs.Cells.{variable_named};
 ghost use Rattle.m_resolve.specs.Terms.{cell_said, cell_of_variable, table_said, table_of_variable};
 ghost use Rattle.m_resolve.specs.declared.fault.ResolveFault.TheVariants.{Memory};
 

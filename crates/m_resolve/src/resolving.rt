@@ -5,19 +5,18 @@ ghost use Rattle.std.specs.List.{cons_option};
 ghost use Rattle.m_places.specs.Refusals.{Says};
 ghost use Rattle.m_places.specs.declared.limits.TheConstants.{PARTS};
 ghost use Rattle.micro_m.specs.Bases.{IsValidBase};
-ghost use Rattle.m_requests.specs.Placed.{IsPlaced};
+ghost use Rattle.m_symbols.specs.Placed.{IsPlaced};
 ghost use Rattle.m_resolve.specs.Bases.{resolved, constants_of, constant_in};
 ghost use Rattle.m_resolve.specs.declared.fault.ResolveFault.TheVariants.{Memory};
 
 use crate::ResolveFault;
 use crate::checks::{Checked, checks};
 use crate::definitions::definitions;
-use m_ast::Role;
+use m_ast::{Plain, Role};
 use m_fixed::Amount;
 use m_places::Seq;
 use m_symbols::{Symbols, Variable};
 use micro_m::Base;
-use plain_rules::Plain;
 use std::alloc::{AllocError, Global};
 
 /// The base of plain rules over the cells of what is declared, or the first fault of a name: all definitions come first, in order, and

@@ -4,16 +4,15 @@ ghost use Rattle.std.specs.Prelude.{◌≡◌, ◌<◌, ◌≤◌, ◌+◌, ◌^
 ghost use Rattle.m_places.specs.Refusals.{Outcome, Says};
 ghost use Rattle.m_ast.specs.Items.{variable_size};
 ghost use Rattle.m_symbols.specs.Declarations.{owners_from};
-ghost use Rattle.m_requests.specs.Placed.{IsPlaced};
+ghost use Rattle.m_symbols.specs.Placed.{IsPlaced};
 ghost use Rattle.m_resolve.specs.Bases.{target_said, target_in, table_target, unsettable_fault};
 ghost use Rattle.m_resolve.specs.declared.fault.ResolveFault.TheVariants.{Memory};
 
 use crate::ResolveFault;
 use crate::names::variable_named;
-use m_ast::{Role, Slot};
+use m_ast::{Definition, Role, Slot};
 use m_places::{Name, Place, SharedName};
 use m_symbols::{Symbols, Variable};
-use plain_rules::Definition;
 use std::alloc::Global;
 
 /// The cell that a definition is of, whatever is defined besides.

@@ -5,18 +5,18 @@ ghost use Rattle.m_places.specs.Refusals.{Says};
 ghost use Rattle.micro_m.specs.Trees.{cell as cell_tree, pick, apply, chain, none, more};
 ghost use Rattle.micro_m.specs.Views.{tree_of, trees_of, steps_of};
 ghost use Rattle.m_ast.specs.View.{terms_of};
-ghost use Rattle.plain_rules.specs.View.{links_of, members_of};
+ghost use Rattle.m_ast.specs.PlainView.{links_of, members_of};
 ghost use Rattle.m_resolve.specs.Terms.{cell_said, table_said, term_said, terms_said, links_said};
 ghost use Rattle.m_resolve.specs.Terms.{members_said, member_said, member_by, membership, any_of, x_name, if_said};
 ghost use Rattle.m_resolve.specs.declared.fault.ResolveFault.TheVariants.{Memory};
 
 use crate::ResolveFault;
 use crate::names::{cell_of, table_of};
+use m_ast::{PLink, PMember, PNode, PTerm, is_plain_single};
 use m_fixed::{Op, Value};
 use m_places::{Name, Place, SharedName};
 use m_symbols::Symbols;
 use micro_m::{MNode, MTerm, Step};
-use plain_rules::{PLink, PMember, PNode, PTerm, is_plain_single};
 use std::alloc::{AllocError, Global};
 
 // The name that `X` is in a term.

@@ -5,3 +5,8 @@ pub mod Found
 pub mod Indexed
 pub mod Numbered
 pub mod Turns
+pub mod Closing
+pub mod Placing
+pub mod Outcomes
+pub mod Filters
+pub mod Values

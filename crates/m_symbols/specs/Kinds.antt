@@ -23,3 +23,8 @@ is_one_of (Some value) values = has_amount value values
 -- whether a variable is an input whose last pair with this attribute has one of these values
 abbrev pub is_of_kind : Variable → List ℕ → List ℤ → Bool
 is_of_kind v attribute values = is_input v.item.role && is_one_of (last_value attribute v.item.pairs) values
+
+-- the same of a variable that is there
+abbrev pub is_in_kind : Option Variable → List ℕ → List ℤ → Bool
+is_in_kind None attribute values = false
+is_in_kind (Some v) attribute values = is_of_kind v attribute values

@@ -2,9 +2,12 @@
 ghost use Rattle.std.specs.Prelude.{◌≡◌, ◌<◌, Some, length, slice_get, slice_index, IfSome};
 ghost use Rattle.m_names.specs.Names.{index_of};
 ghost use Rattle.m_symbols.specs.Declarations.{names_of, error_names_of, codes_of, owners_from, inputs_from};
+ghost use Rattle.m_symbols.specs.Kinds.{is_in_kind, last_value, has_amount};
 
 use crate::{Symbols, Variable};
-use m_ast::ErrorItem;
+use m_ast::{ErrorItem, Role};
+use m_fixed::Amount;
+use m_places::Name;
 
 impl Symbols {
     /// How many variables there are.
@@ -70,6 +73,22 @@ impl Symbols {
         self.tables.codes.number(code)
     }
 
+    /// Whether the variable of this number, which is below the count, is an input whose last pair
+    /// with this attribute has one of these values: `avfisc = 1` and 1 or 2, say.
+    pub fn in_kind(&self, v: u32, attribute: &[u8], values: &[Amount]) -> bool
+        requires { v < length self.now.variables }
+        ensures { result ≡ is_in_kind (slice_get self.now.variables v) attribute.now values.now }
+    {
+        let item = &self.variable(v).item;
+        if !matches!(&item.role, Role::Input(_)) {
+            return false;
+        }
+        match last_value(item.pairs.as_slice(), attribute) {
+            Some(value) => has_amount(values, value),
+            None => false,
+        }
+    }
+
     /// How many errors there are.
     pub fn errors(&self) -> u32
         ensures { result ≡ length self.now.errors }
@@ -92,4 +111,29 @@ impl Symbols {
     {
         self.tables.error_names.number(name)
     }
+}
+
+// The value of the last pair with this attribute.
+fn last_value(pairs: &[(Name, Amount)], attribute: &[u8]) -> Option<Amount>
+    ensures { result ≡ last_value attribute.now pairs.now }
+{
+    let mut last = None;
+    for (name, value) in pairs {
+        if attribute == name.bytes() {
+            last = Some(*value);
+        }
+    }
+    last
+}
+
+// Whether an amount is among amounts.
+fn has_amount(amounts: &[Amount], value: Amount) -> bool
+    ensures { result ≡ has_amount value amounts.now }
+{
+    for amount in amounts {
+        if value.millionths() == amount.millionths() {
+            return true;
+        }
+    }
+    false
 }

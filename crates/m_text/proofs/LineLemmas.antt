@@ -8,7 +8,7 @@ use Rattle.std.proofs.lemmas.List.{take_rest, drop_all}
 use Rattle.std.proofs.lemmas.List.Sums.{position_or_len_is}
 use Rattle.std.proofs.lemmas.Str.{IsUtf8-from_is_utf8, is_utf8-from_IsUtf8}
 use Rattle.m_text.specs.Bytes.{RunsTo, line_feed}
-use Rattle.m_text.specs.Lines.{lines_of, onto_first, begins_with_feed, without_return}
+use Rattle.m_text.specs.Lines.{lines_of, exact_lines_of, onto_first, begins_with_feed, without_return}
 
 -- what std's reader of UTF-8 tells
 pub is_utf8-from_read : {T E : Type 0} (bytes : List ℕ) (read : Result T E) (P : T → Type 0) (Q : E → Type 0) → MatchResult read (λ text. P text × IsUtf8 bytes) (λ fault. (IsUtf8 bytes → ⊥) × Q fault) → is_ok read ≡ is_utf8 bytes
@@ -103,3 +103,38 @@ lines_of-whole bytes n e p some =
     let has_some = eqb-false (length bytes) 0 some in
     let behind : length bytes ≤ n = omega arith in
     rw (take_rest, drop_all) (lines_of-no_feed bytes (omega (arith, has_some)) (omega arith))
+
+-- ---- lines as they stand
+
+exact_step : (byte : ℕ) (bytes : List ℕ) (n : ℕ) → ((m : ℕ) → feed_place bytes ≡ m → m < length bytes → exact_lines_of bytes ≡ take m bytes ∷ exact_lines_of (drop (suc m) bytes))
+    → (t : Bool) → eqb byte 10 ≡ t → cond (not t) (1 + feed_place bytes) 0 ≡ n → n < suc (length bytes) → exact_lines_of (byte ∷ bytes) ≡ take n (byte ∷ bytes) ∷ exact_lines_of (drop n bytes)
+exact_step byte bytes n behind true e p l = subst (λ (k : ℕ). exact_lines_of (byte ∷ bytes) ≡ take k (byte ∷ bytes) ∷ exact_lines_of (drop k bytes)) p (rw e refl)
+exact_step byte bytes n behind false e p l =
+    let next : suc (feed_place bytes) ≡ n = omega arith in
+    let within : feed_place bytes < length bytes = omega arith in
+    let other : exact_lines_of (byte ∷ bytes) ≡ onto_first byte (exact_lines_of bytes) = rw e refl in
+    subst (λ (k : ℕ). exact_lines_of (byte ∷ bytes) ≡ take k (byte ∷ bytes) ∷ exact_lines_of (drop k bytes)) next (other ∙ ap (onto_first byte) (behind (feed_place bytes) refl within))
+
+-- the first line ends at the first line feed
+exact-at_feed : (bytes : List ℕ) (n : ℕ) → feed_place bytes ≡ n → n < length bytes → exact_lines_of bytes ≡ take n bytes ∷ exact_lines_of (drop (suc n) bytes)
+exact-at_feed [] n p l = absurd (omega arith)
+exact-at_feed (byte ∷ bytes) n p l = exact_step byte bytes n (exact-at_feed bytes) (eqb byte 10) refl p l
+
+-- a text without a line feed is one line
+exact-no_feed : (bytes : List ℕ) → 0 < length bytes → length bytes ≤ feed_place bytes → exact_lines_of bytes ≡ bytes ∷ []
+exact-no_feed [] l h = absurd (omega arith)
+exact-no_feed (byte ∷ []) l h = rw (last_other byte [] h).0 refl
+exact-no_feed (byte ∷ c ∷ cs) l h =
+    let p = last_other byte (c ∷ cs) h in
+    let other : exact_lines_of (byte ∷ c ∷ cs) ≡ onto_first byte (exact_lines_of (c ∷ cs)) = rw p.0 refl in
+    other ∙ ap (onto_first byte) (exact-no_feed (c ∷ cs) (omega arith) p.1)
+
+-- the same, as code cuts the text
+pub exact-cut : (bytes : List ℕ) (n : ℕ) → n ≡ feed_place bytes → n < length bytes → exact_lines_of bytes ≡ take n bytes ∷ exact_lines_of (take (length bytes - (n + 1)) (drop (n + 1) bytes))
+exact-cut bytes n p l = rw (take_rest, add-one) (exact-at_feed bytes n (sym p) l)
+
+pub exact-whole : (bytes : List ℕ) (n : ℕ) → n ≡ length bytes → n ≡ feed_place bytes → eqb (length bytes) 0 ≡ false → exact_lines_of bytes ≡ bytes ∷ exact_lines_of (take (length bytes - n) (drop n bytes))
+exact-whole bytes n e p some =
+    let has_some = eqb-false (length bytes) 0 some in
+    let behind : length bytes ≤ n = omega arith in
+    rw (take_rest, drop_all) (exact-no_feed bytes (omega (arith, has_some)) (omega arith))

@@ -24,6 +24,11 @@ abbrev pub lines_of : List ℕ → List (List ℕ)
 lines_of [] = []
 lines_of (byte ∷ bytes) = lines_from byte (begins_with_feed bytes) (lines_of bytes)
 
+-- The lines of a text as they stand, without the line feeds that end them and with all other bytes: `a\r\n` has the line `a\r`.
+abbrev pub exact_lines_of : List ℕ → List (List ℕ)
+exact_lines_of [] = []
+exact_lines_of (byte ∷ bytes) = if byte == line_feed then [] ∷ exact_lines_of bytes else onto_first byte (exact_lines_of bytes)
+
 -- a line without the carriage return at its end, if it has one
 abbrev pub without_return : List ℕ → List ℕ
 without_return [] = []

@@ -2,7 +2,7 @@
 
 ghost use Rattle.std.specs.Prelude.{◌≡◌, ◌+◌, ◌<◌, ◌==◌, [], ◌∷◌, length, drop, IfSome, MatchOption};
 ghost use Rattle.std.specs.Str.{is_utf8};
-ghost use Rattle.m_text.specs.Lines.{lines_of, without_return};
+ghost use Rattle.m_text.specs.Lines.{lines_of, exact_lines_of, without_return};
 
 use crate::runs::line_end;
 
@@ -22,6 +22,23 @@ pub fn first_line(bytes: &[u8]) -> Option<(&[u8], &[u8])>
         return Some((bytes, &bytes[end..]));
     }
     Some((without_return(&bytes[..end]), &bytes[end + 1..]))
+}
+
+/// The first line of a text as it stands, and what stands after its line feed; `None` where the text is empty. Takes no memory.
+///
+/// `first_exact_line(b"iliad\r\na.m")` is the line `iliad\r` and the rest `a.m`.
+pub fn first_exact_line(bytes: &[u8]) -> Option<(&[u8], &[u8])>
+    ensures first { MatchOption result (bytes.now ≡ []) (λ r. exact_lines_of bytes.now ≡ r.0.now ∷ exact_lines_of r.1.now) }
+    ensures shorter { IfSome result (λ r. length r.1.now < length bytes.now) }
+{
+    if bytes.is_empty() {
+        return None;
+    }
+    let end = line_end(bytes, 0);
+    if end == bytes.len() {
+        return Some((bytes, &bytes[end..]));
+    }
+    Some((&bytes[..end], &bytes[end + 1..]))
 }
 
 /// A line without the carriage return at its end, if it has one. Takes no memory.

@@ -6,6 +6,7 @@
 
 mod base;
 mod laws;
+mod slow;
 mod table;
 mod term;
 mod value;
@@ -13,6 +14,7 @@ mod value;
 pub use base::{Base, Failure};
 pub use laws::{further_turns_change_nothing, only_reads_matter, solution_is_one, values_solve};
 pub use m_places::{ErrorKind, Label};
+pub use slow::slow_value;
 pub use table::{Picked, pick};
 pub use term::{MNode, MTerm, Step};
 pub use value::{first_failing, is_stopping, kind_at, term_value};

@@ -63,7 +63,7 @@ fn folded(so_far: Value, steps: &[Step], values: &[Value]) -> Value
 }
 
 /// The value at a cell's number, and undefined beyond the last.
-fn value_at(values: &[Value], cell: usize) -> Value
+pub(crate) fn value_at(values: &[Value], cell: usize) -> Value
     ensures { result ≡ environment values.now cell }
 {
     match values.get(cell) {

@@ -9,15 +9,15 @@ use Rattle.m_ast.specs.Items.{variable_size, variable_cells}
 use Rattle.m_symbols.specs.declared.variable.Variable.{Variable}
 use Rattle.m_symbols.specs.Declarations.{Declared, names_of, owners_from, placed_from}
 use Rattle.m_symbols.specs.Kinds.{is_of_kind}
-use Rattle.input_kinds.specs.declared.index.KindIndex.{KindIndex}
-use Rattle.input_kinds.specs.Ascending.{ascending, Ascends}
-use Rattle.input_kinds.specs.Groups.{groups_in}
-use Rattle.input_kinds.specs.Kinds.{cells_with, IsIndexOf}
-use Rattle.input_kinds.proofs.Orders.{same, ascending-ascends, ascends-from, times-ascending}
-use Rattle.input_kinds.proofs.GroupLemmas.{groups-with}
-use Rattle.m_requests.specs.Cells.{variable_named}
-use Rattle.m_requests.specs.Placed.{IsPlaced, items_of}
-use Rattle.m_requests.proofs.Placing.{fits, table_sized}
+use Rattle.driver_core.specs.declared.kind_index.KindIndex.{KindIndex}
+use Rattle.driver_core.specs.Ascending.{ascending, Ascends}
+use Rattle.driver_core.specs.Groups.{groups_in}
+use Rattle.driver_core.specs.Kinds.{cells_with, IsIndexOf}
+use Rattle.driver_core.proofs.Orders.{same, ascending-ascends, ascends-from, times-ascending}
+use Rattle.driver_core.proofs.GroupLemmas.{groups-with}
+use Rattle.m_symbols.specs.Cells.{variable_named}
+use Rattle.m_symbols.specs.Placed.{IsPlaced, items_of}
+use Rattle.m_symbols.proofs.Placing.{fits, table_sized}
 use Rattle.mpp_parser.specs.declared.term.Kind.TheVariants.{Attribute}
 use Rattle.mpp_core.specs.Names.{with_kind, cells_of_kind, kind_cells}
 

@@ -14,9 +14,9 @@ use Rattle.m_ast.specs.Items.{cells_in, size_in, is_input, variable_cells, varia
 use Rattle.m_symbols.specs.declared.variable.Variable.{Variable}
 use Rattle.m_symbols.specs.Declarations.{Declared, owners_from}
 use Rattle.m_symbols.specs.Kinds.{is_of_kind, is_one_of, last_value}
-use Rattle.m_requests.specs.Cells.{variable_named}
-use Rattle.m_requests.specs.Placed.{IsPlaced}
-use Rattle.m_requests.proofs.Placing.{placed_ends}
+use Rattle.m_symbols.specs.Cells.{variable_named}
+use Rattle.m_symbols.specs.Placed.{IsPlaced}
+use Rattle.m_symbols.proofs.Placing.{placed_ends}
 use Rattle.mpp_parser.specs.Trees.{Term, lit, named, apply, chain, exists, Terms, no_terms, a_term, Links, no_links, a_link}
 use Rattle.mpp_parser.specs.Commands.{Act, set, del, when, partition, call, Acts, no_acts, an_act}
 use Rattle.mpp_parser.specs.CommandView.{block_of as acts_of}

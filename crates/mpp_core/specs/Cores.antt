@@ -5,7 +5,7 @@ use Rattle.m_ast.specs.Items.{is_constant}
 use Rattle.m_symbols.specs.declared.variable.Variable.{Variable}
 use Rattle.m_symbols.specs.Declarations.{Declared, owners_from}
 use Rattle.micro_m.specs.Reads.{BeginsWithLeast}
-use Rattle.m_requests.specs.Cells.{owner_of}
+use Rattle.m_symbols.specs.Cells.{owner_of}
 use Rattle.mpp_parser.specs.declared.command.Driver.{Driver}
 use Rattle.driver_core.specs.declared.program.Core.{Core}
 use Rattle.driver_core.specs.Actions.{Action, solve}

@@ -7,7 +7,7 @@ use Rattle.m_ast.specs.Items.{variable_size, is_constant}
 use Rattle.m_symbols.specs.declared.variable.Variable.{Variable}
 use Rattle.m_symbols.specs.Declarations.{Declared}
 use Rattle.m_symbols.specs.Kinds.{is_of_kind}
-use Rattle.m_requests.specs.Cells.{variable_named}
+use Rattle.m_symbols.specs.Cells.{variable_named}
 use Rattle.mpp_parser.specs.declared.term.CellName.{CellName}
 use Rattle.mpp_parser.specs.declared.term.Kind.{Kind}
 use Rattle.mpp_parser.specs.declared.term.Kind.TheVariants.{Attribute}

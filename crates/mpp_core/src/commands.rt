@@ -2,7 +2,7 @@
 
 ghost use Rattle.std.specs.Prelude.{◌≡◌, ◌<◌, ◌^◌, Ok, Err, [], IfOk, length};
 ghost use Rattle.m_places.specs.Refusals.{Says};
-ghost use Rattle.m_requests.specs.Placed.{IsPlaced};
+ghost use Rattle.m_symbols.specs.Placed.{IsPlaced};
 ghost use Rattle.mpp_parser.specs.CommandView.{block_of as acts_of};
 ghost use Rattle.driver_core.specs.Actions.{assign, clear, branch, partition};
 ghost use Rattle.driver_core.specs.ActionView.{action_of, block_of};

@@ -2,7 +2,7 @@
 
 ghost use Rattle.std.specs.Prelude.{◌≡◌, ◌≢◌, ◌<◌, ◌^◌, Ok, Err, [], IfOk, length, map};
 ghost use Rattle.m_places.specs.Refusals.{Says};
-ghost use Rattle.m_requests.specs.Placed.{IsPlaced};
+ghost use Rattle.m_symbols.specs.Placed.{IsPlaced};
 ghost use Rattle.mpp_core.specs.Names.{name_said, names_said, main_said, name_in};
 ghost use Rattle.mpp_core.specs.Bodies.{bodies_said};
 ghost use Rattle.mpp_core.specs.declared.fault.CoreFault.TheVariants.{Memory, FunctionTwice};

@@ -4,8 +4,8 @@ ghost use Rattle.std.specs.Prelude.{◌≡◌, ◌≢◌, ◌+◌, ◌≤◌, �
 ghost use Rattle.std.specs.Option.{option_copied};
 ghost use Rattle.m_places.specs.Refusals.{Says};
 ghost use Rattle.m_ast.specs.Items.{variable_size};
-ghost use Rattle.m_requests.specs.Cells.{variable_named};
-ghost use Rattle.m_requests.specs.Placed.{IsPlaced};
+ghost use Rattle.m_symbols.specs.Cells.{variable_named};
+ghost use Rattle.m_symbols.specs.Placed.{IsPlaced};
 ghost use Rattle.mpp_core.specs.Names.{cell_said, cell_at, target_said, constant_target, targets_said, each_once};
 ghost use Rattle.mpp_core.specs.declared.fault.CoreFault.TheVariants.{Memory, UnknownInDriver};
 

@@ -3,7 +3,7 @@
 ghost use Rattle.std.specs.Prelude.{◌≡◌, ◌<◌, ◌^◌, Ok, Err, IfOk, [], length};
 ghost use Rattle.m_places.specs.Refusals.{Outcome, Says};
 ghost use Rattle.m_symbols.specs.Declarations.{owners_from};
-ghost use Rattle.m_requests.specs.Placed.{IsPlaced};
+ghost use Rattle.m_symbols.specs.Placed.{IsPlaced};
 ghost use Rattle.driver_core.specs.Valid.{IsValidCore};
 ghost use Rattle.mpp_core.specs.Cores.{IsCore, IsCoreFault, core_of};
 ghost use Rattle.mpp_core.specs.Names.{names_said};

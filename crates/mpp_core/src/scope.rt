@@ -1,11 +1,11 @@
 //! Where the names of a driver are looked up.
 
 ghost use Rattle.std.specs.Prelude.{◌≡◌, IfOk};
-ghost use Rattle.m_requests.specs.Placed.{IsPlaced};
+ghost use Rattle.m_symbols.specs.Placed.{IsPlaced};
 ghost use Rattle.mpp_parser.specs.declared.term.Kind.TheVariants.{Attribute};
 ghost use Rattle.mpp_core.specs.Names.{kind_cells};
 
-use input_kinds::{KindCells, KindIndex};
+use driver_core::{KindCells, KindIndex};
 use m_fixed::Amount;
 use m_places::{Name, Seq};
 use m_symbols::Symbols;
@@ -26,7 +26,7 @@ impl<'a> Model for Scope<'a> {
 
     ghost Value = { Declared };
 
-    ghost use Rattle.input_kinds.specs.Kinds.{IsIndexOf};
+    ghost use Rattle.driver_core.specs.Kinds.{IsIndexOf};
 
     ghost view = { λ s. s.symbols.now };
 

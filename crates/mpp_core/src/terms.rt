@@ -2,7 +2,7 @@
 
 ghost use Rattle.std.specs.Prelude.{◌≡◌, Ok, Err, [], IfOk};
 ghost use Rattle.m_places.specs.Refusals.{Says};
-ghost use Rattle.m_requests.specs.Placed.{IsPlaced};
+ghost use Rattle.m_symbols.specs.Placed.{IsPlaced};
 ghost use Rattle.mpp_parser.specs.TermView.{terms_of, links_of};
 ghost use Rattle.driver_core.specs.Formulas.{cell as cell_formula, apply, chain};
 ghost use Rattle.driver_core.specs.FormulaView.{formula_of, formulas_of, steps_of};

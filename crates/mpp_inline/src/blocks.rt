@@ -21,8 +21,7 @@ use crate::formulas::emit_formula;
 use crate::rules::emit_rules;
 use crate::work::{Choice, Driver, Frame, Work};
 use crate::writes::assign_under;
-use driver_core::{CCommand, CCommandNode, Core};
-use input_kinds::KindCells;
+use driver_core::{CCommand, CCommandNode, Core, KindCells};
 use rule_order::Ordered;
 use std::alloc::{AllocError, Global};
 

@@ -11,9 +11,8 @@ ghost use Rattle.mpp_inline.specs.inner.Sizes.{load};
 
 use crate::builder::{Builder, UNDEF, ZERO};
 use crate::cells::look;
-use driver_core::{CNode, CStep, CTerm};
+use driver_core::{CNode, CStep, CTerm, KindCells};
 use flat_code::Node;
-use input_kinds::KindCells;
 use m_fixed::Op;
 use std::alloc::{AllocError, Global};
 

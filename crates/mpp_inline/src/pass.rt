@@ -20,8 +20,7 @@ use crate::begin::{first_cells, first_nodes, input_types, numbers_of, outputs_of
 use crate::blocks::emit_all;
 use crate::builder::Builder;
 use crate::ruleless::{is_ruleless, without_rules};
-use driver_core::Core;
-use driver_weight::weight;
+use driver_core::{Core, weight};
 use flat_code::Flat;
 use m_places::Seq;
 use m_places::limits::DRIVER_WEIGHT;

@@ -127,6 +127,7 @@ sound-start flat labels counts valid small is =
         registers = λ i. λ k. blank k i;
         slots = λ k x e. absurd (bare k x e);
         within = λ k x e. absurd (bare k x e);
+        used = λ k lt. absurd (omega arith);
         nodes = refl;
         checks = refl;
         outputs = given-none flat.outputs;
@@ -214,6 +215,7 @@ allocation-from {flat} {made} {read} {checked} {code} {r} {s} {n} labels valid h
       flow = ap (option_and_then (spelled code.counts.inputs)) w.read ∙ w.spells;
       labelled = labelled;
       slots = h.few.within;
+      used = h.spelled.used;
       direct = λ z. (h.few.direct z).1;
       stores = λ x.
           let same : stores_of x (with_slots code n) ≡ t.stored x = ap (λ (o : Option State). option_map_or (λ (s : State). s.stored x) o 0) (h.spelled.read n (omega arith)) in

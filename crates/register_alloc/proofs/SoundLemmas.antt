@@ -24,14 +24,14 @@ use Rattle.reg_machine.proofs.BuilderLemmas.{reads-on, wrong-is}
 use Rattle.register_alloc.specs.declared.moment.TheConstants.{MOST}
 use Rattle.register_alloc.specs.declared.sources.Sources.{Sources}
 use Rattle.register_alloc.specs.Width.{reads, check_reads, reads_by, tests_by, one_if, width_of, is_held, moment_from}
-use Rattle.register_alloc.specs.Allocation.{is_spill, spills_of}
+use Rattle.register_alloc.specs.Allocation.{is_spill, spills_of, IsStoredTo}
 use Rattle.register_alloc.specs.inner.Tables.{look, In, is_live, is_busy}
 use Rattle.register_alloc.specs.inner.Valid.{IsInput}
 use Rattle.register_alloc.specs.inner.Sound.{Once, Few, Sound, Counted, Spells, HasSources, instr_of, Cleared, nodes_read, checks_read, given_before, given_part, count_some, count_given}
 use Rattle.register_alloc.proofs.CountLemmas.{places-and, held-width, width-nodes}
 use Rattle.register_alloc.proofs.LiveLemmas.{live-parts, live-held, live-read, dies-read, live-checked, dies-checked, live-made, live-still, moment-rises, moment-reads}
 use Rattle.register_alloc.proofs.TableLemmas.{none≢some, put-same, put-other, put-cases, in-other, look-set, tables-store, tables-write, tables-pass}
-use Rattle.register_alloc.proofs.StepLemmas.{Next, reading-push, right-push, loads-read, spills-push, few-push, next-store, next-load, next-node, next-test, next-give, put-suc, spill-node}
+use Rattle.register_alloc.proofs.StepLemmas.{Next, reading-push, right-push, loads-read, spills-push, few-push, used-push, used-here, next-store, next-load, next-node, next-test, next-give, put-suc, spill-node}
 use Rattle.register_alloc.proofs.OutputLemmas.{part-at, part-next, part-other, part-this, part-free, length-part, part-none, part-all, count-set, count-gave, count-least, given-least, part-least}
 
 -- any number of slots that the allocator comes to may stand in the code
@@ -114,8 +114,8 @@ loads-now : {flat : Flat} {made read checked : ℕ} {given : List (Option ℕ)} 
 loads-now {flat} {made} {read} {checked} {given} {code} {r} {s} {n} h y = loads-read code n h.spelled.state h.spelled.read (slots-fit h n h.few.within) y
 
 -- a live node of a register is stored in a free slot, old or new
-pub sound-store : {flat : Flat} {made read checked : ℕ} {given : List (Option ℕ)} {code : Listing} {r s : ℕ → Option ℕ} {n : ℕ} → Sound flat made read checked given code r s n → (k i x m : ℕ) → s k ≡ None → k < m → n ≤ m → m ≤ width_of flat → REGISTERS < width_of flat → i < REGISTERS → r i ≡ Some x → is_live flat made read checked x ≡ true → (In s x → ⊥) → Sound flat made read checked given (with_instr code (Store k i)) r (put s k (Some x)) m
-sound-store {flat} {made} {read} {checked} {given} {code} {r} {s} {n} h k i x m free lt le fits crowded below at lives away =
+pub sound-store : {flat : Flat} {made read checked : ℕ} {given : List (Option ℕ)} {code : Listing} {r s : ℕ → Option ℕ} {n : ℕ} → Sound flat made read checked given code r s n → (k i x m : ℕ) → s k ≡ None → k < m → n ≤ m → ((j : ℕ) → j < m → (j < n) ⊎ (k ≡ j)) → m ≤ width_of flat → REGISTERS < width_of flat → i < REGISTERS → r i ≡ Some x → is_live flat made read checked x ≡ true → (In s x → ⊥) → Sound flat made read checked given (with_instr code (Store k i)) r (put s k (Some x)) m
+sound-store {flat} {made} {read} {checked} {given} {code} {r} {s} {n} h k i x m free lt le grows fits crowded below at lives away =
     let live = is_live flat made read checked in
     let t = h.spelled.state in
     let parts = live-parts flat made read checked x lives in
@@ -136,6 +136,10 @@ sound-store {flat} {made} {read} {checked} {given} {code} {r} {s} {n} h k i x m 
             (λ (p : (j ≡ k) × (x ≡ y)). let is : j ≡ k = p.0 in let z : j < m = omega arith in z)
             (λ (p : (j ≢ k) × (s j ≡ Some y)). let old : j < n = h.spelled.within j y p.1 in let z : j < m = omega arith in z)
             (put-cases s k x j y e);
+        used = λ j l. ⊎_elim
+            (λ (old : j < n). used-push code (Store k i) j (h.spelled.used j old))
+            (λ (here : k ≡ j). subst (λ m. IsStoredTo m (with_instr code (Store k i))) here (used-here code k i))
+            (grows j l);
         nodes = h.spelled.nodes;
         checks = h.spelled.checks;
         outputs = h.spelled.outputs;
@@ -161,6 +165,7 @@ sound-load {flat} {made} {read} {checked} {given} {code} {r} {s} {n} h k i x lt 
         registers = ap (λ f. put f k (Some x)) h.spelled.registers;
         slots = h.spelled.slots;
         within = h.spelled.within;
+        used = λ j l. used-push code (Load k i) j (h.spelled.used j l);
         nodes = h.spelled.nodes;
         checks = h.spelled.checks;
         outputs = h.spelled.outputs;
@@ -216,6 +221,7 @@ sound-make {flat} {made} {read} {checked} {given} {code} {r} {s} {n} h k node q 
         registers = ap (λ f. put f k (Some (length t.nodes))) h.spelled.registers ∙ ap (λ (m : ℕ). put r k (Some m)) size;
         slots = h.spelled.slots;
         within = h.spelled.within;
+        used = λ j l. used-push code (instr_of node k q) j (h.spelled.used j l);
         nodes = ap (λ xs. xs ++ node ∷ []) h.spelled.nodes ∙ ap (λ x. take made flat.nodes ++ x ∷ []) is ∙ sym (take-suc flat.nodes made (Number Undef) below);
         checks = h.spelled.checks;
         outputs = h.spelled.outputs;
@@ -249,6 +255,7 @@ sound-pass {flat} {made} {read} {checked} {given} {code} {r} {s} {n} h node s' b
         registers = h.spelled.registers;
         slots = λ k y e. h.spelled.slots k y (clear.only k y e).0;
         within = λ k y e. h.spelled.within k y (clear.only k y e).0;
+        used = h.spelled.used;
         nodes = h.spelled.nodes;
         checks = h.spelled.checks;
         outputs = h.spelled.outputs;
@@ -296,6 +303,7 @@ sound-test {flat} {made} {read} {checked} {given} {code} {r} {s} {n} h check g k
         registers = h.spelled.registers;
         slots = λ k y e. h.spelled.slots k y (clear.only k y e).0;
         within = λ k y e. h.spelled.within k y (clear.only k y e).0;
+        used = λ j l. used-push code (Test g k check.over_only check.label) j (h.spelled.used j l);
         nodes = h.spelled.nodes;
         checks = ap (λ xs. xs ++ check ∷ []) h.spelled.checks ∙ ap (λ x. take checked flat.checks ++ x ∷ []) is ∙ sym (take-suc flat.checks checked check below);
         outputs = h.spelled.outputs;
@@ -333,6 +341,7 @@ sound-give {flat} {made} {read} {checked} {given} {code} {r} {s} {n} h j k x lt 
         registers = h.spelled.registers;
         slots = h.spelled.slots;
         within = h.spelled.within;
+        used = λ i l. used-push code (Output j k) i (h.spelled.used i l);
         nodes = h.spelled.nodes;
         checks = h.spelled.checks;
         outputs = ap (λ xs. set xs j (Some x)) h.spelled.outputs;
@@ -349,12 +358,26 @@ slots-more {flat} old size h x grows live away =
     let within : length old ≤ width_of flat = h.few.within in
     ⊎_elim (λ e. (omega arith, omega arith)) (λ p. (omega (arith, p.0), omega (arith, p.0, more p.1))) grows
 
+-- a slot is an old one, or the free one that is taken
+slots-grown : (old : List (Option ℕ)) (size k : ℕ) → look old k ≡ None → k < size → (size ≡ length old) ⊎ ((size ≡ suc (length old)) × ((j : ℕ) → j < length old → is_some (look old j) ≡ true)) → (j : ℕ) → j < size → (j < length old) ⊎ (k ≡ j)
+slots-grown old size k free lt grows j below =
+    ⊎_elim
+    (λ (same : size ≡ length old). inl (omega arith))
+    (λ p. ⊎_elim
+    (λ (within : k < length old). absurd (true≢false (sym (p.1 k within) ∙ ap is_some free)))
+    (λ (past : length old ≤ k). ⊎_elim
+    (λ (l : j < length old). inl l)
+    (λ (l : length old ≤ j). let here : k ≡ j = omega (arith, p.0) in inr here)
+    (cases_lt j (length old)))
+    (cases_lt k (length old)))
+    grows
+
 -- `sound-store` by what `occupy` of the slots says
 pub sound-stored : {flat : Flat} {made read checked : ℕ} {given : List (Option ℕ)} {code : Listing} {r : ℕ → Option ℕ} (old new : List (Option ℕ)) → Sound flat made read checked given code r (look old) (length old) → (k i x : ℕ) → k < length new → look old k ≡ None → ((j : ℕ) → look new j ≡ put (look old) k (Some x) j) → (length new ≡ length old) ⊎ ((length new ≡ suc (length old)) × ((j : ℕ) → j < length old → is_some (look old j) ≡ true)) → REGISTERS < width_of flat → i < REGISTERS → r i ≡ Some x → is_live flat made read checked x ≡ true → ((j : ℕ) → look old j ≡ Some x → ⊥) → Sound flat made read checked given (with_instr code (Store k i)) r (look new) (length new)
 sound-stored {flat} {made} {read} {checked} {given} {code} {r} old new h k i x lt free same grows crowded below at live away =
     let fits = slots-more old (length new) h x grows live away in
     subst (λ (f : ℕ → Option ℕ). Sound flat made read checked given (with_instr code (Store k i)) r f (length new)) (λ i. λ j. sym (same j) i)
-    (sound-store h k i x (length new) free lt fits.0 fits.1 crowded below at live (λ p. away p.place p.is))
+    (sound-store h k i x (length new) free lt fits.0 (slots-grown old (length new) k free lt grows) fits.1 crowded below at live (λ p. away p.place p.is))
 
 pub right-stored : {flat : Flat} {made read checked : ℕ} {given : List (Option ℕ)} {code : Listing} {r : ℕ → Option ℕ} (old : List (Option ℕ)) (size : ℕ) → Sound flat made read checked given code r (look old) (length old) → (k i x : ℕ) → k < size → (size ≡ length old) ⊎ ((size ≡ suc (length old)) × ((j : ℕ) → j < length old → is_some (look old j) ≡ true)) → i < REGISTERS → r i ≡ Some x → is_live flat made read checked x ≡ true → ((j : ℕ) → look old j ≡ Some x → ⊥) → wrong_behind code (Store k i) ≡ None
 right-stored {flat} {made} {read} {checked} {given} {code} {r} old size h k i x lt grows below at live away =

@@ -3,11 +3,12 @@ use Rattle.std.proofs.Common.{◌≡◌, ◌≢◌, ℕ, zero, suc, ◌+◌, ◌
 use mathlib.Core.Bool.{◌&&◌}
 use Rattle.std.specs.Prelude.{if◌then◌else◌}
 use Rattle.std.specs.Option.{option_and_then, option_map, option_map_or, is_none}
-use Rattle.std.specs.List.{sum_by}
+use Rattle.std.specs.List.{sum_by, list_any}
 use Rattle.std.proofs.Math.Seq.{take-suc, drop-cons}
-use Rattle.std.proofs.lemmas.Bool.{cases_eq, and_from, lt-ltb, le-ltb, cases_lt, or_left, eq-eqb, true≢false}
+use Rattle.std.proofs.lemmas.Bool.{cases_eq, and_from, lt-ltb, le-ltb, cases_lt, or_left, or_right, eq-eqb, true≢false}
 use Rattle.std.proofs.lemmas.List.{length-take-le, get_or_at, length-map, length-append, map-append, append_assoc, append-nil, set_at, take-append-drop, take_all, drop_all, length_push}
 use Rattle.std.proofs.lemmas.List.Sums.{fold_push, sum_by_push}
+use Rattle.std.proofs.lemmas.List.Folds.{list_any-append}
 use Rattle.m_fixed.specs.declared.amount.Value.TheVariants.{Undef}
 use Rattle.m_fixed.specs.declared.operator.Op.{Op}
 use Rattle.flat_code.specs.declared.program.Node.{Node}
@@ -24,7 +25,7 @@ use Rattle.reg_machine.proofs.BuilderLemmas.{reads-on, wrong-is}
 use Rattle.register_alloc.specs.declared.moment.TheConstants.{MOST}
 use Rattle.register_alloc.specs.declared.sources.Sources.{Sources}
 use Rattle.register_alloc.specs.Width.{reads, check_reads, reads_by, tests_by, one_if, width_of, is_held, moment_from}
-use Rattle.register_alloc.specs.Allocation.{is_spill, spills_of}
+use Rattle.register_alloc.specs.Allocation.{is_spill, spills_of, stores_to, IsStoredTo}
 use Rattle.register_alloc.specs.inner.Tables.{look, In, is_live, is_busy}
 use Rattle.register_alloc.specs.inner.Valid.{IsInput}
 use Rattle.register_alloc.specs.inner.Sound.{Once, Few, Sound, Counted, Spells, HasSources, instr_of, Cleared, nodes_read, checks_read, given_before, given_part, count_some, count_given}
@@ -61,6 +62,15 @@ spills-push code i e =
 
 pub few-push : (flat : Flat) (code : Listing) (n : ℕ) (i : Instr) → Few flat code n → is_spill i ≡ false → Few flat (with_instr code i) n
 few-push flat code n i few e = record { within = few.within; direct = λ h. ((few.direct h).0, spills-push code i e ∙ (few.direct h).1) }
+
+-- a slot that is stored to stays so
+pub used-push : (code : Listing) (i : Instr) (k : ℕ) → IsStoredTo k code → IsStoredTo k (with_instr code i)
+used-push code i k e = list_any-append (stores_to k) code.instrs (i ∷ []) ∙ or_left (list_any (stores_to k) code.instrs) _ e
+
+pub used-here : (code : Listing) (k r : ℕ) → IsStoredTo k (with_instr code (Store k r))
+used-here code k r =
+    list_any-append (stores_to k) code.instrs (Store k r ∷ [])
+    ∙ or_right (list_any (stores_to k) code.instrs) _ (or_left (eqb k k) false (eq-eqb k k refl))
 
 -- ---- the instructions
 

@@ -1,5 +1,6 @@
 -- What is said of an allocation.
-use Rattle.std.specs.Prelude.{◌≡◌, ℕ, ◌≤◌, ◌<◌, Bool, true, false, length, count_by, All, Some}
+use Rattle.std.specs.Prelude.{◌≡◌, ℕ, ◌≤◌, ◌<◌, ◌==◌, Bool, true, false, length, count_by, All, Some}
+use Rattle.std.specs.List.{list_any}
 use Rattle.flat_code.specs.declared.program.Flat.{Flat}
 use Rattle.reg_machine.specs.declared.instr.TheConstants.{REGISTERS}
 use Rattle.reg_machine.specs.declared.instr.Instr.{Instr}
@@ -18,6 +19,15 @@ is_spill _ = false
 abbrev pub spills_of : Listing → ℕ
 spills_of code = count_by is_spill code.instrs
 
+-- an instruction that stores to slot k
+abbrev pub stores_to : ℕ → Instr → Bool
+stores_to k (Store j r) = j == k
+stores_to k _ = false
+
+-- the code stores to slot k
+abbrev pub IsStoredTo : ℕ → Listing → Type 0
+IsStoredTo k code = list_any (stores_to k) code.instrs ≡ true
+
 -- a program of which the code has at most 2^32 - 1 instructions, and whose labels are below a count
 pub record IsSmall (flat : Flat) (labels : ℕ) : Type 0 where
   pub nodes : length flat.nodes ≤ MOST
@@ -25,13 +35,14 @@ pub record IsSmall (flat : Flat) (labels : ℕ) : Type 0 where
   pub outputs : length flat.outputs ≤ MOST
   pub labelled : All (λ check. check.label < labels) flat.checks
 
--- The code spells the program, with so many labels, and with at most as many slots as the width; without Store and Load
+-- The code spells the program, with so many labels, and with at most as many slots as the width, each of which is stored to; without Store and Load
 -- where the width is at most the number of registers; with at most one Store of a node, and at most one Load of it for each
 -- time that an argument within the arity, a guard or a condition reads it.
 pub record IsAllocation (flat : Flat) (labels : ℕ) (code : Listing) : Type 0 where
   pub flow : flow_of code ≡ Some flat
   pub labelled : code.counts.labels ≡ labels
   pub slots : code.counts.slots ≤ width_of flat
+  pub used : (k : ℕ) → k < code.counts.slots → IsStoredTo k code
   pub direct : width_of flat ≤ REGISTERS → spills_of code ≡ 0
   pub stores : (x : ℕ) → stores_of x code ≤ 1
   pub loads : (x : ℕ) → loads_of x code ≤ reads_of x flat

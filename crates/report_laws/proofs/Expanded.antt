@@ -21,8 +21,8 @@ use Rattle.m_ast.specs.declared.item.Slot.{Slot}
 use Rattle.m_ast.specs.declared.item.Slot.TheVariants.{Whole, Cell, Every}
 use Rattle.m_symbols.specs.declared.variable.Variable.{Variable as Declaration}
 use Rattle.m_symbols.specs.Declarations.{Declared}
-use Rattle.plain_rules.specs.declared.rules.Definition.{Definition}
-use Rattle.plain_rules.specs.Plain.{size_among, table_size}
+use Rattle.m_ast.specs.declared.plain_rules.Definition.{Definition}
+use Rattle.m_symbols.specs.TableSizes.{size_among, table_size}
 use Rattle.loop_values.specs.Letters.{Letters, no_letters, replaced}
 use Rattle.loop_values.specs.Headers.{instances, all_indexes}
 use Rattle.index_expand.specs.Terms.{number_term, is_number_word, x_term, added, summed, expanded, expanded_terms, expanded_links, expanded_members}

@@ -2,7 +2,7 @@
 use Rattle.std.proofs.Common.{◌≡◌, ℕ, Bool, List, Some, ℤ, subst}
 use Rattle.std.specs.List.{AllByRecursion}
 use Rattle.m_fixed.specs.Amounts.{IsAmount}
-use Rattle.rule_text.specs.declared.Text.{Text}
+use Rattle.m_places.specs.declared.source.Text.{Text}
 use Rattle.m_lexer.specs.declared.token.Token.{Token}
 use Rattle.m_lexer.specs.declared.token.Kind.{Kind}
 use Rattle.m_lexer.specs.declared.token.Kind.TheVariants.{Word, Number, Text as Quoted, Key, Sign}
@@ -17,15 +17,15 @@ use Rattle.m_ast.specs.declared.variable.VariableItem.{VariableItem}
 use Rattle.m_ast.specs.declared.variable.Role.{Role}
 use Rattle.m_ast.specs.declared.variable.Role.TheVariants.{Input, Computed, Constant}
 use Rattle.m_lexer.specs.Chains.{First, first, ended, further}
-use Rattle.declaration_items.specs.Tokens.{amount, amount_of, word}
-use Rattle.declaration_items.specs.Grammar.{SpellsAmount, positive, negative, SpellsVariable, input, computed, constant, SpellsDeclaration, a_variable, an_error, an_application, a_chaining}
-use Rattle.declaration_items.proofs.PassLaws.{applications_passes, declaration_passes}
-use Rattle.rule_items.specs.Many.{Many, no_more, one_more, one}
-use Rattle.rule_items.specs.declared.head.Head.{Head}
-use Rattle.rule_items.specs.Grammar.{SpellsHead, head, SpellsLoops, SpellsSlot, no_index, every_cell, one_cell, SpellsFormula, formula, SpellsChaining, unchained, chained, SpellsRule, rule}
-use Rattle.rule_items.proofs.PassLaws.{loop_passes, verification_passes}
+use Rattle.m_items.specs.Tokens.{amount, amount_of, word}
+use Rattle.m_items.specs.DeclarationGrammar.{SpellsAmount, positive, negative, SpellsVariable, input, computed, constant, SpellsDeclaration, a_variable, an_error, an_application, a_chaining}
+use Rattle.m_items.proofs.DeclarationPassLaws.{applications_passes, declaration_passes}
+use Rattle.m_items.specs.Many.{Many, no_more, one_more, one}
+use Rattle.m_items.specs.declared.head.Head.{Head}
+use Rattle.m_items.specs.RuleGrammar.{SpellsHead, head, SpellsLoops, SpellsSlot, no_index, every_cell, one_cell, SpellsFormula, formula, SpellsChaining, unchained, chained, SpellsRule, rule}
+use Rattle.m_items.proofs.RulePassLaws.{loop_passes, verification_passes}
 use Rattle.m_items.specs.Grammar.{SpellsItem, a_declaration, a_rule, a_verification}
-use Rattle.m_read_all.specs.Files.{SayAll, no_files, a_file}
+use Rattle.rule_base.specs.Files.{SayAll, no_files, a_file}
 use Rattle.m_compile.proofs.words.Items.{all_append}
 use Rattle.report_laws.proofs.Operators.{opposite_amount}
 use Rattle.report_laws.proofs.Literals.{SaysAmounts, HasAmount, HaveAmount, lexed_amounts, left_amounts, Keeps, first_left, term_keeps}

@@ -20,9 +20,9 @@ use Rattle.m_ast.specs.Items.{cells_in, variable_size, variable_cells}
 use Rattle.m_symbols.specs.declared.variable.Variable.{Variable}
 use Rattle.m_symbols.specs.Declarations.{Declared, names_of, owners_from, placed_from}
 use Rattle.m_text.specs.Parts.{with_first}
-use Rattle.m_requests.specs.Cells.{cell_text, printed_cell, cell_name, variable_named, split_at_bracket, before_closing, may_be_plain, plain_number, index_said, cell_within, cell_by, named_cell, request_cell}
-use Rattle.m_requests.specs.Placed.{IsPlaced, items_of}
-use Rattle.m_requests.proofs.Placing.{known_by}
+use Rattle.m_symbols.specs.Cells.{cell_text, printed_cell, cell_name, variable_named, split_at_bracket, before_closing, may_be_plain, plain_number, index_said, cell_within, cell_by, named_cell, request_cell}
+use Rattle.m_symbols.specs.Placed.{IsPlaced, items_of}
+use Rattle.m_symbols.proofs.Placing.{known_by}
 use Rattle.m_compile.proofs.words.Names.{get_more, get_behind}
 
 -- ---- the number of a table's cell

@@ -12,11 +12,11 @@ use Rattle.m_fixed.specs.Laws.{IsValue, SpellsNumber, whole, decimal, SpellsAmou
 use Rattle.m_fixed.proofs.Decimals.{digit_from_test, both}
 use Rattle.m_fixed.proofs.Grammar.{amount_spelled}
 use Rattle.m_fixed.proofs.ReadsBack.{reads_back, is_read}
-use Rattle.m_text.specs.Lines.{begins_with_feed, lines_from, onto_first, lines_of}
+use Rattle.m_text.specs.Lines.{onto_first, exact_lines_of}
 use Rattle.m_text.proofs.Fronts.{all_weaker, all_both}
 use Rattle.m_symbols.specs.Declarations.{Declared}
 use Rattle.m_text.specs.Parts.{with_first}
-use Rattle.m_requests.specs.Cells.{cell_name}
+use Rattle.m_symbols.specs.Cells.{cell_name}
 use Rattle.tax_print.specs.Lines.{value_line}
 use Rattle.why_report.specs.declared.fault.ReportFault.{ReportFault}
 use Rattle.why_report.specs.declared.fault.ReportFault.TheVariants.{BadLine}
@@ -28,33 +28,27 @@ use Rattle.report_laws.specs.Readable.{IsInside, CanBeRead}
 -- ---- bytes that end no line
 
 abbrev GoesOn : ℕ → Type 0
-GoesOn b = (b ≡ 10 → ⊥) × (b ≡ 13 → ⊥)
+GoesOn b = b ≡ 10 → ⊥
 
 abbrev goes_on : ℕ → Bool
-goes_on b = not (b == 10) && not (b == 13)
+goes_on b = not (b == 10)
 
 -- of a text that is written out
 word_goes_on : (text : List ℕ) → list_all goes_on text ≡ true → AllByRecursion GoesOn text
 word_goes_on [] h = tt
 word_goes_on (b ∷ text) h =
     let p = both (goes_on b) (list_all goes_on text) h in
-    let q = both (not (b == 10)) (not (b == 13)) p.0 in (
-      (
-        λ (e : b ≡ 10). true≢false (sym (subst (λ n. not (n == 10) ≡ true) e q.0)),
-        λ (e : b ≡ 13). true≢false (sym (subst (λ n. not (n == 13) ≡ true) e q.1)),
-      ),
-      word_goes_on text p.1,
-    )
+    (λ (e : b ≡ 10). true≢false (sym (subst (λ n. not (n == 10) ≡ true) e p.0)), word_goes_on text p.1)
 
 inside_goes_on : (text : List ℕ) → AllByRecursion IsInside text → AllByRecursion GoesOn text
-inside_goes_on = all_weaker IsInside GoesOn (λ b h. (h.1, h.2))
+inside_goes_on = all_weaker IsInside GoesOn (λ b h. h.1)
 
 digits_go_on : (ds : List ℕ) → IsTrue (only_digits ds) → AllByRecursion GoesOn ds
 digits_go_on [] h = tt
 digits_go_on (d ∷ ds) h =
     let p = both (is_ascii_digit d) (only_digits ds) h in
     let r = digit_from_test d p.0 in
-    ((λ e. absurd (omega (arith, e, r.0, r.1)), λ e. absurd (omega (arith, e, r.0, r.1))), digits_go_on ds p.1)
+    (λ e. absurd (omega (arith, e, r.0, r.1)), digits_go_on ds p.1)
 
 spelled_digits : (ds : List ℕ) → IsTrue (is_digits ds) → AllByRecursion GoesOn ds
 spelled_digits ds h = digits_go_on ds (both (only_digits ds) _ h).0
@@ -99,13 +93,11 @@ body_goes_on name v h k = all_both GoesOn name (32 ∷ said_text v) (inside_goes
 
 -- ---- one line
 
-first_line : (text rest : List ℕ) → AllByRecursion GoesOn text → lines_of (text ++ 10 ∷ rest) ≡ text ∷ lines_of rest
+first_line : (text rest : List ℕ) → AllByRecursion GoesOn text → exact_lines_of (text ++ 10 ∷ rest) ≡ text ∷ exact_lines_of rest
 first_line [] rest h = refl
 first_line (b ∷ text) rest h =
-    let feed : Bool = begins_with_feed (text ++ 10 ∷ rest) in
-    ap (lines_from b feed) (first_line text rest h.1)
-    ∙ ap (λ t. cond t ([] ∷ text ∷ lines_of rest) (cond ((b == 13) && feed) (text ∷ lines_of rest) (onto_first b (text ∷ lines_of rest)))) (ne_eqb b 10 h.0.0)
-    ∙ ap (λ t. cond (t && feed) (text ∷ lines_of rest) (onto_first b (text ∷ lines_of rest))) (ne_eqb b 13 h.0.1)
+    ap (λ lines. cond (b == 10) ([] ∷ lines) (onto_first b lines)) (first_line text rest h.1)
+    ∙ ap (λ t. cond t ([] ∷ text ∷ exact_lines_of rest) (onto_first b (text ∷ exact_lines_of rest))) (ne_eqb b 10 h.0)
 
 split_name : (name text : List ℕ) → AllByRecursion IsInside name → split_at_space (name ++ 32 ∷ text) ≡ (name, Some text)
 split_name [] text h = refl
@@ -138,22 +130,22 @@ no_end name text (next ∷ lines) = refl
 
 -- a text after the lines that says no more
 abbrev SaysNoMore : Declared → List ℕ → Type 0
-SaysNoMore declared after = (number : ℕ) (before : List ReportLine) → lines_said declared number before (lines_of after) ≡ Ok before
+SaysNoMore declared after = (number : ℕ) (before : List ReportLine) → lines_said declared number before (exact_lines_of after) ≡ Ok before
 
 lines_back : (declared : Declared) (after : List ℕ) → SaysNoMore declared after → (number : ℕ) (before lines : List ReportLine) → AllByRecursion (CanBeRead declared) lines
-    → lines_said declared number before (lines_of (report_text declared lines ++ after)) ≡ Ok (before ++ lines)
+    → lines_said declared number before (exact_lines_of (report_text declared lines ++ after)) ≡ Ok (before ++ lines)
 lines_back declared after none number before [] h = none number before ∙ ap Ok (sym (append-nil before))
 lines_back declared after none number before (line ∷ lines) h =
     let name : List ℕ = cell_name declared line.cell in
     let this : List ℕ = body name line.value in
     let rest : List ℕ = report_text declared lines ++ after in
     let bad : Result (List ReportLine) ReportFault = Err (BadLine number) in
-    let next : Option ReportLine → Result (List ReportLine) ReportFault = λ said. option_map_or (λ l. lines_said declared (number + 1) (before ++ l ∷ []) (lines_of rest)) said bad in
+    let next : Option ReportLine → Result (List ReportLine) ReportFault = λ said. option_map_or (λ l. lines_said declared (number + 1) (before ++ l ∷ []) (exact_lines_of rest)) said bad in
     let text : (value_line name line.value ++ report_text declared lines) ++ after ≡ this ++ 10 ∷ rest
     = append_assoc (value_line name line.value) (report_text declared lines) after ∙ ap (λ l. l ++ rest) (line_parts name line.value) ∙ append_assoc this (10 ∷ []) rest in
-    ap (λ l. lines_said declared number before (lines_of l)) text
+    ap (λ l. lines_said declared number before (exact_lines_of l)) text
     ∙ ap (lines_said declared number before) (first_line this rest (body_goes_on name line.value h.0.inside h.0.value))
-    ∙ ap (λ t. cond t (Ok before) (next (line_said declared this))) (no_end name (said_text line.value) (lines_of rest))
+    ∙ ap (λ t. cond t (Ok before) (next (line_said declared this))) (no_end name (said_text line.value) (exact_lines_of rest))
     ∙ ap next (said_line declared line h.0)
     ∙ lines_back declared after none (number + 1) (before ++ line ∷ []) lines h.1
     ∙ ap Ok (append_assoc before (line ∷ []) lines)

@@ -7,9 +7,9 @@ use Rattle.m_fixed.specs.declared.amount.Value.{Value}
 use Rattle.m_fixed.specs.Laws.{IsValue}
 use Rattle.household.specs.Household.{household_of, values_of}
 use Rattle.household_session.specs.Sessions.{line}
-use Rattle.rule_text.specs.declared.Source.{Source}
+use Rattle.m_places.specs.declared.source.Source.{Source}
 use Rattle.m_symbols.specs.Declarations.{Declared}
-use Rattle.m_requests.specs.Cells.{request_cell}
+use Rattle.m_symbols.specs.Cells.{request_cell}
 use Rattle.micro_m.specs.declared.base.Base.{Base}
 use Rattle.micro_m.specs.Bases.{IsValidBase}
 use Rattle.micro_m.specs.Values.{Environment, environment, value_of}

@@ -9,10 +9,10 @@ use Rattle.micro_m.specs.Views.{trees_of, steps_of}
 use Rattle.micro_m.specs.declared.term.Step.{Step}
 use Rattle.micro_m.specs.declared.base.Base.{Base}
 use Rattle.micro_m.specs.Bases.{Definition as CellDefinition, IsValidBase}
-use Rattle.m_requests.specs.Placed.{IsPlaced}
-use Rattle.plain_rules.specs.Members.{is_single}
-use Rattle.plain_rules.specs.declared.rules.Plain.{Plain}
-use Rattle.plain_rules.specs.declared.rules.Definition.{Definition}
+use Rattle.m_symbols.specs.Placed.{IsPlaced}
+use Rattle.m_ast.specs.Members.{is_single}
+use Rattle.m_ast.specs.declared.plain_rules.Plain.{Plain}
+use Rattle.m_ast.specs.declared.plain_rules.Definition.{Definition}
 use Rattle.m_resolve.specs.Terms.{if_said, cell_said, table_said, member_by, any_of, membership, term_said, terms_said, links_said, members_said}
 use Rattle.m_resolve.specs.Bases.{target_said, new_target, cells_of, definition_said, definitions_said, conditions_said, base_with, resolved}
 use Rattle.m_resolve.specs.declared.fault.ResolveFault.{ResolveFault}

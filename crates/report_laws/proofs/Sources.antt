@@ -9,11 +9,11 @@ use Rattle.m_text.specs.Bytes.{IsLetter, IsWordByte}
 use Rattle.m_text.proofs.Fronts.{all_weaker, all_both}
 use Rattle.m_places.specs.declared.limits.TheConstants.{TABLE_CELLS}
 use Rattle.m_names.specs.Names.{AreDistinct}
-use Rattle.rule_text.specs.declared.Source.{Source}
+use Rattle.m_places.specs.declared.source.Source.{Source}
 use Rattle.m_ast.specs.Items.{variables_of, variable_size}
 use Rattle.m_symbols.specs.declared.variable.Variable.{Variable}
 use Rattle.m_symbols.specs.Declarations.{Declared, names_of, owners_from}
-use Rattle.m_requests.specs.Cells.{cell_name, request_cell}
+use Rattle.m_symbols.specs.Cells.{cell_name, request_cell}
 use Rattle.index_expand.specs.Expansion.{expansion}
 use Rattle.micro_m.specs.declared.base.Base.{Base}
 use Rattle.rule_base.proofs.Steps.{declared_placed, resolved_cells}
@@ -42,7 +42,7 @@ byte_within b (inr (inl h)) = let l = h.0 in let u = h.1 in (omega (arith, l), o
 byte_within b (inr (inr e)) = (omega (arith, e), omega (arith, e), λ f. absurd (omega (arith, e, f)))
 
 above_inside : (b : ℕ) → 48 ≤ b → IsInside b
-above_inside b l = (λ e. absurd (omega (arith, e, l)), λ e. absurd (omega (arith, e, l)), λ e. absurd (omega (arith, e, l)))
+above_inside b l = (λ e. absurd (omega (arith, e, l)), λ e. absurd (omega (arith, e, l)))
 
 word_inside : (name : List ℕ) → IsPlainName name → AllByRecursion IsInside name
 word_inside name h = all_weaker IsWordByte IsInside (λ b k. above_inside b (byte_within b k).0) name h.0.0.0

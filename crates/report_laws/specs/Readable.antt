@@ -2,14 +2,14 @@
 use Rattle.std.specs.Prelude.{◌≡◌, ◌≢◌, ℕ, Some}
 use Rattle.std.specs.List.{AllByRecursion}
 use Rattle.m_fixed.specs.Laws.{IsValue}
-use Rattle.m_text.specs.Bytes.{space, line_feed, carriage_return}
+use Rattle.m_text.specs.Bytes.{space, line_feed}
 use Rattle.m_symbols.specs.Declarations.{Declared}
-use Rattle.m_requests.specs.Cells.{request_cell, cell_name}
+use Rattle.m_symbols.specs.Cells.{request_cell, cell_name}
 use Rattle.why_report.specs.declared.line.ReportLine.{ReportLine}
 
 -- a byte that ends neither a word nor a line
 abbrev pub IsInside : ℕ → Type 0
-IsInside b = (b ≢ space) × (b ≢ line_feed) × (b ≢ carriage_return)
+IsInside b = (b ≢ space) × (b ≢ line_feed)
 
 -- A line can be read as it is printed: the printed name of its cell names this cell and has neither spaces nor ends of lines, and its value is undefined,
 -- over, or within the bounds of amounts. A line of a cell that isn't declared can't, since no name names it.

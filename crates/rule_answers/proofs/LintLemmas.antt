@@ -1,6 +1,6 @@
 -- What a lint answers, from what was told.
 use Rattle.std.proofs.Common.{◌≡◌, ℕ, List, length, map, take, Some, sym, ap, ◌∙◌, subst, inl, inr}
-use Rattle.rule_text.specs.declared.Source.{Source}
+use Rattle.m_places.specs.declared.source.Source.{Source}
 use Rattle.m_symbols.specs.Declarations.{Declared, inputs_from}
 use Rattle.micro_m.specs.declared.base.Base.{Base}
 use Rattle.observables.specs.declared.face.FaceLabel.TheVariants.{Verif}

@@ -1,7 +1,7 @@
 -- Errors of sources and reports that were told.
 use Rattle.std.proofs.Common.{◌≡◌, Some, refl, ap}
 use Rattle.std.specs.Prelude.{◌≢◌}
-use Rattle.rule_text.specs.declared.Source.{Source}
+use Rattle.m_places.specs.declared.source.Source.{Source}
 use Rattle.why_report.specs.declared.fault.ReportFault.{ReportFault}
 use Rattle.why_report.specs.declared.fault.ReportFault.TheVariants as report
 use Rattle.m_compile.specs.Faults.{IsBaseFault, IsSourceFault}

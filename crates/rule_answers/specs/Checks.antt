@@ -1,9 +1,9 @@
 -- What `check` answers.
 use Rattle.std.specs.Prelude.{◌≡◌, ℕ, ◌+◌, ℤ, List, [], ◌∷◌, length, codes, Option, None, Some, Ok, Err}
-use Rattle.text_pieces.specs.Pieces.{joined, new_line}
-use Rattle.fault_lines.specs.Lines.{report_line}
-use Rattle.fault_lines.specs.declared.fault.ReportFault.TheVariants as words
-use Rattle.rule_text.specs.declared.Source.{Source}
+use Rattle.m_text.specs.Pieces.{joined, new_line}
+use Rattle.tax_print.specs.FaultLines.{report_line}
+use Rattle.tax_print.specs.declared.fault.ReportFault.TheVariants as words
+use Rattle.m_places.specs.declared.source.Source.{Source}
 use Rattle.household.specs.Household.{household_of, values_of}
 use Rattle.household.specs.declared.fault.HouseholdFault.{HouseholdFault}
 use Rattle.m_symbols.specs.Declarations.{Declared}

@@ -3,12 +3,12 @@ ghost use Rattle.std.specs.Prelude.{◌≡◌, ◌<◌, ◌≤◌, All, Err, IfO
 ghost use Rattle.m_names.specs.Names.{AreDistinct};
 ghost use Rattle.m_places.specs.Refusals.{Outcome};
 ghost use Rattle.m_places.specs.declared.limits.TheConstants.{CELLS, CODE_FILE_BYTES};
-ghost use Rattle.rule_text.specs.Limits.{SourceKeepsLimits};
+ghost use Rattle.m_places.specs.SourceLimits.{SourceKeepsLimits};
 ghost use Rattle.household.specs.Household.{AreInputs, household_of, values_of};
 ghost use Rattle.household.specs.declared.fault.HouseholdFault.TheVariants.{Memory};
 ghost use Rattle.observables.specs.Inputs.{codes_of};
 ghost use Rattle.m_symbols.specs.Declarations.{owners_from};
-ghost use Rattle.m_requests.specs.Placed.{IsPlaced};
+ghost use Rattle.m_symbols.specs.Placed.{IsPlaced};
 ghost use Rattle.micro_m.specs.Bases.{IsValidBase};
 ghost use Rattle.micro_m.specs.Values.{environment};
 ghost use Rattle.driver_core.specs.Answers.{start_of};
@@ -22,19 +22,18 @@ use crate::start::first_cells;
 use crate::told::{tell_source, told_report};
 use code_answers::{read_given, tell_refusal, told_household};
 use command_plans::{Status, print_fault, printed};
-use fault_lines::{Fault, ReportFault};
 use household::{Household, HouseholdFault, values};
 use m_compile::{compile_base, inputs_of};
 use m_fixed::Value;
-use m_ports::Sink;
+use m_places::Source;
+use m_ports::{Sink, give_pieces};
 use m_symbols::Symbols;
 use micro_m::Base;
 use observables::Coded;
 use rule_base::RuleBase;
-use rule_text::Source;
 use std::alloc::{AllocError, Global};
 use std::thread::Threads;
-use text_pieces::give_pieces;
+use tax_print::{Fault, ReportFault};
 use why_report::{ReportLine, first_unsound, read_report};
 
 /// Makes the base of the rules of a source, and prints whether the report of these bytes is a sound derivation over the household

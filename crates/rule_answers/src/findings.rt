@@ -1,14 +1,13 @@
 //! The lines of findings go to the output through a buffer, in pieces of one size.
 ghost use Rattle.std.specs.Prelude.{◌≡◌, ◌<◌, length};
-ghost use Rattle.text_pieces.specs.Giving.{Gives};
+ghost use Rattle.m_ports.specs.Giving.{Gives};
 ghost use Rattle.m_symbols.specs.Declarations.{inputs_from, owners_from};
 ghost use Rattle.micro_m.specs.Bases.{IsValidBase};
 ghost use Rattle.m_lint.specs.Findings.{AreWithinCounts};
 ghost use Rattle.m_lint.specs.Lines.{findings_text};
 
-use held_text::{BufferedSink, Origin, Printed};
 use m_lint::{Finding, print_findings};
-use m_ports::{Failed, Sink};
+use m_ports::{BufferedSink, Failed, Origin, Printed, Sink};
 use rule_base::RuleBase;
 use std::marker::Brand;
 

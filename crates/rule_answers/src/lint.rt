@@ -1,6 +1,6 @@
 //! A lint: what is found of the rules of a source and of what it is compiled to.
 ghost use Rattle.std.specs.Prelude.{◌≡◌, ◌<◌, ◌^◌, length, map, take};
-ghost use Rattle.rule_text.specs.Limits.{SourceKeepsLimits};
+ghost use Rattle.m_places.specs.SourceLimits.{SourceKeepsLimits};
 ghost use Rattle.m_symbols.specs.Declarations.{inputs_from, owners_from};
 ghost use Rattle.micro_m.specs.Bases.{IsValidBase};
 ghost use Rattle.flat_code.specs.Faces.{IsFaceOf};
@@ -15,9 +15,9 @@ use crate::told::tell_source;
 use command_plans::{Status, printed};
 use m_compile::{Compiled, compile_with_rules};
 use m_lint::lint;
+use m_places::Source;
 use m_ports::Sink;
 use rule_base::RuleBase;
-use rule_text::Source;
 use std::alloc::{AllocError, Global};
 use std::thread::Threads;
 

@@ -1,7 +1,7 @@
 //! What is told of a source that has a fault, and what a fault of a report is told as.
 ghost use Rattle.std.specs.Prelude.{◌≡◌};
 ghost use Rattle.std.specs.Option.{option_map};
-ghost use Rattle.fault_lines.specs.Lines.{fault_line};
+ghost use Rattle.tax_print.specs.FaultLines.{fault_line};
 ghost use Rattle.m_compile.specs.Lines.{source_line};
 ghost use Rattle.command_plans.specs.Views.{output_view};
 ghost use Rattle.code_answers.specs.inner.Refusals.{TellsLine};
@@ -9,10 +9,10 @@ ghost use Rattle.rule_answers.specs.Checks.{report_fault_line};
 
 use code_answers::tell_refusal;
 use command_plans::Status;
-use fault_lines::{Fault, ReportFault as ReportWords};
 use m_compile::{SourceFault, told_fault};
+use m_places::Source;
 use m_ports::Sink;
-use rule_text::Source;
+use tax_print::{Fault, ReportFault as ReportWords};
 use why_report::ReportFault;
 
 /// Tells the fault of a source by its line, or that there was no memory. The fault ends here, and not in an arm of each caller, whose borrows would take half

@@ -2,18 +2,18 @@
 use Rattle.std.proofs.Common.{◌≡◌, ℕ, ◌+◌, ◌<◌, ◌≤◌, ◌^◌, List, [], ◌∷◌, ◌++◌, length, ap, length-append, arith}
 use Rattle.m_places.specs.declared.place.Place.{Place}
 use Rattle.m_places.specs.declared.limits.TheConstants.{RULE_BYTES}
-use Rattle.rule_text.specs.declared.Text.{Text}
-use Rattle.rule_text.specs.Limits.{all_bytes}
+use Rattle.m_places.specs.declared.source.Text.{Text}
+use Rattle.m_places.specs.SourceLimits.{all_bytes}
 use Rattle.m_lexer.specs.declared.token.Token.{Token}
 use Rattle.m_lexer.specs.Spellings.{IsPiece}
 use Rattle.m_lexer.specs.Tokens.{Lexes, end, gap, token}
 use Rattle.m_lexer.proofs.Pieces.{not_empty}
 use Rattle.m_ast.specs.declared.item.Item.{Item}
 use Rattle.m_terms.proofs.Passes.{behind_shorter}
-use Rattle.rule_items.specs.Many.{no_more, one_more}
+use Rattle.m_items.specs.Many.{no_more, one_more}
 use Rattle.m_items.specs.Grammar.{SpellsItems}
 use Rattle.m_items.proofs.ItemLaws.{item_passes}
-use Rattle.m_read_all.specs.Files.{SayAll, no_files, a_file}
+use Rattle.rule_base.specs.Files.{SayAll, no_files, a_file}
 
 some_bytes : (t : List ℕ) → IsPiece t → 0 < length t
 some_bytes [] h = absurd (not_empty h)

@@ -2,7 +2,7 @@
 use Rattle.std.proofs.Common.{◌≡◌, List, [], ◌∷◌, ◌++◌, sym, ap, ◌∙◌, append_assoc}
 use Rattle.std.proofs.lemmas.List.{append-nil}
 use Rattle.m_ast.specs.declared.item.Item.{Item}
-use Rattle.m_read_all.specs.Files.{all_items}
+use Rattle.rule_base.specs.Files.{all_items}
 
 all_items-push : (files : List (List Item)) (items : List Item) → all_items (files ++ items ∷ []) ≡ all_items files ++ items
 all_items-push [] items = append-nil items

@@ -4,3 +4,7 @@ pub mod Cycles
 pub mod OneLaws
 pub mod Small
 pub mod Joined
+pub mod Rows
+pub mod Pieces
+pub mod OneFiles
+pub mod FileSteps

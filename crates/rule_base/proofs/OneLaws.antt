@@ -1,13 +1,13 @@
 -- Rule files have one base or one fault, and not both.
 use Rattle.std.proofs.Common.{◌≡◌, ℕ, List, map, Option, Some, None, Result, Ok, Err, sym, ap, ◌∙◌, subst}
-use Rattle.rule_text.specs.declared.Text.{Text}
+use Rattle.m_places.specs.declared.source.Text.{Text}
 use Rattle.m_ast.specs.declared.item.Item.{Item}
 use Rattle.m_lexer.specs.declared.fault.LexFault.{LexFault}
 use Rattle.m_items.specs.declared.fault.ParseFault.{ParseFault}
-use Rattle.m_read_all.specs.declared.fault.ReadFault.{ReadFault}
-use Rattle.m_read_all.specs.declared.fault.ReadFault.TheVariants as read
-use Rattle.m_read_all.specs.Files.{SayAll, IsFirstFileFault}
-use Rattle.m_read_all.proofs.OneFiles.{say_one, say_or_fail, fail_once}
+use Rattle.rule_base.specs.declared.read_fault.ReadFault.{ReadFault}
+use Rattle.rule_base.specs.declared.read_fault.ReadFault.TheVariants as read
+use Rattle.rule_base.specs.Files.{SayAll, IsFirstFileFault}
+use Rattle.rule_base.proofs.OneFiles.{say_one, say_or_fail, fail_once}
 use Rattle.m_symbols.specs.Declarations.{Declared, declared_by}
 use Rattle.m_symbols.specs.Faults.{first_fault}
 use Rattle.m_symbols.specs.declared.fault.DeclareFault.{DeclareFault}
@@ -18,7 +18,7 @@ use Rattle.m_resolve.specs.Bases.{resolved}
 use Rattle.m_resolve.specs.declared.fault.ResolveFault.{ResolveFault}
 use Rattle.micro_m.specs.Reads.{IsCycle, HasNoCycle}
 use Rattle.micro_m.specs.declared.base.Base.{Base}
-use Rattle.m_requests.specs.Cells.{cell_name}
+use Rattle.m_symbols.specs.Cells.{cell_name}
 use Rattle.rule_base.specs.declared.fault.RuleFault.{RuleFault}
 use Rattle.rule_base.specs.declared.fault.RuleFault.TheVariants.{Lex, Parse, Declare, Expand, Resolve, Cycle}
 use Rattle.rule_base.specs.Base.{Declares, IsBaseOf}

@@ -9,7 +9,7 @@ use Rattle.std.proofs.lemmas.List.Sums.{sum_by-cons}
 use Rattle.m_places.specs.declared.place.Place.{Place}
 use Rattle.m_places.specs.declared.limits.TheConstants.{CELLS, PARTS}
 use Rattle.m_places.specs.declared.verification.Label.{Label}
-use Rattle.rule_text.specs.declared.Text.{Text}
+use Rattle.m_places.specs.declared.source.Text.{Text}
 use Rattle.m_ast.specs.declared.item.Item.{Item}
 use Rattle.m_ast.specs.declared.item.Item.TheVariants.{Variable, Rule, Verif, Error, Silent}
 use Rattle.m_ast.specs.declared.item.CheckItem.{CheckItem}
@@ -18,7 +18,7 @@ use Rattle.m_symbols.specs.Declarations.{Declared, declared_by, placed_from, own
 use Rattle.m_symbols.specs.declared.fault.DeclareFault.{DeclareFault}
 use Rattle.m_symbols.specs.Faults.{first_of, fault_at, fault_behind, first_fault}
 use Rattle.m_symbols.proofs.Faultless.{few_cells}
-use Rattle.plain_rules.specs.declared.rules.Condition.{Condition}
+use Rattle.m_ast.specs.declared.plain_rules.Condition.{Condition}
 use Rattle.index_expand.specs.declared.fault.ExpandFault.{ExpandFault}
 use Rattle.index_expand.specs.declared.fault.ExpandFault.TheVariants.{TooManyParts}
 use Rattle.index_expand.specs.Expansion.{counts_in, item_conditions, condition_of, expansion}

@@ -7,11 +7,11 @@ use Rattle.m_ast.specs.Items.{variables_of, variable_cells}
 use Rattle.m_ast.specs.declared.variable.VariableItem.{VariableItem}
 use Rattle.m_symbols.specs.declared.variable.Variable.{Variable}
 use Rattle.m_symbols.specs.Declarations.{Declared, declared_by, placed_from, owners_from}
-use Rattle.m_requests.specs.Placed.{IsPlaced, items_of}
+use Rattle.m_symbols.specs.Placed.{IsPlaced, items_of}
 use Rattle.m_symbols.specs.Faults.{first_fault}
 use Rattle.m_symbols.specs.declared.fault.DeclareFault.{DeclareFault}
 use Rattle.m_symbols.specs.declared.fault.DeclareFault.TheVariants as declare
-use Rattle.plain_rules.specs.declared.rules.Plain.{Plain}
+use Rattle.m_ast.specs.declared.plain_rules.Plain.{Plain}
 use Rattle.index_expand.specs.Expansion.{expansion}
 use Rattle.index_expand.specs.Faults.{expand_fault}
 use Rattle.index_expand.specs.declared.fault.ExpandFault.{ExpandFault}
@@ -21,10 +21,10 @@ use Rattle.m_resolve.specs.Bases.{resolved, base_with, definitions_said, conditi
 use Rattle.m_resolve.proofs.Valid.{said_by}
 use Rattle.m_resolve.specs.declared.fault.ResolveFault.{ResolveFault}
 use Rattle.m_resolve.specs.declared.fault.ResolveFault.TheVariants as resolve
-use Rattle.rule_text.specs.declared.Text.{Text}
-use Rattle.m_read_all.specs.declared.fault.ReadFault.{ReadFault}
-use Rattle.m_read_all.specs.declared.fault.ReadFault.TheVariants as read
-use Rattle.m_read_all.specs.Files.{SayAll, IsFirstFileFault}
+use Rattle.m_places.specs.declared.source.Text.{Text}
+use Rattle.rule_base.specs.declared.read_fault.ReadFault.{ReadFault}
+use Rattle.rule_base.specs.declared.read_fault.ReadFault.TheVariants as read
+use Rattle.rule_base.specs.Files.{SayAll, IsFirstFileFault}
 use Rattle.rule_base.specs.declared.fault.RuleFault.{RuleFault}
 use Rattle.rule_base.specs.declared.fault.RuleFault.TheVariants.{Cycle, Memory}
 use Rattle.micro_m.specs.declared.base.Base.{Base}
@@ -34,7 +34,7 @@ use Rattle.rule_base.specs.declared.base.RuleBase.{RuleBase}
 use Rattle.rule_base.specs.Base.{Declares, IsBaseOf}
 use Rattle.rule_order.specs.declared.fault.OrderFault.{OrderFault}
 use Rattle.rule_order.specs.declared.fault.OrderFault.TheVariants as order
-use Rattle.m_requests.specs.Cells.{cell_name}
+use Rattle.m_symbols.specs.Cells.{cell_name}
 use Rattle.rule_base.proofs.Cycles.{cycle_within}
 use Rattle.rule_base.specs.Faults.{IsRuleFault, of_tokens, of_items, of_declarations, of_loops, of_names, of_a_cycle}
 use Rattle.rule_base.specs.inner.Parts.{IsReadFault, bad_tokens, bad_items, IsBaseOver, IsOverFault, loops, names, ShowsNamedCycle, shown}

@@ -1,8 +1,8 @@
 -- The base of rule files: what an application's rules are over cells.
 use Rattle.std.specs.Prelude.{◌≡◌, ℕ, List, None, Ok}
-use Rattle.rule_text.specs.declared.Text.{Text}
+use Rattle.m_places.specs.declared.source.Text.{Text}
 use Rattle.m_ast.specs.declared.item.Item.{Item}
-use Rattle.m_read_all.specs.Files.{SayAll}
+use Rattle.rule_base.specs.Files.{SayAll}
 use Rattle.m_symbols.specs.Declarations.{Declared, declared_by}
 use Rattle.m_symbols.specs.Faults.{first_fault}
 use Rattle.index_expand.specs.Expansion.{expansion}

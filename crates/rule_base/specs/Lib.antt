@@ -1,3 +1,4 @@
 pub mod Base
 pub mod Faults
+pub mod Files
 pub mod inner

@@ -2,12 +2,12 @@
 
 ghost use Rattle.m_places.specs.Refusals.{Outcome};
 ghost use Rattle.std.specs.Prelude.{◌≡◌, ◌≢◌, ◌<◌, All, IfOk, OnOk, length, map};
-ghost use Rattle.rule_text.specs.Limits.{TextsAreWithin};
+ghost use Rattle.m_places.specs.SourceLimits.{TextsAreWithin};
 ghost use Rattle.m_ast.specs.Whole.{IsWholeItem};
 ghost use Rattle.m_symbols.specs.Declarations.{owners_from};
-ghost use Rattle.plain_rules.specs.Plain.{TablesHaveCells};
-ghost use Rattle.m_requests.specs.Cells.{cell_name};
-ghost use Rattle.m_requests.specs.Placed.{IsPlaced};
+ghost use Rattle.m_symbols.specs.TableSizes.{TablesHaveCells};
+ghost use Rattle.m_symbols.specs.Cells.{cell_name};
+ghost use Rattle.m_symbols.specs.Placed.{IsPlaced};
 ghost use Rattle.micro_m.specs.Bases.{IsValidBase};
 ghost use Rattle.micro_m.specs.Reads.{HasNoCycle};
 ghost use Rattle.rule_order.specs.Orders.{IsOrder};
@@ -20,12 +20,11 @@ use crate::RuleFault;
 use crate::files::items_of;
 use index_expand::expand;
 use m_ast::Item;
-use m_requests::cell_names;
+use m_places::Text;
 use m_resolve::resolve;
-use m_symbols::{Symbols, declare};
+use m_symbols::{Symbols, cell_names, declare};
 use micro_m::Base;
 use rule_order::{OrderFault, Ordered, order};
-use rule_text::Text;
 use std::alloc::{AllocError, Global};
 use std::thread::Threads;
 

@@ -4,11 +4,11 @@ ghost use Rattle.std.specs.Prelude.{◌≡◌};
 ghost use Rattle.rule_base.specs.declared.fault.RuleFault.TheVariants.{Memory};
 ghost use Rattle.rule_base.specs.inner.Steps.{read_step, declare_step, expand_step, resolve_step};
 
+use crate::read_fault::ReadFault;
 use index_expand::ExpandFault;
 use m_items::ParseFault;
 use m_lexer::LexFault;
 use m_places::{Name, Seq};
-use m_read_all::ReadFault;
 use m_resolve::ResolveFault;
 use m_symbols::DeclareFault;
 use std::alloc::{AllocError, AllocFailed};

@@ -2,17 +2,16 @@
 
 ghost use Rattle.std.specs.Prelude.{◌≡◌, ◌<◌, ◌^◌, All, IfOk, length};
 ghost use Rattle.m_places.specs.Refusals.{Outcome};
-ghost use Rattle.rule_text.specs.Limits.{TextsAreWithin};
+ghost use Rattle.m_places.specs.SourceLimits.{TextsAreWithin};
 ghost use Rattle.m_ast.specs.Whole.{IsWholeItem};
-ghost use Rattle.m_read_all.specs.Files.{SayAll, all_items};
+ghost use Rattle.rule_base.specs.Files.{SayAll, all_items};
 ghost use Rattle.rule_base.specs.inner.Parts.{IsReadFault};
 ghost use Rattle.rule_base.specs.declared.fault.RuleFault.TheVariants.{Memory};
 
 use crate::RuleFault;
+use crate::read::read_all;
 use m_ast::Item;
-use m_places::{Open, Seq};
-use m_read_all::read_all;
-use rule_text::Text;
+use m_places::{Open, Seq, Text};
 use std::alloc::{AllocError, Global};
 use std::thread::Threads;
 

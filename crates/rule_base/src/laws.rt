@@ -1,7 +1,7 @@
 //! What holds of the definitions: rule files have one base or one fault, and not both.
 ghost use Rattle.std.specs.Prelude.{◌≡◌, ℕ, ◌≤◌, List, length};
 ghost use Rattle.m_places.specs.declared.limits.TheConstants.{CELLS, PARTS};
-ghost use Rattle.rule_text.specs.declared.Text.{Text};
+ghost use Rattle.m_places.specs.declared.source.Text.{Text};
 ghost use Rattle.m_symbols.specs.Declarations.{Declared};
 ghost use Rattle.micro_m.specs.declared.base.Base.{Base};
 ghost use Rattle.micro_m.specs.Reads.{HasNoCycle};

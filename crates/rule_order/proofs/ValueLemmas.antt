@@ -112,12 +112,3 @@ looked-up base sequence items definitions i d order same_definitions same_items 
     let within : p < length base.definitions = subst (λ (xs : List ℕ). get_or xs i 0 < length base.definitions) (sym same_items) (order.within i 0 (subst (λ (xs : List ℕ). i < length xs) same_items low)) in
     let found = definition-at base p d within (is ∙ ap (λ (xs : List Definition). get_or xs p d) same_definitions) in
     (within, found.0, found.1)
-
--- a turn of the loop
-pub filled-turn : (base : Base) (items : List ℕ) (values whole : List Value) (i : ℕ) (d : Definition) (v : Value) → i < length items → d.0 ≡ target_at base (get_or items i 0) → d.1 ≡ term_at base (get_or items i 0) → v ≡ term_value (environment values) d.1 → filled base (drop i items) values ≡ whole → filled base (drop (i + 1) items) (set values d.0 v) ≡ whole
-filled-turn base items values whole i d v low target term is so_far =
-    ap (λ n. filled base (drop n items) (set values d.0 v)) (add-one i)
-    ∙ ap (λ n. filled base (drop (suc i) items) (set values n v)) target
-    ∙ ap (λ x. filled base (drop (suc i) items) (set values (target_at base (get_or items i 0)) x)) (is ∙ ap (term_value (environment values)) term)
-    ∙ sym (ap (λ (ps : List ℕ). filled base ps values) (drop-cons items i 0 low))
-    ∙ so_far

@@ -1,5 +1,4 @@
-//! Definitions in an order in which each stands after those that it reads, or a cycle that shows that there is none; and
-//! the values of a base's cells, computed in that order.
+//! Definitions in an order in which each stands after those that it reads, or a cycle that shows that there is none.
 //!
 //! This crate stands on the meaning of a base and knows nothing of source text, names of variables or printed lines.
 #![tactic(auto)]
@@ -10,9 +9,7 @@ mod laws;
 mod ordered;
 mod reads;
 mod search;
-mod values;
 
 pub use fault::OrderFault;
 pub use laws::ordered_has_no_cycle;
 pub use ordered::{Ordered, order};
-pub use values::{fill_values, first_failure};

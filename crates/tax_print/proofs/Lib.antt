@@ -1,1 +1,2 @@
 pub mod ValuesLemmas
+pub mod NamesLemmas

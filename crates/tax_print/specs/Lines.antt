@@ -1,7 +1,7 @@
 -- The lines of an answer, each with its line feed.
 use Rattle.std.specs.Prelude.{ℕ, ◌<◌, ◌≤◌, List, [], ◌∷◌, ◌++◌, length, codes, decimal, slice_get}
 use Rattle.std.specs.Option.{option_map_or}
-use Rattle.text_pieces.specs.Pieces.{new_line, joined}
+use Rattle.m_text.specs.Pieces.{new_line, joined}
 use Rattle.m_fixed.specs.declared.amount.Value.{Value}
 use Rattle.m_fixed.specs.declared.amount.Value.TheVariants.{Undef, Num, Over as OverValue}
 use Rattle.m_fixed.specs.Text.{printed}

@@ -1,14 +1,13 @@
 ghost use Rattle.std.specs.Prelude.{◌≤◌, length};
-ghost use Rattle.text_pieces.specs.Giving.{Gives};
+ghost use Rattle.m_ports.specs.Giving.{Gives};
 ghost use Rattle.tax_print.specs.Lines.{AnswerIsWithin, answer_lines, household_lines, outputs_lines};
 
 use crate::stop::print_stop;
 use crate::value::print_output;
 use m_fixed::Value;
 use m_places::Name;
-use m_ports::{Failed, Sink};
+use m_ports::{Failed, Sink, give_pieces};
 use observables::{Answer, Face, FaceLabel, FaceOutput};
-use text_pieces::give_pieces;
 
 /// Writes the lines of an answer: those of each output, in order, or those of what ended the run. On a
 /// failure a prefix of the lines was appended. It takes no memory.

@@ -1,17 +1,16 @@
 //! Verifications after a word: those that failed, and those that are noted.
 ghost use Rattle.std.specs.Prelude.{◌∷◌, [], ◌≡◌, codes, option_copied};
 ghost use Rattle.std.specs.Option.{option_map_or};
-ghost use Rattle.text_pieces.specs.Giving.{Gives};
-ghost use Rattle.text_pieces.specs.Pieces.{joined, new_line};
+ghost use Rattle.m_ports.specs.Giving.{Gives};
+ghost use Rattle.m_text.specs.Pieces.{joined, new_line};
 ghost use Rattle.observables.specs.Answers.{is_told, note_told};
 ghost use Rattle.observables.specs.Outputs.{verif_at};
 ghost use Rattle.tax_print.specs.Lines.{kind_text, label_lines};
 
 use m_fixed::Value;
 use m_places::{ErrorKind, Label};
-use m_ports::{Failed, Sink};
+use m_ports::{Failed, Sink, give_pieces};
 use observables::FaceLabel;
-use text_pieces::give_pieces;
 
 /// Writes the lines of what a note with this value tells, by the number of its label: `noted 2000 A20 discordance`, and the
 /// error's text in a line of its own, or nothing.

@@ -1,16 +1,15 @@
 ghost use Rattle.std.specs.Prelude.{◌∷◌, [], ◌<◌, ◌≡◌, length, codes, decimal};
-ghost use Rattle.text_pieces.specs.Giving.{Gives};
-ghost use Rattle.text_pieces.specs.Pieces.{joined};
+ghost use Rattle.m_ports.specs.Giving.{Gives};
+ghost use Rattle.m_text.specs.Pieces.{joined};
 ghost use Rattle.observables.specs.Answers.{label_number, cause_of, over};
-ghost use Rattle.text_pieces.specs.Pieces.{new_line};
+ghost use Rattle.m_text.specs.Pieces.{new_line};
 ghost use Rattle.tax_print.specs.Lines.{cause_lines, stop_lines};
 
 use crate::note::print_label;
 use itoa::Buffer;
 use m_places::Label;
-use m_ports::{Failed, Sink};
+use m_ports::{Failed, Sink, give_pieces};
 use observables::{Face, FaceLabel, Stop};
-use text_pieces::give_pieces;
 
 /// Writes the lines of what ended a run: `failed 2000 A20 anomalie` and the error's text in a line of its
 /// own, `over verification 2000 A20`, or `over driver line 2`. On a failure a prefix of the lines was

@@ -1,15 +1,14 @@
 ghost use Rattle.std.specs.Prelude.{◌∷◌, [], ◌<◌, length, codes};
-ghost use Rattle.text_pieces.specs.Giving.{Gives};
-ghost use Rattle.text_pieces.specs.Pieces.{joined};
+ghost use Rattle.m_ports.specs.Giving.{Gives};
+ghost use Rattle.m_text.specs.Pieces.{joined};
 ghost use Rattle.m_fixed.specs.Text.{printed};
-ghost use Rattle.text_pieces.specs.Pieces.{new_line};
+ghost use Rattle.m_text.specs.Pieces.{new_line};
 ghost use Rattle.tax_print.specs.Lines.{output_line, output_lines, value_line};
 
 use crate::note::print_note;
 use m_fixed::{Amount, Value, write_amount};
-use m_ports::{Failed, Sink};
+use m_ports::{Failed, Sink, give_pieces};
 use observables::{Face, FaceLabel, FaceOutput};
-use text_pieces::give_pieces;
 
 /// Writes the lines of the output with this number, which has this value: of a name `IRN = 1500.5`,
 /// `IRN undefined` or `IRN over`, with its line feed, and of a note those of what it tells, if it tells anything. On a failure

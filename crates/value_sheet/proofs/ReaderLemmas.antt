@@ -10,7 +10,7 @@ use Rattle.flat_code.specs.declared.program.Node.{Node}
 use Rattle.flat_code.specs.declared.program.Node.TheVariants.{Input, Lit, Do}
 use Rattle.m_fixed.specs.Operators.{arity_of}
 use Rattle.flat_code.specs.Touched.{some_argument}
-use Rattle.edge_rows.specs.Edges.{sourced, rows_of}
+use Rattle.value_sheet.specs.Edges.{sourced, rows_of}
 use Rattle.value_sheet.specs.inner.Readers.{node_at, has, is_of, IsReaders, IsInputRows, argument_sources, input_source}
 
 has_step : (per p e s : ℕ) (sources : List ℕ) (k : ℕ) → has (sourced per p e (s ∷ sources)) k ≡ ((eqb s p && eqb (e / per) k) || has (sourced per p (e + 1) sources) k)

@@ -3,7 +3,7 @@ ghost use Rattle.std.specs.Prelude.{◌≡◌, ◌*◌, ◌<◌, IfOk, length, m
 ghost use Rattle.std.specs.List.{flat_map};
 ghost use Rattle.value_sheet.specs.inner.Readers.{argument_sources, input_source, IsReaders, IsInputRows};
 
-use edge_rows::Rows;
+use crate::rows::Rows;
 use flat_code::Node;
 use m_fixed::arity;
 use std::alloc::{AllocError, Global};

@@ -5,12 +5,13 @@ ghost use Rattle.flat_code.specs.Runs.{IsNode, AreNodes, entry_of, values_for, n
 ghost use Rattle.flat_code.specs.Touched.{differs, some_argument, of_put, is_touched};
 ghost use Rattle.value_sheet.specs.inner.Readers.{node_at, has, IsReaders, IsInputRows};
 
+use crate::evaluate::evaluate;
+use crate::rows::Rows;
+use crate::steps::Steps;
 use dirty_set::Bits;
-use edge_rows::Rows;
-use flat_code::{Node, value_of};
+use flat_code::Node;
 use m_fixed::Value;
 use std::sync::ledger::Ledger;
-use steps::Steps;
 
 /// A program with its edges: of each node those that read it, and of each input its nodes.
 #[derive(Drop)]
@@ -73,20 +74,26 @@ fn turn<L: Ledger>(
     ensures many { length marks.new ≡ length marks.old }
     ensures step { steps.new ≡ steps.old + 1 }
 {
-    steps.tick();
     marks.remove(k);
-    let changed = renew(graph.nodes[k as usize], inputs, kept, k as usize);
+    let changed = renew(graph.nodes[k as usize], inputs, kept, k as usize, steps);
     mark_where(changed, graph.readers.row(k), marks);
 }
 
-// Writes the value of a node over its old one, and tells whether they differ.
-fn renew(node: Node, inputs: &[Value], kept: &mut [Value], k: usize) -> bool
+// Evaluates a node over its old value, and tells whether they differ.
+fn renew<L: Ledger>(
+    node: Node,
+    inputs: &[Value],
+    kept: &mut [Value],
+    k: usize,
+    steps: &mut Steps<L>,
+) -> bool
     requires node { IsNode (length inputs.now) k node }
     requires within { k < length kept.old }
     ensures value { kept.new ≡ slice_set kept.old k (entry_of (values_for inputs.now) kept.old node) }
     ensures changed { result ≡ differs (value_at kept.old k) (entry_of (values_for inputs.now) kept.old node) }
+    ensures step { steps.new ≡ steps.old + 1 }
 {
-    let value = value_of(node, kept, inputs);
+    let value = evaluate(node, kept, inputs, steps);
     let changed = differ(&kept[k], &value);
     kept[k] = value;
     changed

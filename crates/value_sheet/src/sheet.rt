@@ -7,9 +7,10 @@ ghost use Rattle.value_sheet.specs.Held.{fresh, output_value};
 
 use crate::build::{input_rows_of, readers_of};
 use crate::program::{checks_of, inputs_of, nodes_of, outputs_of};
+use crate::rows::Rows;
 use crate::settle::{Graph, settle_all};
+use crate::steps::Steps;
 use dirty_set::Bits;
-use edge_rows::Rows;
 use flat_code::{Tidy, stop_among, values_of};
 use m_fixed::Value;
 use observables::Stop;
@@ -17,7 +18,6 @@ use std::alloc::{AllocError, Global};
 use std::marker::Model;
 use std::snapshot::Snapshot;
 use std::sync::ledger::Ledger;
-use steps::Steps;
 
 /// The kept values of a flat program. Contracts see the program, the inputs of the last settled state, those of now, and which
 /// were put since then; nothing of values, marks or edges.

@@ -6,7 +6,7 @@ use Rattle.m_fixed.specs.declared.amount.Value.{Value}
 use Rattle.m_fixed.specs.declared.amount.Value.TheVariants.{Undef, Num, Over}
 use Rattle.m_symbols.specs.declared.variable.Variable.{Variable}
 use Rattle.m_symbols.specs.Declarations.{Declared, owners_from}
-use Rattle.m_requests.specs.Cells.{printed_cell, cell_name}
+use Rattle.m_symbols.specs.Cells.{printed_cell, cell_name}
 use Rattle.tax_print.specs.Lines.{value_line}
 use Rattle.why_report.specs.declared.line.ReportLine.{ReportLine}
 use Rattle.why_report.specs.Reports.{report_text}

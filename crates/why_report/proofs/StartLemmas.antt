@@ -10,7 +10,7 @@ use Rattle.m_ast.specs.declared.variable.VariableItem.{VariableItem}
 use Rattle.m_ast.specs.Items.{is_input, size_in, cells_in}
 use Rattle.m_symbols.specs.declared.variable.Variable.{Variable}
 use Rattle.m_symbols.specs.Declarations.{Declared, inputs_from, placed_from}
-use Rattle.m_requests.specs.Placed.{items_of, IsPlaced}
+use Rattle.m_symbols.specs.Placed.{items_of, IsPlaced}
 use Rattle.rule_order.specs.declared.ordered.Ordered.{Ordered}
 use Rattle.why_report.specs.declared.line.ReportLine.{ReportLine}
 use Rattle.why_report.specs.Starts.{start_value, input_behind, start_among, start_env, input_cells_among, input_cells, Reporting, with_input, with_lines, IsStart, begun}

@@ -6,10 +6,10 @@ use Rattle.m_fixed.specs.declared.amount.Value.{Value}
 use Rattle.m_fixed.specs.declared.amount.Value.TheVariants.{Undef, Num, Over}
 use Rattle.m_fixed.specs.declared.read.AmountFault.{AmountFault}
 use Rattle.m_fixed.specs.Text.{text_value, amount_read}
-use Rattle.m_text.specs.Lines.{lines_of}
+use Rattle.m_text.specs.Lines.{exact_lines_of}
 use Rattle.m_text.specs.Parts.{split_at}
 use Rattle.m_symbols.specs.Declarations.{Declared}
-use Rattle.m_requests.specs.Cells.{request_cell, cell_name}
+use Rattle.m_symbols.specs.Cells.{request_cell, cell_name}
 use Rattle.tax_print.specs.Lines.{value_line}
 use Rattle.why_report.specs.declared.fault.ReportFault.{ReportFault}
 use Rattle.why_report.specs.declared.fault.ReportFault.TheVariants.{BadLine}
@@ -72,4 +72,4 @@ lines_said declared number before (line ∷ lines) =
 
 -- What a report says: the lines of a derivation, or its first bad line, by its number from 1.
 abbrev pub report_said : Declared → List ℕ → Result (List ReportLine) ReportFault
-report_said declared bytes = lines_said declared 1 [] (lines_of bytes)
+report_said declared bytes = lines_said declared 1 [] (exact_lines_of bytes)

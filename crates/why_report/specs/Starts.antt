@@ -7,7 +7,7 @@ use Rattle.m_ast.specs.declared.variable.Role.TheVariants.{Input, Computed, Cons
 use Rattle.m_ast.specs.Items.{is_input}
 use Rattle.m_symbols.specs.declared.variable.Variable.{Variable}
 use Rattle.m_symbols.specs.Declarations.{Declared, inputs_from}
-use Rattle.m_requests.specs.Placed.{IsPlaced}
+use Rattle.m_symbols.specs.Placed.{IsPlaced}
 use Rattle.rule_order.specs.declared.ordered.Ordered.{Ordered}
 use Rattle.why_report.specs.declared.line.ReportLine.{ReportLine}
 

@@ -1,11 +1,11 @@
 //! Reports printed as text.
 
 ghost use Rattle.std.specs.Prelude.{◌∷◌, [], ◌<◌, All, Some, codes, length};
-ghost use Rattle.text_pieces.specs.Giving.{Gives};
-ghost use Rattle.text_pieces.specs.Pieces.{joined, new_line};
+ghost use Rattle.m_ports.specs.Giving.{Gives};
+ghost use Rattle.m_text.specs.Pieces.{joined, new_line};
 ghost use Rattle.m_fixed.specs.Text.{printed};
 ghost use Rattle.m_symbols.specs.Declarations.{owners_from};
-ghost use Rattle.m_requests.specs.Cells.{cell_name, cell_text, printed_cell};
+ghost use Rattle.m_symbols.specs.Cells.{cell_name, cell_text, printed_cell};
 ghost use Rattle.tax_print.specs.Lines.{value_line};
 ghost use Rattle.why_report.specs.Reports.{report_text};
 
@@ -13,9 +13,8 @@ use crate::ReportLine;
 use itoa::Buffer;
 use m_ast::Role;
 use m_fixed::{Amount, Value, write_amount};
-use m_ports::{Failed, Sink};
+use m_ports::{Failed, Sink, give_pieces};
 use m_symbols::{Symbols, Variable};
-use text_pieces::give_pieces;
 
 /// Writes the lines of a derivation: of each the cell's printed name and its value, as `IRN = 2500.5`, `IRN undefined` or `IRN over`,
 /// with its line feed. Each cell is one of those that are declared. On a failure a prefix of the lines was appended. It takes no

@@ -5,18 +5,17 @@ ghost use Rattle.std.specs.Prelude.{Some, None, length, take, drop, option_copie
 ghost use Rattle.m_places.specs.Refusals.{Outcome};
 ghost use Rattle.m_places.specs.declared.limits.TheConstants.{CODE_FILE_BYTES};
 ghost use Rattle.m_fixed.specs.Text.{text_value, amount_read};
-ghost use Rattle.m_text.specs.Lines.{lines_of};
+ghost use Rattle.m_text.specs.Lines.{exact_lines_of};
 ghost use Rattle.m_symbols.specs.Declarations.{owners_from};
-ghost use Rattle.m_requests.specs.Placed.{IsPlaced};
+ghost use Rattle.m_symbols.specs.Placed.{IsPlaced};
 ghost use Rattle.why_report.specs.declared.fault.ReportFault.TheVariants.{Memory};
 ghost use Rattle.why_report.specs.Reports.{behind_equals, amount_value, value_said, line_said, ends_report, report_said};
 
 use crate::{ReportFault, ReportLine};
 use m_fixed::{Value, read_amount};
 use m_places::Seq;
-use m_requests::find_request;
-use m_symbols::Symbols;
-use m_text::{first_line, first_of};
+use m_symbols::{Symbols, find_request};
+use m_text::{first_exact_line, first_of};
 use std::alloc::{AllocError, Global};
 
 /// The derivation that a report says. Each line is the printed name of a cell, one space, and `= ` and an amount, `undefined` or
@@ -54,7 +53,7 @@ fn add_lines(
 {
     let mut number = 1u32;
     let mut left = bytes;
-    while let Some((line, rest)) = first_line(left) {
+    while let Some((line, rest)) = first_exact_line(left) {
         if ends_report(line, rest) {
             return Ok(());
         }
@@ -94,9 +93,9 @@ fn add(cell: u32, value: Value, lines: &mut Vec<ReportLine>) -> Result<(), Alloc
 
 // Whether a line is the last, before this rest, and is `.`.
 fn ends_report(line: &[u8], rest: &[u8]) -> bool
-    ensures { result ≡ ends_report line.now (lines_of rest.now) }
+    ensures { result ≡ ends_report line.now (exact_lines_of rest.now) }
 {
-    match first_line(rest) {
+    match first_exact_line(rest) {
         Some(_) => false,
         None => line == b".".as_slice(),
     }

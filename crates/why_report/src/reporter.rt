@@ -4,7 +4,7 @@ ghost use Rattle.std.specs.Prelude.{◌≡◌, ◌<◌, All, IfOk, length};
 ghost use Rattle.micro_m.specs.Bases.{IsValidBase};
 ghost use Rattle.micro_m.specs.Values.{environment};
 ghost use Rattle.m_symbols.specs.Declarations.{Declared};
-ghost use Rattle.m_requests.specs.Placed.{IsPlaced};
+ghost use Rattle.m_symbols.specs.Placed.{IsPlaced};
 ghost use Rattle.rule_order.specs.Orders.{IsOrder};
 ghost use Rattle.why_report.specs.Reasons.{IsReasonOf, why_lines};
 ghost use Rattle.why_report.specs.Starts.{IsStart, begun, with_input, with_lines};

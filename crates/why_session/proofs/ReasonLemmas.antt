@@ -6,7 +6,7 @@ use Rattle.m_fixed.specs.declared.amount.Value.{Value}
 use Rattle.observables.specs.Inputs.{AreValuesOf}
 use Rattle.flat_code.specs.Runs.{value_at}
 use Rattle.m_symbols.specs.Declarations.{Declared}
-use Rattle.m_requests.specs.Cells.{request_cell}
+use Rattle.m_symbols.specs.Cells.{request_cell}
 use Rattle.micro_m.specs.Values.{environment}
 use Rattle.household_session.specs.Commands.{session_command}
 use Rattle.household_session.specs.Replies.{after_line, input_named, reply_of}

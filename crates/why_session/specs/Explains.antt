@@ -9,7 +9,7 @@ use Rattle.household_session.specs.Commands.{line_words, session_command}
 use Rattle.household_session.specs.Replies.{command_reply, command_values}
 use Rattle.household_session.specs.Sessions.{Showing, line}
 use Rattle.m_symbols.specs.Declarations.{Declared}
-use Rattle.m_requests.specs.Cells.{request_cell}
+use Rattle.m_symbols.specs.Cells.{request_cell}
 use Rattle.why_report.specs.Reports.{report_text}
 use Rattle.why_report.specs.declared.line.ReportLine.{ReportLine}
 

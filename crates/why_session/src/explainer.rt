@@ -1,9 +1,9 @@
 //! A session with reasons.
 ghost use Rattle.std.specs.Prelude.{◌≡◌, ◌∷◌, ◌++◌, ◌<◌, List, ℕ, All, None, IfOk, length};
-ghost use Rattle.text_pieces.specs.Giving.{Gives};
+ghost use Rattle.m_ports.specs.Giving.{Gives};
 ghost use Rattle.observables.specs.Inputs.{AreValuesOf};
 ghost use Rattle.m_symbols.specs.Declarations.{Declared, inputs_from, owners_from};
-ghost use Rattle.m_requests.specs.Placed.{IsPlaced};
+ghost use Rattle.m_symbols.specs.Placed.{IsPlaced};
 ghost use Rattle.micro_m.specs.Bases.{IsValidBase};
 ghost use Rattle.rule_order.specs.Orders.{IsOrder};
 ghost use Rattle.household_session.specs.Replies.{reply_of};
@@ -12,17 +12,14 @@ ghost use Rattle.why_session.specs.Explains.{name_asked, told_lines_of};
 ghost use Rattle.why_session.specs.Joined.{explains_in, joined_replies};
 
 use crate::asked::name_asked;
-use household_session::Session;
-use m_ports::{Failed, Sink};
-use m_requests::find_request;
-use m_symbols::Symbols;
+use household_session::{Replier, Session};
+use m_ports::{Failed, Sink, give_pieces};
+use m_symbols::{Symbols, find_request};
 use rule_order::Ordered;
-use serve_loop::Replier;
 use std::alloc::{AllocError, Global};
 use std::marker::Model;
 use std::sync::ledger::Ledger;
-use steps::Steps;
-use text_pieces::give_pieces;
+use value_sheet::Steps;
 use why_report::{ReportLine, Reporter, print_report};
 
 /// A session, and a reporter over what its inputs are as they are now. Contracts see both, and what is declared.

@@ -11,6 +11,7 @@ stands the token at which it can't go on, and what could stand there.
     --list FILE, --driver FILE, --requests FILE, --household FILE, --code FILE, --report FILE
                   the files, for errors that don't name theirs; where the words are given they are known
     --all         after the first error also the other faults of tokens, grammar, declarations and names, each at its place
+    --lang fr     says in French what to mend of rules, drivers and households, as LC_MESSAGES=fr_FR does; --lang en in English
     --places      prints FILE:LINE:COLUMN: error: WHAT in place of all this, for editors; columns count bytes from 1
 
 The status is the program's where it is run, 128 and the number of the signal where one ended it, and 3 where it can't be started.
@@ -27,6 +28,7 @@ import sys
 from .. import drivers, faults, items, runs, source
 from ..hints import Hints
 from ..places import faulty_field, line_at, pointer, records, text_at
+from ..texts import language_of
 from ..sentences import CODE, DRIVER, HOUSEHOLD, MARKED, OTHERS, RULES
 
 ROLES = ("list", "driver", "requests", "household")
@@ -280,7 +282,7 @@ def main(words):
     if "--help" in words:
         print(__doc__, end="")
         return 0
-    read = read_words(words)
+    read = read_words(language_of(words))
     if read is None:
         return 2
     files, options, words = read

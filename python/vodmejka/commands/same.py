@@ -6,7 +6,8 @@
 
 Both are compiled. Where the two code files have the same bytes it prints `same`, and then the answers are the same for all households: a code file is what
 gives the answers. Else it looks for a household in which they differ, among COUNT made-up ones (20,000, and 500 where a side is a code file, which computes
-one household at a time) whose amounts are near the numbers that the rules have, makes it small, and prints it as a household's file with both answers; or it says that it found none, which proves nothing.
+one household at a time) whose amounts are near the numbers that the rules have, makes it small, and prints it as a household's
+file with both answers; or it says that it found none, which proves nothing.
 
 List, rule files, drivers and requests are read once, so that rules that are edited meanwhile have no part in it. `-` is a driver or requests that there are
 none of.
@@ -192,7 +193,8 @@ def sides_of(words, room):
     names, folder = words[0:4:2], lambda: tempfile.mkdtemp(dir=room)
     if None not in words:
         return list(zip(runs.two_sources(names, words[1:4:2], words[4], room), names))
-    return [(Compiled(name, folder()) if driver is None else runs.Source([name, driver, words[4]], folder()), name) for name, driver in zip(names, words[1:4:2])]
+    side = lambda name, driver: Compiled(name, folder()) if driver is None else runs.Source([name, driver, words[4]], folder())
+    return [(side(name, driver), name) for name, driver in zip(names, words[1:4:2])]
 
 
 def compare(words, tries, seed, room):
@@ -229,7 +231,7 @@ def main(words):
         return 0
     words = words_of(words)
     if words is None:
-        print("same: words: same LIST1 DRIVER1 LIST2 DRIVER2 REQUESTS [--tries COUNT] [--seed SEED]; --code FILE for a list and a driver; see --help", file=sys.stderr)
+        source.say("words: same LIST1 DRIVER1 LIST2 DRIVER2 REQUESTS [--tries COUNT] [--seed SEED]; --code FILE for a list and a driver; see --help")
         return 2
     try:
         with tempfile.TemporaryDirectory() as room:

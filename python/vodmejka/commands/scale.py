@@ -3,8 +3,9 @@
     scale cut TABLE FOLDER [--rows N] [--once]      cuts the table into parts of at most N rows (100,000), FOLDER/part-000001.csv and so on
     scale list FOLDER                               names the parts that have no answer yet, a number in each line
     scale one FOLDER NUMBER LIST DRIVER REQUESTS    one batch: computes a part, unless it has its answer
-    scale run FOLDER LIST DRIVER REQUESTS [--memory MB] [--jobs N]  computes all parts on this machine
+    scale run FOLDER LIST DRIVER REQUESTS [--memory MB] [--jobs N]  computes all parts on this machine; on a terminal it shows how far it is
     scale join FOLDER > ANSWERS                     the answers of all parts, as one batch of the whole table would print them
+    scale verify FOLDER [LIST DRIVER REQUESTS]      looks, as join does, that all is as it was checked, also the parts, and that it was made of this source
     scale drop FOLDER                               removes the answers, also those that were begun, and leaves the parts, as for other rules
     scale pipe HEADER LIST DRIVER REQUESTS [--of DIGEST]  rows on the standard input, without the table's first line, which is HEADER; for Spark's pipe
     scale source LIST DRIVER REQUESTS               the digest of a source, for --of, which refuses another one
@@ -15,8 +16,12 @@ A batch computes its part on all processors, so `run` doesn't count these: it st
 List, rule files, driver and requests are read once, and every batch of a command runs on a copy of what was read, so rules that are edited meanwhile
 have no part in it. A program that was built anew meanwhile is refused.
 
+--timeout SECONDS ends a batch of one, run or pipe that takes longer; the part has no answer then, and the same words begin it again.
+
 A part is written under a name of its own until it is whole and checked, so a run that was stopped or killed is begun again by the same words and goes
-on. `one` and `run` look that an answer has the part's labels, each once and in their order, and for each household one line for each request or a stop.
+on; what it had begun of a part is removed then.
+
+`one` and `run` look that an answer has the part's labels, each once and in their order, and for each household one line for each request or a stop.
 `join` looks that every part has its answer as it was checked, that all answers together have the labels of the table in their order, and that all were
 made of one source (program, list, rule files, driver, requests). So no household is lost or doubled. `cut --once` also refuses a label that stands twice.
 
@@ -35,43 +40,12 @@ import tempfile
 
 from .. import records, runs, source
 from ..limits import FILE_BYTES, ROWS
+from ..parts import Made, Plan, digest_there, look_at, missing, part_path, remove_dead, unfinished, whole, write_whole
+from ..progress import Progress
 from ..runs import Failed, digest, file_digest
 
 BATCH_BYTES = 256 << 20  # a batch of the longest table takes half of it, and the look at its answer the rest
 MOST_AT_ONCE = 4
-
-
-# ---- files
-
-
-@contextlib.contextmanager
-def unfinished(path):
-    """A file under a name that no other run has. It gets its own name by `os.replace`, and goes where something fails."""
-    folder, name = os.path.split(path)
-    number, made = tempfile.mkstemp(prefix=name + ".", suffix=".new", dir=folder or ".")
-    try:
-        os.fchmod(number, 0o666 & ~source.MASK)
-        with os.fdopen(number, "wb") as out:
-            yield out, made
-    except OSError as fault:
-        # (a full disk tells no name)
-        fault.filename = fault.filename or path
-        raise
-    finally:
-        with contextlib.suppress(FileNotFoundError):
-            os.unlink(made)
-
-
-def write_whole(path, content):
-    with unfinished(path) as (out, made):
-        out.write(content)
-        out.flush()
-        os.fsync(out.fileno())
-        os.replace(made, path)
-
-
-def part_path(folder, number, kind):
-    return os.path.join(folder, f"part-{number:06}.{kind}")
 
 
 # ---- cutting
@@ -137,28 +111,17 @@ def cut(arguments):
     print(f"{total} households in {len(made)} parts")
 
 
-class Plan:
-    """What `cut` wrote of the whole table: the number of households, the digest of their labels, and that of each part."""
-
-    def __init__(self, folder):
-        path = os.path.join(folder, "table")
-        words = source.fetch(path, 1 << 40).decode("latin-1").split()
-        if len(words) < 3 or words[0] != str(len(words) - 3) or not re.fullmatch("[0-9]{1,18}", words[1]):
-            raise Failed(f"{path} isn't whole: cut the table again", False)
-        self.parts, self.total, self.labels, self.digests = len(words) - 3, int(words[1]), words[2], words[3:]
-
-
 @contextlib.contextmanager
 def source_of(arguments):
     with tempfile.TemporaryDirectory(prefix="scale-") as room:
-        yield runs.Source([arguments.list, arguments.driver, arguments.requests], room)
+        yield runs.Source([arguments.list, arguments.driver, arguments.requests], room, getattr(arguments, "timeout", None))
 
 
 # ---- computing
 
 
 def seen_in(table, answer, names):
-    """The names of the values of an answer, which has the households of the table."""
+    """The names of the values of an answer, which has the households of the table, and how many these are."""
     with open(table, "rb") as file:
         labels = [label for _, label in records.records(file, FILE_BYTES)][1:]
     try:
@@ -167,7 +130,7 @@ def seen_in(table, answer, names):
         raise Failed(f"the answer to {table}: {fault}") from fault
     if seen != labels:
         raise Failed(f"the answer to {table} has not its households: {len(seen)} of {len(labels)}, or others")
-    return names
+    return names, len(labels)
 
 
 def here(work, *arguments):
@@ -179,7 +142,7 @@ class Rejected(Failed):
 
 
 def answered(compiled, table, out, made, elsewhere=here):
-    """Computes a table into a file, and looks at each line, perhaps in another process. The names of the values come back."""
+    """Computes a table into a file, and looks at each line, perhaps in another process. The names of the values and the number of households come back."""
     status = compiled.batch(table, out)
     if status != 0:
         with open(made, "rb") as told:
@@ -188,37 +151,20 @@ def answered(compiled, table, out, made, elsewhere=here):
     return elsewhere(seen_in, table, made, compiled.names)
 
 
-def look_at(table, wanted, what):
-    """Refuses a part that isn't what `cut` wrote."""
-    try:
-        what = None if file_digest(table) == wanted else what
-    except FileNotFoundError:
-        what = "isn't there"
-    if what is not None:
-        raise Failed(f"{table} {what}: cut the table again", False)
-
-
-class Made:
-    """What is noted of an answer: the digest of its source, that of the names of its values (`-` where all households stopped), and its own."""
-
-    def __init__(self, path):
-        words = source.fetch(path).decode("latin-1").split() if os.path.exists(path) else []
-        self.source, self.names, self.answer = words if len(words) == 3 else ("", "", "")
-
-
 def compute(folder, number, plan, compiled, elsewhere=here):
-    """One part, unless it has its answer."""
+    """One part, unless it has its answer. The number of households that were computed comes back."""
     if not 1 <= number <= plan.parts:
         raise Failed(f"{folder} has no part {number}: it has {plan.parts}", False)
     done, table = part_path(folder, number, "out"), part_path(folder, number, "csv")
     if os.path.exists(done):
         if Made(part_path(folder, number, "of")).source != compiled.digest:
             raise Failed(f"{done} was made of another source (program, list, rule files, driver or requests): scale drop {folder} removes all answers", False)
-        return
+        remove_dead(done)
+        return 0
     look_at(table, plan.digests[number - 1], "isn't what cut wrote")
     with unfinished(done) as (out, made):
         try:
-            names = answered(compiled, table, out, made, elsewhere)
+            names, households = answered(compiled, table, out, made, elsewhere)
         except Rejected as fault:
             raise Failed(f"{table}: {fault}" + ("" if fault.goes_on else "; mend the table and cut it again"), fault.goes_on) from fault
         os.fsync(out.fileno())
@@ -226,15 +172,12 @@ def compute(folder, number, plan, compiled, elsewhere=here):
         noted = [compiled.digest, "-" if names is None else digest(*names), file_digest(made)]
         write_whole(part_path(folder, number, "of"), " ".join(noted).encode() + b"\n")
         os.replace(made, done)
+    return households
 
 
 def one(arguments):
     with source_of(arguments) as compiled:
         compute(arguments.folder, arguments.number, Plan(arguments.folder), compiled)
-
-
-def missing(folder, plan):
-    return [number for number in range(1, plan.parts + 1) if not os.path.exists(part_path(folder, number, "out"))]
 
 
 def list_parts(arguments):
@@ -248,9 +191,18 @@ def run(arguments):
     jobs = arguments.jobs or min(max(memory // BATCH_BYTES, 1), MOST_AT_ONCE)
     with source_of(arguments) as compiled, runs.workers() as workers, concurrent.futures.ThreadPoolExecutor(jobs) as pool:
         elsewhere = lambda work, *words: workers.submit(work, *words).result()
+        left = missing(arguments.folder, plan)
+        progress = Progress(plan.parts, len(left), round(plan.total * len(left) / plan.parts))
+
+        def computed(number):
+            households = compute(arguments.folder, number, plan, compiled, elsewhere)
+            if households:
+                progress.add(households)
+
         try:
-            started = [pool.submit(compute, arguments.folder, number, plan, compiled, elsewhere) for number in range(1, plan.parts + 1)]
+            started = [pool.submit(computed, number) for number in range(1, plan.parts + 1)]
             failed = [fault for fault in (run.exception() for run in started) if fault]
+            progress.end()
         except BaseException:
             runs.CHILDREN.end()
             pool.shutdown(cancel_futures=True)
@@ -277,36 +229,26 @@ def drop(arguments):
 # ---- joining
 
 
-def looked_through(path, noted):
-    """The labels of an answer, which is as it was when it was checked, each with a line end."""
-    if file_digest(path) != noted:
-        raise Failed(f"{path} was changed since it was checked: remove it, and compute it again")
-    try:
-        return b"".join(label + b"\n" for label in records.read_answer(path)[0])
-    except records.Strange as fault:
-        raise Failed(f"{path}: {fault}") from fault
-
-
 def join(arguments):
     folder, plan = arguments.folder, Plan(arguments.folder)
-    absent = missing(folder, plan)
-    if absent:
-        raise Failed(f"{len(absent)} of {plan.parts} parts have no answer, the first is {absent[0]}")
-    numbers = range(1, plan.parts + 1)
-    notes = [Made(part_path(folder, number, "of")) for number in numbers]
-    if len({note.source for note in notes}) > 1 or len({note.names for note in notes} - {"-"}) > 1:
-        raise Failed(f"the parts were made of several sources: scale drop {folder} removes all answers", False)
-    seen, count = hashlib.sha256(), 0
-    with runs.workers() as pool:
-        paths = [part_path(folder, number, "out") for number in numbers]
-        for labels in pool.map(looked_through, paths, [note.answer for note in notes]):
-            seen.update(labels)
-            count += labels.count(b"\n")
-    if (count, seen.hexdigest()) != (plan.total, plan.labels):
-        raise Failed(f"the answers have {count} households and not the {plan.total} of the table in their order", False)
-    for number, note in zip(numbers, notes):
+    for number, note in enumerate(whole(folder, plan), 1):
         if file_digest(part_path(folder, number, "out"), sys.stdout.buffer) != note.answer:
             raise Failed(f"part {number} was changed while it was printed: don't use what was printed", False)
+
+
+def verify(arguments):
+    folder, plan = arguments.folder, Plan(arguments.folder)
+    with runs.workers() as pool:
+        tables = [part_path(folder, number, "csv") for number in range(1, plan.parts + 1)]
+        for table, digest, wanted in zip(tables, pool.map(digest_there, tables), plan.digests):
+            if digest != wanted:
+                raise Failed(f"{table} isn't what cut wrote: cut the table again", False)
+    notes = whole(folder, plan)
+    if arguments.list is not None:
+        with source_of(arguments) as compiled:
+            if compiled.digest != notes[0].source:
+                raise Failed(f"the answers were made of another source (program, list, rule files, driver or requests): {notes[0].source}", False)
+    print(f"{plan.parts} parts and their answers are as they were checked, {plan.total} households, of the source {notes[0].source}")
 
 
 def pipe(arguments):
@@ -348,7 +290,7 @@ def reading():
     commands = parser.add_subparsers(dest="command", required=True)
     form = {name: commands.add_parser(name, add_help=False) for name in COMMANDS}
     form["cut"].add_argument("table")
-    for name in ("cut", "list", "one", "run", "join", "drop"):
+    for name in ("cut", "list", "one", "run", "join", "verify", "drop"):
         form[name].add_argument("folder")
     form["cut"].add_argument("--rows", type=number, choices=range(1, ROWS + 1), metavar="N", default=ROWS)
     form["cut"].add_argument("--once", action="store_true")
@@ -358,12 +300,16 @@ def reading():
     for name in ("one", "run", "pipe", "source"):
         for word in ("list", "driver", "requests"):
             form[name].add_argument(word)
+    for word in ("list", "driver", "requests"):
+        form["verify"].add_argument(word, nargs="?")
+    for name in ("one", "run", "pipe"):
+        form[name].add_argument("--timeout", type=number, choices=range(1, 1 << 30), metavar="SECONDS")
     form["run"].add_argument("--jobs", type=number, choices=range(1, 1025), metavar="N")
     form["run"].add_argument("--memory", type=number, choices=range(1, 1 << 30), metavar="MB")
     return parser
 
 
-COMMANDS = {"cut": cut, "list": list_parts, "one": one, "run": run, "join": join, "drop": drop, "pipe": pipe, "source": tell_source}
+COMMANDS = {"cut": cut, "list": list_parts, "one": one, "run": run, "join": join, "verify": verify, "drop": drop, "pipe": pipe, "source": tell_source}
 
 
 def main(words):
@@ -371,6 +317,9 @@ def main(words):
         print(__doc__, end="")
         return 0
     arguments = reading().parse_args(words)
+    if arguments.command == "verify" and arguments.list is not None and arguments.requests is None:
+        print("scale: verify has FOLDER alone, or FOLDER LIST DRIVER REQUESTS; see --help", file=sys.stderr)
+        return 2
     try:
         COMMANDS[arguments.command](arguments)
     except (Failed, records.Strange) as fault:

@@ -94,11 +94,10 @@ class Base:
         self.sizes = {variable.name: variable.size for variable in self.source.variables}
         self.set, self.read, self.past, self.readers = set(), set(), [], []
         for file in self.source.files:
-            reader, faults = items.read(file.bytes.removeprefix(source.MARK))
+            reader, faults = items.read(file.bytes, file.tokens)
             self.readers.append((file, reader))
             if faults:
                 raise Refused(f"{file.place(faults[0].byte)}: {faults[0].what}; tools/explain --all says more")
-            self.shift = len(source.MARK) if file.bytes.startswith(source.MARK) else 0
             for formula in reader.formulas:
                 if self.source.application in formula.applications and not formula.is_chained:
                     self.look_at_target(formula)
@@ -115,7 +114,7 @@ class Base:
 
     def look_at(self, file, term, headers):
         for word, index, byte, round_it in reads_of(term, headers):
-            place = file.place(byte + self.shift)
+            place = file.place(byte)
             words = None if index is None else words_of(index)
             for letters in instances(round_it, [word, *(words or [])]):
                 name = replaced(word, letters)
@@ -215,7 +214,8 @@ def slips_of_uses(bases, named_drivers):
     readers = {file.name: (file, reader) for base in bases for file, reader in base.readers}.values()
     applications = {base.source.application for base in bases}
     yield from slips_of_use.slips_of_words(files)
-    yield from slips_of_use.slips_of_numbers(files, applications)
+    for base in bases:
+        yield from slips_of_use.slips_of_numbers(base.source.files, {base.source.application})
     for file, reader in readers:
         yield from slips_of_use.slips_of_letters(file, reader)
     constants = {variable.name: Fraction(variable.told) for file in files for variable in file.variables if variable.kind == "const" and variable.told}

@@ -58,7 +58,8 @@ def decode(content):
     except UnicodeDecodeError as fault:
         if OF_UTF_8.search(content) or content.startswith(source.MARK):
             number = len(re.findall(b"\r\n|\r|\n", content[: fault.start + len(source.MARK)])) + 1
-            raise Refused(f"line {number}: letters of the file are UTF-8, and the byte 0x{fault.object[fault.start]:02x} here isn't: save it as UTF-8") from fault
+            byte = fault.object[fault.start]
+            raise Refused(f"line {number}: letters of the file are UTF-8, and the byte 0x{byte:02x} here isn't: save it as UTF-8") from fault
         return content.decode("cp1252", errors="surrogateescape")
 
 

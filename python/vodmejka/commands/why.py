@@ -1,12 +1,20 @@
 """Shows why a variable has its value, as a tree: each value with those that it was computed from, down to what was declared.
 
-    why LIST HOUSEHOLD NAME [--depth N] [--only-nonzero] [--html FILE] [--report]
+    why LIST HOUSEHOLD NAME [--depth N] [--only-nonzero] [--against OTHER] [--html FILE [--open]] [--report]
+    why LIST HOUSEHOLD NAME --driver DRIVER [--depth N] [--only-nonzero]
 
 NAME is a variable, or a cell of a table as T[3]. The values are what the program computes at one call of the rules, without a driver, and `check` looks at
 the report of them before anything is shown. For each value it shows what the declaration says of it, the formula as the rule file has it, and
 its file, line and rule. A value that was shown above is named again without what stands below it. --depth shows so many levels, --only-nonzero leaves
-out what is undefined or 0. --report prints the lines of the report alone, for `check`. --html writes a page of its own, without scripts,
-that folds and unfolds in any browser.
+out what is undefined or 0. --against shows what differs for the household OTHER: the values that are others there, with both.
+--report prints the lines of the report alone, for `check`. --html writes a page of its own, without scripts,
+that folds and unfolds in any browser; --open unfolds all of it, and printed it is whole.
+
+With --driver the value is the one after a run by the driver: it says which command gave it, goes on with what that read, into functions and partitions and
+the branches that were taken, and shows the tree of each call of the rules that it comes to.
+
+Of a formula the letters of loops are filled in, and it says which cells of tables and which branches were taken. Where a verification stops the call, that
+comes first, with its condition and the values that this reads, and the status is 1.
 
 The status is 0, 1 where the program refuses or the report isn't sound, 2 for wrong words, 3 where a file can't be read, and 4 where FILE can't be written.
 The program is ./m_tax of this repository, or the one that M_TAX names.
@@ -19,55 +27,40 @@ import tempfile
 
 sys.dont_write_bytecode = True
 from .. import reasons, runs, source
+from ..copies import Copies, Stopped, Wrong
+from ..driver_trace import Driver, Trace, cells_of, last
+from ..loops import reads_of
+from ..taken import told
 
 STYLE = """body{font:15px/1.5 sans-serif;max-width:62em;margin:2em auto;padding:0 1em;color:#222}details,.leaf{margin:.15em 0 .15em 1.2em}
 summary{cursor:pointer}.leaf{padding-left:1em}b{font-family:monospace}.said{color:#555}code{background:#f2f2f2;padding:0 .3em}\
-.place{color:#777;font-size:90%}"""
+.place{color:#777;font-size:90%}
+@media print{details::details-content{content-visibility:visible;block-size:auto}details:not([open])>*{display:block}}"""
 
 
-WORDS = "words: why LIST HOUSEHOLD NAME [--depth N] [--only-nonzero] [--html FILE] [--report]; see --help"
-
-
-class Wrong(Exception):
-    """What ends the tool, with its status."""
-
-    def __init__(self, text, status=1):
-        super().__init__(text)
-        self.status = status
+WORDS = "words: why LIST HOUSEHOLD NAME [--depth N] [--only-nonzero] [--against OTHER] [--html FILE [--open]] [--report], or --driver DRIVER; see --help"
 
 
 def options(words):
-    """The three words, and what stands behind them."""
-    said, depth, nonzero, alone, page, at = [], None, False, False, None, 0
-    while at < len(words):
-        if words[at] == "--only-nonzero":
-            nonzero = True
-        elif words[at] == "--report":
-            alone = True
-        elif words[at] in ("--depth", "--html") and at + 1 < len(words):
-            at += 1
-            if words[at - 1] == "--html":
-                page = words[at]
-            elif not re.fullmatch("[1-9][0-9]{0,5}", words[at]):
-                raise Wrong(f"--depth wants a number from 1 on, and not {words[at]}", 2)
-            else:
-                depth = int(words[at])
-        elif words[at].startswith("--"):
+    """The three words, and what the options say."""
+    told_words, found = [], {"--depth": None, "--html": None, "--against": None, "--driver": None, "--only-nonzero": False, "--report": False, "--open": False}
+    while words:
+        word = words.pop(0)
+        if word in found and isinstance(found[word], bool):
+            found[word] = True
+        elif word in found and words:
+            found[word] = words.pop(0)
+        elif word.startswith("--"):
             raise Wrong(WORDS, 2)
         else:
-            said.append(words[at])
-        at += 1
-    if len(said) != 3 or re.search(r"\s", said[2]):
+            told_words.append(word)
+    if len(told_words) != 3 or re.search(r"\s", told_words[2]):
         raise Wrong(WORDS, 2)
-    return said, depth, nonzero, alone, page
-
-
-def run(words):
-    """What the program prints, and its status."""
-    try:
-        return runs.printed(*words)
-    except OSError as fault:
-        raise Wrong(f"{runs.program_path()}: {fault.strerror}", 3) from fault
+    if found["--depth"] is not None and not re.fullmatch("[1-9][0-9]{0,5}", found["--depth"]):
+        raise Wrong(f"--depth wants a number from 1 on, and not {found['--depth']}", 2)
+    if found["--driver"] is not None and (found["--html"] or found["--against"] or found["--report"]):
+        raise Wrong("--driver shows a tree alone, and neither a page, a report nor what differs", 2)
+    return told_words, found
 
 
 def cells_needed(rules, root):
@@ -88,60 +81,58 @@ def cells_needed(rules, root):
     return [cell for cell in order if cell not in rules.formulas] + [cell for cell in order if cell in rules.formulas]
 
 
-class Copies:
-    """The rules and the household as they were read, in a folder: the program computes these, whatever happens to the files meanwhile."""
-
-    def __init__(self, rules, household, room):
-        self.room, self.names = room, {}
-        for number, (name, content) in enumerate(rules.contents, 1):
-            self.names[self.put(f"rules-{number:06}.m", content)] = name
-        self.list = self.put("rules.list", os.fsencode("\n".join([rules.application, *self.names, ""])))
-        self.household = self.put("household.csv", source.fetch(household))
-
-    def put(self, name, content):
-        path = os.path.join(self.room, name)
-        source.put(path, content)
-        return path
-
-    def told(self, line):
-        """A line of the program, with the names of the files as they are."""
-        return re.sub(re.escape(self.room) + r"/rules-[0-9]{6}\.m\b", lambda match: self.names.get(match[0], match[0]), line)
-
-
 def report(rules, household, name):
-    """The lines of the report of a cell: what the program computes of the cells that it needs, which `check` finds sound."""
-    cells = cells_needed(rules, name)
+    """The lines of the report of a cell: what the program computes of the cells that it needs, which `check` finds sound. Where a verification stops the call
+    a session tells them all the same, and the stop comes back too."""
+    cells, stop = cells_needed(rules, name), None
     with tempfile.TemporaryDirectory() as room:
-        copies = Copies(rules, household, room)
-        requests = copies.put("requests.txt", "".join(cell + "\n" for cell in cells).encode("utf-8", "surrogateescape"))
-        text, status = run(["run", copies.list, "-", requests, copies.household])
-        lines = text.decode("latin-1").split("\n")
-        if status == 6:
-            raise Wrong("the call of the rules is stopped, and has no values: " + lines[0])
-        if status != 0:
-            line = copies.told(runs.fault_of(text, status))
-            raise Wrong(line.replace("refused requests line", "no variable of this name: refused requests line"), 3 if status == 3 else 1)
-        told = lines[:-1][-len(cells):]
-        if [line.split(" ")[0] for line in told] != cells:
-            raise Wrong("the program's answer isn't a line for each cell")
-        path = copies.put("report.txt", "".join(line + "\n" for line in told).encode("latin-1"))
-        said, status = run(["check", copies.list, copies.household, path])
-    if (said, status) != (b"sound\n", 0):
-        raise Wrong(f"check of the report says {runs.fault_of(said, status)}")
-    return dict(line.split(" ", 1) for line in told)
+        copies = Copies(rules, source.fetch(household), room)
+        try:
+            lines = copies.values(cells)
+        except Stopped as stopped:
+            stop, lines = stopped, copies.reported(name)
+        path = copies.put("report.txt", "".join(f"{cell} {value}\n" for cell, value in lines.items()).encode("latin-1"))
+        said, status = copies.ask("check", copies.list, copies.household, path)
+        if (said, status) != (b"sound\n", 0):
+            raise Wrong(f"check of the report says {runs.fault_of(said, status)}")
+        return lines, stop and told_stop(rules, copies, stop)
+
+
+def told_stop(rules, copies, stop):
+    """The lines that say which verification stops the call, with its condition and the values that it reads."""
+    lines = [f"stopped, so a run has no values: {stop}"]
+    words = stop.line.split(" ")
+    number, error = (words[1], words[2]) if words[0] == "failed" else (words[2], words[3])
+    for file, check, written in rules.checks:
+        if check.error != error or rule_number(written, check.byte) != number:
+            continue
+        lines.append(f"    {written.formula(check.byte)}   ({file.name} line {file.lines.number(check.byte)}, verif {number})")
+        for word, index, _, _ in reads_of(check.condition, []):
+            cells = [word] if index is None else [f"{word}[{k}]" for k in range(rules.sizes.get(word, 0))]
+            lines += [f"  {cell} {value}" for cell in cells if not cell.isdigit() and (value := copies.value_unstopped(cell)) is not None]
+    return list(dict.fromkeys(lines))
+
+
+def rule_number(written, byte):
+    """The number of the verification that a check stands in."""
+    before = [token for token in written.tokens if token.byte < byte]
+    at = max((k for k, token in enumerate(before) if token.text == "verif"), default=0)
+    return next((token.text for token in before[at:] if token.kind == "number"), "")
 
 
 class Tree:
     """What is shown: each value, and what its formula reads."""
 
-    def __init__(self, rules, lines, depth, nonzero):
-        self.rules, self.lines, self.depth, self.nonzero = rules, lines, depth, nonzero
+    def __init__(self, rules, lines, found, others=None):
+        self.rules, self.lines, self.nonzero, self.others = rules, lines, found["--only-nonzero"], others
+        self.depth = None if found["--depth"] is None else int(found["--depth"])
         self.shown = set()
 
     def below(self, cell):
         """The cells that a value was computed from, as far as they are shown."""
         formula = self.rules.formulas.get(cell)
         read = [] if formula is None else [other for other in formula.reads(self.rules.sizes) if other in self.lines]
+        read = [other for other in read if self.others is None or self.others.get(other) != self.lines[other]]
         return [other for other in read if not self.nonzero or self.lines[other] not in ("undefined", "= 0")]
 
     def walk(self, root):
@@ -159,11 +150,14 @@ class Tree:
         """The parts of a line: the value, the description, the formula, the place."""
         formula, what = self.rules.formulas.get(cell), self.rules.description(cell)
         value = f"{cell} {self.lines[cell]}"
+        if self.others is not None:
+            value += f" (there {self.others.get(cell, 'nothing').removeprefix('= ')})"
         if again:
             return value, "as above", "", ""
         if formula is None:
             return value, what, "", self.rules.role(cell)
-        return value, what, formula.text, formula.place()
+        taken = told(formula, self.lines, self.rules.sizes, cell)
+        return value, what, formula.text, formula.place() + (f"; taken: {', '.join(taken)}" if taken else "")
 
 
 def as_text(tree, root):
@@ -175,11 +169,79 @@ def as_text(tree, root):
             yield "  " * level + "    " + "   ".join(part for part in (formula, f"({place})") if part)
 
 
-def as_page(tree, root, words):
+class Steps:
+    """Shows why a cell has its value behind a driver: the commands that gave it, and of each call of the rules the tree."""
+
+    def __init__(self, trace, name, driver_name, found):
+        self.trace, self.name, self.driver, self.found, self.shown = trace, name, driver_name, found, set()
+
+    def lines(self):
+        main = self.trace.driver.functions["main"]
+        body, head = self.trace.follow(main.block, [], None, "")
+        real = self.trace.copies.values([self.name])[self.name]
+        if self.trace.values(body, [self.name])[self.name] != real:
+            raise Wrong(f"the commands that were followed come to another value of {self.name} than the driver's run, {real}")
+        yield from self.of(self.name, last(self.name, head), body, 0)
+
+    def of(self, cell, event, body, level):
+        """The lines of a cell whose value an event gave; without one it has what it had at the start."""
+        indent, value = "  " * level, self.trace.values(body if event is None else self.trace.after(event), [cell])[cell]
+        what = self.trace.rules.description(cell)
+        head = "   ".join(filter(None, (f"{cell} {value}", what)))
+        key = (cell, None if event is None else (event.command.number, event.where, tuple(event.before)))
+        if event is None:
+            yield f"{indent}{head}"
+            yield f"{indent}    ({self.trace.rules.role(cell)})"
+            return
+        yield f"{indent}{head}" if key not in self.shown else f"{indent}{cell} {value}   as above"
+        if key in self.shown:
+            return
+        self.shown.add(key)
+        yield f"{indent}    {event.command.text}   ({self.driver} line {event.command.number}{event.where})"
+        kind = event.command.said[0]
+        if kind == "set":
+            for other in cells_of(event.command):
+                yield from self.of(other, last(other, event.history), event.before, level + 1)
+        elif kind == "call" and event.command.said[2] != "call_m":
+            inner = self.trace.inside(event)
+            yield from self.of(cell, inner, event.before, level + 1)
+        elif kind == "call":
+            yield from (f"{indent}  {line}" for line in self.call(cell, event))
+
+    def call(self, cell, event):
+        """The tree of a cell at a call of the rules."""
+        rules = self.trace.rules
+        cells = cells_needed(rules, cell)
+        received = [one for one in cells if one in rules.formulas]
+        body = [*event.before, f"  {', '.join(received)} <- call_m()"] if received else event.before
+        lines = self.trace.values(body, cells)
+        self.look_at(cells, lines, event)
+        yield from as_text(Tree(rules, lines, self.found), cell)
+
+    def look_at(self, cells, lines, event):
+        """Has `check` look at the values, where those that no rule sets are of inputs and constants alone."""
+        rules, copies = self.trace.rules, self.trace.copies
+        given = [(rules.variables[cell].code, lines[cell]) for cell in cells if cell in rules.variables and rules.variables[cell].kind == "saisie"]
+        other = [cell for cell in cells if cell not in rules.formulas and last(cell, event.history) is not None
+                 and rules.variables[cell.split("[")[0]].kind == "calculee"]
+        if other or any(value == "over" for _, value in given):
+            source.say(f"the values at line {event.command.number} are not looked at by check: the driver sets {', '.join(other) or 'an input'} before")
+            return
+        household = "code,amount\n" + "".join(f"{code},{value[2:]}\n" for code, value in given if value.startswith("= "))
+        path = copies.put("there.csv", household.encode("latin-1"))
+        report_path = copies.put("report.txt", "".join(f"{cell} {value}\n" for cell, value in lines.items()).encode("latin-1"))
+        said, status = copies.ask("check", copies.list, path, report_path)
+        if (said, status) != (b"sound\n", 0):
+            raise Wrong(f"check of the report at line {event.command.number} says {runs.fault_of(said, status)}")
+
+
+def as_page(tree, root, words, is_open, stop):
     """The tree as a page."""
     title = html.escape(f"{root} {tree.lines[root]}")
     yield f'<!doctype html><html><head><meta charset="utf-8"><title>{title}</title><style>{STYLE}</style></head><body><h1>{title}</h1>'
     yield f"<p>Why, by the rules of {html.escape(words[0])} for the household {html.escape(words[1])}. The report was checked line by line.</p>"
+    if stop:
+        yield f"<pre>{html.escape(chr(10).join(stop))}</pre>"
     open_levels = []
     for cell, level, again, under in tree.walk(root):
         while len(open_levels) > level:
@@ -190,7 +252,7 @@ def as_page(tree, root, words):
         line += f" <code>{formula}</code>" if formula else ""
         line += f' <span class="place">{place}</span>' if place else ""
         if under:
-            yield f'<details{" open" if level < 2 else ""}><summary>{line}</summary>'
+            yield f'<details{" open" if is_open or level < 2 else ""}><summary>{line}</summary>'
             open_levels.append(level)
         else:
             yield f'<div class="leaf">{line}</div>'
@@ -214,31 +276,58 @@ def write_page(path, lines):
         raise
 
 
+def look_at_page(page, read):
+    """Refuses a page that is no plain file, or one of those that are read."""
+    if os.path.exists(page) and not os.path.isfile(page) and not os.path.isdir(page):
+        raise Wrong(f"{page} is no plain file", 4)
+    if any(os.path.exists(page) and os.path.exists(name) and os.path.samefile(page, name) for name in read):
+        raise Wrong(f"{page} is read, and would be lost", 2)
+
+
+def show_driver(rules, words, found):
+    """Shows why a cell has its value behind a driver."""
+    content = source.fetch(found["--driver"])
+    with tempfile.TemporaryDirectory() as room:
+        copies = Copies(rules, source.fetch(words[1]), room, content)
+        try:
+            lines = list(Steps(Trace(rules, copies, Driver(content)), words[2], found["--driver"], found).lines())
+        except Stopped as stop:
+            for line in told_stop(rules, copies, stop):
+                print(line)
+            return 1
+    print("\n".join(lines))
+    return 0
+
+
+def show(words, found):
+    """Shows what the words ask for, and answers the status."""
+    rules, page, against = reasons.Rules(words[0]), found["--html"], found["--against"]
+    if found["--driver"] not in (None, "-"):
+        return show_driver(rules, words, found)
+    if page is not None:
+        look_at_page(page, [*words[:2], *([against] if against else []), *(name for name, _ in rules.contents)])
+    lines, stop = report(rules, *words[1:])
+    others = report(rules, against, words[2])[0] if against else None
+    tree = Tree(rules, lines, found, others)
+    if found["--report"]:
+        for cell, value in lines.items():
+            print(cell, value)
+        return 0
+    if page is not None:
+        write_page(page, as_page(tree, words[2], words, found["--open"], stop))
+        return 1 if stop else 0
+    for line in [*(stop or []), *as_text(tree, words[2])]:
+        print(line)
+    return 1 if stop else 0
+
+
 def main(words):
     if "--help" in words:
         print(__doc__, end="")
         return 0
     try:
-        words, depth, nonzero, alone, page = options(words)
-        rules = reasons.Rules(words[0])
-        if page is not None and os.path.exists(page) and not os.path.isfile(page) and not os.path.isdir(page):
-            raise Wrong(f"{page} is no plain file", 4)
-        if page is not None and any(
-            os.path.exists(page) and os.path.exists(name) and os.path.samefile(page, name)
-            for name in (*words[:2], *(name for name, _ in rules.contents))
-        ):
-            raise Wrong(f"{page} is read, and would be lost", 2)
-        lines = report(rules, *words[1:])
-        tree = Tree(rules, lines, depth, nonzero)
-        if alone:
-            for cell, value in lines.items():
-                print(cell, value)
-        elif page is None:
-            for line in as_text(tree, words[2]):
-                print(line)
-        else:
-            write_page(page, as_page(tree, words[2], words))
-        return 0
+        words, found = options(words)
+        return show(words, found)
     except Wrong as wrong:
         print(f"why: {wrong}", file=sys.stderr)
         return wrong.status

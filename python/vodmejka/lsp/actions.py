@@ -7,7 +7,7 @@ from typing import Any
 
 from .. import items, source
 from ..drivers import RESERVED as OF_DRIVERS
-from ..grammar import RESERVED
+from ..grammar import RESERVED, meant
 from . import diagnostics
 from .context import Context, range_of, read_text
 from .near import near
@@ -46,10 +46,17 @@ def mended(context: Context, text: Text, told: Diagnostic) -> Iterator[tuple[str
         number = re.compile(rb"\s*=\s*-?\s*[0-9.]+").match(text.content, end)
         if number:
             yield "write restituee alone", [(number.start(), number.end(), "")]
+    elif what.startswith("the attribute "):
+        yield "did you mean restituee?", [(begin, end, "restituee")]
     elif what == "syntax" and isinstance(text, DriverText):
         yield from in_driver(text, data, begin, end)
     elif what == "syntax" and isinstance(text, RuleText):
         yield from in_rules(text, data, begin, end)
+    elif what == "bad byte" and data["found"] in items.SIGNS:
+        sign = items.SIGNS[data["found"]]
+        yield f"write {sign}", [(begin, end, sign)]
+    elif what == "bad byte" and data["found"].strip(items.BLANKS) == "":
+        yield "write a blank", [(begin, end, " ")]
     elif what == "bad byte" and data["found"] == "a byte order mark":
         yield "leave the byte order mark out", [(0, len(source.MARK), "")]
     elif what == "bad token" and data["found"] == "\t":
@@ -85,13 +92,20 @@ def in_rules(text: RuleText, data: dict[str, Any], begin: int, end: int) -> Iter
         begins = found == "the end of the file" or found in ("regle", "verif", "si", "pour") or bool(after) and after[0].text in ("=", ":", "[")
         if ";" in wanted and begins:
             yield "put ; in", [(at, at, " ;")]
+        if ":" in wanted and (begins or len(wanted) == 1):
+            yield "put : in", [(at, at, " :")]
         if ")" in wanted and found in (";", "alors", "sinon", "finsi"):
             yield "put ) in", [(at, at, ")")]
         if "finsi" in wanted and found in (";", ")"):
             yield "put finsi in", [(at, at, " finsi")]
+    word = meant(last.text) if last is not None and last.kind == "word" and last.text not in RESERVED else None
+    if last is not None and word and (found == "(" or word in ("si", "non", "somme")):
+        yield f"write {word}", [(last.byte, last.byte + len(last.text), word)]
     if found == "=" and last and last.text in ("=", "<", ">", "!=", "<=", ">="):
         yield "leave the second = out", [(last.byte + len(last.text), end, "")]
     if re.fullmatch("[A-Za-z0-9_]+", found) and found not in RESERVED:
+        if word := meant(found):
+            yield f"write {word}", [(begin, end, word)]
         for word in near(found, [word for word in wanted if word in RESERVED]):
             yield f"did you mean {word}?", [(begin, end, word)]
         if found.upper() != found and any(what.startswith(("a declaration", "a name in capital")) for what in wanted):

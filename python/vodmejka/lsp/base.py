@@ -67,7 +67,7 @@ class Base:
         return self.texts[piece.text], piece.begin
 
     def first(self, pieces: list[Piece]) -> Piece | None:
-        return min(pieces, key=self.order) if pieces else None
+        return min(pieces, key=self.order) if len(pieces) > 1 else pieces[0] if pieces else None
 
     def declared(self, name: str) -> items.Declaration | None:
         """The first declaration of a variable."""
@@ -197,4 +197,4 @@ def names_read(piece: Piece) -> set[str]:
     found: set[str] = set()
     for word, index, _, round_it in piece.reads:
         found.update(names_of(word, round_it))
-    return {name for name in found if not name.isdigit()}
+    return {name for name in found if not loops.is_number(name)}

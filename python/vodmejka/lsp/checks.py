@@ -6,9 +6,11 @@ from typing import Any, NamedTuple
 
 from .. import faults, items, loops, source
 from ..commands import slips
+from ..hints import distance
 from ..limits import TABLE_CELLS
+from ..slips_of_use import TYPES
 from .base import Base, Cell, names_of
-from .pieces import Check, Formula, Piece, PieceReader, headers_of
+from .pieces import Check, Formula, Piece, PieceReader
 
 ERROR, WARNING, INFORMATION, HINT = 1, 2, 3, 4
 
@@ -87,7 +89,9 @@ class Checker(faults.Names):
             self.look_at_declaration(piece, item)
             slipped = [] if self.told else list(self.slips_of_declaration(piece, item))
         elif isinstance(item, (Formula, Check)) and self.base.counts(piece):
-            self.look_at_loops(piece)
+            if piece.has_bad_header:
+                self.told += faults_of_headers(piece)
+            self.told += [(byte, "unknown name X") for byte in piece.loose]
             if isinstance(item, Formula):
                 self.done = Done(self.base, piece)
                 self.look_at_target("", b"", item)
@@ -116,14 +120,10 @@ class Checker(faults.Names):
         elif item.size is not None and not 1 <= item.size <= TABLE_CELLS:
             self.told.append((item.byte, "table size"))
 
-    def look_at_loops(self, piece: Piece) -> None:
-        if any(loops.header_faults(header) for header in headers_of(piece)):
-            self.told += faults_of_headers(piece)
-
     def look_at_reads(self, piece: Piece) -> None:
         for word, index, byte, round_it in piece.reads:
             for one in names_of(word, round_it):
-                what = None if one.isdigit() and index is None else self.name_fault(one, index is not None)
+                what = None if loops.is_number(one) and index is None else self.name_fault(one, index is not None)
                 if what is not None:
                     self.add("", b"", byte, what)
                     break
@@ -133,6 +133,13 @@ class Checker(faults.Names):
             if word == "restituee" and number is not None:
                 at = piece.text.content.index(b"restituee", piece.begin + item.byte) - piece.begin
                 yield Finding(at, at + len(word), WARNING, f"restituee = {number} returns nothing, of {item.name}")
+        for word, number in item.attributes:
+            if word != "restituee" and number is None and distance(word, "restituee", 1) <= 1:
+                at = piece.text.content.index(word.encode(), piece.begin + item.byte + len(item.name)) - piece.begin
+                yield Finding(at, at + len(word), WARNING, f"the attribute {word} of {item.name} isn't restituee, and returns nothing")
+        if item.type is not None and item.type not in TYPES:
+            what = f"the type {item.type} of {item.name} is none of {', '.join(TYPES)}, and says nothing"
+            yield Finding(item.byte, item.byte + len(item.name), WARNING, what)
         if item.kind != "calculee":
             return
         end = item.byte + len(item.name)

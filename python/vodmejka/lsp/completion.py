@@ -1,6 +1,7 @@
 """What may stand at a place: the grammar is asked for it, and for names the base."""
 from __future__ import annotations
 
+import heapq
 import re
 from collections.abc import Iterable, Iterator
 from typing import Any
@@ -44,8 +45,10 @@ def completion(context: Context, params: dict[str, Any]) -> dict[str, Any]:
         wanted = wanted_in_driver(text, begin)
     found = list(items_for(wanted, bases[0] if bases else None, text, prefix))
     where = text.range(begin, byte)
-    best = sorted(found, key=lambda item: (item["sortText"], item["label"]))[:MOST]
+    best = heapq.nsmallest(MOST, found, key=lambda item: (item["sortText"], item["label"]))
     for item in best:
+        if (piece := item.pop("piece", None)) is not None:
+            item["detail"] = piece.item.number or " : ".join(text_without_quotes(piece, text) for text in piece.item.texts[-1:])
         item["textEdit"] = {"range": where, "newText": item.pop("insert", item["label"])}
     return {"isIncomplete": len(found) > MOST, "items": best}
 
@@ -155,8 +158,8 @@ def starts(piece: Piece, lowered: str) -> bool:
 
 
 def described(piece: Piece, kind: int, sort: str) -> Item:
-    texts = " : ".join(text_without_quotes(piece, text) for text in piece.item.texts[-1:])
-    return item(piece.item.name, kind, piece.item.number or texts, sort)
+    """The item of a declaration, with its piece: only of those that are shown the text is read."""
+    return {"label": piece.item.name, "kind": kind, "sortText": sort, "piece": piece}
 
 
 def item(label: str, kind: int, detail: str, sort: str) -> Item:

@@ -11,6 +11,7 @@ from ..commands.explain import could_stand
 from ..sentences import DRIVER, MARKED, RULES
 from .base import Base
 from .checks import ERROR, HINT, INFORMATION, WARNING, Declared, token_length
+from .occurrences import tokens_in
 from .pieces import QUOTE_OR_COMMENT, Head, Piece, RuleText
 from .texts import Text
 from .workspace import DriverText, Workspace
@@ -98,10 +99,8 @@ def fault_length(piece: Piece, byte: int, fault: items.Fault) -> int:
 
 def cut_text(piece: Piece) -> tuple[int, int] | None:
     """The bytes of the first text in a piece that isn't closed in its line."""
-    tokens: list[source.Token] = []
-    items.take_tokens(piece.text.content, piece.begin, tokens, [], is_cut=True)
-    token = next((token for token in tokens if token.kind == "text" and token.text[1:][-1:] != '"'), None)
-    return None if token is None else (token.byte, token.byte + len(token.text))
+    token = next((token for token in tokens_in(piece) if token.kind == "text" and token.text[1:][-1:] != '"'), None)
+    return None if token is None else (piece.begin + token.byte, piece.begin + token.byte + len(token.text))
 
 
 def strange_applications(text: RuleText, known: set[str]) -> Iterator[Diagnostic]:

@@ -1,12 +1,13 @@
-"""Names that are nearly a given one: by one letter more, less, other or exchanged, else alike in most."""
+"""Names that are nearly a given one: all that are one change away, else the nearest of those that begin or end alike."""
 from __future__ import annotations
 
-import difflib
 from collections.abc import Iterable, Iterator
+
+from ..hints import MOST_CHANGES, nearest
 
 LETTERS = "ABCDEFGHIJKLMNOPQRSTUVWXYZ0123456789_abcdefghijklmnopqrstuvwxyz"
 MOST = 3
-MOST_COMPARED = 2_000
+MOST_COMPARED = 4_000
 
 
 def near(name: str, names: Iterable[str]) -> list[str]:
@@ -14,8 +15,9 @@ def near(name: str, names: Iterable[str]) -> list[str]:
     known = set(names)
     found = [other for other in dict.fromkeys(edits(name)) if other in known and other != name]
     if not found:
-        alike = [other for other in known if abs(len(other) - len(name)) <= 3 and (other[:1] == name[:1] or other[-2:] == name[-2:])]
-        found = difflib.get_close_matches(name, sorted(alike)[:MOST_COMPARED], MOST, 0.7)
+        alike = [other for other in known if abs(len(other) - len(name)) <= MOST_CHANGES and (other[:1] == name[:1] or other[-2:] == name[-2:])]
+        one = nearest(name, sorted(alike)[:MOST_COMPARED])
+        found = [one] if one else []
     return found[:MOST]
 
 

@@ -9,6 +9,7 @@ from .. import items, source
 from ..drivers import RESERVED as DRIVER_RESERVED
 from ..drivers import TOKEN as DRIVER_TOKEN
 from ..grammar import RESERVED
+from ..loops import is_number
 from .base import Base, names_of
 from .pieces import Check, Formula, Head, Piece, RuleText, headers_of
 from .texts import Text
@@ -92,7 +93,7 @@ def symbol_of(piece: Piece, tokens: list[source.Token], number: int) -> Symbol |
     for word, index, at, headers in piece.reads:
         if at == token.byte:
             letters = {letter for header in headers for letter, _ in header}
-            return made(LETTER if word in letters else VARIABLE, [name for name in names_of(word, headers) if not name.isdigit()], headers, index)
+            return made(LETTER if word in letters else VARIABLE, [name for name in names_of(word, headers) if not is_number(name)], headers, index)
     if re.fullmatch("[a-z]", token.text):
         return made(LETTER, [], [header for header in headers_of(piece) if token.text in (letter for letter, _ in header)])
     if isinstance(item, Head) and "application" in [other.text for other in tokens[:number]]:

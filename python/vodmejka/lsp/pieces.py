@@ -16,8 +16,9 @@ from ..limits import BRACKET_DEPTH
 from .texts import Text
 
 BLOCK = 1_000  # how many tokens are taken in at once
-AHEAD = 3  # how many tokens behind a piece may say how it is read
-BEHIND = 3  # how many pieces before an edit it may change
+AHEAD = 4  # how many tokens behind a piece may say how it is read
+BEHIND = 4  # how many pieces before an edit it may change
+RECURSION = 20_000  # calls within calls, for brackets within brackets
 AT_ONCE = 2_000  # how many pieces are read again before an edit is answered; the others follow
 QUOTE_OR_COMMENT = re.compile(rb'"[^"]*"|#[^\n]*|"')
 DEEPER = {"(": 1, "[": 1, "si": 1, ")": -1, "]": -1, "finsi": -1, "erreur": -1}
@@ -65,9 +66,10 @@ class Check(NamedTuple):
 
 class Piece:
     """A piece of a file. Bytes in it count from its own begin. `faults` are those of its bytes and tokens, `reads` what its term reads, `maybe` the names
-    that a piece with faults seems to declare; `is_odd` says that a text in it goes over a line's end or is cut there."""
+    that a piece with faults seems to declare, `loose` where X stands that is no cell's number; `is_odd` says that a text in it goes over a line's end or is cut
+    there."""
 
-    __slots__ = ("text", "begin", "size", "state", "item", "reads", "faults", "maybe", "is_odd")
+    __slots__ = ("text", "begin", "size", "state", "item", "reads", "faults", "maybe", "loose", "has_bad_header", "is_odd")
 
     def __init__(self, text: RuleText, begin: int, size: int, state: State) -> None:
         self.text, self.begin, self.size, self.state = text, begin, size, state
@@ -75,7 +77,8 @@ class Piece:
         self.reads: tuple[Any, ...] = ()
         self.faults: tuple[items.Fault, ...] = ()
         self.maybe: tuple[str, ...] = ()
-        self.is_odd = False
+        self.loose: tuple[int, ...] = ()
+        self.has_bad_header = self.is_odd = False
 
     @property
     def end(self) -> int:
@@ -87,9 +90,12 @@ class PieceReader(items.RuleReader):
 
     def __init__(self, text: RuleText, begin: int, state: State) -> None:
         super().__init__([])
+        sys.setrecursionlimit(max(sys.getrecursionlimit(), RECURSION))
         self.text, self.begin = text, begin
         self.byte, self.block, self.is_last, self.is_done = begin, BLOCK, False, False
         self.byte_faults: list[items.Fault] = []
+        self.cell_numbers: list[int] = []
+        self.has_bad_header = False
         self.depths: list[int] = []  # how many brackets of the piece are open before each token
         self.restore(state)
         if begin == 0 and text.content.startswith(source.MARK):
@@ -130,6 +136,19 @@ class PieceReader(items.RuleReader):
     def forget(self) -> None:
         for found in (self.formulas, self.checks, self.declarations, self.errors, self.faults):
             found.clear()
+        self.kinds_of_errors.clear()
+        self.cell_numbers.clear()
+        self.has_bad_header = False
+
+    def header(self) -> Any:
+        header = super().header()
+        self.has_bad_header = self.has_bad_header or bool(loops.header_faults(header))
+        return header
+
+    def primary(self) -> Any:
+        if self.next_is("X"):
+            self.cell_numbers.append(self.peek().byte)
+        return super().primary()
 
     def piece_at_hand(self) -> None:
         """Reads up to the end of the piece at hand. One without a token goes on in the next."""
@@ -183,6 +202,10 @@ class PieceReader(items.RuleReader):
             piece.faults = tuple(fault._replace(byte=fault.byte - begin) for fault in [*mine, *self.faults])
             piece.maybe = tuple(token.text for token, after in zip(tokens, tokens[1:]) if after.text == ":" and token.kind == "word")
         piece.is_odd = any(token.kind == "text" and ("\n" in token.text or token.text[1:][-1:] != '"') for token in tokens)
+        piece.has_bad_header = self.has_bad_header
+        if self.formulas and self.formulas[0].slot == "X":
+            self.cell_numbers.clear()
+        piece.loose = tuple(byte - begin for byte in self.cell_numbers)
         if self.formulas:
             formula = self.formulas[0]
             piece.item = Formula(sys.intern(formula.target), formula.slot, formula.loops or NONE, formula.byte - begin)

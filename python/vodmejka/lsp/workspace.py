@@ -179,11 +179,11 @@ class Workspace:
         named: dict[Text, tuple[int, str]] = {}
         base.missing = []
         for number, name in enumerate(names):
-            text = self.rule_file(os.path.join(base.folder, name))
-            if text is None:
+            file = self.rule_file(os.path.join(base.folder, name))
+            if file is None:
                 base.missing.append((number + 1, name))
             else:
-                named.setdefault(text, (number, name))
+                named.setdefault(file, (number, name))
         self.exchange(base, named)
 
     def exchange(self, base: Base, named: dict[Any, tuple[int, str]]) -> None:

@@ -4,7 +4,7 @@ from typing import NamedTuple
 
 from .amounts import OVER, UNDEFINED, print_amount, read_amount
 from .faults import Refused
-from .texts import decimal, lines_of
+from .texts import decimal, exact_lines_of
 from .values import reads_of, value_of
 
 
@@ -27,7 +27,7 @@ def value_line(name, value):
 def read_report(text, declared):
     """The lines of a report, or the refusal of the first of another form. A last line with a point is skipped."""
     cells = {name: cell for cell, name in enumerate(declared.printed_names())}
-    lines = lines_of(text)
+    lines = exact_lines_of(text)
     if lines and lines[-1] == b".":
         lines.pop()
     return [report_line(number, line, cells) for number, line in enumerate(lines, 1)]

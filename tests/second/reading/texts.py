@@ -14,6 +14,12 @@ def lines_of(text):
     return lines + [last] if last else lines
 
 
+def exact_lines_of(text):
+    """The lines as they stand: each ends at a line feed, and a carriage return is a byte as others; the last may lack its line feed."""
+    lines = text.split(b"\n")
+    return lines if lines[-1] else lines[:-1]
+
+
 def is_word(text):
     """Whether these are letters of ASCII, digits and `_`, and not digits alone."""
     return re.fullmatch(WORD, text) is not None

@@ -4,7 +4,7 @@ use Rattle.code_file.specs.Loading.{text_with}
 use Rattle.code_file.specs.Printable.{IsPrintable}
 use Rattle.code_file.specs.Reading.{IsFormOf}
 use Rattle.code_file.specs.declared.loaded.Loaded.{Loaded}
-use Rattle.rule_text.specs.declared.Source.{Source}
+use Rattle.m_places.specs.declared.source.Source.{Source}
 use Rattle.flat_code.specs.Runs.{flat_run}
 use Rattle.household.specs.Household.{household_of}
 use Rattle.household.specs.declared.fault.HouseholdFault.{HouseholdFault}

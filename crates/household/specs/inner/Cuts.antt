@@ -1,30 +1,42 @@
--- Places between the records of bytes.
-use Rattle.std.specs.Prelude.{◌≡◌, ℕ, ◌*◌, ◌<◌, ◌≤◌, List, [], ◌∷◌, drop, length, get_or, Bool, true, false}
-use Rattle.household.specs.Reader.{records_from_state, state_of}
-use Rattle.household.specs.declared.cuts.Cut.{Cut}
+-- Places between the records of bytes without quotation marks.
+use Rattle.std.specs.Prelude.{◌≡◌, ℕ, zero, suc, ◌*◌, ◌<◌, ◌≤◌, List, [], ◌∷◌, drop, length, get_or, Option, Some, None, false}
+use Rattle.csv.specs.Machine.{ends_with}
+use Rattle.csv.specs.declared.parser.State.TheVariants as st
+use Rattle.csv.specs.declared.parser.Terminator.TheVariants as term
+use Rattle.household.specs.Lines.{IsLineEnd}
+use Rattle.household.specs.Reader.{records_from_state}
 use Rattle.household.specs.declared.cuts.TheConstants.{BETWEEN}
 
--- the records that are left from a cut on
-abbrev pub left_at : List ℕ → Cut → List (List (List ℕ))
-left_at bytes cut = records_from_state (state_of cut.place) [] [] (drop cut.at bytes)
+-- So many bytes stand before the first end of a line, or before the end of the bytes.
+abbrev pub IsLine : ℕ → List ℕ → Type 0
+IsLine zero bytes = IsLineEnd bytes
+IsLine (suc n) [] = ⊥
+IsLine (suc n) (byte ∷ bytes) = (ends_with term.CRLF byte ≡ false) × IsLine n bytes
 
--- A record was gone over, or there was none.
-abbrev pub GoesOver : List ℕ → Cut → Bool → Cut → Type 0
-GoesOver bytes old true new = (fields : List (List ℕ)) × (left_at bytes old ≡ fields ∷ left_at bytes new)
-GoesOver bytes old false new = left_at bytes old ≡ []
+-- A place in bytes where a line ends, or the bytes do.
+pub record IsCut (bytes : List ℕ) (cut : ℕ) : Type 0 where
+  pub within : cut ≤ length bytes
+  pub ends : IsLineEnd (drop cut bytes)
 
--- The record that was begun goes on from a place to another.
-pub record GoesOn (bytes : List ℕ) (old new : Cut) : Type 0 where
-  pub forward : old.at ≤ new.at
-  pub same : (fields : List (List ℕ)) (field : List ℕ)
-      → (more : List ℕ) × (records_from_state (state_of old.place) fields field (drop old.at bytes) ≡ records_from_state (state_of new.place) fields more (drop new.at bytes))
+-- the records that are left from a place on, where none is begun
+abbrev pub left_at : List ℕ → ℕ → List (List (List ℕ))
+left_at bytes at = records_from_state st.StartRecord [] [] (drop at bytes)
 
--- So many records were gone over, or there were fewer.
-abbrev pub GoesOverAll : List ℕ → ℕ → Cut → Bool → Cut → Type 0
-GoesOverAll bytes count old true new = (left_at bytes new ≡ drop count (left_at bytes old)) × (count ≤ length (left_at bytes old))
-GoesOverAll bytes count old false new = length (left_at bytes old) < count
+-- The next record from a place on ends here, or there is none.
+abbrev pub GoesOver : List ℕ → ℕ → Option ℕ → Type 0
+GoesOver bytes from (Some end) = IsCut bytes end × ((fields : List (List ℕ)) × (left_at bytes from ≡ fields ∷ left_at bytes end))
+GoesOver bytes from None = left_at bytes from ≡ []
+
+-- So many records from a place on end here, or there are fewer.
+abbrev pub GoesOverAll : List ℕ → ℕ → ℕ → Option ℕ → Type 0
+GoesOverAll bytes count from (Some end) = IsCut bytes end × (left_at bytes end ≡ drop count (left_at bytes from)) × (count ≤ length (left_at bytes from))
+GoesOverAll bytes count from None = length (left_at bytes from) < count
+
+-- A cut of these records, after so many of them.
+abbrev pub IsCutAfter : List ℕ → List (List (List ℕ)) → ℕ → ℕ → Type 0
+IsCutAfter bytes records count cut = IsCut bytes cut × (left_at bytes cut ≡ drop count records)
 
 -- Cuts of these records: at each the records after so many of them are left, and the last cut has fewer after it than there are between two.
-pub record AreCuts (bytes : List ℕ) (records : List (List (List ℕ))) (cuts : List Cut) : Type 0 where
-  pub each : (n : ℕ) (d : Cut) → n < length cuts → left_at bytes (get_or cuts n d) ≡ drop (n * BETWEEN) records
+pub record AreCuts (bytes : List ℕ) (records : List (List (List ℕ))) (cuts : List ℕ) : Type 0 where
+  pub each : (n d : ℕ) → n < length cuts → IsCutAfter bytes records (n * BETWEEN) (get_or cuts n d)
   pub far : length records < length cuts * BETWEEN

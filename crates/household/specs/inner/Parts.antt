@@ -1,24 +1,23 @@
 -- The rows of a table, read in parts.
-use Rattle.std.specs.Prelude.{◌≡◌, ℕ, ◌+◌, ◌*◌, ◌<◌, List, [], ◌∷◌, ◌++◌, Vec, drop, length, take, get_or, Result, Ok, Err}
+use Rattle.std.specs.Prelude.{◌≡◌, ℕ, ◌+◌, ◌*◌, ◌<◌, List, [], ◌∷◌, ◌++◌, Vec, length, take, get_or, Result, Ok, Err}
 use Rattle.std.specs.declared.alloc.Global.{Global}
 use Rattle.m_places.specs.Refusals.{Outcome}
 use Rattle.observables.specs.declared.inputs.Coded.{Coded}
-use Rattle.household.specs.declared.cuts.Cut.{Cut}
 use Rattle.household.specs.declared.cuts.TheConstants.{BETWEEN}
 use Rattle.household.specs.declared.fault.HouseholdFault.{HouseholdFault}
 use Rattle.household.specs.declared.fault.HouseholdFault.TheVariants.{Memory}
 use Rattle.household.specs.declared.table.Row.{Row}
 use Rattle.household.specs.InTurn.{in_turn}
 use Rattle.household.specs.Table.{row_behind}
-use Rattle.household.specs.inner.Cuts.{left_at}
+use Rattle.household.specs.inner.Cuts.{IsCutAfter}
 
 -- what a row says after so many rows and then these
 abbrev pub table_row_behind : List Coded → List ℕ → ℕ → List Row → List (List ℕ) → Result Row HouseholdFault
 table_row_behind inputs columns more before fields = row_behind inputs columns (more + length before) fields
 
 -- cuts of these records, of which the first has this number
-abbrev pub AreCutsFrom : List ℕ → List (List (List ℕ)) → ℕ → List Cut → Type 0
-AreCutsFrom bytes records start cuts = (n : ℕ) (d : Cut) → n < length cuts → left_at bytes (get_or cuts n d) ≡ drop ((start + n) * BETWEEN) records
+abbrev pub AreCutsFrom : List ℕ → List (List (List ℕ)) → ℕ → List ℕ → Type 0
+AreCutsFrom bytes records start cuts = (n d : ℕ) → n < length cuts → IsCutAfter bytes records ((start + n) * BETWEEN) (get_or cuts n d)
 
 -- What a worker gives: the rows of so many of these records, which stand after so many others, or their fault.
 abbrev pub SaysPart : List Coded → List ℕ → List (List (List ℕ)) → ℕ → ℕ → Result (Vec Row Global) HouseholdFault → Type 0

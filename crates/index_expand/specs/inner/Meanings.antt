@@ -1,7 +1,7 @@
 -- What a term is, whatever letters and `X` stand for: two terms of one meaning have one expansion in each instance.
 use Rattle.std.specs.Prelude.{ℕ, Option}
-use Rattle.plain_rules.specs.declared.term.PLink.{PLink}
-use Rattle.plain_rules.specs.declared.term.PMember.{PMember}
+use Rattle.m_ast.specs.declared.plain_term.PLink.{PLink}
+use Rattle.m_ast.specs.declared.plain_term.PMember.{PMember}
 use Rattle.m_ast.specs.declared.term.Link.{Link}
 use Rattle.m_ast.specs.declared.term.Member.{Member}
 use Rattle.m_ast.specs.Syntax.{Syntax}

@@ -2,9 +2,9 @@
 use Rattle.std.specs.Prelude.{ℕ, List, [], ◌∷◌, Option}
 use Rattle.m_fixed.specs.declared.operator.Op.TheVariants.{Add}
 use Rattle.m_fixed.specs.declared.amount.Value.TheVariants.{Undef}
-use Rattle.plain_rules.specs.View.{links_of}
-use Rattle.plain_rules.specs.declared.term.PLink.{PLink}
-use Rattle.plain_rules.specs.declared.term.PMember.{PMember}
+use Rattle.m_ast.specs.PlainView.{links_of}
+use Rattle.m_ast.specs.declared.plain_term.PLink.{PLink}
+use Rattle.m_ast.specs.declared.plain_term.PMember.{PMember}
 use Rattle.m_ast.specs.declared.term.Link.{Link}
 use Rattle.m_ast.specs.declared.term.Member.{Member}
 use Rattle.m_ast.specs.Syntax.{Syntax, lit, chain}

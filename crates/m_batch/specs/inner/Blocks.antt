@@ -3,7 +3,7 @@ use Rattle.std.specs.Prelude.{◌≡◌, ℕ, List, length, Vec}
 use Rattle.std.specs.declared.alloc.Global.{Global}
 use Rattle.m_fixed.specs.declared.amount.Value.{Value}
 use Rattle.household.specs.declared.table.Row.{Row}
-use Rattle.column_machine.specs.declared.room.TheConstants.{BLOCK}
+use Rattle.m_batch.specs.declared.room.TheConstants.{BLOCK}
 use Rattle.m_batch.specs.declared.places.Places.{Places}
 use Rattle.m_batch.specs.inner.Places.{ArePlaced, AreRows}
 

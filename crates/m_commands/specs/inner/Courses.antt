@@ -1,6 +1,6 @@
 -- The course that a call of the program took, from which all its clauses follow.
 use Rattle.std.specs.Prelude.{◌≡◌, ℕ, List, Option, Some, None, Ok, Err}
-use Rattle.fault_lines.specs.Lines.{usage_line}
+use Rattle.tax_print.specs.FaultLines.{usage_line}
 use Rattle.command_plans.specs.Printing.{Prints, Tells, IsAnswered}
 use Rattle.command_plans.specs.Trips.{GoesAlong}
 use Rattle.command_plans.specs.Views.{FilesView, InputView, OutputView}

@@ -4,14 +4,14 @@ use Rattle.std.specs.List.{AllByRecursion}
 use Rattle.std.proofs.lemmas.List.{take-append-drop}
 use Rattle.m_places.specs.declared.verification.Label.{Label}
 use Rattle.m_names.specs.Names.{AreDistinct}
-use Rattle.rule_text.specs.declared.Text.{Text}
+use Rattle.m_places.specs.declared.source.Text.{Text}
 use Rattle.m_ast.specs.Items.{variables_of}
 use Rattle.m_symbols.specs.declared.variable.Variable.{Variable}
 use Rattle.m_symbols.specs.Declarations.{Declared, owners_from, codes_of}
 use Rattle.index_expand.specs.Expansion.{expansion}
 use Rattle.micro_m.specs.declared.base.Base.{Base}
-use Rattle.m_requests.specs.Cells.{cell_name}
-use Rattle.m_requests.specs.Requests.{requests_said}
+use Rattle.m_symbols.specs.Cells.{cell_name}
+use Rattle.m_symbols.specs.Requests.{requests_said}
 use Rattle.mpp_inline.specs.Inlined.{IsDriverLine}
 use Rattle.rule_base.specs.Base.{IsBaseOf}
 use Rattle.rule_base.proofs.Steps.{declared_placed}

@@ -8,17 +8,17 @@ use Rattle.m_ast.specs.declared.item.Item.TheVariants.{Variable, Rule, Verif, Er
 use Rattle.m_ast.specs.declared.item.ErrorItem.{ErrorItem}
 use Rattle.m_ast.specs.declared.variable.VariableItem.{VariableItem}
 use Rattle.m_ast.specs.Items.{variable_code}
-use Rattle.rule_text.specs.declared.Text.{Text}
+use Rattle.m_places.specs.declared.source.Text.{Text}
 use Rattle.m_lexer.specs.Chains.{Chain, ended, further}
 use Rattle.m_terms.proofs.Passes.{Behind, over, skip, first_passes}
-use Rattle.declaration_items.specs.Tokens.{word as a_word}
-use Rattle.declaration_items.specs.Grammar.{Attribute, attribute, Attributes, SpellsNumber, SpellsAttributes, attributes, SpellsVariable, input, computed, constant, SpellsError, error, IsFourOrFive, SpellsDeclaration, a_variable, an_error, an_application, a_chaining}
-use Rattle.declaration_items.proofs.PassLaws.{number_on}
-use Rattle.rule_items.specs.Many.{Many, no_more, one_more}
-use Rattle.rule_items.specs.Grammar.{head, verification}
+use Rattle.m_items.specs.Tokens.{word as a_word}
+use Rattle.m_items.specs.DeclarationGrammar.{Attribute, attribute, Attributes, SpellsNumber, SpellsAttributes, attributes, SpellsVariable, input, computed, constant, SpellsError, error, IsFourOrFive, SpellsDeclaration, a_variable, an_error, an_application, a_chaining}
+use Rattle.m_items.proofs.DeclarationPassLaws.{number_on}
+use Rattle.m_items.specs.Many.{Many, no_more, one_more}
+use Rattle.m_items.specs.RuleGrammar.{head, verification}
 use Rattle.m_items.specs.Grammar.{SpellsItem, a_declaration, a_rule, a_verification}
 use Rattle.m_items.proofs.ItemLaws.{item_passes}
-use Rattle.m_read_all.specs.Files.{SayAll, no_files, a_file}
+use Rattle.rule_base.specs.Files.{SayAll, no_files, a_file}
 use Rattle.code_file.specs.Printable.{IsFreeWord, IsPlainName}
 use Rattle.m_compile.proofs.words.Tokens.{AreSpelled, lexed_spelled, behind_spelled, word_free, name_plain, IsWholeNumber, whole_number}
 

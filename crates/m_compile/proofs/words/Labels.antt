@@ -9,10 +9,10 @@ use Rattle.m_ast.specs.declared.item.Item.TheVariants.{Variable, Rule, Verif, Er
 use Rattle.m_ast.specs.declared.item.ErrorItem.{ErrorItem}
 use Rattle.m_ast.specs.declared.item.VerifItem.{VerifItem}
 use Rattle.m_ast.specs.declared.item.CheckItem.{CheckItem}
-use Rattle.declaration_items.specs.Grammar.{IsFourOrFive}
+use Rattle.m_items.specs.DeclarationGrammar.{IsFourOrFive}
 use Rattle.m_symbols.specs.Declarations.{Declared, error_names_of}
-use Rattle.plain_rules.specs.declared.rules.Condition.{Condition}
-use Rattle.plain_rules.specs.declared.rules.Plain.{Plain}
+use Rattle.m_ast.specs.declared.plain_rules.Condition.{Condition}
+use Rattle.m_ast.specs.declared.plain_rules.Plain.{Plain}
 use Rattle.index_expand.specs.Expansion.{counts_in, item_conditions, condition_of}
 use Rattle.micro_m.specs.declared.base.Base.{Base}
 use Rattle.m_resolve.specs.Terms.{if_said, term_said}

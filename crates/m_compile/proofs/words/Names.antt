@@ -10,7 +10,7 @@ use Rattle.m_ast.specs.declared.variable.VariableItem.{VariableItem}
 use Rattle.m_ast.specs.Items.{cells_in, variable_size, variable_cells}
 use Rattle.m_symbols.specs.declared.variable.Variable.{Variable}
 use Rattle.m_symbols.specs.Declarations.{Declared, owners_from, placed_from}
-use Rattle.m_requests.specs.Cells.{cell_text, printed_cell, cell_name}
+use Rattle.m_symbols.specs.Cells.{cell_text, printed_cell, cell_name}
 use Rattle.code_file.specs.Printable.{IsPlainName, IsCellName}
 use Rattle.m_compile.proofs.words.Declared.{IsGood}
 

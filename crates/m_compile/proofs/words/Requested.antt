@@ -9,12 +9,12 @@ use Rattle.m_names.specs.Names.{has, index_of}
 use Rattle.m_ast.specs.Items.{variable_size}
 use Rattle.m_symbols.specs.declared.variable.Variable.{Variable}
 use Rattle.m_symbols.specs.Declarations.{Declared, names_of, owners_from}
-use Rattle.m_requests.specs.Cells.{cell_by, request_cell, returned_by, returned_cells, split_at_bracket}
-use Rattle.m_requests.specs.Placed.{IsPlaced}
-use Rattle.m_requests.specs.Requests.{lines_said, few, requests_said}
-use Rattle.m_requests.specs.declared.fault.RequestFault.{RequestFault}
-use Rattle.m_requests.specs.declared.fault.RequestFault.TheVariants.{BadRequest, TooManyRequests}
-use Rattle.m_requests.proofs.Placing.{placed_ends, known_by}
+use Rattle.m_symbols.specs.Cells.{cell_by, request_cell, returned_by, returned_cells, split_at_bracket}
+use Rattle.m_symbols.specs.Placed.{IsPlaced}
+use Rattle.m_symbols.specs.Requests.{lines_said, few, requests_said}
+use Rattle.m_symbols.specs.declared.request_fault.RequestFault.{RequestFault}
+use Rattle.m_symbols.specs.declared.request_fault.RequestFault.TheVariants.{BadRequest, TooManyRequests}
+use Rattle.m_symbols.proofs.Placing.{placed_ends, known_by}
 use Rattle.m_compile.proofs.words.Items.{all_append}
 
 abbrev AreCells : Declared → List ℕ → Type 0

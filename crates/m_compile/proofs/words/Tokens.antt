@@ -14,7 +14,7 @@ use Rattle.m_lexer.specs.Tokens.{Spells, word, key, number, text, sign, Lexes, e
 use Rattle.m_lexer.specs.Chains.{First, first}
 use Rattle.m_terms.specs.Tokens.{is_name, is_not_small, is_whole}
 use Rattle.m_terms.proofs.Passes.{Behind, next, later}
-use Rattle.declaration_items.specs.Tokens.{placed, word_of, name_of, whole_of, word as a_word, name as a_name, whole as a_whole}
+use Rattle.m_items.specs.Tokens.{placed, word_of, name_of, whole_of, word as a_word, name as a_name, whole as a_whole}
 use Rattle.code_file.specs.Printable.{IsFreeWord, IsPlainName, IsNoSmallLetter}
 
 -- ---- tokens

@@ -3,7 +3,7 @@ use Rattle.std.specs.Prelude.{◌≡◌, ℕ, ◌+◌, ◌<◌, ◌≤◌, ◌^�
 use Rattle.std.specs.List.{AllByRecursion}
 use Rattle.m_places.specs.declared.limits.TheConstants.{DRIVER_WEIGHT, REQUESTS}
 use Rattle.m_fixed.specs.declared.amount.Value.{Value}
-use Rattle.rule_text.specs.declared.Source.{Source}
+use Rattle.m_places.specs.declared.source.Source.{Source}
 use Rattle.m_symbols.specs.Declarations.{Declared}
 use Rattle.micro_m.specs.declared.base.Base.{Base}
 use Rattle.observables.specs.declared.face.Face.{Face}
@@ -21,9 +21,9 @@ use Rattle.driver_core.specs.declared.program.Core.{Core}
 use Rattle.driver_core.specs.Answers.{answer_of}
 use Rattle.driver_core.specs.Inputs.{inputs_said}
 use Rattle.driver_core.specs.Weights.{weight_of}
-use Rattle.m_requests.specs.Cells.{cell_name}
-use Rattle.m_requests.specs.declared.fault.RequestFault.{RequestFault}
-use Rattle.m_requests.specs.Requests.{requests_said}
+use Rattle.m_symbols.specs.Cells.{cell_name}
+use Rattle.m_symbols.specs.declared.request_fault.RequestFault.{RequestFault}
+use Rattle.m_symbols.specs.Requests.{requests_said}
 use Rattle.mpp_inline.specs.Inlined.{most_nodes, IsDriverLine}
 use Rattle.mpp_lexer.specs.declared.fault.DriverFault.{DriverFault}
 use Rattle.mpp_parser.specs.declared.command.Driver.{Driver}

@@ -1,8 +1,8 @@
 -- The fault of a source that the fault of a step is: the step's running out of memory is the one of all.
 use Rattle.rule_base.specs.declared.fault.RuleFault.{RuleFault}
 use Rattle.rule_base.specs.declared.fault.RuleFault.TheVariants as rules
-use Rattle.m_requests.specs.declared.fault.RequestFault.{RequestFault}
-use Rattle.m_requests.specs.declared.fault.RequestFault.TheVariants as requests
+use Rattle.m_symbols.specs.declared.request_fault.RequestFault.{RequestFault}
+use Rattle.m_symbols.specs.declared.request_fault.RequestFault.TheVariants as requests
 use Rattle.mpp_lexer.specs.declared.fault.DriverFault.{DriverFault}
 use Rattle.mpp_lexer.specs.declared.fault.DriverFault.TheVariants as lines
 use Rattle.mpp_core.specs.declared.fault.CoreFault.{CoreFault}

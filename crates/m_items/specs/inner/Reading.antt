@@ -7,8 +7,8 @@ use Rattle.m_ast.specs.declared.item.Item.TheVariants.{Rule, Verif}
 use Rattle.m_terms.specs.Tokens.{is_key}
 use Rattle.m_lexer.specs.inner.Chains.{◌>>=◌}
 use Rattle.m_terms.specs.inner.Reading.{begins_by}
-use Rattle.declaration_items.specs.inner.Reading.{declaration_at}
-use Rattle.rule_items.specs.inner.Reading.{many_at, rule_at, verification_at}
+use Rattle.m_items.specs.inner.DeclarationReading.{declaration_at}
+use Rattle.m_items.specs.inner.RuleReading.{many_at, rule_at, verification_at}
 use Rattle.std.specs.Prelude.{cond}
 
 unfoldable pub item_at : List Token → Option (Item × List Token)

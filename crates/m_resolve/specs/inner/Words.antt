@@ -2,7 +2,7 @@
 use Rattle.std.specs.Prelude.{ℕ, List, Option, Some, None, Result, Ok, Err}
 use Rattle.m_places.specs.declared.verification.Label.{Label}
 use Rattle.m_ast.specs.declared.item.ErrorItem.{ErrorItem}
-use Rattle.plain_rules.specs.declared.rules.Condition.{Condition}
+use Rattle.m_ast.specs.declared.plain_rules.Condition.{Condition}
 use Rattle.m_resolve.specs.declared.checks.ErrorWords.{ErrorWords}
 use Rattle.m_resolve.specs.declared.fault.ResolveFault.{ResolveFault}
 use Rattle.m_resolve.specs.declared.fault.ResolveFault.TheVariants.{UnknownError}

@@ -14,7 +14,7 @@ use Rattle.register_alloc.specs.declared.moment.Moment.{Moment}
 use Rattle.register_alloc.specs.declared.sources.Sources.{Sources}
 use Rattle.register_alloc.specs.declared.room.Room.{Room}
 use Rattle.register_alloc.specs.Width.{width_of, moment_from, reads_by, tests_by}
-use Rattle.register_alloc.specs.Allocation.{spills_of}
+use Rattle.register_alloc.specs.Allocation.{spills_of, IsStoredTo}
 use Rattle.register_alloc.specs.inner.Tables.{look, In, is_live, is_busy, Tables}
 use Rattle.register_alloc.specs.inner.Valid.{IsInput}
 
@@ -41,7 +41,7 @@ pub record Counted (flat : Flat) (counts : Counts) : Type 0 where
   pub labels : (j : ℕ) (check : Check) → j < length flat.checks → (slice_index_or flat.checks j check).label < counts.labels
 
 -- What the code so far spells, where it has `count` slots or more: the first nodes and checks, these outputs, and what the
--- tables say.
+-- tables say. It stores to each of the `count` slots.
 pub record Spells (flat : Flat) (made checked : ℕ) (given : List (Option ℕ)) (code : Listing) (r s : ℕ → Option ℕ) (count : ℕ) (live : ℕ → Bool) : Type 0 where
   pub state : State
   pub counted : Counted flat code.counts
@@ -49,6 +49,7 @@ pub record Spells (flat : Flat) (made checked : ℕ) (given : List (Option ℕ))
   pub registers : state.registers ≡ r
   pub slots : (k x : ℕ) → s k ≡ Some x → state.slots k ≡ Some x
   pub within : (k x : ℕ) → s k ≡ Some x → k < count
+  pub used : (k : ℕ) → k < count → IsStoredTo k code
   pub nodes : state.nodes ≡ take made flat.nodes
   pub checks : state.checks ≡ take checked flat.checks
   pub outputs : state.outputs ≡ given

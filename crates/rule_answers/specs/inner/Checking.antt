@@ -1,8 +1,8 @@
 -- What is answered to a report over what the cells begin with.
 use Rattle.std.specs.Prelude.{◌≡◌, ℕ, ◌+◌, ℤ, List, length, Option, None, Some, Ok, Err}
 use Rattle.m_fixed.specs.declared.amount.Value.{Value}
-use Rattle.fault_lines.specs.Lines.{report_line}
-use Rattle.fault_lines.specs.declared.fault.ReportFault.TheVariants as words
+use Rattle.tax_print.specs.FaultLines.{report_line}
+use Rattle.tax_print.specs.declared.fault.ReportFault.TheVariants as words
 use Rattle.household.specs.Household.{household_of, values_of}
 use Rattle.m_symbols.specs.Declarations.{Declared}
 use Rattle.micro_m.specs.declared.base.Base.{Base}

@@ -1,11 +1,11 @@
 -- The steps from rule files to a base, each by itself.
 use Rattle.std.specs.Prelude.{◌≡◌, ℕ, List, map, Some, None, Ok, Err}
-use Rattle.rule_text.specs.declared.Text.{Text}
+use Rattle.m_places.specs.declared.source.Text.{Text}
 use Rattle.m_lexer.specs.declared.fault.LexFault.{LexFault}
 use Rattle.m_ast.specs.declared.item.Item.{Item}
 use Rattle.m_items.specs.declared.fault.ParseFault.{ParseFault}
-use Rattle.m_read_all.specs.Files.{IsFirstFileFault}
-use Rattle.m_read_all.specs.declared.fault.ReadFault.TheVariants as read
+use Rattle.rule_base.specs.Files.{IsFirstFileFault}
+use Rattle.rule_base.specs.declared.read_fault.ReadFault.TheVariants as read
 use Rattle.m_symbols.specs.Declarations.{Declared}
 use Rattle.index_expand.specs.Expansion.{expansion}
 use Rattle.index_expand.specs.Faults.{expand_fault}
@@ -14,7 +14,7 @@ use Rattle.m_resolve.specs.Bases.{resolved}
 use Rattle.m_resolve.specs.declared.fault.ResolveFault.{ResolveFault}
 use Rattle.micro_m.specs.declared.base.Base.{Base}
 use Rattle.micro_m.specs.Reads.{IsCycle, BeginsWithLeast}
-use Rattle.m_requests.specs.Cells.{cell_name}
+use Rattle.m_symbols.specs.Cells.{cell_name}
 use Rattle.rule_base.specs.declared.fault.RuleFault.{RuleFault}
 use Rattle.rule_base.specs.declared.fault.RuleFault.TheVariants.{Lex, Parse, Expand, Resolve, Cycle}
 

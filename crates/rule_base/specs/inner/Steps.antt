@@ -1,6 +1,6 @@
 -- The fault of rule files that the fault of a step is: the step's running out of memory is the one of all.
-use Rattle.m_read_all.specs.declared.fault.ReadFault.{ReadFault}
-use Rattle.m_read_all.specs.declared.fault.ReadFault.TheVariants as read
+use Rattle.rule_base.specs.declared.read_fault.ReadFault.{ReadFault}
+use Rattle.rule_base.specs.declared.read_fault.ReadFault.TheVariants as read
 use Rattle.m_symbols.specs.declared.fault.DeclareFault.{DeclareFault}
 use Rattle.m_symbols.specs.declared.fault.DeclareFault.TheVariants as declare
 use Rattle.index_expand.specs.declared.fault.ExpandFault.{ExpandFault}

@@ -4,23 +4,26 @@ use Rattle.household.proofs.GivenLemmas.{table_gives}
 use Rattle.reg_machine.specs.Machine.{machine_run}
 use Rattle.m_batch.proofs.RowLemmas.{rows_below}
 use Rattle.code_answers.specs.Shown.{TableReplies, rows_are_told}
-use Rattle.code_answers.proofs.GroupLemmas.{rows_told}
+use Rattle.code_answers.proofs.BatchLemmas.{lines_may, rows_told}
 use Rattle.code_answers.proofs.Refusals.{household_refused}
 use Rattle.code_answers.proofs.Shown.{code_many, many_inputs}
 use Rattle.code_answers.proofs.Ways.{batch_written, table_refused}
 use Rattle.code_answers.proofs.batch.answer_batch.Goals as goal
 
-pub print_rows-requires-clause-inputs : goal.print_rows-requires-clause-inputs
-print_rows-requires-clause-inputs g c = λ κs held.
+pub print_batch-requires-clause-inputs : goal.print_batch-requires-clause-inputs
+print_batch-requires-clause-inputs g c = λ κs held.
     rw c.as_slice.ensures
     (rw (many_inputs c.args.loaded.now) at (rows_below (length c.args.loaded.now.face.inputs) c.in-Ok.rows c.in-Ok.ensures.inputs))
+
+pub print_batch-requires-clause-may : goal.print_batch-requires-clause-may
+print_batch-requires-clause-may g c = λ κs held. rw c.as_slice.ensures (lines_may c.args.loaded.now 0 c.in-Ok.rows c.requires)
 
 pub returns-in-Ok : goal.returns-in-Ok
 returns-in-Ok g c = λ scheme shown.
     let given = subst (λ inputs. table_of inputs c.args.table.now ≡ Ok c.in-Ok.rows) shown.inputs c.in-Ok.ensures.outcome in
     batch_written _ _ _ _ _ _ (TableReplies scheme c.args.table.now) _ (rows_are_told c.in-Ok.rows given)
     c.status_of_rows.ensures
-    (rw (rows_told scheme c.args.loaded.now c.in-Ok.rows shown (code_many scheme c.args.loaded.now shown) (table_gives scheme.inputs c.args.table.now c.in-Ok.rows given)) at (rw c.as_slice.ensures at c.print_rows.ensures))
+    (rw (rows_told scheme c.args.loaded.now 0 c.in-Ok.rows shown (code_many scheme c.args.loaded.now shown) (table_gives scheme.inputs c.args.table.now c.in-Ok.rows given)) at (rw c.as_slice.ensures at c.print_batch.ensures.text))
 
 pub returns-in-Err : goal.returns-in-Err
 returns-in-Err g c = λ scheme shown.

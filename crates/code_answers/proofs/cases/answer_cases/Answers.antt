@@ -1,4 +1,4 @@
-use Rattle.std.proofs.Common.{◌≡◌, ◌∙◌, length, Ok, Err, subst}
+use Rattle.std.proofs.Common.{◌≡◌, ◌∙◌, length, Ok, Err, refl, subst}
 use Rattle.std.specs.List.{AllByRecursion}
 use Rattle.household.specs.Household.{AreOfTypes}
 use Rattle.m_batch.proofs.RowLemmas.{rows_below}
@@ -25,7 +25,7 @@ returns-in-Ok g c = λ scheme shown.
     subst (λ names. cases_of scheme.inputs names c.args.table.now ≡ Ok cases) shown.names
     (subst (λ inputs. cases_of inputs (names_of loaded.face.outputs) c.args.table.now ≡ Ok cases) shown.inputs c.in-Ok.ensures.outcome) in
     cases_written _ _ _ _ _ _ _ (ComparedReplies scheme c.args.table.now) _ (is_compared cases of)
-    (λ n is. counted_is _ n _ (rw (c.as_slice.ensures, c.as_slice-in-Ok.ensures) at c.print_cases.ensures.count) is ∙ count_told scheme loaded cases.rows cases.expected shown many given) c.status_of_cases.ensures (rw (text_told scheme loaded cases shown many given) at (rw (c.as_slice.ensures, c.as_slice-in-Ok.ensures) at c.print_cases.ensures.text))
+    (λ n is. counted_is _ n _ (rw (c.as_slice.ensures, c.as_slice-in-Ok.ensures) at c.print_cases.ensures.count) is ∙ count_told scheme loaded cases.expected 0 cases.rows cases.expected shown many given refl c.in-Ok.ensures.many) c.status_of_cases.ensures (rw (text_told scheme loaded cases shown many given c.in-Ok.ensures.many) at (rw (c.as_slice.ensures, c.as_slice-in-Ok.ensures) at c.print_cases.ensures.text))
 
 pub returns-in-Err : goal.returns-in-Err
 returns-in-Err g c = λ scheme shown.

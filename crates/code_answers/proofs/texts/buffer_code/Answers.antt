@@ -1,4 +1,4 @@
-use Rattle.held_text.proofs.BufferLemmas.{through_result}
+use Rattle.m_ports.proofs.BufferLemmas.{through_result}
 use Rattle.code_answers.proofs.texts.buffer_code.Goals as goal
 
 pub returns-clause-gives : goal.returns-clause-gives

@@ -1,6 +1,6 @@
 use Rattle.std.proofs.Common.{ap}
 use Rattle.tax_print.specs.Lines.{answer_lines}
-use Rattle.held_text.specs.Texts.{TextIn}
+use Rattle.m_ports.specs.Texts.{TextIn}
 use Rattle.code_answers.proofs.HeldLemmas.{held_whole, gives_whole}
 use Rattle.code_answers.proofs.texts.give_answer.Goals as goal
 

@@ -1,7 +1,7 @@
 use Rattle.std.proofs.Common.{◌++◌, ap}
 use Rattle.tax_print.specs.Lines.{answer_lines}
 use Rattle.code_answers.specs.Larges.{large_line}
-use Rattle.held_text.specs.Texts.{TextIn}
+use Rattle.m_ports.specs.Texts.{TextIn}
 use Rattle.code_answers.proofs.HeldLemmas.{held_whole, gives_whole}
 use Rattle.code_answers.proofs.texts.give_large.Goals as goal
 

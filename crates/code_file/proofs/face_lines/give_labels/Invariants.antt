@@ -1,5 +1,5 @@
 use Rattle.std.proofs.Common.{drop}
-use Rattle.text_pieces.proofs.GivingLemmas.{Given}
+use Rattle.m_ports.proofs.GivingLemmas.{Given}
 use Rattle.code_file.specs.Text.{lines, label_line}
 use Rattle.code_file.proofs.face_lines.give_labels.Given as goal
 

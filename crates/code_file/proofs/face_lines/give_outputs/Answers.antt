@@ -1,6 +1,6 @@
 use Rattle.std.proofs.Common.{refl}
 use Rattle.std.proofs.lemmas.Result.{err_from_is_err_and}
-use Rattle.text_pieces.proofs.GivingLemmas.{piece_given, piece_failed, all_given}
+use Rattle.m_ports.proofs.GivingLemmas.{piece_given, piece_failed, all_given}
 use Rattle.code_file.specs.Text.{output_line}
 use Rattle.code_file.proofs.LineLemmas.{lines-at, lines-end}
 use Rattle.code_file.proofs.face_lines.give_outputs.Goals as goal

@@ -1,6 +1,6 @@
 use Rattle.std.proofs.Common.{refl}
 use Rattle.std.proofs.lemmas.Result.{err_from_is_err_and}
-use Rattle.text_pieces.proofs.GivingLemmas.{none_given, piece_given, piece_failed, last_given}
+use Rattle.m_ports.proofs.GivingLemmas.{none_given, piece_given, piece_failed, last_given}
 use Rattle.code_file.proofs.write.write_text.Goals as goal
 
 pub returns-in_err-give_pieces : goal.returns-in_err-give_pieces

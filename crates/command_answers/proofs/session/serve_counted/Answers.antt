@@ -1,6 +1,6 @@
 use Rattle.std.proofs.Common.{refl, inl, inr}
-use Rattle.fault_lines.specs.Lines.{input_too_long_line, unreadable_input_line}
-use Rattle.serve_loop.specs.Repliers.{ended_of}
+use Rattle.tax_print.specs.FaultLines.{input_too_long_line, unreadable_input_line}
+use Rattle.household_session.specs.Repliers.{ended_of}
 use Rattle.command_plans.specs.Views.{output_view}
 use Rattle.command_plans.specs.declared.status.Status.TheVariants.{ReadFault, Refused}
 use Rattle.command_answers.specs.Serving.{to_its_end, unread, too_long, unwritten, unwritten_at_end}

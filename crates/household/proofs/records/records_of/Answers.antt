@@ -1,8 +1,7 @@
-use Rattle.std.proofs.Common.{◌∙◌, ap, []}
-use Rattle.csv.specs.declared.parser.State.TheVariants as st
-use Rattle.household.specs.Reader.{records_from_state}
+use Rattle.std.proofs.Common.{◌∙◌}
+use Rattle.household.specs.Reader.{left_from}
 use Rattle.household.proofs.LeftLemmas.{records_are_left}
 use Rattle.household.proofs.records.records_of.Goals as goal
 
 pub returns : goal.returns
-returns c = ap (records_from_state st.StartRecord [] []) c.start_of.ensures ∙ records_are_left c.args.bytes.now
+returns c = (λ i. left_from (c.from_reader-reader.ensures.state i) (c.from_reader-reader.ensures.source i)) ∙ records_are_left c.args.bytes.now

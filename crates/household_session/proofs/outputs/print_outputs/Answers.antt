@@ -1,6 +1,6 @@
 use Rattle.std.proofs.Common.{◌<◌, ◌≤◌, length, ap, refl, arith}
 use Rattle.std.proofs.lemmas.Result.{err_from_is_err_and}
-use Rattle.text_pieces.proofs.GivingLemmas.{piece_given, piece_failed, all_given}
+use Rattle.m_ports.proofs.GivingLemmas.{piece_given, piece_failed, all_given}
 use Rattle.flat_code.specs.Runs.{node_values}
 use Rattle.household_session.proofs.OutputLemmas.{outputs_at, outputs_end}
 use Rattle.household_session.proofs.outputs.print_outputs.Goals as goal

@@ -1,6 +1,6 @@
 use Rattle.std.proofs.Common.{drop}
 use Rattle.std.specs.Prelude.{map}
-use Rattle.text_pieces.proofs.GivingLemmas.{Given}
+use Rattle.m_ports.proofs.GivingLemmas.{Given}
 use Rattle.flat_code.specs.Runs.{node_values, value_at}
 use Rattle.tax_print.specs.Lines.{outputs_lines}
 use Rattle.household_session.proofs.outputs.print_outputs.Given as goal

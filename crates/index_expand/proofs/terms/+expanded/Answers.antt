@@ -4,7 +4,7 @@ use Rattle.std.proofs.Math.ListN.{set}
 use Rattle.std.specs.Prelude.{IfOk}
 use Rattle.m_ast.specs.Syntax.{Syntax, apply, chain, among, loop}
 use Rattle.m_ast.specs.View.{syntax_of, terms_of, links_of, members_of}
-use Rattle.plain_rules.specs.View.{links_of as plain_links_of, members_of as plain_members_of}
+use Rattle.m_ast.specs.PlainView.{links_of as plain_links_of, members_of as plain_members_of}
 use Rattle.loop_values.specs.Headers.{instances}
 use Rattle.loop_values.specs.Letters.{bind}
 use Rattle.loop_values.specs.inner.Singles.{unbound}

@@ -1,11 +1,14 @@
-use Rattle.std.proofs.Common.{◌≡◌, ◌∙◌, ◌+◌, ◌/◌, ◌%◌, min, length, arith}
-use Rattle.m_batch.specs.Batch.{row_answer}
-use Rattle.m_batch.proofs.PartLemmas.{of_chunk, whole}
+use Rattle.std.proofs.Common.{◌≡◌, ◌∙◌, List, get_or, subst, sym}
+use Rattle.std.specs.Prelude.{IfOk}
+use Rattle.household.specs.declared.table.Row.{Row}
+use Rattle.m_batch.specs.Batch.{answers_of, row_answer}
+use Rattle.m_batch.proofs.PartLemmas.{mapped}
 use Rattle.m_batch.proofs.batch.run_batch.Goals as goal
 
 pub returns : goal.returns
 returns g c =
-    let many : length c.in_ok-parts.parts.items ≡ length c.args.rows.now / c.chunk_size-size.result + min 1 (length c.args.rows.now % c.chunk_size-size.result) =
-    omega (arith, c.in_ok-parts.parts.ok, c.in_ok-parts.ensures.len) in
-    c.from_vec.ensures ∙ whole (row_answer c.args.code.now) c.chunk_size-size.result c.args.rows.now c.in_ok-parts.parts.items c.in_ok-answers.answers.items c.chunk_size-size.ensures many
-    (λ n d h. let k = (c.in_ok-parts.ensures.each n d h).1 in of_chunk (row_answer c.args.code.now) _ _ _ k.argument_is.value k.call) c.in_ok-answers.ensures
+    let all = c.in_ok-join_parts.ensures in
+    let said = mapped (row_answer c.args.code.now) c.part_size-size.result c.args.rows.now all.parts
+    (λ n d h. let gave = all.made.each n d h in subst (λ (rows : List Row). IfOk (get_or all.parts n d) (λ v. v.items ≡ answers_of c.args.code.now rows)) gave.1 gave.2)
+    all.made.inside all.made.reach in
+    c.from_vec.ensures ∙ (rw c.in_ok-answers.was at (rw (sym all.all_is) at said))

@@ -3,7 +3,7 @@ use Rattle.std.proofs.lemmas.List.{length-take-le}
 use Rattle.m_fixed.specs.declared.amount.Value.{Value}
 use Rattle.household.specs.Household.{values_of}
 use Rattle.reg_machine.specs.Machine.{machine_run}
-use Rattle.column_machine.specs.Rows.{row_at, row_inputs}
+use Rattle.m_batch.specs.inner.Rows.{row_at, row_inputs}
 use Rattle.m_batch.proofs.PlaceLemmas.{row_taken}
 use Rattle.m_batch.proofs.blocks.run_rows.Goals as goal
 

@@ -4,7 +4,7 @@ use Rattle.std.specs.declared.alloc.Global.{Global}
 use Rattle.std.proofs.lemmas.List.{length-set, with_items_is}
 use Rattle.std.proofs.lemmas.List.Elements.{All-set}
 use Rattle.m_fixed.specs.declared.amount.Value.{Value}
-use Rattle.column_machine.specs.Rows.{row_inputs}
+use Rattle.m_batch.specs.inner.Rows.{row_inputs}
 use Rattle.m_batch.proofs.PlaceLemmas.{values_next}
 use Rattle.m_batch.proofs.rows.put_rows.Goals as goal
 

@@ -1,7 +1,7 @@
 use Rattle.std.proofs.Common.{◌≡◌, ℕ, ◌<◌, get_or, length}
 use Rattle.household.specs.declared.table.Row.{Row}
 use Rattle.household.specs.Household.{values_of}
-use Rattle.column_machine.specs.Rows.{row_at, row_inputs}
+use Rattle.m_batch.specs.inner.Rows.{row_at, row_inputs}
 use Rattle.m_batch.specs.inner.Places.{AreRows}
 use Rattle.m_batch.proofs.rows.put_rows.Given as goal
 

@@ -1,6 +1,6 @@
 use Rattle.std.proofs.Common.{arith, refl, ◌∙◌, ◌≡◌, length, sym, subst, Option, List, drop}
 use Rattle.std.proofs.lemmas.Result.{err_from_is_err_and}
-use Rattle.text_pieces.proofs.GivingLemmas.{piece_given, piece_failed, all_given}
+use Rattle.m_ports.proofs.GivingLemmas.{piece_given, piece_failed, all_given}
 use Rattle.m_fixed.specs.declared.amount.Value.{Value}
 use Rattle.observables.specs.Outputs.{names_of, notes_of}
 use Rattle.m_cases.specs.Mismatches.{answer_values, named_values, one_line, is_met, got_of}

@@ -1,5 +1,5 @@
 use Rattle.std.proofs.Common.{◌≡◌, ◌≤◌, ◌+◌, drop, length}
-use Rattle.text_pieces.proofs.GivingLemmas.{Given}
+use Rattle.m_ports.proofs.GivingLemmas.{Given}
 use Rattle.observables.specs.Outputs.{names_of, notes_of}
 use Rattle.m_cases.specs.Mismatches.{answer_values, mismatch_count, mismatch_lines, named_values}
 use Rattle.m_cases.proofs.mismatches.print_mismatches.Given as goal

@@ -1,7 +1,7 @@
 use Rattle.m_places.specs.declared.limits.TheConstants.{CODE_FILE_BYTES, FILE_BYTES}
 use Rattle.command_plans.specs.Plan.{file_plan}
 use Rattle.command_plans.proofs.Trips.{along_then, along_done, exits_ended, exits_without_memory}
-use Rattle.m_source.specs.Source.{source_plan}
+use Rattle.command_plans.specs.Source.{source_plan}
 use Rattle.m_commands.specs.Command.{rules_only}
 use Rattle.m_commands.proofs.gather.gather_check.Goals as goal
 

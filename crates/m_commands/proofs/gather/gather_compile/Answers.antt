@@ -1,5 +1,5 @@
 use Rattle.command_plans.proofs.Trips.{along_then, along_done, exits_ended}
-use Rattle.m_source.specs.Source.{source_plan}
+use Rattle.command_plans.specs.Source.{source_plan}
 use Rattle.m_commands.proofs.gather.gather_compile.Goals as goal
 
 pub returns-in_err-source-clause-along : goal.returns-in_err-source-clause-along

@@ -1,4 +1,4 @@
-use Rattle.m_requests.proofs.Outcomes.{told}
+use Rattle.m_symbols.proofs.Outcomes.{told}
 use Rattle.m_compile.proofs.Steps.{rules_told}
 use Rattle.m_compile.proofs.base.compile_base.Goals as goal
 

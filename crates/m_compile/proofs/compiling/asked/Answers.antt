@@ -1,4 +1,4 @@
-use Rattle.m_requests.proofs.Outcomes.{told}
+use Rattle.m_symbols.proofs.Outcomes.{told}
 use Rattle.m_compile.specs.inner.Parts.{in_driver}
 use Rattle.m_compile.proofs.Steps.{requests_told}
 use Rattle.m_compile.proofs.compiling.asked.Goals as goal

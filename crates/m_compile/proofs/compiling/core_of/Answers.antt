@@ -1,4 +1,4 @@
-use Rattle.m_requests.proofs.Outcomes.{told}
+use Rattle.m_symbols.proofs.Outcomes.{told}
 use Rattle.m_compile.specs.Sources.{by_driver}
 use Rattle.m_compile.proofs.Drivers.{functions_counted}
 use Rattle.m_compile.proofs.Steps.{lines_told, names_told}

@@ -1,5 +1,5 @@
 use Rattle.std.proofs.Common.{arith}
-use Rattle.m_requests.proofs.Outcomes.{told}
+use Rattle.m_symbols.proofs.Outcomes.{told}
 use Rattle.m_compile.proofs.Noted.{verifs_there}
 use Rattle.m_compile.proofs.Steps.{weight_told, program_made}
 use Rattle.m_compile.proofs.compiling.faced.Goals as goal

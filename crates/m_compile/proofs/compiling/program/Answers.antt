@@ -1,4 +1,4 @@
-use Rattle.m_requests.proofs.Outcomes.{told}
+use Rattle.m_symbols.proofs.Outcomes.{told}
 use Rattle.rule_base.proofs.Small.{few-cells, few-labels}
 use Rattle.m_compile.proofs.Steps.{asked_told, few_asked, finished}
 use Rattle.m_compile.proofs.compiling.program.Goals as goal

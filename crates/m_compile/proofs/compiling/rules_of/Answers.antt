@@ -1,4 +1,4 @@
-use Rattle.m_requests.proofs.Outcomes.{told}
+use Rattle.m_symbols.proofs.Outcomes.{told}
 use Rattle.m_compile.proofs.Steps.{base_told, rules_made}
 use Rattle.m_compile.proofs.compiling.rules_of.Goals as goal
 

@@ -1,7 +1,7 @@
 use Rattle.std.proofs.Common.{ap, ◌∙◌, arith}
 use Rattle.std.proofs.lemmas.List.{take_all}
 use Rattle.std.specs.List.{filter_map}
-use Rattle.m_requests.proofs.Filters.{filter_map_more}
+use Rattle.m_symbols.proofs.Filters.{filter_map_more}
 use Rattle.driver_core.specs.Inputs.{input_said}
 use Rattle.m_compile.proofs.face.inputs_of.Goals as goal
 

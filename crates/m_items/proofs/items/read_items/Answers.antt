@@ -1,5 +1,5 @@
 use Rattle.std.proofs.Common.{refl}
-use Rattle.rule_items.proofs.Manys.{many_start, many_turn, many_stop}
+use Rattle.m_items.proofs.Manys.{many_start, many_turn, many_stop}
 use Rattle.m_items.specs.inner.Reading.{items_at}
 use Rattle.m_items.proofs.items.read_items.Goals as goal
 

@@ -1,5 +1,5 @@
 use Rattle.std.proofs.Common.{length}
-use Rattle.rule_items.proofs.Manys.{Going}
+use Rattle.m_items.proofs.Manys.{Going}
 use Rattle.m_items.specs.inner.Reading.{item_at, items_at}
 use Rattle.m_items.proofs.items.read_items.Given as goal
 

@@ -1,7 +1,7 @@
 use Rattle.std.proofs.Common.{get_or, refl, ap, arith}
 use Rattle.std.proofs.lemmas.List.{drop_all}
 use Rattle.std.proofs.lemmas.Result.{err_from_is_err_and}
-use Rattle.text_pieces.proofs.GivingLemmas.{piece_given, piece_failed, all_given}
+use Rattle.m_ports.proofs.GivingLemmas.{piece_given, piece_failed, all_given}
 use Rattle.m_lint.specs.declared.finding.Finding.TheVariants.{NeverDefined}
 use Rattle.m_lint.specs.Lines.{findings_text}
 use Rattle.m_lint.proofs.PrintLemmas.{text-at, within-at}

@@ -1,5 +1,5 @@
 use Rattle.std.proofs.Common.{drop}
-use Rattle.text_pieces.proofs.GivingLemmas.{Given}
+use Rattle.m_ports.proofs.GivingLemmas.{Given}
 use Rattle.m_lint.specs.Lines.{findings_text}
 use Rattle.m_lint.proofs.print.print_findings.Given as goal
 

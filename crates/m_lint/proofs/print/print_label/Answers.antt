@@ -1,6 +1,6 @@
 use Rattle.std.proofs.Common.{◌∙◌, ap, [], ◌∷◌}
 use Rattle.std.specs.Prelude.{codes}
-use Rattle.text_pieces.specs.Pieces.{joined, new_line}
+use Rattle.m_text.specs.Pieces.{joined, new_line}
 use Rattle.m_lint.proofs.PrintLemmas.{gives-text}
 use Rattle.m_lint.proofs.print.print_label.Goals as goal
 

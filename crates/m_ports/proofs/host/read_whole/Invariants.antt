@@ -1,5 +1,5 @@
 use Rattle.std.proofs.Common.{◌≡◌, ◌+◌, ◌-◌, ◌≤◌, length, min}
-use Rattle.std.specs.Io.KnownBytes.{prepend_known}
+use Rattle.std.specs.Io.KnownBytes.{Consumes}
 use Rattle.m_ports.specs.Counts.{last_count}
 use Rattle.m_ports.proofs.host.read_whole.Given as goal
 
@@ -7,8 +7,9 @@ abbrev pub invariant-loop-bytes : goal.invariant-loop-bytes
 invariant-loop-bytes g l = record {
   few : length l.bytes.items ≤ l.limit;
   counted : l.taken ≡ min (l.initial.taken + length l.bytes.items) last_count;
-  moved : g.S.Source.left l.initial.source ≡ prepend_known l.bytes.items (g.S.Source.left l.source);
-  faults : g.S.Source.faults l.source ≡ g.S.Source.faults l.initial.source;
+  moved : Consumes (g.O.Opener.remaining l.initial.opener) (g.O.Opener.remaining l.opener) l.bytes.items;
+  failures : g.O.Opener.failures l.opener ≡ g.O.Opener.failures l.initial.opener;
+  told : g.O.Opener.told l.opener ≡ g.O.Opener.told l.initial.opener;
 }
 
 abbrev pub decreases-loop-bytes : goal.decreases-loop-bytes

@@ -1,4 +1,4 @@
-use Rattle.m_requests.proofs.Outcomes.{told}
+use Rattle.m_symbols.proofs.Outcomes.{told}
 use Rattle.m_resolve.proofs.Lists.{condition_fault, label_fault}
 use Rattle.m_resolve.proofs.checks.checks_with.Goals as goal
 

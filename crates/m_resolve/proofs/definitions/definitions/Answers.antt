@@ -1,4 +1,4 @@
-use Rattle.m_requests.proofs.Outcomes.{told}
+use Rattle.m_symbols.proofs.Outcomes.{told}
 use Rattle.m_resolve.proofs.Lists.{target_fault, definition_fault}
 use Rattle.m_resolve.proofs.definitions.definitions.Goals as goal
 

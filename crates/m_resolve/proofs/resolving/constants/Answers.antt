@@ -1,5 +1,5 @@
 use Rattle.std.proofs.Common.{arith}
-use Rattle.m_requests.proofs.Filters.{filter_map_more}
+use Rattle.m_symbols.proofs.Filters.{filter_map_more}
 use Rattle.m_resolve.specs.Bases.{constant_in}
 use Rattle.m_resolve.proofs.resolving.constants.Goals as goal
 

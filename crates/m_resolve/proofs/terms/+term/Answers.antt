@@ -1,8 +1,8 @@
 use Rattle.std.proofs.Common.{arith, ap, sym}
 use Rattle.m_ast.specs.Syntax.{nodes}
-use Rattle.plain_rules.specs.View.{syntax_of}
+use Rattle.m_ast.specs.PlainView.{syntax_of}
 use Rattle.m_resolve.proofs.Sizes.{term_size, link_size, member_size}
-use Rattle.m_requests.proofs.Outcomes.{told}
+use Rattle.m_symbols.proofs.Outcomes.{told}
 use Rattle.m_resolve.proofs.Lists.{terms_fault, chain_fault}
 use Rattle.m_resolve.proofs.terms.+term.Goals as goal
 

@@ -1,7 +1,7 @@
 use Rattle.std.proofs.Common.{◌≡◌, ◌+◌, ◌*◌, [], ◌∷◌, drop}
 use Rattle.m_ast.specs.Syntax.{nodes, nodes_of_terms, nodes_of_links, nodes_of_members}
 use Rattle.m_ast.specs.View.{terms_of}
-use Rattle.plain_rules.specs.View.{links_of, members_of}
+use Rattle.m_ast.specs.PlainView.{links_of, members_of}
 use Rattle.m_resolve.specs.Terms.{if_said, term_said, terms_said, links_said, members_said}
 use Rattle.m_resolve.proofs.terms.+term.Given as goal
 

@@ -1,7 +1,7 @@
 use Rattle.std.proofs.Common.{arith, ap}
 use Rattle.driver_core.specs.Formulas.{formula_nodes}
 use Rattle.driver_core.specs.FormulaView.{formula_of}
-use Rattle.driver_weight.proofs.SumLemmas.{sizes-fall, terms-fall}
+use Rattle.driver_core.proofs.SumLemmas.{sizes-fall, terms-fall}
 use Rattle.mpp_inline.proofs.copies.+copied.Goals as goal
 
 pub copied-copied_terms-requires : goal.copied-copied_terms-requires

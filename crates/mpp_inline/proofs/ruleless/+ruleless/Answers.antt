@@ -1,5 +1,5 @@
 use Rattle.std.proofs.Common.{arith}
-use Rattle.driver_weight.proofs.SumLemmas.{block-part}
+use Rattle.driver_core.proofs.SumLemmas.{block-part}
 use Rattle.mpp_inline.proofs.ruleless.+ruleless.Goals as goal
 
 pub block_left-add_left-requires : goal.block_left-add_left-requires

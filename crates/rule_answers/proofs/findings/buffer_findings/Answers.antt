@@ -1,4 +1,4 @@
-use Rattle.held_text.proofs.BufferLemmas.{through_result}
+use Rattle.m_ports.proofs.BufferLemmas.{through_result}
 use Rattle.rule_answers.proofs.findings.buffer_findings.Goals as goal
 
 pub returns-clause-gives : goal.returns-clause-gives

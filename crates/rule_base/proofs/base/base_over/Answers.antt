@@ -1,4 +1,4 @@
-use Rattle.m_requests.proofs.Outcomes.{told}
+use Rattle.m_symbols.proofs.Outcomes.{told}
 use Rattle.rule_base.proofs.Steps.{expand_told, resolve_told}
 use Rattle.rule_base.proofs.base.base_over.Goals as goal
 

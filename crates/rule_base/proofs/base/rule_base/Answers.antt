@@ -1,4 +1,4 @@
-use Rattle.m_requests.proofs.Outcomes.{told}
+use Rattle.m_symbols.proofs.Outcomes.{told}
 use Rattle.index_expand.proofs.DeclaredLemmas.{tables_have_cells}
 use Rattle.rule_base.proofs.Steps.{file_told, declare_told, over_told, finished, declared_placed, placed_after}
 use Rattle.rule_base.proofs.base.rule_base.Goals as goal

@@ -1,7 +1,7 @@
 use Rattle.std.proofs.Common.{All, sym, subst}
 use Rattle.m_ast.specs.Whole.{IsWholeItem}
-use Rattle.m_requests.proofs.Outcomes.{told}
-use Rattle.m_read_all.proofs.OneFiles.{said_all, said_whole}
+use Rattle.m_symbols.proofs.Outcomes.{told}
+use Rattle.rule_base.proofs.OneFiles.{said_all, said_whole}
 use Rattle.rule_base.proofs.Counts.{counted}
 use Rattle.rule_base.proofs.Steps.{read_told}
 use Rattle.rule_base.proofs.files.items_of.Goals as goal

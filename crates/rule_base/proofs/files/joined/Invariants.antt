@@ -1,5 +1,5 @@
 use Rattle.std.proofs.Common.{◌≡◌}
-use Rattle.m_read_all.specs.Files.{all_items}
+use Rattle.rule_base.specs.Files.{all_items}
 use Rattle.rule_base.proofs.files.joined.Given as goal
 
 abbrev pub invariant-loop-file : goal.invariant-loop-file

@@ -1,5 +1,5 @@
 use Rattle.std.proofs.Common.{drop}
-use Rattle.text_pieces.proofs.GivingLemmas.{Given}
+use Rattle.m_ports.proofs.GivingLemmas.{Given}
 use Rattle.tax_print.specs.Lines.{outputs_lines}
 use Rattle.tax_print.proofs.answer.print_all.Given as goal
 

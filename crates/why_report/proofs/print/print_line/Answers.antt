@@ -1,5 +1,5 @@
 use Rattle.std.proofs.lemmas.Result.{err_from_is_err_and}
-use Rattle.text_pieces.proofs.GivingLemmas.{none_given, piece_given, piece_failed, last_given}
+use Rattle.m_ports.proofs.GivingLemmas.{none_given, piece_given, piece_failed, last_given}
 use Rattle.why_report.proofs.PrintLemmas.{named-line}
 use Rattle.why_report.proofs.print.print_line.Goals as goal
 

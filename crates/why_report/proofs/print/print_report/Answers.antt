@@ -1,7 +1,7 @@
 use Rattle.std.proofs.Common.{refl, ap, arith}
 use Rattle.std.proofs.lemmas.List.{drop_all}
 use Rattle.std.proofs.lemmas.Result.{err_from_is_err_and}
-use Rattle.text_pieces.proofs.GivingLemmas.{piece_given, piece_failed, all_given}
+use Rattle.m_ports.proofs.GivingLemmas.{piece_given, piece_failed, all_given}
 use Rattle.why_report.specs.Reports.{report_text}
 use Rattle.why_report.proofs.PrintLemmas.{report-at}
 use Rattle.why_report.proofs.print.print_report.Goals as goal

@@ -1,5 +1,5 @@
 use Rattle.std.proofs.Common.{drop}
-use Rattle.text_pieces.proofs.GivingLemmas.{Given}
+use Rattle.m_ports.proofs.GivingLemmas.{Given}
 use Rattle.why_report.specs.Reports.{report_text}
 use Rattle.why_report.proofs.print.print_report.Given as goal
 

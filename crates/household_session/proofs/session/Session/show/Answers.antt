@@ -1,7 +1,7 @@
 use Rattle.std.proofs.Common.{◌+◌, ap, refl, subst, ◌∙◌}
 use Rattle.std.proofs.lemmas.Result.{err_from_is_err_and}
-use Rattle.text_pieces.specs.Giving.{Gives}
-use Rattle.text_pieces.proofs.GivingLemmas.{none_given, piece_given, piece_failed, last_given}
+use Rattle.m_ports.specs.Giving.{Gives}
+use Rattle.m_ports.proofs.GivingLemmas.{none_given, piece_given, piece_failed, last_given}
 use Rattle.household_session.specs.Sessions.{showing_of, shown}
 use Rattle.household_session.specs.Seats.{Seated, show_cost}
 use Rattle.household_session.proofs.session.Session.show.Goals as goal

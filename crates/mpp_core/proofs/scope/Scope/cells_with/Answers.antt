@@ -1,9 +1,9 @@
 use Rattle.std.proofs.Common.{◌≡◌, ℕ, List, ◌∙◌, subst}
 use Rattle.std.specs.Prelude.{IfOk}
 use Rattle.m_symbols.specs.Declarations.{Declared}
-use Rattle.input_kinds.specs.Ascending.{ascending}
-use Rattle.input_kinds.specs.Groups.{groups_in}
-use Rattle.input_kinds.specs.Kinds.{IsIndexOf}
+use Rattle.driver_core.specs.Ascending.{ascending}
+use Rattle.driver_core.specs.Groups.{groups_in}
+use Rattle.driver_core.specs.Kinds.{IsIndexOf}
 use Rattle.mpp_core.proofs.NameLemmas.{kind-is}
 use Rattle.mpp_core.proofs.scope.Scope.cells_with.Goals as goal
 

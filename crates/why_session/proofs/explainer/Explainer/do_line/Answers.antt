@@ -1,5 +1,5 @@
 use Rattle.std.proofs.Common.{◌≡◌, ◌++◌, ◌∷◌, length, refl, ap, sym, ◌∙◌, subst, arith}
-use Rattle.text_pieces.specs.Giving.{Gives}
+use Rattle.m_ports.specs.Giving.{Gives}
 use Rattle.household_session.specs.Commands.{session_command}
 use Rattle.household_session.specs.Replies.{reply_of}
 use Rattle.m_fixed.specs.declared.amount.Value.{Value}

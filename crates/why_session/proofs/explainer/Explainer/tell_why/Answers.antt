@@ -1,5 +1,5 @@
 use Rattle.std.proofs.Common.{List, ℕ, ap, sym, ◌∙◌, subst, arith}
-use Rattle.text_pieces.specs.Giving.{Gives}
+use Rattle.m_ports.specs.Giving.{Gives}
 use Rattle.why_report.specs.Starts.{Reporting}
 use Rattle.why_session.specs.Joined.{Joined, explains_in, joined_replies}
 use Rattle.why_session.proofs.ReasonLemmas.{found_stays, replies_stay, told_unknown, told_why}

@@ -1,0 +1,120 @@
+//! The calls that gather a source, each along its plan.
+ghost use Rattle.std.specs.Prelude.{◌≡◌, ◌≤◌, IfOk, length};
+ghost use Rattle.m_places.specs.declared.limits.TheConstants.{LIST_FILES, RULE_BYTES};
+ghost use Rattle.command_plans.specs.Trips.{GoesAlong};
+ghost use Rattle.command_plans.specs.Views.{files_view};
+ghost use Rattle.m_places.specs.SourceLimits.{TextsAreWithin, FileIsWithin, SourceKeepsLimits};
+ghost use Rattle.command_plans.specs.Source.{is_none, list_plan, rules_plan, optional_plan, parts_plan, source_plan};
+
+use crate::list_fault::ListFault;
+use crate::listing::Listing;
+use crate::read_listing::read_list;
+use crate::source::SourceNames;
+use crate::{Ending, Refusal, fetch};
+use m_places::limits::{FILE_BYTES, RULE_BYTES};
+use m_places::{Name, Seq, Source, Text};
+use m_ports::Files;
+use std::alloc::Global;
+
+// The name of a driver or of requests where there are none.
+const NONE: &[u8] = b"-";
+
+/// Gathers a source: the list, its rule files in order, the driver and the requests. What ends the
+/// command where one of them can't be had, or the list is refused, is the error.
+pub fn gather_source<F: Files>(
+    alloc: Global,
+    files: &mut F,
+    names: &SourceNames,
+) -> Result<Source, Ending>
+    ensures along { GoesAlong (source_plan names.now) (files_view F.told F.attempts F.taken files.old)
+        (files_view F.told F.attempts F.taken files.new) result }
+    ensures within { IfOk result SourceKeepsLimits }
+{
+    let Listing {
+        application,
+        files: rules,
+    } = gather_list(alloc, files, &names.list)?;
+    let texts = gather_rules(alloc, files, rules.as_slice())?;
+    gather_parts(alloc, files, names, application, texts)
+}
+
+// Fetches the list, and reads it.
+fn gather_list<F: Files>(alloc: Global, files: &mut F, name: &Name) -> Result<Listing, Ending>
+    ensures along { GoesAlong (list_plan name.now) (files_view F.told F.attempts F.taken files.old)
+        (files_view F.told F.attempts F.taken files.new) result }
+    ensures few { IfOk result (λ listing. length listing.files ≤ LIST_FILES) }
+{
+    let bytes = fetch(alloc, files, name, FILE_BYTES)?;
+    match read_list(alloc, bytes.as_slice()) {
+        Ok(listing) => Ok(listing),
+        Err(ListFault::Memory) => Err(Ending::Memory),
+        Err(ListFault::BadLine(line)) => Err(Ending::Refused(Refusal::ListLine(line))),
+        Err(ListFault::TooManyFiles) => Err(Ending::Refused(Refusal::TooManyFiles)),
+    }
+}
+
+// Fetches the rule files.
+fn gather_rules<F: Files>(alloc: Global, files: &mut F, names: &[Name]) -> Result<Seq<Text>, Ending>
+    requires { length names.now ≤ LIST_FILES }
+    ensures along { GoesAlong (rules_plan RULE_BYTES names.now) (files_view F.told F.attempts F.taken files.old)
+        (files_view F.told F.attempts F.taken files.new) result }
+    ensures within { IfOk result TextsAreWithin }
+{
+    let mut texts = Vec::new(alloc);
+    let mut left = RULE_BYTES;
+    for name in names {
+        let bytes = fetch(alloc, files, name, FILE_BYTES.min(left))?;
+        left -= bytes.as_slice().len() as u64;
+        let name = name.copy(alloc)?;
+        texts.push(Text { name, bytes })?;
+    }
+    Ok(Seq::from_vec(texts))
+}
+
+/// Whether a name is the `-` that stands in the place of a driver or of requests: there are none.
+pub fn is_none(name: &Name) -> bool
+    ensures { result ≡ is_none name.now }
+{
+    name.bytes() == NONE
+}
+
+// Fetches a driver or requests, where there are any.
+fn gather_optional<F: Files>(
+    alloc: Global,
+    files: &mut F,
+    name: &Name,
+) -> Result<Option<Seq<u8>>, Ending>
+    ensures along { GoesAlong (optional_plan name.now) (files_view F.told F.attempts F.taken files.old)
+        (files_view F.told F.attempts F.taken files.new) result }
+    ensures within { IfOk result FileIsWithin }
+{
+    if is_none(name) {
+        return Ok(None);
+    }
+    let bytes = fetch(alloc, files, name, FILE_BYTES)?;
+    Ok(Some(bytes))
+}
+
+// Fetches what comes after the rule files.
+fn gather_parts<F: Files>(
+    alloc: Global,
+    files: &mut F,
+    names: &SourceNames,
+    application: Name,
+    texts: Seq<Text>,
+) -> Result<Source, Ending>
+    ensures along { GoesAlong (parts_plan names.now application texts) (files_view F.told F.attempts F.taken files.old)
+        (files_view F.told F.attempts F.taken files.new) result }
+    ensures texts { IfOk result (λ source. source.texts ≡ texts) }
+    ensures driver { IfOk result (λ source. FileIsWithin source.driver) }
+    ensures requests { IfOk result (λ source. FileIsWithin source.requests) }
+{
+    let driver = gather_optional(alloc, files, &names.driver)?;
+    let requests = gather_optional(alloc, files, &names.requests)?;
+    Ok(Source {
+        application,
+        texts,
+        driver,
+        requests,
+    })
+}

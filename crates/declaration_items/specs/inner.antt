@@ -1,2 +1,0 @@
--- What the contracts of inner functions, and of readers on a cursor, speak of.
-pub mod Reading

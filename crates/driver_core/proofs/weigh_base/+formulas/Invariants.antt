@@ -1,0 +1,17 @@
+use Rattle.std.proofs.Common.{◌≡◌, ◌+◌, ◌<◌, ◌^◌, drop}
+use Rattle.driver_core.specs.FormulaView.{formulas_of, steps_of}
+use Rattle.driver_core.specs.Weights.{formulas_weight, steps_weight}
+use Rattle.driver_core.specs.inner.Capped.{capped}
+use Rattle.driver_core.proofs.weigh_base.+formulas.Given as goal
+
+abbrev pub invariant-weigh_formulas-loop-argument : goal.invariant-weigh_formulas-loop-argument
+invariant-weigh_formulas-loop-argument l = record {
+  sum : capped (l.total + formulas_weight (formulas_of (drop l.argument-index l.arguments))) ≡ capped (formulas_weight (formulas_of l.arguments));
+  fits : l.total < 2 ^ 64;
+}
+
+abbrev pub invariant-weigh_further-loop-step : goal.invariant-weigh_further-loop-step
+invariant-weigh_further-loop-step l = record {
+  sum : capped (l.total + steps_weight (steps_of (drop l.step-index l.steps))) ≡ capped (steps_weight (steps_of l.steps));
+  fits : l.total < 2 ^ 64;
+}

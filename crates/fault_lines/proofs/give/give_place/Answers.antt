@@ -1,6 +1,0 @@
-use Rattle.std.proofs.Common.{◌∙◌}
-use Rattle.fault_lines.proofs.give.give_place.Goals as goal
-
-pub returns : goal.returns
-returns g c =
-    rw (c.as_bytes-line.ensures.value ∙ c.format.ensures.text, c.as_bytes-byte.ensures.value ∙ c.format-2.ensures.text) at c.give_at.ensures

@@ -1,0 +1,173 @@
+-- A table reads to the rows that its records are.
+use Rattle.std.proofs.Common.{◌≡◌, ℕ, ℤ, ◌≤◌, List, [], ◌∷◌, ◌++◌, drop, length, Option, Some, None, Result, Ok, Err, true, false, eqb, leb, refl, sym, subst, ap, ◌∙◌, append_assoc, length-append, arith}
+use mathlib.Core.Bool.{◌&&◌}
+use Rattle.std.specs.List.{AllZip}
+use Rattle.std.proofs.lemmas.Bool.{and_parts, cond-false, cond-true, false_from_ne_true, ne_eqb, eqb-true, eq-eqb}
+use Rattle.std.proofs.lemmas.List.{append-nil, length_push}
+use Rattle.m_places.specs.declared.limits.TheConstants.{ROWS}
+use Rattle.m_fixed.specs.declared.read.AmountFault.{AmountFault}
+use Rattle.m_fixed.specs.Text.{text_value, amount_read}
+use Rattle.m_names.specs.Names.{index_of}
+use Rattle.observables.specs.declared.inputs.Coded.{Coded}
+use Rattle.observables.specs.Inputs.{codes_of}
+use Rattle.household.specs.declared.fault.HouseholdFault.{HouseholdFault}
+use Rattle.household.specs.declared.fault.HouseholdFault.TheVariants.{BadHeader, BadRow, CodeTwice, NotOfType, TooManyRows}
+use Rattle.household.specs.declared.table.Row.{Row}
+use Rattle.household.specs.InTurn.{if_read, in_turn}
+use Rattle.household.specs.Records.{records_of}
+use Rattle.household.specs.Household.{AreDifferent, is_input_among, line_behind}
+use Rattle.household.specs.Table.{amount_said, are_fitting, cells_read, column_of, fitting_pairs, is_label, is_table_header, labelled, new_column, pairs_read, rows_read, table_of, table_read, table_row}
+use Rattle.household.specs.TableRows.{AreCells, IsTable, IsTableRow}
+use Rattle.household.proofs.ColumnLemmas.{columns_known}
+use Rattle.household.proofs.InputLemmas.{if_ok, other_than_error, read_before, turns_keep}
+use Rattle.household.proofs.LawLemmas.{no_room, room, turns_each, twice}
+
+-- ---- cells
+
+pub not_empty : (byte : ℕ) (bytes : List ℕ) → eqb (length (byte ∷ bytes)) 0 ≡ false
+not_empty byte bytes = ne_eqb (length (byte ∷ bytes)) 0 (λ e. absurd (omega (arith, e)))
+
+amount_parts : (line input : ℕ) (r : Result ℤ AmountFault) (pair : ℕ × ℤ) → amount_said line input r ≡ Ok pair → (pair.0 ≡ input) × (r ≡ Ok pair.1)
+amount_parts line input (Err why) pair h = absurd (cc h)
+amount_parts line input (Ok z) pair h = let same : (input, z) ≡ pair = cc h in (sym (ap (λ (p : ℕ × ℤ). p.0) same), ap (λ (p : ℕ × ℤ). Ok p.1) same)
+
+read_filled : (line : ℕ) (before : List (ℕ × ℤ)) (columns : List ℕ) (cells : List (List ℕ)) (input byte : ℕ) (bytes : List ℕ)
+    → cells_read line before (input ∷ columns) ((byte ∷ bytes) ∷ cells) ≡ if_read (λ pair. cells_read line (before ++ pair ∷ []) columns cells) (amount_said line input (amount_read (text_value (byte ∷ bytes))))
+read_filled line before columns cells input byte bytes = cond-false (eqb (length (byte ∷ bytes)) 0) (cells_read line before columns cells) _ (not_empty byte bytes)
+
+cells_sound : (line : ℕ) (before : List (ℕ × ℤ)) (columns : List ℕ) (cells : List (List ℕ)) (pairs : List (ℕ × ℤ)) → length cells ≡ length columns → cells_read line before columns cells ≡ Ok pairs
+    → (more : List (ℕ × ℤ)) × (pairs ≡ before ++ more) × AreCells columns cells more
+cells_sound line before [] [] pairs n h = let same : before ≡ pairs = cc h in ([], sym (append-nil before ∙ same), tt)
+cells_sound line before [] (cell ∷ cells) pairs n h = absurd (omega (arith, n))
+cells_sound line before (input ∷ columns) [] pairs n h = absurd (omega (arith, n))
+cells_sound line before (input ∷ columns) ([] ∷ cells) pairs n h =
+    let more = cells_sound line before columns cells pairs (omega (arith, n)) h in
+    (more.0, more.1, more.2)
+cells_sound line before (input ∷ columns) ((byte ∷ bytes) ∷ cells) pairs n h =
+    let r = read_before (λ pair. cells_read line (before ++ pair ∷ []) columns cells) (amount_said line input (amount_read (text_value (byte ∷ bytes)))) pairs (sym (read_filled line before columns cells input byte bytes) ∙ h) in
+    let parts = amount_parts line input (amount_read (text_value (byte ∷ bytes))) r.0 r.1 in
+    let more = cells_sound line (before ++ r.0 ∷ []) columns cells pairs (omega (arith, n)) r.2 in
+    (r.0 ∷ more.0, more.1 ∙ append_assoc before (r.0 ∷ []) more.0, (parts.0, parts.1, more.2))
+
+pub cells_whole : (line : ℕ) (before : List (ℕ × ℤ)) (columns : List ℕ) (cells : List (List ℕ)) (more : List (ℕ × ℤ)) → AreCells columns cells more
+    → (length cells ≡ length columns) × (cells_read line before columns cells ≡ Ok (before ++ more))
+cells_whole line before [] [] [] are = (refl, ap Ok (sym (append-nil before)))
+cells_whole line before [] [] (pair ∷ more) are = absurd are
+cells_whole line before [] (cell ∷ cells) more are = absurd are
+cells_whole line before (input ∷ columns) [] more are = absurd are
+cells_whole line before (input ∷ columns) ([] ∷ cells) more are = let rest = cells_whole line before columns cells more are in (omega (arith, rest.0), rest.1)
+cells_whole line before (input ∷ columns) ((byte ∷ bytes) ∷ cells) [] are = absurd are
+cells_whole line before (input ∷ columns) ((byte ∷ bytes) ∷ cells) (pair ∷ more) are =
+    let rest = cells_whole line (before ++ pair ∷ []) columns cells more are.2 in
+    let this : amount_said line input (amount_read (text_value (byte ∷ bytes))) ≡ Ok pair = ap (amount_said line input) are.1 ∙ ap (λ i. Ok (i, pair.1)) (sym are.0) in (
+      omega (arith, rest.0),
+      read_filled line before columns cells input byte bytes ∙ ap (if_read (λ p. cells_read line (before ++ p ∷ []) columns cells)) this ∙ rest.1 ∙ ap Ok (append_assoc before (pair ∷ []) more),
+    )
+
+-- ---- a row
+
+abbrev made : List ℕ → List (ℕ × ℤ) → Row
+made label pairs = record { label = label; household = record { pairs = pairs } }
+
+abbrev row_made : List ℕ → List (ℕ × ℤ) → Result Row HouseholdFault
+row_made label pairs = Ok (made label pairs)
+
+pub pairs_sound : (inputs : List Coded) (line : ℕ) (columns : List ℕ) (cells : List (List ℕ)) (pairs : List (ℕ × ℤ)) → length cells ≡ length columns → pairs_read inputs line columns cells ≡ Ok pairs
+    → AreCells columns cells pairs × (are_fitting inputs pairs ≡ true)
+pairs_sound inputs line columns cells pairs n h =
+    let c = read_before (fitting_pairs inputs line) (cells_read line [] columns cells) pairs h in
+    let f = if_ok (are_fitting inputs c.0) (Ok c.0) (NotOfType line) pairs c.2 in
+    let same : c.0 ≡ pairs = cc f.1 in
+    let are = cells_sound line [] columns cells c.0 n c.1 in
+    (subst (AreCells columns cells) (sym are.1 ∙ same) are.2, ap (are_fitting inputs) (sym same) ∙ f.0)
+
+row_sound : (inputs : List Coded) (line : ℕ) (columns : List ℕ) (fields : List (List ℕ)) (row : Row) → labelled inputs line columns fields ≡ Ok row → IsTableRow inputs columns fields row
+row_sound inputs line columns [] row h = absurd (cc h)
+row_sound inputs line columns (label ∷ cells) row h =
+    let a = if_ok (eqb (length cells) (length columns) && is_label label) _ (BadRow line) row h in
+    let both = and_parts (eqb (length cells) (length columns)) (is_label label) a.0 in
+    let r = read_before (row_made label) (pairs_read inputs line columns cells) row a.1 in
+    let said = pairs_sound inputs line columns cells r.0 (eqb-true (length cells) (length columns) both.0) r.1 in
+    let same : made label r.0 ≡ row = cc r.2 in
+    subst (IsTableRow inputs columns (label ∷ cells)) same (record { cells = cells; split = refl; label = both.1; says = said.0; fits = said.1 })
+
+row_whole : (inputs : List Coded) (line : ℕ) (columns : List ℕ) (fields : List (List ℕ)) (row : Row) → IsTableRow inputs columns fields row → labelled inputs line columns fields ≡ Ok row
+row_whole inputs line columns fields row is =
+    let cells = cells_whole line [] columns is.cells row.household.pairs is.says in
+    let fits : fitting_pairs inputs line row.household.pairs ≡ Ok row.household.pairs = cond-true (are_fitting inputs row.household.pairs) (Ok row.household.pairs) (Err (NotOfType line)) is.fits in
+    let many : (eqb (length is.cells) (length columns) && is_label row.label) ≡ true = (λ i. eq-eqb (length is.cells) (length columns) cells.0 i && is.label i) in
+    ap (labelled inputs line columns) is.split
+    ∙ cond-true (eqb (length is.cells) (length columns) && is_label row.label) (if_read (row_made row.label) (pairs_read inputs line columns is.cells)) (Err (BadRow line)) many
+    ∙ ap (if_read (row_made row.label)) (ap (if_read (fitting_pairs inputs line)) cells.1 ∙ fits)
+
+-- ---- rows
+
+few_rows : (inputs : List Coded) (columns : List ℕ) (records : List (List (List ℕ))) (rows : List Row) → in_turn (table_row inputs columns) [] records ≡ Ok rows → length rows ≤ ROWS
+few_rows inputs columns records rows h =
+    turns_keep (table_row inputs columns) (λ before. length before ≤ ROWS)
+    (λ before fields row q e.
+    let free = room ROWS (length before) (other_than_error (leb ROWS (length before)) TooManyRows (labelled inputs (line_behind (length before)) columns fields) row e).0 in omega (arith, length_push before row))
+    [] records rows (omega arith) h
+
+rows_whole : (inputs : List Coded) (columns : List ℕ) (before : List Row) (records : List (List (List ℕ))) (rows : List Row) → AllZip (IsTableRow inputs columns) records rows → length (before ++ rows) ≤ ROWS
+    → in_turn (table_row inputs columns) before records ≡ Ok (before ++ rows)
+rows_whole inputs columns before [] [] z l = ap Ok (sym (append-nil before))
+rows_whole inputs columns before [] (row ∷ rows) z l = absurd z
+rows_whole inputs columns before (fields ∷ records) [] z l = absurd z
+rows_whole inputs columns before (fields ∷ records) (row ∷ rows) z l =
+    let free = no_room ROWS (length before) (let long = length-append before (row ∷ rows) in omega (arith, long, l)) in
+    let this : table_row inputs columns before fields ≡ Ok row =
+    cond-false (leb ROWS (length before)) (Err TooManyRows) (labelled inputs (line_behind (length before)) columns fields) free ∙ row_whole inputs (line_behind (length before)) columns fields row z.0 in
+    ap (if_read (λ v. in_turn (table_row inputs columns) (before ++ v ∷ []) records)) this
+    ∙ rows_whole inputs columns (before ++ row ∷ []) records rows z.1 (subst (λ (rs : List Row). length rs ≤ ROWS) (sym (append_assoc before (row ∷ []) rows)) l)
+    ∙ ap Ok (append_assoc before (row ∷ []) rows)
+
+-- ---- columns
+
+column_parts : (before : List ℕ) (o : Option ℕ) (input : ℕ) → new_column before o ≡ Ok input → o ≡ Some input
+column_parts before None input h = absurd (cc h)
+column_parts before (Some i) input h = let a = other_than_error (is_input_among i before) (CodeTwice 1) (Ok i) input h in let same : i ≡ input = cc a.1 in ap Some same
+
+columns_whole : (inputs : List Coded) (before : List ℕ) (fields : List (List ℕ)) (columns : List ℕ) → AllZip (λ code input. index_of code (codes_of inputs) ≡ Some input) fields columns → AreDifferent (before ++ columns)
+    → in_turn (column_of inputs) before fields ≡ Ok (before ++ columns)
+columns_whole inputs before [] [] z d = ap Ok (sym (append-nil before))
+columns_whole inputs before [] (input ∷ columns) z d = absurd z
+columns_whole inputs before (code ∷ fields) [] z d = absurd z
+columns_whole inputs before (code ∷ fields) (input ∷ columns) z d =
+    let fresh = false_from_ne_true (is_input_among input before) (λ e. twice before columns input e d) in
+    let this : column_of inputs before code ≡ Ok input = ap (new_column before) z.0 ∙ cond-false (is_input_among input before) (Err (CodeTwice 1)) (Ok input) fresh in
+    ap (if_read (λ v. in_turn (column_of inputs) (before ++ v ∷ []) fields)) this
+    ∙ columns_whole inputs (before ++ input ∷ []) fields columns z.1 (subst AreDifferent (sym (append_assoc before (input ∷ []) columns)) d)
+    ∙ ap Ok (append_assoc before (input ∷ []) columns)
+
+-- ---- a table
+
+table_sound : (inputs : List Coded) (bytes : List ℕ) (records : List (List (List ℕ))) (rows : List Row) → records_of bytes ≡ records → table_read inputs records ≡ Ok rows → IsTable inputs bytes rows
+table_sound inputs bytes [] rows e h = absurd (cc h)
+table_sound inputs bytes (first ∷ others) rows e h =
+    let read = if_ok (is_table_header first) (rows_read inputs (drop 1 first) others) BadHeader rows h in
+    let c = read_before (λ columns. in_turn (table_row inputs columns) [] others) (in_turn (column_of inputs) [] (drop 1 first)) rows read.1 in
+    let known = turns_each (column_of inputs) (λ code input. index_of code (codes_of inputs) ≡ Some input) (λ before code input f. column_parts before (index_of code (codes_of inputs)) input f) [] (drop 1 first) c.0 c.1 in
+    let each = turns_each (table_row inputs c.0) (IsTableRow inputs c.0)
+    (λ before fields row f. row_sound inputs (line_behind (length before)) c.0 fields row (other_than_error (leb ROWS (length before)) TooManyRows (labelled inputs (line_behind (length before)) c.0 fields) row f).1) [] others rows c.2 in
+    record {
+      first = first;
+      others = others;
+      columns = c.0;
+      records = e;
+      header = read.0;
+      known = subst (λ (cs : List ℕ). AllZip (λ code input. index_of code (codes_of inputs) ≡ Some input) (drop 1 first) cs) (sym known.1) known.2;
+      once = (columns_known inputs (drop 1 first) c.0 c.1).once;
+      in_order = subst (λ (rs : List Row). AllZip (IsTableRow inputs c.0) others rs) (sym each.1) each.2;
+      few = few_rows inputs c.0 others rows c.2;
+    }
+
+pub read_table_is : (inputs : List Coded) (bytes : List ℕ) (rows : List Row) → table_of inputs bytes ≡ Ok rows → IsTable inputs bytes rows
+read_table_is inputs bytes rows h = table_sound inputs bytes (records_of bytes) rows refl h
+
+pub table_is_read : (inputs : List Coded) (bytes : List ℕ) (rows : List Row) → IsTable inputs bytes rows → table_of inputs bytes ≡ Ok rows
+table_is_read inputs bytes rows is =
+    ap (table_read inputs) is.records
+    ∙ cond-true (is_table_header is.first) (rows_read inputs (drop 1 is.first) is.others) (Err BadHeader) is.header
+    ∙ ap (if_read (λ columns. in_turn (table_row inputs columns) [] is.others)) (columns_whole inputs [] (drop 1 is.first) is.columns is.known is.once)
+    ∙ rows_whole inputs is.columns [] is.others rows is.in_order is.few

@@ -1,0 +1,40 @@
+//! The lines that stand whole among bytes.
+ghost use Rattle.std.specs.Prelude.{◌≤◌, length, take, drop, IfOk, OnErr};
+ghost use Rattle.m_ports.specs.Counts.{Rose};
+ghost use Rattle.m_ports.specs.Sink.{AppendsPrefix};
+ghost use Rattle.household_session.specs.Replies.{IsUnended};
+ghost use Rattle.household_session.specs.Repliers.{ended_of};
+ghost use Rattle.household_session.specs.inner.Going.{Goes};
+
+use crate::replier::Replier;
+use m_ports::{Failed, Sink};
+use m_text::line_end;
+use std::sync::ledger::Ledger;
+use value_sheet::Steps;
+
+/// Does each line that has its line feed among the bytes, of which the first `held` have none, and answers where the bytes
+/// after the last one begin.
+pub(crate) fn do_ended<R: Replier, K: Sink, L: Ledger>(
+    replier: &mut R,
+    bytes: &[u8],
+    held: usize,
+    out: &mut K,
+    steps: &mut Steps<L>,
+) -> Result<usize, Failed>
+    requires within { held ≤ length bytes.now }
+    requires unended { IsUnended (take held bytes.now) }
+    ensures goes { IfOk result (λ from. Goes K.written K.faults out.old out.new
+        (R.replies replier.old) (R.replies replier.new) bytes.now (drop from bytes.now)) }
+    ensures place { IfOk result (λ from. (from ≤ length bytes.now) × IsUnended (drop from bytes.now)) }
+    ensures failed { OnErr result (Rose (K.faults out.old) (K.faults out.new)) }
+    ensures prefix { OnErr result (AppendsPrefix (K.written out.old) (K.written out.new) (ended_of (R.replies replier.old) bytes.now)) }
+{
+    let mut from = 0;
+    let mut end = line_end(bytes, held);
+    while end < bytes.len() {
+        replier.reply(&bytes[from..end], out, steps)?;
+        from = end + 1;
+        end = line_end(bytes, from);
+    }
+    Ok(from)
+}

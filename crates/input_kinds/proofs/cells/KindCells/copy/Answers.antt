@@ -1,9 +1,0 @@
-use Rattle.std.proofs.Common.{◌∙◌}
-use Rattle.input_kinds.specs.Ascending.{ascending}
-use Rattle.input_kinds.specs.Groups.{joined}
-use Rattle.input_kinds.proofs.cells.KindCells.copy.Goals as goal
-
-pub returns : goal.returns
-returns c =
-    (λ i. ascending (joined (c.in_ok-clone.ensures.cases i) c.self.inside.attribute ((c.in_ok-from_slice.ensures.items ∙ c.deref.ensures.value) i)))
-    ∙ c.self.view_is

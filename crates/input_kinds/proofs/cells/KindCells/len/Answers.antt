@@ -1,7 +1,0 @@
-use Rattle.std.proofs.Common.{length, sym, ap, ◌∙◌}
-use Rattle.std.specs.Prelude.{min}
-use Rattle.input_kinds.proofs.Orders.{length-ascending}
-use Rattle.input_kinds.proofs.cells.KindCells.len.Goals as goal
-
-pub returns : goal.returns
-returns c = c.self.invariant ∙ ap (λ n. min n 18_446_744_073_709_551_615) (sym (length-ascending _) ∙ ap length c.self.view_is)

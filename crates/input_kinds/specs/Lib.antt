@@ -1,4 +1,0 @@
-pub mod Ascending
-pub mod Groups
-pub mod Kinds
-pub mod inner

@@ -1,0 +1,34 @@
+//! Rules without loops.
+use crate::Slot;
+use crate::plain_term::PTerm;
+use m_places::{Name, Place, Seq, SharedName};
+
+/// An instance of a formula: what it sets, and to which term.
+#[derive(Drop)]
+pub struct Definition {
+    /// The name of the variable, one for all its definitions.
+    pub target: SharedName,
+    pub slot: Slot,
+    pub term: PTerm,
+    /// The place of the formula's target.
+    pub place: Place,
+}
+
+/// A check of a verification, without loops.
+#[derive(Drop)]
+pub struct Condition {
+    /// The number of the verification as it is spelled, one for all its checks.
+    pub verif: SharedName,
+    /// The first word after `erreur`.
+    pub error: Name,
+    pub term: PTerm,
+    /// The place of the check's `si`.
+    pub place: Place,
+}
+
+/// The definitions and conditions of an application, each in the order of the source.
+#[derive(Drop)]
+pub struct Plain {
+    pub definitions: Seq<Definition>,
+    pub conditions: Seq<Condition>,
+}

@@ -1,0 +1,47 @@
+//! Terms and headers on a cursor.
+ghost use Rattle.std.specs.Prelude.{◌≡◌, ◌<◌, length, OnOk};
+ghost use Rattle.m_items.specs.inner.DeclarationReading.{Gives};
+ghost use Rattle.m_items.specs.inner.RuleReading.{item_fault_of, term_at, headed_at};
+
+use crate::cursor::Cursor;
+use crate::item_fault::ItemFault;
+use m_ast::{Header, Term};
+use m_terms::{TermFault, read_header, read_term};
+use std::alloc::Global;
+
+fn item_fault(fault: TermFault) -> ItemFault
+    ensures { result ≡ item_fault_of fault }
+{
+    match fault {
+        TermFault::NoTerm => ItemFault::NoItem,
+        TermFault::Memory => ItemFault::Memory,
+    }
+}
+
+/// A term, before a token that may follow one.
+pub fn term(alloc: Global, cursor: &mut Cursor<'_>) -> Result<Term, ItemFault>
+    ensures reads { Gives result (term_at cursor.old) cursor.new }
+    ensures shorter { OnOk result (length cursor.new < length cursor.old) }
+{
+    match read_term(alloc, cursor.left(), 0) {
+        Ok((term, to)) => {
+            cursor.skip(to);
+            Ok(term)
+        }
+        Err(fault) => Err(item_fault(fault)),
+    }
+}
+
+/// A header, before a colon.
+pub fn header(alloc: Global, cursor: &mut Cursor<'_>) -> Result<Header, ItemFault>
+    ensures reads { Gives result (headed_at cursor.old) cursor.new }
+    ensures shorter { OnOk result (length cursor.new < length cursor.old) }
+{
+    match read_header(alloc, cursor.left(), 0) {
+        Ok((header, to)) => {
+            cursor.skip(to);
+            Ok(header)
+        }
+        Err(fault) => Err(item_fault(fault)),
+    }
+}

@@ -1,8 +1,0 @@
-use Rattle.m_list.proofs.Readings.{listing_read, fault_read}
-use Rattle.m_list.proofs.laws.one_reading.Goals as goal
-
-pub returns-clause-listing : goal.returns-clause-listing
-returns-clause-listing c = listing_read
-
-pub returns-clause-fault : goal.returns-clause-fault
-returns-clause-fault c = fault_read

@@ -1,4 +1,0 @@
-pub mod Rows
-pub mod Pieces
-pub mod OneFiles
-pub mod Steps

@@ -1,9 +1,0 @@
-use Rattle.std.proofs.Common.{◌≡◌, ◌+◌, drop}
-use Rattle.m_read_all.proofs.Rows.{Goes}
-use Rattle.m_read_all.proofs.files.read_files.Given as goal
-
-abbrev pub invariant-loop-text : goal.invariant-loop-text
-invariant-loop-text g l = record {
-  goes : Goes l.start l.texts (drop l.text-index l.texts) l.number l.files.items;
-  place : l.number ≡ l.start + l.text-index;
-}

@@ -1,2 +1,0 @@
--- What inner functions' contracts speak of. No reader of the public contract needs it.
-pub mod Parts

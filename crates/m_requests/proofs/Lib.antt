@@ -1,4 +1,0 @@
-pub mod Closing
-pub mod Placing
-pub mod Outcomes
-pub mod Filters

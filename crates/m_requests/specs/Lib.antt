@@ -1,3 +1,0 @@
-pub mod Placed
-pub mod Cells
-pub mod Requests

@@ -1,0 +1,28 @@
+-- What a file of requests asks for.
+use Rattle.std.specs.Prelude.{ℕ, ◌+◌, ◌==◌, nat_lt, List, [], ◌∷◌, ◌++◌, length, Option, Some, None, Result, Ok, Err, if◌then◌else◌}
+use Rattle.std.specs.Option.{option_map_or}
+use Rattle.m_places.specs.declared.limits.TheConstants.{REQUESTS}
+use Rattle.m_text.specs.Lines.{lines_of}
+use Rattle.m_symbols.specs.Declarations.{Declared}
+use Rattle.m_symbols.specs.Cells.{request_cell, returned_cells}
+use Rattle.m_symbols.specs.declared.request_fault.RequestFault.{RequestFault}
+use Rattle.m_symbols.specs.declared.request_fault.RequestFault.TheVariants.{BadRequest, TooManyRequests}
+
+-- What lines ask for, of which the first has this number, after the cells of the lines before them: the cell that each line names
+-- that isn't empty, or the number of the first line that names none.
+abbrev pub lines_said : Declared → ℕ → List ℕ → List (List ℕ) → Result (List ℕ) RequestFault
+lines_said declared number before [] = Ok before
+lines_said declared number before (line ∷ lines) =
+    if length line == 0 then lines_said declared (number + 1) before lines
+    else option_map_or (λ cell. lines_said declared (number + 1) (before ++ cell ∷ []) lines) (request_cell declared line) (Err (BadRequest number))
+
+-- cells that are not too many to be asked for
+abbrev pub few : Result (List ℕ) RequestFault → Result (List ℕ) RequestFault
+few (Ok cells) = if nat_lt REQUESTS (length cells) then Err TooManyRequests else Ok cells
+few (Err fault) = Err fault
+
+-- The cells that are asked for: those of the lines of a file, or without one all that the rules give back. The first bad line is told
+-- first, and then that there are too many.
+abbrev pub requests_said : Option (List ℕ) → Declared → Result (List ℕ) RequestFault
+requests_said None declared = few (Ok (returned_cells declared))
+requests_said (Some bytes) declared = few (lines_said declared 1 [] (lines_of bytes))

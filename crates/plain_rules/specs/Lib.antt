@@ -1,4 +1,0 @@
-pub mod View
-pub mod Plain
-pub mod Members
-pub mod inner

@@ -1,0 +1,37 @@
+-- What the workers give, each of its files, is what is said of all.
+use Rattle.std.proofs.Common.{◌≡◌, ◌≢◌, ℕ, ◌+◌, ◌*◌, ◌<◌, ◌≤◌, get_or, take, drop, List, length, Result, Ok, Err, Vec}
+use Rattle.std.specs.declared.alloc.Global.{Global}
+use Rattle.m_places.specs.Refusals.{Outcome}
+use Rattle.m_places.specs.declared.source.Text.{Text}
+use Rattle.m_ast.specs.declared.item.Item.{Item}
+use Rattle.workers.specs.Parts.{behind, joined, part_at}
+use Rattle.workers.proofs.PartLemmas.{of_parts, said_of_parts}
+use Rattle.rule_base.specs.declared.read_fault.ReadFault.{ReadFault}
+use Rattle.rule_base.specs.declared.read_fault.ReadFault.TheVariants.{Memory}
+use Rattle.rule_base.specs.Files.{SayEach, none_each, IsFirstFileFault}
+use Rattle.rule_base.proofs.Rows.{both_each, front_fault, behind_fault}
+
+-- what a worker gives: the items of its files, or a fault
+abbrev pub Given : Type 0
+Given = Result (Vec (List Item) Global) ReadFault
+
+-- what is given says what files say, of which the first has this number
+abbrev pub SaysFiles : ℕ → List Text → Result (List (List Item)) ReadFault → Type 0
+SaysFiles number texts (Ok files) = SayEach number texts files
+SaysFiles number texts (Err fault) = fault ≢ Memory → IsFirstFileFault number texts fault
+
+goes : (size number : ℕ) (texts : List Text) (part : Vec (List Item) Global) (rest : Result (List (List Item)) ReadFault) → SayEach number (take size texts) part.items
+    → SaysFiles (number + size) (drop size texts) rest → SaysFiles number texts (behind part.items rest)
+goes size number texts part (Ok rest) gave is = both_each size number texts part.items rest gave is
+goes size number texts part (Err fault) gave is = λ n. behind_fault size number texts part.items fault gave (is n)
+
+-- what is given of a worker's files, of which the first has this number
+abbrev pub IsGiven : ℕ → List Text → Given → Type 0
+IsGiven number texts given = Outcome Memory given (λ said. SayEach number texts said.items) (IsFirstFileFault number texts)
+
+pub files_said : (size : ℕ) (texts : List Text) (parts : List Given) → ((n : ℕ) (d : Given) → n < length parts → IsGiven (n * size) (part_at texts size (n * size)) (get_or parts n d))
+    → ((n : ℕ) → n < length parts → n * size < length texts) → length texts ≤ length parts * size → SaysFiles 0 texts (joined parts)
+files_said size texts parts each inside reach =
+    said_of_parts IsGiven size SaysFiles (λ at. none_each)
+    (λ at items fault some gave. λ n. front_fault size at items fault (gave n))
+    (λ at items part rest some gave is. goes size at items part rest gave is) 0 texts parts (of_parts IsGiven size texts parts each inside reach)

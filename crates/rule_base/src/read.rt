@@ -1,0 +1,45 @@
+//! Rule files, shared out among workers.
+
+ghost use Rattle.std.specs.Prelude.{◌≤◌, ◌+◌, length};
+ghost use Rattle.m_places.specs.Refusals.{Outcome};
+ghost use Rattle.m_places.specs.declared.limits.TheConstants.{LIST_FILES};
+ghost use Rattle.m_places.specs.SourceLimits.{TextsAreWithin, EachIsWithin};
+ghost use Rattle.rule_base.specs.Files.{SayEach, IsFirstFileFault};
+ghost use Rattle.rule_base.specs.declared.read_fault.ReadFault.TheVariants.{Memory};
+
+use crate::each_file::read_files;
+use crate::read_fault::ReadFault;
+use m_ast::Item;
+use m_places::{Gate, Seq, Text};
+use std::alloc::Global;
+use std::thread::Threads;
+use workers::{join_parts, part_size};
+
+// How many parts there are for each processor: files differ in size, so a processor that is done with a part goes on with another.
+const PARTS: usize = 4;
+
+/// The items of each rule file, in the order of the files, or the fault of the first file that has one, whatever the order
+/// in time. The worker that reads file k, from 0, first calls `gate.pass(k)`.
+pub fn read_all<R: Threads + Sync, G: Gate + Sync>(
+    rt: &R,
+    alloc: Global,
+    texts: &[Text],
+    gate: &G,
+) -> Result<Seq<Seq<Item>>, ReadFault>
+    requires { TextsAreWithin texts.now }
+    ensures { Outcome Memory result (SayEach 0 texts.now) (IsFirstFileFault 0 texts.now) }
+{
+    let size = part_size(rt, texts.len(), PARTS);
+    let files = join_parts(
+        rt,
+        alloc,
+        gate,
+        texts,
+        size,
+        &|start: usize, files: &[Text]| -> Result<Vec<Seq<Item>>, ReadFault>
+            requires { (start + length files.now ≤ LIST_FILES) × EachIsWithin files.now }
+            ensures { Outcome Memory result (λ said. SayEach start files.entry.now said.items) (IsFirstFileFault start files.entry.now) }
+        { read_files(alloc, start, files) },
+    )??;
+    Ok(Seq::from_vec(files))
+}

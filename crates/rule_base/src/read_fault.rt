@@ -1,0 +1,62 @@
+//! Why rule files say no items.
+
+ghost use Rattle.std.specs.Prelude.{◌≡◌};
+ghost use Rattle.rule_base.specs.declared.read_fault.ReadFault.TheVariants.{Memory};
+ghost use Rattle.rule_base.specs.inner.FileSteps.{lex_step, parse_step};
+
+use m_items::ParseFault;
+use m_lexer::LexFault;
+use std::alloc::{AllocError, AllocFailed};
+
+/// Why rule files say no items: the fault of the first file that has one. It is never the lexer's or the parser's own
+/// running out of memory, which is the one `Memory` of this type.
+#[derive(Clone, Copy, Debug, PartialEq, Eq)]
+pub enum ReadFault {
+    /// A file has no tokens.
+    Lex(LexFault),
+    /// The tokens of a file are no items.
+    Parse(ParseFault),
+    /// Out of memory.
+    Memory,
+}
+
+impl From<LexFault> for ReadFault {
+    ghost from_gives = { λ e f. f ≡ lex_step e };
+
+    fn from(fault: LexFault) -> ReadFault {
+        match fault {
+            LexFault::Memory => ReadFault::Memory,
+            LexFault::BadByte(place) => ReadFault::Lex(LexFault::BadByte(place)),
+            LexFault::OpenString(place) => ReadFault::Lex(LexFault::OpenString(place)),
+            LexFault::NumberTooGreat(place) => ReadFault::Lex(LexFault::NumberTooGreat(place)),
+        }
+    }
+}
+
+impl From<ParseFault> for ReadFault {
+    ghost from_gives = { λ e f. f ≡ parse_step e };
+
+    fn from(fault: ParseFault) -> ReadFault {
+        match fault {
+            ParseFault::Memory => ReadFault::Memory,
+            ParseFault::TooDeep(place) => ReadFault::Parse(ParseFault::TooDeep(place)),
+            ParseFault::Syntax(place) => ReadFault::Parse(ParseFault::Syntax(place)),
+        }
+    }
+}
+
+impl From<AllocError> for ReadFault {
+    ghost from_gives = { λ _ f. f ≡ Memory };
+
+    fn from(_error: AllocError) -> ReadFault {
+        ReadFault::Memory
+    }
+}
+
+impl<T: Drop> From<AllocFailed<T>> for ReadFault {
+    ghost from_gives = { λ _ f. f ≡ Memory };
+
+    fn from(_error: AllocFailed<T>) -> ReadFault {
+        ReadFault::Memory
+    }
+}

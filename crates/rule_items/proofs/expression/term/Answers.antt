@@ -1,8 +1,0 @@
-use Rattle.rule_items.proofs.Expressions.{term_read, term_fails}
-use Rattle.rule_items.proofs.expression.term.Goals as goal
-
-pub returns-in-Ok-clause-reads : goal.returns-in-Ok-clause-reads
-returns-in-Ok-clause-reads c = rw c.skip.ensures (term_read c.args.cursor.now (rw c.left.ensures at c.in-Ok.ensures.outcome))
-
-pub returns-in-Err-clause-reads : goal.returns-in-Err-clause-reads
-returns-in-Err-clause-reads c = rw c.item_fault.ensures (term_fails c.args.cursor.now c.in-Err.fault (rw c.left.ensures at c.in-Err.ensures.outcome))

@@ -1,3 +1,0 @@
-pub mod Many
-pub mod Grammar
-pub mod inner

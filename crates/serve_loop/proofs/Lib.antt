@@ -1,4 +1,0 @@
-pub mod ByteLemmas
-pub mod LineLemmas
-pub mod GoingLemmas
-pub mod TurnLemmas

@@ -1,3 +1,0 @@
-pub mod Repliers
-pub mod Serving
-pub mod inner

@@ -1,0 +1,17 @@
+-- The text of names, from one of them on.
+use Rattle.std.proofs.Common.{◌≡◌, ℕ, ◌+◌, ◌<◌, ◌≤◌, length, get_or, drop, List, [], ◌∷◌, ◌++◌, sym, ◌∙◌, ap, append_assoc, append-nil}
+use Rattle.std.proofs.lemmas.List.{drop_more, drop_all}
+use Rattle.tax_print.specs.FaultLines.{names_text}
+
+-- it begins with a space and the name that stands there
+pub names_at : (names : List (List ℕ)) (i : ℕ) (name d : List ℕ) (rest : List ℕ) → i < length names → name ≡ get_or names i d
+    → names_text (drop i names) ++ rest ≡ (32 ∷ (name ++ [])) ++ (names_text (drop (i + 1) names) ++ rest)
+names_at names i name d rest h is =
+    let behind : List ℕ = names_text (drop (i + 1) names) in
+    ap (λ left. names_text left ++ rest) (drop_more names i d h)
+    ∙ ap (λ bytes. 32 ∷ bytes) (append_assoc (get_or names i d) behind rest
+    ∙ ap (λ bytes. bytes ++ (behind ++ rest)) (sym is ∙ sym (append-nil name)))
+
+-- after the last there is nothing
+pub names_end : (names : List (List ℕ)) (i : ℕ) (rest : List ℕ) → length names ≤ i → names_text (drop i names) ++ rest ≡ rest
+names_end names i rest h = ap (λ left. names_text left ++ rest) (drop_all i names h)

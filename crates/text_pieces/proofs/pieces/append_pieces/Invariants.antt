@@ -1,6 +1,0 @@
-use Rattle.std.proofs.Common.{◌≡◌, ◌++◌, drop}
-use Rattle.text_pieces.specs.Pieces.{text_of}
-use Rattle.text_pieces.proofs.pieces.append_pieces.Given as goal
-
-abbrev pub invariant-loop-piece : goal.invariant-loop-piece
-invariant-loop-piece l = l.text.items ++ text_of (drop l.piece-index l.pieces) ≡ l.initial.text.items ++ text_of l.pieces

@@ -1,0 +1,116 @@
+"""Tests of the wheel, the archive of sources and the program that the package finds. None of them starts the program."""
+import importlib.util
+import os
+import shutil
+import subprocess
+import sys
+import tarfile
+import tempfile
+import unittest
+import zipfile
+from unittest import mock
+
+import vodmejka
+from vodmejka import program
+
+HERE = os.path.dirname(os.path.dirname(os.path.abspath(__file__)))
+
+
+def backend(folder):
+    """The module that makes wheels, of a copy of the package."""
+    spec = importlib.util.spec_from_file_location("wheel_of_package", os.path.join(folder, "wheel_of_package.py"))
+    made = importlib.util.module_from_spec(spec)
+    spec.loader.exec_module(made)
+    return made
+
+
+class Wheels(unittest.TestCase):
+    def setUp(self):
+        room = tempfile.TemporaryDirectory()
+        self.addCleanup(room.cleanup)
+        self.room, self.top = room.name, os.path.join(room.name, "clone of")
+        self.package = os.path.join(self.top, "python")
+        shutil.copytree(HERE, self.package, ignore=shutil.ignore_patterns("__pycache__", "tests"))
+        open(os.path.join(self.top, "crates.txt"), "w").close()
+        environment = mock.patch.dict(os.environ)
+        environment.start()
+        self.addCleanup(environment.stop)
+        os.environ.pop("VODMEJKA_RELEASE", None)
+        os.environ.pop("M_TAX", None)
+
+    def unpacked(self, wheel):
+        """The folder into which a wheel is unpacked, as an installer does it."""
+        folder = tempfile.mkdtemp(dir=self.room)
+        with zipfile.ZipFile(os.path.join(self.room, wheel)) as archive:
+            self.assertIsNone(archive.testzip())
+            archive.extractall(folder)
+        return folder
+
+    def found(self, folder):
+        """The program that the package in a folder finds, with nothing on the path."""
+        words = [sys.executable, "-B", "-c", "import sys; sys.path.insert(0, sys.argv[1]); from vodmejka import program; print(program.program_path())", folder]
+        return subprocess.run(words, cwd="/", env={"PATH": self.room + "/none"}, capture_output=True, text=True, check=False)
+
+    def program(self, path):
+        os.makedirs(os.path.dirname(path), exist_ok=True)
+        with open(path, "w", encoding="ascii") as file:
+            file.write("#!/bin/sh\n")
+        os.chmod(path, 0o755)
+        return path
+
+    def test_a_wheel_finds_the_program_of_its_clone(self):
+        folder = self.unpacked(backend(self.package).build_wheel(self.room))
+        self.assertIn("there is no program m_tax", self.found(folder).stderr)
+        script = self.program(self.top + "/m_tax")
+        self.assertEqual(self.found(folder).stdout, script + "\n")
+        built = self.program(self.top + "/out/m_tax")
+        self.assertEqual(self.found(folder).stdout, built + "\n")
+
+    def test_a_wheel_for_others_names_no_clone(self):
+        self.program(self.top + "/out/m_tax")
+        os.environ["VODMEJKA_RELEASE"] = "1"
+        folder = self.unpacked(backend(self.package).build_wheel(self.room))
+        self.assertFalse(os.path.exists(folder + "/vodmejka/clone.path"))
+        self.assertIn("there is no program m_tax", self.found(folder).stderr)
+
+    def test_what_a_wheel_says(self):
+        folder = self.unpacked(backend(self.package).build_wheel(self.room))
+        with open(f"{folder}/vodmejka-{vodmejka.__version__}.dist-info/METADATA", encoding="utf-8") as file:
+            heads, _, text = file.read().partition("\n\n")
+        for line in ("Version: 1.0.0", "Requires-Python: >=3.10", "Classifier: Operating System :: POSIX :: Linux", "Description-Content-Type: text/markdown"):
+            self.assertIn(line, heads.split("\n"))
+        self.assertTrue(text.startswith("# vodmejka\n"))
+
+    def test_an_editable_wheel_names_the_folder(self):
+        folder = self.unpacked(backend(self.package).build_editable(self.room))
+        with open(folder + "/vodmejka.pth", encoding="utf-8") as file:
+            self.assertEqual(file.read(), self.package + "\n")
+        self.assertFalse(os.path.exists(folder + "/vodmejka"))
+
+    def test_the_sources_make_the_same_package(self):
+        name = backend(self.package).build_sdist(self.room)
+        self.assertEqual(name, "vodmejka-1.0.0.tar.gz")
+        with tarfile.open(os.path.join(self.room, name)) as archive:
+            archive.extractall(self.room + "/sources")
+        again = self.unpacked(backend(self.room + "/sources/vodmejka-1.0.0").build_wheel(self.room))
+        os.environ["VODMEJKA_RELEASE"] = "1"
+        first = self.unpacked(backend(self.package).build_wheel(self.room))
+        self.assertEqual(subprocess.run(["diff", "-r", first, again], capture_output=True, text=True, check=False).stdout, "")
+
+
+class Found(unittest.TestCase):
+    def test_the_clone_comes_before_the_path(self):
+        """What was built in the clone is used rather than an m_tax of the path, and this rather than the clone's script."""
+        with tempfile.TemporaryDirectory() as room, mock.patch.dict(os.environ, {"PATH": room + "/bin", "M_TAX": ""}), \
+                mock.patch.object(program, "TOP", room + "/nowhere"), mock.patch.object(program, "clone", lambda: [room + "/clone"]):
+            for name in ("clone/m_tax", "bin/m_tax", "clone/out/m_tax"):
+                path = os.path.join(room, name)
+                os.makedirs(os.path.dirname(path), exist_ok=True)
+                with open(path, "w", encoding="ascii") as file:
+                    file.write("#!/bin/sh\n")
+                os.chmod(path, 0o755)
+                self.assertEqual(program.program_path(), path)
+
+
+if __name__ == "__main__":
+    unittest.main()

@@ -1,0 +1,39 @@
+"""Pages without scripts of others, without a network: their head with the policy, their style, and texts as they are shown."""
+from __future__ import annotations
+
+import base64
+import hashlib
+import html
+
+from .plain_style import STYLE
+from .texts import Language
+
+POLICY = "default-src 'none'; style-src 'sha256-{style}'; {script}img-src data:; base-uri 'none'; form-action 'none'"
+HIDDEN = "\x7f\u061c\u200b\u200e\u200f\u202a\u202b\u202c\u202d\u202e\u2060\u2066\u2067\u2068\u2069\ufeff"
+
+
+def digest(text: str) -> str:
+    return base64.b64encode(hashlib.sha256(text.encode("utf-8")).digest()).decode()
+
+
+def escaped(text: str) -> str:
+    """A text as a page shows it: no sign of it is markup, and what turns the direction of writing or can't be seen is shown as U+FFFD."""
+    seen = "".join("\ufffd" if ord(letter) < 32 and letter not in "\t\n" or letter in HIDDEN or "\ud800" <= letter <= "\udfff" else letter for letter in text)
+    return html.escape(seen)
+
+
+def page(title: str, body: str, script: str = "", up: str = "") -> str:
+    """A whole page. `up` is markup above the heading, as links to other pages."""
+    said = POLICY.format(style=digest(STYLE), script=f"script-src 'sha256-{digest(script)}'; " if script else "")
+    ending = f"<script>{script}</script>" if script else ""
+    return (
+        f'<!DOCTYPE html>\n<html lang="{Language.name}">\n<head>\n<meta charset="utf-8">\n<meta http-equiv="Content-Security-Policy" content="{html.escape(said)}">\n'
+        f'<meta name="viewport" content="width=device-width, initial-scale=1">\n<title>{escaped(title)}</title>\n<style>{STYLE}</style>\n</head>\n<body>\n{up}<main>\n'
+        f"<h1>{escaped(title)}</h1>\n{body}\n</main>\n{ending}</body>\n</html>\n")
+
+
+def table(heads: list[str], rows: list[list[str]]) -> str:
+    """A table of cells that are markup already, below heads that are texts."""
+    head = "".join(f'<th scope="col">{escaped(one)}</th>' for one in heads)
+    return f'<div class="wide"><table><thead><tr>{head}</tr></thead><tbody>\n' + "\n".join(
+        f"<tr>{''.join(f'<td>{one}</td>' for one in row)}</tr>" for row in rows) + "\n</tbody></table></div>"
