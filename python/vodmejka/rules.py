@@ -128,8 +128,8 @@ class Rules:
         `rows` is an iterable of households; then this is an iterator of answers. Or it is a frame of pandas, whose columns are codes; then this is a frame with
         its index, with the columns that `keep` names, a column for each value, `over` with the names of the values that overflow and `notes` with the errors
         that were noted. With numbers="float64" values are floats, and one that isn't exact in a float is an error; "micros" gives whole millionths, "decimal"
-        decimals. Undefined is NaN, NA or None; what overflows is infinite, NA or OVER. A household that is stopped is an error, `Stopped`; with stops="keep" its
-        values are undefined, and a column `stop` has the line.
+        decimals. Undefined is NaN, NA or None; what overflows is infinite, NA or OVER. A household that is stopped is an error, `Stopped`; with
+        stops="keep" its values are undefined, and a column `stop` has the line.
         """
         if hasattr(rows, "columns") and hasattr(rows, "itertuples"):
             return self._frame(rows, rows_at_once, numbers, stops, keep)
