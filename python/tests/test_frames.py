@@ -6,7 +6,7 @@ import types
 import unittest
 
 from room import Room
-from vodmejka import OVER, Refused, Stopped
+from vodmejka import OVER, Refused, Rules, Stopped
 from vodmejka.frames import exact, fault_of, narrow
 
 
@@ -116,6 +116,18 @@ class Frames(Room):
             self.assertEqual(caught.exception.line, line)
         with self.assertRaisesRegex(Refused, "household 1, code 1BB: 0.5 is neither"):
             self.rules.batch(self.frame({"1BB": [0, 0.5]}))
+
+    def test_frames_by_a_code_file(self):
+        """It computes one household after the other, and names them as ever."""
+        self.rules.write_code(self.room.name + "/a.code")
+        rules = Rules.from_code(self.room.name + "/a.code")
+        self.assertEqual(list(rules.batch(self.frame({"1AJ": [1500, 2000]}))["IRN"]), [500.0, 1000.0])
+        with self.assertRaisesRegex(Refused, 'household "martin", code 1BB: 2 is neither 0 nor 1'):
+            rules.batch(self.frame({"1AJ": [1, 1], "1BB": [0, 2]}, index=["dupont", "martin"]))
+        told = rules.batch([{"1AJ": 1500}, {"1BB": 2}])
+        self.assertEqual(next(told)["IRN"], 500)
+        with self.assertRaisesRegex(Refused, "refused household line 3: not of its type"):
+            next(told)
 
     def test_frames_without_values(self):
         """The columns are those of what is asked for, whatever the households are told."""
