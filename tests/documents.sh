@@ -118,7 +118,7 @@ same "the links of the pages and the files" "$room/links" "$room/there"
 
 # The French pages have the commands and answers of the English ones.
 blocks() { awk '/^```/{code = !code; print "--"; next} code' "$1"; }
-for pair in README.md:LISEZMOI.md docs/FIRST_HOUR.md:docs/fr/PREMIERE_HEURE.md; do
+for pair in README.md:LISEZMOI.md docs/FIRST_HOUR.md:docs/fr/PREMIERE_HEURE.md docs/PAGE.md:docs/fr/PAGE.md; do
     blocks "${pair%:*}" >"$room/blocks"
     blocks "${pair#*:}" >"$room/french"
     same "the commands and answers of ${pair%:*} and of ${pair#*:}" "$room/blocks" "$room/french"
