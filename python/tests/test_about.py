@@ -43,7 +43,7 @@ class Said(Room):
         self.assertEqual((made.kind, made.code, made.description), ("calculee", None, "half"))
         self.assertEqual((made.attributes, made.place), ({"restituee": None}, place + " line 7"))
         (formula,) = made.formulas
-        self.assertEqual((formula.sets, formula.text, formula.letters), ("BC", "BC = AC * TAUX + 0", {"i": "C"}))
+        self.assertEqual((formula.sets, formula.text, formula.letters), ("BC", "Bi = Ai * TAUX + 0", {"i": "C"}))
         self.assertEqual(formula.place, f"{place} line 9, rule 20")
         self.assertEqual([(one.sets, one.text) for one in self.looped.variable("T").formulas], [("T", "T[X] = AV + X")])
         self.assertEqual([(one.sets, one.line) for one in self.looped.variable("U").formulas], [("U[1]", 12)])
@@ -62,7 +62,7 @@ class Said(Room):
     def test_repr(self):
         self.assertRegex(repr(self.looped), "^<Rules of iliad: 1 rule file, no driver, 2 inputs, 2 outputs, digest [0-9a-f]{12}>$")
         self.assertIn("<td>of &lt;V&gt;</td>", self.looped._repr_html_())
-        self.assertIn("BV = AV * TAUX + 0", self.looped.variable("BV")._repr_html_())
+        self.assertIn("Bi = Ai * TAUX + 0", self.looped.variable("BV")._repr_html_())
 
 
 class Asked(Room):

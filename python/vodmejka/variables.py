@@ -102,6 +102,6 @@ class Variables:
             if one is not None:
                 sets = name if one.formula.slot == "X" else cell
                 written = one.written
-                made = Formula(sets, one.text, dict(one.letters), written.file.name, written.line(one.formula.byte), written.rule(one.formula.byte))
+                made = Formula(sets, written.formula(one.formula.byte), dict(one.letters), written.file.name, written.line(one.formula.byte), written.rule(one.formula.byte))
                 found.setdefault((made.file, one.formula.byte, sets), made)
         return found.values()
