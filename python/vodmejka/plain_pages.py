@@ -30,8 +30,9 @@ def page(title: str, body: str, script: str = "", up: str = "") -> str:
     said = POLICY.format(style=digest(STYLE), script=f"script-src 'sha256-{digest(script)}'; " if script else "")
     ending = f"<script>{script}</script>" if script else ""
     return (
-        f'<!DOCTYPE html>\n<html lang="{Language.name}">\n<head>\n<meta charset="utf-8">\n<meta http-equiv="Content-Security-Policy" content="{html.escape(said)}">\n'
-        f'<meta name="viewport" content="width=device-width, initial-scale=1">\n<title>{escaped(title)}</title>\n<style>{STYLE}</style>\n</head>\n<body>\n{up}<main>\n'
+        f'<!DOCTYPE html>\n<html lang="{Language.name}">\n<head>\n<meta charset="utf-8">\n'
+        f'<meta http-equiv="Content-Security-Policy" content="{html.escape(said)}">\n<meta name="viewport" content="width=device-width, initial-scale=1">\n'
+        f"<title>{escaped(title)}</title>\n<style>{STYLE}</style>\n</head>\n<body>\n{up}<main>\n"
         f"<h1>{escaped(title)}</h1>\n{body}\n</main>\n{ending}</body>\n</html>\n")
 
 

@@ -201,7 +201,8 @@ class Pages:
             text = content.decode("utf-8")
         except UnicodeDecodeError:
             text = content.decode("latin-1")
-        lines = [f'<span class="line" id="l{k}"><span class="no">{k}</span>{escaped(line)}</span>' for k, line in enumerate(text.replace("\r\n", "\n").split("\n"), 1)]
+        numbered = enumerate(text.replace("\r\n", "\n").split("\n"), 1)
+        lines = [f'<span class="line" id="l{k}"><span class="no">{k}</span>{escaped(line)}</span>' for k, line in numbered]
         return self.page(name, f'<pre class="sheet">{"".join(lines)}</pre>', up)
 
 

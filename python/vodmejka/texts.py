@@ -164,9 +164,10 @@ TEXTS = {
     "new.title": ("A rule base in M", "Une base de règles en M"),
     "new.readme": (
         "A tax with two brackets, an allowance for children and a reduction for gifts. Put your own rules in its place. Start these commands in this folder:",
-        "Un impôt à deux tranches, un abattement par enfant et une réduction pour dons. Remplacez ces règles par les vôtres. Lancez ces commandes dans ce dossier :"),
+        "Un impôt à deux tranches, un abattement par enfant et une réduction pour dons. Remplacez-les par les vôtres. Lancez ces commandes dans ce dossier :"),
     "new.heading": ("A tax to begin with.", "Un impôt pour commencer."),
-    "new.replace": ("Save files as UTF-8 or Latin-1, without a byte order mark.", "Enregistrez les fichiers en UTF-8 ou en Latin-1, sans marque d'ordre des octets."),
+    "new.replace": ("Save files as UTF-8 or Latin-1, without a byte order mark.",
+                    "Enregistrez les fichiers en UTF-8 ou en Latin-1, sans marque d'ordre des octets."),
     "new.wages": ("wages", "salaires déclarés"),
     "new.children": ("number of children", "nombre d'enfants à charge"),
     "new.gifts": ("gifts", "dons"),
