@@ -36,10 +36,10 @@ no_values (output ∷ outputs) = refl
 pub values_end : (outputs : List FaceOutput) (vs : List Value) (k : ℕ) → length vs ≤ k → output_values (drop k outputs) (drop k vs) ≡ []
 values_end outputs vs k h = ap (λ left. output_values (drop k outputs) left) (drop_all k vs h) ∙ no_values (drop k outputs)
 
-pub notes_at : (some : Bool) (labels : List FaceLabel) (outputs : List FaceOutput) (vs : List Value) (k : ℕ) (output e : FaceOutput) (v d : Value) (note : Option Label) → k < length outputs → k < length vs
-    → output ≡ get_or outputs k e → v ≡ get_or vs k d → note ≡ output_note labels output v
-    → output_notes some labels (drop k outputs) (drop k vs) ≡ note_text some note ++ output_notes (some || is_some note) labels (drop (k + 1) outputs) (drop (k + 1) vs)
-notes_at some labels outputs vs k output e v d note outputs_in values_in is_output is_value is_note =
+pub notes_at : (some : Bool) (labels : List FaceLabel) (outputs : List FaceOutput) (vs : List Value) (k : ℕ) (output e : FaceOutput) (v d : Value) (told : Option Label) → k < length outputs → k < length vs
+    → output ≡ get_or outputs k e → v ≡ get_or vs k d → told ≡ output_note labels output v
+    → output_notes some labels (drop k outputs) (drop k vs) ≡ note_text some told ++ output_notes (some || is_some told) labels (drop (k + 1) outputs) (drop (k + 1) vs)
+notes_at some labels outputs vs k output e v d told outputs_in values_in is_output is_value is_note =
     let rest : Option Label → List ℕ = λ n. note_text some n ++ output_notes (some || is_some n) labels (drop (k + 1) outputs) (drop (k + 1) vs) in
     ap (λ left. output_notes some labels left (drop k vs)) (drop_more outputs k e outputs_in)
     ∙ ap (λ left. output_notes some labels (get_or outputs k e ∷ drop (k + 1) outputs) left) (drop_more vs k d values_in)

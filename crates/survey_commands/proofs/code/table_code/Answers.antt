@@ -4,7 +4,7 @@ use Rattle.survey_commands.proofs.Ways.{code_answered, code_refused}
 use Rattle.survey_commands.proofs.code.table_code.Goals as goal
 
 pub answer_table-requires : goal.answer_table-requires
-answer_table-requires g c = form_runs c.args.code.now c.in-Ok.loaded c.in-Ok.ensures
+answer_table-requires g c = λ κs held. form_runs c.args.code.now c.in-Ok.loaded c.in-Ok.ensures
 
 pub returns-in-Ok : goal.returns-in-Ok
 returns-in-Ok g c =
