@@ -36,7 +36,7 @@ pub(crate) fn answer_table<R: Threads + Sync, K: Sink>(
     table: &[u8],
     out: &mut K,
 ) -> Status
-    requires { IsRunnableCode loaded.now }
+    requires runnable { IsRunnableCode loaded.now }
     ensures { (scheme : Scheme) → Shows scheme loaded.now.face (machine_run loaded.now.code)
         → IsWrittenInParts (SchemeReplies scheme table.now) (output_view K.written K.faults out.old) (output_view K.written K.faults out.new) result }
 {

@@ -3,8 +3,8 @@ use Rattle.code_answers.proofs.Refusals.{code_told}
 use Rattle.survey_commands.proofs.Ways.{code_answered, code_refused}
 use Rattle.survey_commands.proofs.code.table_code.Goals as goal
 
-pub answer_table-requires : goal.answer_table-requires
-answer_table-requires g c = λ κs held. form_runs c.args.code.now c.in-Ok.loaded c.in-Ok.ensures
+pub answer_table-requires-clause-runnable : goal.answer_table-requires-clause-runnable
+answer_table-requires-clause-runnable g c = λ κs held. form_runs c.args.code.now c.in-Ok.loaded c.in-Ok.ensures
 
 pub returns-in-Ok : goal.returns-in-Ok
 returns-in-Ok g c =
