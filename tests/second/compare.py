@@ -3,7 +3,7 @@
     python3 compare.py                           the rows of crates/rows/data by the reading alone, but those that a mishap befalls
     python3 compare.py PROGRAM [COUNT [SEED]]    these, and so many changed rows by the program and by the reading
 
-A program is the path of one that takes the words of `m_tax`, as `out/m_tax` does. Its text and its status must be those
+The rows whose names begin with `survey_` are those of `m_survey`. A program is the path of one that takes the words of `m_tax`, as `out/m_tax` does. Its text and its status must be those
 of the reading, byte by byte; of several cycles or recursions it may show another true one, `compile` may print any code
 file of the source, and the lines of a reason may stand in any order in which each stands after those that it reads. Each row
 in which they differ is kept in a folder of its own, in the form of crates/rows/data, with what the reading says;
@@ -26,6 +26,7 @@ sys.path.insert(0, os.path.dirname(os.path.abspath(__file__)))
 from changing.naming import Row  # noqa: E402
 from changing.rows import changed_row  # noqa: E402
 from reading.commands import output  # noqa: E402
+from reading.surveys import survey_output  # noqa: E402
 
 ROOT = os.path.dirname(os.path.dirname(os.path.dirname(os.path.abspath(__file__))))
 DATA = os.path.join(ROOT, "crates", "rows", "data")
@@ -67,18 +68,23 @@ def read_folder(path):
     return files
 
 
-def names_of_rows():
-    """The names of the worked rows that nothing befalls, and how many others there are: those whose calls fail or whose files are changed."""
-    names = sorted(os.listdir(os.path.join(DATA, "rows")))
+def names_of_rows(program=b"m_tax"):
+    """The names of a program's worked rows that nothing befalls, and how many others there are: those whose calls fail or whose files are changed."""
+    names = [name for name in sorted(os.listdir(os.path.join(DATA, "rows"))) if program_of(name) == program]
     plain = [name for name in names if not os.path.exists(os.path.join(DATA, "rows", name, "mishaps"))]
     return plain, len(names) - len(plain)
 
 
-def read_rows():
-    """Each worked row that nothing befalls by its name, with the text and the status that it wants."""
+def program_of(name):
+    """The program of a worked row, by its name."""
+    return b"m_survey" if name.startswith("survey_") else b"m_tax"
+
+
+def read_rows(program=b"m_tax"):
+    """Each worked row of a program that nothing befalls by its name, with the text and the status that it wants."""
     shared = read_folder(os.path.join(DATA, "shared"))
     rows = {}
-    for name in names_of_rows()[0]:
+    for name in names_of_rows(program)[0]:
         own = read_folder(os.path.join(DATA, "rows", name))
         own.pop(b"tried", None)
         text = own.pop(b"text", b"")
@@ -173,11 +179,23 @@ def compare_changed(program, rows, count, seed):
     return different, kinds
 
 
+def compare_surveys(rows):
+    """How many worked rows of m_survey the reading answers otherwise; each is printed."""
+    different = 0
+    for name, (row, text, status, _) in rows.items():
+        said = survey_output(row.words, row.files)
+        if not said.is_one_with(text, status):
+            different += 1
+            print("second: row %s: the reading says %r with status %d" % (name, said.text[:200], said.status))
+    return different
+
+
 def main():
     """Does what the words of the command line say."""
-    rows = read_rows()
-    different = compare_rows(rows)
-    print("second: rows: %d passed, %d failed, %d left out that a mishap befalls" % (len(rows) - different, different, names_of_rows()[1]))
+    rows, surveys = read_rows(), read_rows(b"m_survey")
+    different = compare_rows(rows) + compare_surveys(surveys)
+    left = names_of_rows()[1] + names_of_rows(b"m_survey")[1]
+    print("second: rows: %d passed, %d failed, %d left out that a mishap befalls" % (len(rows) + len(surveys) - different, different, left))
     if len(sys.argv) > 1:
         program = os.path.abspath(sys.argv[1]) if sys.argv[1] != "-" else None
         count = int(sys.argv[2]) if len(sys.argv) > 2 else 1000

@@ -1,4 +1,6 @@
-//! The worked rows: what the program prints for these words, files and input.
+//! The worked rows: what the programs print for these words, files and input.
+//!
+//! The rows whose names begin with `survey_` are those of `m_survey`, and all others are those of `m_tax`.
 //!
 //! A row is a folder of `rows/` in `data/`, as worked_rows says; those of the files that it lacks are the ones of `shared/`. Rows that differ are printed, and
 //! at the end how many did not.
@@ -13,12 +15,14 @@ use std::alloc::{AllocError, Global};
 use std::io;
 use std::rt::Files;
 use std::thread::Threads;
+use survey_commands::m_survey;
 use worked_rows::{Mishap, Mishaps, Row, read_row, row_names};
 
 /// Does a row that this befalls. Answers what is seen of it, as it is wanted.
 fn run<R: Threads + Sync>(
     rt: &R,
     alloc: Global,
+    name: &str,
     row: &Row,
     mishap: &Mishap<'_>,
 ) -> Result<Vec<u8>, AllocError> {
@@ -28,14 +32,12 @@ fn run<R: Threads + Sync>(
     let typed = Vec::from_slice(alloc, row.typed())?;
     let mut input = MemSource::new(typed, mishap.piece(), mishap.failing_read(alloc));
     let mut out = MemSink::new(alloc, mishap.piece(), mishap.failing_write(alloc))?;
-    let status = m_tax(
-        rt,
-        alloc,
-        words.as_slice(),
-        &mut files,
-        &mut input,
-        &mut out,
-    );
+    let words = words.as_slice();
+    let status = if name.starts_with("survey_") {
+        m_survey(rt, alloc, words, &mut files, &mut out)
+    } else {
+        m_tax(rt, alloc, words, &mut files, &mut input, &mut out)
+    };
     row.seen(alloc, &out, status.number(), &files)
 }
 
@@ -47,7 +49,7 @@ fn run_holds<R: Threads + Sync + Print + AllocGlobal>(
     mishap: &Mishap<'_>,
 ) -> io::Result<bool> {
     let wanted = row.wanted(rt.alloc(), mishap)?;
-    let seen = run(rt, rt.alloc(), row, mishap)?;
+    let seen = run(rt, rt.alloc(), name, row, mishap)?;
     if seen.as_slice() == wanted.as_slice() {
         return Ok(true);
     }

@@ -11,6 +11,7 @@ from .amounts import GREATEST, OVER, UNDEFINED, UNIT, operate
 from .faults import Refused
 from .findings import amount_of_type
 from .moves import REGISTERS, Moves
+from .records import record_fields
 from .reports import value_line
 from .texts import decimal, is_word
 from .tokens import RESERVED
@@ -221,8 +222,8 @@ class Code:
 
     # ---- what it tells
 
-    def told(self, amounts):
-        """The lines that a household is told, and whether it was stopped. It is numbers of inputs with their amounts."""
+    def ran(self, amounts):
+        """The lines of a household's stop or None, and the values of the outputs by their numbers. It is numbers of inputs with their amounts."""
         given = dict(amounts)
         registers, slots, outputs = [UNDEFINED] * REGISTERS, {}, {}
         for instruction in self.instructions:
@@ -242,8 +243,30 @@ class Code:
             elif registers[instruction[1]] == UNIT:
                 value = registers[instruction[2]]
                 if value is OVER or not instruction[3] and value is not UNDEFINED and value != 0:
-                    return self.stop_lines(self.labels[instruction[4]], value is OVER), True
+                    return self.stop_lines(self.labels[instruction[4]], value is OVER), {}
+        return None, outputs
+
+    def told(self, amounts):
+        """The lines that a household is told, and whether it was stopped."""
+        stop, outputs = self.ran(amounts)
+        if stop is not None:
+            return stop, True
         return b"".join(self.output_line(output, outputs[number]) for number, output in enumerate(self.outputs)), False
+
+    def record(self, amounts):
+        """The fields of a household's record after its label: its stop, its notes and its values."""
+        stop, outputs = self.ran(amounts)
+        names = self.request_names()
+        if stop is not None:
+            return record_fields(stop, [], [], len(names))
+        told = [self.labels[output[1]] for number, output in enumerate(self.outputs) if output[0] == b"note" and is_told(outputs[number])]
+        values = [outputs[number] for number, output in enumerate(self.outputs) if output[0] == b"output"]
+        return record_fields(None, [(label[1], label[2]) for label in told], values, len(names))
+
+    def request_names(self):
+        """The names of what is asked for, in order."""
+        return [output[1] for output in self.outputs if output[0] == b"output"]
+
 
     def stop_lines(self, label, is_over):
         """The lines of a stop at a label."""
@@ -257,8 +280,7 @@ class Code:
         """The lines of an output: a note is told where its value is a number other than 0."""
         if output[0] == b"output":
             return value_line(output[1], value)
-        is_told = value is not UNDEFINED and value is not OVER and value != 0
-        return told_label(b"noted", self.labels[output[1]]) if is_told else b""
+        return told_label(b"noted", self.labels[output[1]]) if is_told(value) else b""
 
 
 FACE = {
@@ -287,6 +309,11 @@ def exactly(words, count):
     if len(words) != count:
         raise NotDue
     return words
+
+
+def is_told(value):
+    """Whether a note with this value is told."""
+    return value is not UNDEFINED and value is not OVER and value != 0
 
 
 def told_label(word, label):

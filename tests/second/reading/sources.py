@@ -13,6 +13,7 @@ from .faults import Refused, Stopped
 from .files import read_requests
 from .items import items_of
 from .names import base_of
+from .records import record_fields
 from .reports import value_line
 from .texts import decimal
 from .tokens import tokens_of
@@ -82,20 +83,27 @@ class Compiled(Rules):
 
     def values(self, amounts):
         """The values of what is asked for, or None where the run is stopped."""
-        environment = self.start(amounts)
-        try:
-            self.run.run_main(environment)
-        except Stopped:
-            return None
-        return [environment[cell] for cell in self.requests]
+        stop, _, values = self.parts(amounts)
+        return values if stop is None else None
 
-    def told(self, amounts):
-        """The lines that a household is told, and whether it was stopped. It is cells of inputs with their amounts."""
+    def parts(self, amounts):
+        """What a household is told, in parts: the lines of its stop or None, the notes, and the values of what is asked for. It is cells of inputs with their amounts."""
         environment = self.start(amounts)
         try:
             notes = self.run.run_main(environment)
         except Stopped as stop:
-            return stop.lines, True
-        named = zip(self.request_names, self.requests)
+            return stop.lines, [], []
+        return None, notes, [environment[cell] for cell in self.requests]
+
+    def told(self, amounts):
+        """The lines that a household is told, and whether it was stopped."""
+        stop, notes, values = self.parts(amounts)
+        if stop is not None:
+            return stop, True
         noted = b"".join(label_lines(b"noted", label) for label in notes)
-        return noted + b"".join(value_line(name, environment[cell]) for name, cell in named), False
+        return noted + b"".join(value_line(name, value) for name, value in zip(self.request_names, values)), False
+
+    def record(self, amounts):
+        """The fields of a household's record after its label: its stop, its notes and its values."""
+        stop, notes, values = self.parts(amounts)
+        return record_fields(stop, [(label.verification, label.error) for label in notes], values, len(self.request_names))

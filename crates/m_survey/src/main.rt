@@ -1,0 +1,64 @@
+//! The program: `main` alone, which hands the words, the real files and the real output to `m_survey` of
+//! `survey_commands`. That call carries the program's theorem. It is made on a thread that has stack for the deepest terms, whatever the
+//! system gives the first thread.
+#![tactic(auto)]
+
+ghost use Rattle.std.specs.Prelude.{⊤};
+
+use m_places::{Name, Word};
+use m_ports::{HostFiles, HostSink};
+use std::alloc::AllocError;
+use std::process::ExitCode;
+use std::thread::{Builder, Promise};
+use std::{env, io};
+use survey_commands::{Status, m_survey};
+
+// The bytes of stack that the work may take. The deepest term of the formats takes under two megabytes.
+const STACK: usize = 16_777_216;
+
+// Nothing is promised of the status here: the contract of `m_survey` says what it is.
+#[derive(Drop)]
+struct AnyStatus;
+
+impl Promise<u8> for AnyStatus {
+    ghost kept_by = { λ _ _. ⊤ };
+}
+
+/// The words after the program's name. A command line that can't be read as text has none, and so is
+/// no command. The only error is running out of memory.
+fn command_words<R: env::Env + AllocGlobal>(rt: &R) -> Result<Vec<Word>, AllocError> {
+    let mut words = Vec::new(rt.alloc());
+    match env::args(rt) {
+        Ok(arguments) => {
+            for argument in arguments.skip(1) {
+                words.push(Name::new(rt.alloc(), argument.as_bytes())?)?;
+            }
+        }
+        Err(error) => {
+            if error.kind() == io::ErrorKind::OutOfMemory {
+                return Err(AllocError);
+            }
+        }
+    }
+    Ok(words)
+}
+
+fn main(rt: HostRuntime) -> ExitCode {
+    let work = move || -> u8 {
+        let alloc = rt.alloc();
+        let Ok(words) = command_words(&rt) else {
+            return Status::Memory.number();
+        };
+        let mut files = HostFiles::new(alloc, &rt);
+        let mut out = HostSink::new(rt.stdout());
+        m_survey(&rt, alloc, &words, &mut files, &mut out).number()
+    };
+    match Builder::new()
+        .stack_size(STACK)
+        .spawn_with(&rt, AnyStatus, work)
+    {
+        Ok(thread) => ExitCode::from(thread.join(&rt)),
+        // Where no thread can be made, the first one does the work.
+        Err(refused) => ExitCode::from((refused.value)()),
+    }
+}

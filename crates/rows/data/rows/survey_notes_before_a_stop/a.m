@@ -1,0 +1,9 @@
+REV : saisie revenu classe = 0 alias 1AJ : "s" ;
+SEUIL : const = 1000 ;
+IRN : calculee restituee : "n" ;
+regle 10 : application : iliad ;
+IRN = max(0, REV - SEUIL) ;
+A20 : discordance : "A" : "20" : "00" : "revenu" : "N" ;
+A10 : anomalie : "A" : "10" : "00" : "revenu" : "N" ;
+verif 2000 : application : iliad ; si REV > 0 alors erreur A20 ;
+verif 1000 : application : iliad ; si REV > 0 alors erreur A10 ;

@@ -1,0 +1,3 @@
+IRN : calculee restituee : "n" ;
+regle 10 : application : iliad ;
+IRN = NOM ;

@@ -1,0 +1,9 @@
+REV : saisie revenu classe = 0 alias 1AJ : "s" ;
+SEUIL : const = 1000 ;
+IRN : calculee restituee : "n" ;
+regle 10 : application : iliad ;
+IRN = max(0, REV - SEUIL) ;
+A20 : discordance : "A" : "20" : "00" : "grand" : "N" ;
+A21 : discordance : "A" : "21" : "00" : "petit" : "N" ;
+verif 2000 : application : iliad ; si IRN > 5000 alors erreur A20 ;
+verif 2001 : application : iliad ; si REV > 0 alors erreur A21 ;

@@ -1,0 +1,11 @@
+pub mod Clauses
+pub mod EachLemmas
+pub mod Faults
+pub mod OneOutput
+pub mod OutputLemmas
+pub mod Reading
+pub mod RecordLemmas
+pub mod Schemes
+pub mod Taken
+pub mod Valid
+pub mod Ways

@@ -1,0 +1,171 @@
+-- The same words and files have one output.
+use Rattle.std.proofs.Common.{◌≡◌, ℕ, length, List, [], ◌∷◌, ◌++◌, Some, Ok, Err, refl, sym, ap, ◌∙◌, subst}
+use Rattle.std.specs.List.{AllByRecursion}
+use Rattle.m_fixed.specs.declared.amount.Value.{Value}
+use Rattle.m_places.specs.declared.source.Source.{Source}
+use Rattle.m_places.specs.declared.source.Text.{Text}
+use Rattle.tax_print.specs.FaultLines.{cycle_line, recursion_line}
+use Rattle.observables.specs.Inputs.{AreValuesOf}
+use Rattle.observables.specs.declared.answer.Answer.{Answer}
+use Rattle.observables.specs.declared.face.Face.{Face}
+use Rattle.reg_machine.specs.Machine.{machine_run}
+use Rattle.code_file.specs.declared.fault.CodeFault.{CodeFault}
+use Rattle.code_file.proofs.EntryLaws.{one-fault}
+use Rattle.household.specs.Household.{values_of}
+use Rattle.household.specs.Table.{table_of}
+use Rattle.household.specs.declared.fault.HouseholdFault.{HouseholdFault}
+use Rattle.household.specs.declared.table.Row.{Row}
+use Rattle.household.proofs.GivenLemmas.{table_gives}
+use Rattle.m_compile.specs.Faults.{AreOneSourceFault}
+use Rattle.m_compile.specs.Faults as laws
+use Rattle.m_compile.specs.Lines.{source_line}
+use Rattle.m_compile.specs.declared.fault.SourceFault.{SourceFault}
+use Rattle.m_compile.proofs.OneLaws.{one_fault}
+use Rattle.command_plans.specs.Plan.{end_of, gathered, refused}
+use Rattle.command_plans.specs.Views.{Disk}
+use Rattle.command_plans.specs.declared.status.Status.{Status}
+use Rattle.command_plans.specs.declared.status.Status.TheVariants.{Refused}
+use Rattle.code_answers.specs.Execs.{code_fault_line}
+use Rattle.code_answers.specs.Households.{household_fault_line}
+use Rattle.code_answers.specs.Schemes.{Scheme, told_to}
+use Rattle.code_answers.specs.Shown.{Shows}
+use Rattle.survey_commands.specs.Answer.{Replies}
+use Rattle.survey_commands.specs.Command.{plan_of}
+use Rattle.survey_commands.specs.Csv.{field_text}
+use Rattle.survey_commands.specs.Output.{Output, usage, refuses, answers, AreOneOutput, both_cycles, both_recursions, the_same}
+use Rattle.survey_commands.specs.Records.{header, rows_records, table_text, told_fields}
+use Rattle.survey_commands.specs.Tables.{CodeReplies, SchemeReplies, SourceReplies, code_answers, code_is_refused, rows_are_told, source_answers, source_is_refused, table_is_refused}
+use Rattle.survey_commands.specs.declared.command.Command.{Command}
+use Rattle.survey_commands.specs.declared.work.Work.{Work}
+use Rattle.survey_commands.specs.declared.work.Work.TheVariants.{Table, CodeTable, Version}
+use Rattle.survey_commands.proofs.Schemes.{no_form_and_fault, no_scheme_and_fault, one_inputs, one_loaded, one_scheme, shown_other}
+
+-- ---- two errors
+
+one_line : (texts : List Text) (fault other : SourceFault) (t u : List ℕ) → AreOneSourceFault fault other → source_line texts fault ≡ Some t → source_line texts other ≡ Some u → AreOneOutput t Refused u Refused
+one_line texts fault other t u (laws.the_same e) a b =
+    let c : source_line texts other ≡ Some t = subst (λ (f : SourceFault). source_line texts f ≡ Some t) e a in
+    the_same (cc (c, b)) refl
+one_line texts fault other t u (laws.both_cycles {names = ns} {others = os}) a b =
+    let c : cycle_line ns ≡ t = cc a in
+    let d : cycle_line os ≡ u = cc b in
+    subst (λ (x : List ℕ). AreOneOutput x Refused u Refused) c (subst (λ (x : List ℕ). AreOneOutput (cycle_line ns) Refused x Refused) d (both_cycles ns os))
+one_line texts fault other t u (laws.both_rings {names = ns} {others = os}) a b =
+    let c : recursion_line ns ≡ t = cc a in
+    let d : recursion_line os ≡ u = cc b in
+    subst (λ (x : List ℕ). AreOneOutput x Refused u Refused) c (subst (λ (x : List ℕ). AreOneOutput (recursion_line ns) Refused x Refused) d (both_recursions ns os))
+
+same_line : (fault other : HouseholdFault) (t u : List ℕ) → fault ≡ other → household_fault_line fault ≡ Some t → household_fault_line other ≡ Some u → t ≡ u
+same_line fault other t u e a b =
+    let c : household_fault_line other ≡ Some t = subst (λ (f : HouseholdFault). household_fault_line f ≡ Some t) e a in
+    cc (c, b)
+
+one_code_line : (fault other : CodeFault) (t u : List ℕ) → fault ≡ other → code_fault_line fault ≡ Some t → code_fault_line other ≡ Some u → t ≡ u
+one_code_line fault other t u e a b =
+    let c : code_fault_line other ≡ Some t = subst (λ (f : CodeFault). code_fault_line f ≡ Some t) e a in
+    cc (c, b)
+
+-- ---- tables
+
+-- rows give values that the inputs of a scheme may have
+abbrev AreGiven : Scheme → List Row → Type 0
+AreGiven scheme rows = AllByRecursion (λ row. AreValuesOf scheme.inputs (values_of row.household.pairs (length scheme.inputs))) rows
+
+-- two schemes of one program tell a row the same
+row_same : (face : Face) (runs : List Value → Answer) (one other : Scheme) (row : Row) → Shows one face runs → Shows other face runs
+    → AreValuesOf one.inputs (values_of row.household.pairs (length one.inputs)) → AreValuesOf other.inputs (values_of row.household.pairs (length other.inputs))
+    → told_to one row.household.pairs ≡ told_to other row.household.pairs
+row_same face runs one other row a b g h =
+    let n : length one.inputs ≡ length other.inputs = ap length (one_inputs face runs one other a b) in
+    let x = a.answers (values_of row.household.pairs (length one.inputs)) g in
+    let y = b.answers (values_of row.household.pairs (length other.inputs)) h in
+    cc (n, x, y)
+
+rows_same : (face : Face) (runs : List Value → Answer) (one other : Scheme) (rows : List Row) → Shows one face runs → Shows other face runs → AreGiven one rows → AreGiven other rows
+    → rows_records one rows ≡ rows_records other rows
+rows_same face runs one other [] a b g h = refl
+rows_same face runs one other (row ∷ rows) a b g h =
+    let names : one.names ≡ other.names = sym a.names ∙ b.names in
+    let told = row_same face runs one other row a b g.0 h.0 in
+    let rest = rows_same face runs one other rows a b g.1 h.1 in
+    λ i. (field_text row.label ++ told_fields (names i) (told i)) ++ rest i
+
+text_same : (face : Face) (runs : List Value → Answer) (one other : Scheme) (rows : List Row) → Shows one face runs → Shows other face runs → AreGiven one rows → AreGiven other rows
+    → table_text one rows ≡ table_text other rows
+text_same face runs one other rows a b g h =
+    let names : one.names ≡ other.names = sym a.names ∙ b.names in
+    let rest = rows_same face runs one other rows a b g h in
+    λ i. header (names i) ++ rest i
+
+-- a table is answered in one way by what a program is to it
+one_answer : (face : Face) (runs : List Value → Answer) (one other : Scheme) (table t u : List ℕ) (s r : Status) → Shows one face runs → Shows other face runs
+    → SchemeReplies one table t s → SchemeReplies other table u r → AreOneOutput t s u r
+one_answer face runs one other table t u s r a b (table_is_refused fault g k) (table_is_refused also h l) =
+    let f : table_of other.inputs table ≡ Err fault = subst (λ inputs. table_of inputs table ≡ Err fault) (one_inputs face runs one other a b) g in
+    let e : fault ≡ also = cc (f, h) in
+    the_same (same_line fault also t u e k l) refl
+one_answer face runs one other table t u s r a b (table_is_refused fault g k) (rows_are_told rows h) =
+    let f : table_of other.inputs table ≡ Err fault = subst (λ inputs. table_of inputs table ≡ Err fault) (one_inputs face runs one other a b) g in
+    cc (f, h)
+one_answer face runs one other table t u s r a b (rows_are_told rows g) (table_is_refused fault h k) =
+    let f : table_of other.inputs table ≡ Ok rows = subst (λ inputs. table_of inputs table ≡ Ok rows) (one_inputs face runs one other a b) g in
+    cc (f, h)
+one_answer face runs one other table t u s r a b (rows_are_told rows g) (rows_are_told others h) =
+    let f : table_of other.inputs table ≡ Ok rows = subst (λ inputs. table_of inputs table ≡ Ok rows) (one_inputs face runs one other a b) g in
+    let p : rows ≡ others = cc (f, h) in
+    the_same (text_same face runs one other rows a b (table_gives one.inputs table rows g) (table_gives other.inputs table rows f) ∙ ap (table_text other) p) refl
+
+-- a scheme answers a table in one way
+one_reply_of : (scheme : Scheme) (table t u : List ℕ) (s r : Status) → SchemeReplies scheme table t s → SchemeReplies scheme table u r → AreOneOutput t s u r
+one_reply_of scheme table t u s r (table_is_refused fault g k) (table_is_refused other h l) = the_same (same_line fault other t u (cc (g, h)) k l) refl
+one_reply_of scheme table t u s r (table_is_refused fault g k) (rows_are_told rows h) = cc (g, h)
+one_reply_of scheme table t u s r (rows_are_told rows g) (table_is_refused other h l) = cc (g, h)
+one_reply_of scheme table t u s r (rows_are_told rows g) (rows_are_told others h) =
+    let e : rows ≡ others = cc (g, h) in
+    the_same (ap (table_text scheme) e) refl
+
+one_source : (source : Source) (table t u : List ℕ) (s r : Status) → SourceReplies source table t s → SourceReplies source table u r → AreOneOutput t s u r
+one_source source table t u s r (source_is_refused fault f k) (source_is_refused other g l) = one_line source.texts fault other t u (one_fault source fault other f g) k l
+one_source source table t u s r (source_is_refused fault f k) (source_answers scheme v b) = absurd (no_scheme_and_fault source scheme fault v f)
+one_source source table t u s r (source_answers scheme v a) (source_is_refused fault f k) = absurd (no_scheme_and_fault source scheme fault v f)
+one_source source table t u s r (source_answers one v a) (source_answers other w b) =
+    one_reply_of other table t u s r (subst (λ (x : Scheme). SchemeReplies x table t s) (one_scheme source one other v w) a) b
+
+one_code : (code table t u : List ℕ) (s r : Status) → CodeReplies code table t s → CodeReplies code table u r → AreOneOutput t s u r
+one_code code table t u s r (code_is_refused fault f k) (code_is_refused other g l) = the_same (one_code_line fault other t u (one-fault code fault other f g) k l) refl
+one_code code table t u s r (code_is_refused fault f k) (code_answers loaded scheme form shown h) = absurd (no_form_and_fault code loaded fault form f)
+one_code code table t u s r (code_answers loaded scheme form shown h) (code_is_refused fault f k) = absurd (no_form_and_fault code loaded fault form f)
+one_code code table t u s r (code_answers one scheme form shown h) (code_answers other also part seen i) =
+    one_answer other.face (machine_run other.code) scheme also table t u s r (shown_other scheme one other (one_loaded code one other form part) shown) seen h i
+
+-- a command answers what it gathered in one way
+one_reply : (work : Work) (t u : List ℕ) (s r : Status) → Replies work t s → Replies work u r → AreOneOutput t s u r
+one_reply (Table source table) t u s r a b = one_source source table t u s r a b
+one_reply (CodeTable code table) t u s r a b = one_code code table t u s r a b
+one_reply Version t u s r a b = the_same (a.0 ∙ sym b.0) (a.1 ∙ sym b.1)
+
+-- The same words and files have one output.
+pub one_output : (words : List (List ℕ)) (disk : Disk) (t u : List ℕ) (s r : Status) → Output words disk t s → Output words disk u r → AreOneOutput t s u r
+one_output words disk t u s r (usage e) (usage f) = the_same refl refl
+one_output words disk t u s r (usage e) (refuses b f h) = cc (e, f)
+one_output words disk t u s r (usage e) (answers b w f h y) = cc (e, f)
+one_output words disk t u s r (refuses a e g) (usage f) = cc (e, f)
+one_output words disk t u s r (refuses a e g) (refuses b f h) =
+    let c : a ≡ b = cc (e, f) in
+    let i : end_of disk (plan_of b) ≡ refused t = subst (λ (x : Command). end_of disk (plan_of x) ≡ refused t) c g in
+    let j : t ≡ u = cc (i, h) in
+    the_same j refl
+one_output words disk t u s r (refuses a e g) (answers b w f h y) =
+    let c : a ≡ b = cc (e, f) in
+    let i : end_of disk (plan_of b) ≡ refused t = subst (λ (x : Command). end_of disk (plan_of x) ≡ refused t) c g in
+    cc (i, h)
+one_output words disk t u s r (answers a v e g x) (usage f) = cc (e, f)
+one_output words disk t u s r (answers a v e g x) (refuses b f h) =
+    let c : a ≡ b = cc (e, f) in
+    let i : end_of disk (plan_of b) ≡ gathered v = subst (λ (x : Command). end_of disk (plan_of x) ≡ gathered v) c g in
+    cc (i, h)
+one_output words disk t u s r (answers a v e g x) (answers b w f h y) =
+    let c : a ≡ b = cc (e, f) in
+    let i : end_of disk (plan_of b) ≡ gathered v = subst (λ (x : Command). end_of disk (plan_of x) ≡ gathered v) c g in
+    let k : v ≡ w = cc (i, h) in
+    one_reply w t u s r (subst (λ (z : Work). Replies z t s) k x) y

@@ -1,0 +1,52 @@
+use Rattle.std.proofs.Common.{refl}
+use Rattle.std.proofs.lemmas.Result.{err_from_is_err_and}
+use Rattle.m_ports.proofs.GivingLemmas.{none_given, piece_given, piece_failed, last_given}
+use Rattle.survey_commands.proofs.records.print_stop.Goals as goal
+
+pub returns-in_err-give_pieces : goal.returns-in_err-give_pieces
+returns-in_err-give_pieces g c =
+    let p = err_from_is_err_and c.from_residual.result c.from_residual.ensures.1 in
+    let failed = c.in_err-give_pieces.ensures in
+    piece_failed _ _ _ _ _ _ _ _ _ _ _ p.1 refl
+    (none_given _ _ _ _)
+    failed.failed failed.prefix failed.counted
+
+pub returns-in_err-give_stop : goal.returns-in_err-give_stop
+returns-in_err-give_stop g c =
+    let p = err_from_is_err_and c.from_residual-in_err-give_stop.result c.from_residual-in_err-give_stop.ensures.1 in
+    let gave-1 = c.in_ok-give_pieces.ensures in
+    let failed = c.in_err-give_stop.ensures in
+    piece_failed _ _ _ _ _ _ _ _ _ _ _ p.1 refl
+    (piece_given _ _ _ _ _ _ _ _ _ refl (none_given _ _ _ _) gave-1.all gave-1.faultless)
+    failed.failed failed.prefix failed.counted
+
+pub returns-in_err-give_pieces-2 : goal.returns-in_err-give_pieces-2
+returns-in_err-give_pieces-2 g c =
+    let p = err_from_is_err_and c.from_residual-in_err-give_pieces-2.result c.from_residual-in_err-give_pieces-2.ensures.1 in
+    let gave-1 = c.in_ok-give_pieces.ensures in
+    let gave-2 = c.in_ok-give_stop.ensures in
+    let failed = c.in_err-give_pieces-2.ensures in
+    piece_failed _ _ _ _ _ _ _ _ _ _ _ p.1 refl
+    (piece_given _ _ _ _ _ _ _ _ _ refl (piece_given _ _ _ _ _ _ _ _ _ refl (none_given _ _ _ _) gave-1.all gave-1.faultless) gave-2.all gave-2.faultless)
+    failed.failed failed.prefix failed.counted
+
+pub returns-in_err-give_empties : goal.returns-in_err-give_empties
+returns-in_err-give_empties g c =
+    let p = err_from_is_err_and c.from_residual-in_err-give_empties.result c.from_residual-in_err-give_empties.ensures.1 in
+    let gave-1 = c.in_ok-give_pieces.ensures in
+    let gave-2 = c.in_ok-give_stop.ensures in
+    let gave-3 = c.in_ok-give_pieces-2.ensures in
+    let failed = c.in_err-give_empties.ensures in
+    piece_failed _ _ _ _ _ _ _ _ _ _ _ p.1 refl
+    (piece_given _ _ _ _ _ _ _ _ _ refl (piece_given _ _ _ _ _ _ _ _ _ refl (piece_given _ _ _ _ _ _ _ _ _ refl (none_given _ _ _ _) gave-1.all gave-1.faultless) gave-2.all gave-2.faultless) gave-3.all gave-3.faultless)
+    failed.failed failed.prefix failed.counted
+
+pub returns : goal.returns
+returns g c =
+    let gave-1 = c.in_ok-give_pieces.ensures in
+    let gave-2 = c.in_ok-give_stop.ensures in
+    let gave-3 = c.in_ok-give_pieces-2.ensures in
+    let gave-4 = c.in_ok-give_empties.ensures in
+    last_given _ _ _ _ _ _ _ _
+    (piece_given _ _ _ _ _ _ _ _ _ refl (piece_given _ _ _ _ _ _ _ _ _ refl (piece_given _ _ _ _ _ _ _ _ _ refl (piece_given _ _ _ _ _ _ _ _ _ refl (none_given _ _ _ _) gave-1.all gave-1.faultless) gave-2.all gave-2.faultless) gave-3.all gave-3.faultless) gave-4.all gave-4.faultless)
+    c.give_pieces-3.ensures

@@ -1,0 +1,13 @@
+use Rattle.command_answers.proofs.Refusals.{fault_told}
+use Rattle.survey_commands.proofs.Ways.{source_answered, source_refused}
+use Rattle.survey_commands.proofs.source.table_source.Goals as goal
+
+pub returns-in-Ok : goal.returns-in-Ok
+returns-in-Ok g c =
+    source_answered c.args.source.now c.in-Ok.loaded c.args.table.now _ _ _ c.in-Ok.ensures.outcome
+    (c.answer_table.ensures c.in-Ok.ensures.outcome.scheme c.in-Ok.ensures.outcome.shows)
+
+pub returns-in-Err : goal.returns-in-Err
+returns-in-Err g c =
+    source_refused c.args.source.now c.args.table.now c.in-Err.fault _ _ _
+    (fault_told c.args.source.now c.in-Err.fault _ _ _ c.in-Err.ensures.outcome c.tell_source.ensures)

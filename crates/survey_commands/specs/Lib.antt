@@ -1,0 +1,9 @@
+pub mod Answer
+pub mod Clauses
+pub mod Command
+pub mod Csv
+pub mod Lines
+pub mod Output
+pub mod Records
+pub mod Tables
+pub mod inner

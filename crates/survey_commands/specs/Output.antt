@@ -1,0 +1,42 @@
+-- What is fetched and what is printed for these words and files.
+use Rattle.std.specs.Prelude.{◌≡◌, ℕ, List, []}
+use Rattle.std.specs.Option.{option_map_or}
+use Rattle.std.specs.Prelude.{None, Some}
+use Rattle.tax_print.specs.FaultLines.{cycle_line, recursion_line}
+use Rattle.command_plans.specs.Plan.{end_of, gathered, refused, names_fetched}
+use Rattle.command_plans.specs.Views.{Disk}
+use Rattle.command_plans.specs.declared.status.Status.{Status}
+use Rattle.command_plans.specs.declared.status.Status.TheVariants.{Refused, Usage}
+use Rattle.survey_commands.specs.Answer.{Replies, HasAnswer}
+use Rattle.survey_commands.specs.Command.{command_of, plan_of}
+use Rattle.survey_commands.specs.Lines.{usage_line}
+use Rattle.survey_commands.specs.declared.command.Command.{Command}
+use Rattle.survey_commands.specs.declared.work.Work.{Work}
+
+-- The names that are fetched, in order, up to the first that is missing or past its limit.
+abbrev pub fetches_of : List (List ℕ) → Disk → List (List ℕ)
+fetches_of words disk = option_map_or (λ command. names_fetched disk (plan_of command)) (command_of words) []
+
+-- The text that is printed and the status, where nothing fails: the usage line for words that are no command,
+-- the line by which the command's plan is refused, or what the command answers with what it gathered.
+pub data Output (words : List (List ℕ)) (disk : Disk) : List ℕ → Status → Type 0 where
+  usage : command_of words ≡ None → Output words disk usage_line Usage
+  refuses : {line : List ℕ} (command : Command) → command_of words ≡ Some command → end_of disk (plan_of command) ≡ refused line → Output words disk line Refused
+  answers : {text : List ℕ} {status : Status} (command : Command) (work : Work) → command_of words ≡ Some command → end_of disk (plan_of command) ≡ gathered work
+      → Replies work text status → Output words disk text status
+
+-- Words and files for which a command has all that it wants: its files are there and keep their limits, its plan isn't
+-- refused, and what it gathers has an answer.
+pub record IsValidCommand (words : List (List ℕ)) (disk : Disk) : Type 0 where
+  pub command : Command
+  pub is_command : command_of words ≡ Some command
+  pub work : Work
+  pub gathers : end_of disk (plan_of command) ≡ gathered work
+  pub answer : HasAnswer work
+
+-- Two outputs are one: they have the same text and the same status; or they refuse rule files that have several cycles, or a driver that has
+-- several recursions, and show one of them each.
+pub data AreOneOutput : List ℕ → Status → List ℕ → Status → Type 0 where
+  the_same : {text other : List ℕ} {status outcome : Status} → text ≡ other → status ≡ outcome → AreOneOutput text status other outcome
+  both_cycles : (names others : List (List ℕ)) → AreOneOutput (cycle_line names) Refused (cycle_line others) Refused
+  both_recursions : (names others : List (List ℕ)) → AreOneOutput (recursion_line names) Refused (recursion_line others) Refused

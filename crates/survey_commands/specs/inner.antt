@@ -1,0 +1,4 @@
+-- What the contracts of inner functions speak of. The theorem of `m_survey` needs none of it.
+pub mod Courses
+pub mod Outputs
+pub mod Printers

@@ -1,0 +1,41 @@
+-- The course that a call of the program took, from which all its clauses follow.
+use Rattle.std.specs.Prelude.{◌≡◌, ℕ, Bool, true, false, List, Some, None, Ok, Err}
+use Rattle.command_plans.specs.Printing.{Prints, Tells}
+use Rattle.command_plans.specs.Trips.{GoesAlong}
+use Rattle.command_plans.specs.Views.{FilesView, OutputView}
+use Rattle.command_plans.specs.declared.ending.Ending.{Ending}
+use Rattle.command_plans.specs.declared.status.Status.{Status}
+use Rattle.command_plans.specs.declared.status.Status.TheVariants.{Done, Usage, Memory}
+use Rattle.code_answers.specs.Parts.{IsWrittenInParts}
+use Rattle.survey_commands.specs.Command.{command_of, plan_of, writes_in_parts}
+use Rattle.survey_commands.specs.Lines.{usage_line, version_line}
+use Rattle.survey_commands.specs.Tables.{CodeReplies, SourceReplies}
+use Rattle.survey_commands.specs.declared.command.Command.{Command}
+use Rattle.survey_commands.specs.declared.work.Work.{Work}
+use Rattle.survey_commands.specs.declared.work.Work.TheVariants.{Table, CodeTable, Version}
+
+-- whether what was gathered is answered in parts
+abbrev pub work_in_parts : Work → Bool
+work_in_parts (Table source table) = true
+work_in_parts (CodeTable code table) = true
+work_in_parts Version = false
+
+-- this is what such a command gathers
+abbrev pub IsWorkOf : Command → Work → Type 0
+IsWorkOf asked work = work_in_parts work ≡ writes_in_parts asked
+
+-- what was gathered was answered
+abbrev pub WorkIsAnswered : Work → OutputView → OutputView → Status → Type 0
+WorkIsAnswered (Table source table) old new status = IsWrittenInParts (SourceReplies source table) old new status
+WorkIsAnswered (CodeTable code table) old new status = IsWrittenInParts (CodeReplies code table) old new status
+WorkIsAnswered Version old new status = Prints version_line Done old new status
+
+-- The words were no command, or there was no memory to copy them, or their command's plan ended before its files were
+-- there, or it was gathered and answered.
+pub data Course (words : List (List ℕ)) (before after : FilesView) (old new : OutputView) (status : Status) : Type 0 where
+  is_no_command : command_of words ≡ None → after ≡ before → Prints usage_line Usage old new status → Course words before after old new status
+  has_no_memory : after ≡ before → new ≡ old → status ≡ Memory → Course words before after old new status
+  ended : (asked : Command) (ending : Ending) → command_of words ≡ Some asked → GoesAlong (plan_of asked) before after (Err ending) → Tells ending old new status
+      → Course words before after old new status
+  answered : (asked : Command) (work : Work) → command_of words ≡ Some asked → GoesAlong (plan_of asked) before after (Ok work) → IsWorkOf asked work
+      → WorkIsAnswered work old new status → Course words before after old new status

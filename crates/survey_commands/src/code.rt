@@ -1,0 +1,48 @@
+//! A table by a code file.
+ghost use Rattle.std.specs.Prelude.{◌≡◌, ◌≤◌, length};
+ghost use Rattle.std.specs.Option.{option_map};
+ghost use Rattle.m_places.specs.declared.limits.TheConstants.{CODE_FILE_BYTES};
+ghost use Rattle.tax_print.specs.FaultLines.{fault_line};
+ghost use Rattle.command_plans.specs.Views.{output_view};
+ghost use Rattle.code_answers.specs.Execs.{code_fault_line};
+ghost use Rattle.code_answers.specs.Parts.{IsWrittenInParts};
+ghost use Rattle.survey_commands.specs.Tables.{CodeReplies};
+
+use crate::table::answer_table;
+use code_answers::tell_refusal;
+use code_file::{CodeFault, read_code};
+use command_plans::Status;
+use m_ports::Sink;
+use std::alloc::Global;
+use std::thread::Threads;
+use tax_print::{CodeFault as Words, Fault};
+
+/// Reads the code file of these bytes, and prints what its code answers to the rows of the table of these bytes as csv, or the line by which one
+/// of them is refused.
+pub(crate) fn table_code<R: Threads + Sync, K: Sink>(
+    rt: &R,
+    alloc: Global,
+    code: &[u8],
+    table: &[u8],
+    out: &mut K,
+) -> Status
+    requires { length code.now ≤ CODE_FILE_BYTES }
+    ensures { IsWrittenInParts (CodeReplies code.now table.now) (output_view K.written K.faults out.old) (output_view K.written K.faults out.new) result }
+{
+    match read_code(alloc, code) {
+        Ok(loaded) => answer_table(rt, alloc, &loaded, table, out),
+        Err(fault) => tell_refusal(out, told_code(fault)),
+    }
+}
+
+// What the fault of a code file is told as. Nothing is told of running out of memory.
+fn told_code<'a>(fault: CodeFault) -> Option<Fault<'a>>
+    ensures { option_map fault_line result ≡ code_fault_line fault }
+{
+    match fault {
+        CodeFault::BadHeader => Some(Fault::CodeHeader),
+        CodeFault::BadLine(line) => Some(Fault::CodeLine(line, Words::BadLine)),
+        CodeFault::BadOrder(line) => Some(Fault::CodeLine(line, Words::ReadBeforeWrite)),
+        CodeFault::Memory => None,
+    }
+}

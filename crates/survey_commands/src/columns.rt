@@ -1,0 +1,72 @@
+//! The first record, and the fields of a household that stops.
+ghost use Rattle.m_ports.specs.Giving.{Gives};
+ghost use Rattle.observables.specs.Outputs.{names_of};
+ghost use Rattle.survey_commands.specs.Records.{header};
+ghost use Rattle.survey_commands.specs.inner.Outputs.{output_empties, output_empty, output_name, output_names};
+
+use m_ports::{Failed, FixedText, Sink, give_all, give_pieces};
+use observables::FaceOutput;
+
+/// The room for the first record.
+pub(crate) const HEADER_ROOM: usize = 65_536;
+
+/// Gives the first record: from a text that holds it, or where it has no room there, piece by piece.
+pub(crate) fn give_header<K: Sink>(
+    outputs: &[FaceOutput],
+    held: &mut FixedText,
+    out: &mut K,
+) -> Result<(), Failed>
+    ensures { Gives K.written K.faults out.old out.new result (header (names_of outputs.now)) }
+{
+    held.clear();
+    match print_header(outputs, held) {
+        Ok(()) => give_all(out, held.text()),
+        Err(_) => print_header(outputs, out),
+    }
+}
+
+// Gives it piece by piece.
+fn print_header<K: Sink>(outputs: &[FaceOutput], out: &mut K) -> Result<(), Failed>
+    ensures { Gives K.written K.faults out.old out.new result (header (names_of outputs.now)) }
+{
+    give_pieces(out, &[b"name,stop,notes"])?;
+    give_names(outputs, out)?;
+    give_pieces(out, &[b"\n"])
+}
+
+fn give_names<K: Sink>(outputs: &[FaceOutput], out: &mut K) -> Result<(), Failed>
+    ensures { Gives K.written K.faults out.old out.new result (output_names outputs.now) }
+{
+    for output in outputs {
+        give_name(output, out)?;
+    }
+    Ok(())
+}
+
+fn give_name<K: Sink>(output: &FaceOutput, out: &mut K) -> Result<(), Failed>
+    ensures { Gives K.written K.faults out.old out.new result (output_name output.now) }
+{
+    match output {
+        FaceOutput::Named(name) => give_pieces(out, &[b",", name.bytes()]),
+        FaceOutput::Noted(_) => give_pieces(out, &[]),
+    }
+}
+
+/// Gives an empty field for each output with a name.
+pub(crate) fn give_empties<K: Sink>(outputs: &[FaceOutput], out: &mut K) -> Result<(), Failed>
+    ensures { Gives K.written K.faults out.old out.new result (output_empties outputs.now) }
+{
+    for output in outputs {
+        give_empty(output, out)?;
+    }
+    Ok(())
+}
+
+fn give_empty<K: Sink>(output: &FaceOutput, out: &mut K) -> Result<(), Failed>
+    ensures { Gives K.written K.faults out.old out.new result (output_empty output.now) }
+{
+    match output {
+        FaceOutput::Named(_) => give_pieces(out, &[b","]),
+        FaceOutput::Noted(_) => give_pieces(out, &[]),
+    }
+}

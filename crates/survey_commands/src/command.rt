@@ -1,0 +1,100 @@
+//! The words of the command line.
+ghost use Rattle.std.specs.Prelude.{◌≡◌, IfOk};
+ghost use Rattle.survey_commands.specs.Command.{code_command, command_of, source_command, version_command};
+
+use command_plans::SourceNames;
+use m_places::{Name, Word};
+use m_text::is_text;
+use std::alloc::{AllocError, Global};
+
+/// A command, with the names of its files.
+#[derive(Drop)]
+pub enum Command {
+    /// Compiles the source, and prints what the households of the table of this name are told, as csv.
+    Table(SourceNames, Name),
+    /// Reads the code file of the first name, and prints the same by it, of the table of the second.
+    CodeTable(Name, Name),
+    /// Prints the version.
+    Version,
+}
+
+/// The command that the words are, if they are one. Its only error is running out of memory.
+pub fn command_of(alloc: Global, words: &[Word]) -> Result<Option<Command>, AllocError>
+    ensures { IfOk result (λ command. command ≡ command_of words.now) }
+{
+    if let Some(command) = version_command(words) {
+        return Ok(Some(command));
+    }
+    if let Some(command) = code_command(alloc, words)? {
+        return Ok(Some(command));
+    }
+    source_command(alloc, words)
+}
+
+// The command `version`, if the words are it.
+fn version_command(words: &[Word]) -> Option<Command>
+    ensures { result ≡ version_command words.now }
+{
+    let [word] = words else {
+        return None;
+    };
+    if word.bytes() != b"version".as_slice() {
+        return None;
+    }
+    Some(Command::Version)
+}
+
+// The command `table` over a code file that the words are, if they are one. Its only error is running out of memory.
+fn code_command(alloc: Global, words: &[Word]) -> Result<Option<Command>, AllocError>
+    ensures { IfOk result (λ command. command ≡ code_command words.now) }
+{
+    let [word, code, table] = words else {
+        return Ok(None);
+    };
+    if word.bytes() != b"table".as_slice() {
+        return Ok(None);
+    }
+    if !(is_text(code.bytes()) && is_text(table.bytes())) {
+        return Ok(None);
+    }
+    let code = code.copy(alloc)?;
+    Ok(Some(Command::CodeTable(code, table.copy(alloc)?)))
+}
+
+// The command `table` over a source that the words are, if they are one. Its only error is running out of memory.
+fn source_command(alloc: Global, words: &[Word]) -> Result<Option<Command>, AllocError>
+    ensures { IfOk result (λ command. command ≡ source_command words.now) }
+{
+    let [word, list, driver, requests, table] = words else {
+        return Ok(None);
+    };
+    if word.bytes() != b"table".as_slice() {
+        return Ok(None);
+    }
+    let are_names = is_text(list.bytes())
+        && is_text(driver.bytes())
+        && is_text(requests.bytes())
+        && is_text(table.bytes());
+    if !are_names {
+        return Ok(None);
+    }
+    let table = table.copy(alloc)?;
+    let names = names_of(alloc, list, driver, requests)?;
+    Ok(Some(Command::Table(names, table)))
+}
+
+// The names of a source. Its only error is running out of memory.
+fn names_of(
+    alloc: Global,
+    list: &Word,
+    driver: &Word,
+    requests: &Word,
+) -> Result<SourceNames, AllocError>
+    ensures { IfOk result (λ names. names ≡ record { list = list.now; driver = driver.now; requests = requests.now }) }
+{
+    Ok(SourceNames {
+        list: list.copy(alloc)?,
+        driver: driver.copy(alloc)?,
+        requests: requests.copy(alloc)?,
+    })
+}

@@ -1,0 +1,63 @@
+//! The files of a command, gathered along its plan.
+ghost use Rattle.std.specs.Prelude.{◌≡◌, true, IfOk};
+ghost use Rattle.command_plans.specs.Trips.{GoesAlong};
+ghost use Rattle.command_plans.specs.Views.{files_view};
+ghost use Rattle.survey_commands.specs.Answer.{WorkKeepsLimits};
+ghost use Rattle.survey_commands.specs.Command.{code_table_plan, plan_of, source_table_plan};
+ghost use Rattle.survey_commands.specs.inner.Courses.{IsWorkOf, work_in_parts};
+
+use crate::command::Command;
+use crate::work::Work;
+use command_plans::{Ending, SourceNames, fetch, gather_source};
+use m_places::Name;
+use m_places::limits::{CODE_FILE_BYTES, FILE_BYTES};
+use m_ports::Files;
+use std::alloc::Global;
+
+/// Gathers the files of a command. What ends it before it has them is the error.
+pub fn gather<F: Files>(alloc: Global, files: &mut F, command: &Command) -> Result<Work, Ending>
+    ensures along { GoesAlong (plan_of command.now) (files_view F.told F.attempts F.taken files.old)
+        (files_view F.told F.attempts F.taken files.new) result }
+    ensures within { IfOk result WorkKeepsLimits }
+    ensures kind { IfOk result (IsWorkOf command.now) }
+{
+    match command {
+        Command::Table(names, table) => gather_table(alloc, files, names, table),
+        Command::CodeTable(code, table) => gather_code_table(alloc, files, code, table),
+        Command::Version => Ok(Work::Version),
+    }
+}
+
+// Gathers a source, and a table after it.
+fn gather_table<F: Files>(
+    alloc: Global,
+    files: &mut F,
+    names: &SourceNames,
+    table: &Name,
+) -> Result<Work, Ending>
+    ensures along { GoesAlong (source_table_plan names.now table.now) (files_view F.told F.attempts F.taken files.old)
+        (files_view F.told F.attempts F.taken files.new) result }
+    ensures within { IfOk result WorkKeepsLimits }
+    ensures kind { IfOk result (λ work. work_in_parts work ≡ true) }
+{
+    let source = gather_source(alloc, files, names)?;
+    let rows = fetch(alloc, files, table, FILE_BYTES)?;
+    Ok(Work::Table(source, rows))
+}
+
+// Gathers a code file, and a table after it.
+fn gather_code_table<F: Files>(
+    alloc: Global,
+    files: &mut F,
+    code: &Name,
+    table: &Name,
+) -> Result<Work, Ending>
+    ensures along { GoesAlong (code_table_plan code.now table.now) (files_view F.told F.attempts F.taken files.old)
+        (files_view F.told F.attempts F.taken files.new) result }
+    ensures within { IfOk result WorkKeepsLimits }
+    ensures kind { IfOk result (λ work. work_in_parts work ≡ true) }
+{
+    let code = fetch(alloc, files, code, CODE_FILE_BYTES)?;
+    let rows = fetch(alloc, files, table, FILE_BYTES)?;
+    Ok(Work::CodeTable(code, rows))
+}

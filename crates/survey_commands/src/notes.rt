@@ -1,0 +1,108 @@
+//! The field of the notes.
+ghost use Rattle.std.specs.Prelude.{◌≡◌, ◌≤◌, ◌||◌, ◌∷◌, [], false, codes, is_some, length, option_copied};
+ghost use Rattle.m_ports.specs.Giving.{Gives};
+ghost use Rattle.m_text.specs.Pieces.{joined};
+ghost use Rattle.observables.specs.Answers.{is_told, note_told};
+ghost use Rattle.observables.specs.Outputs.{verif_at};
+ghost use Rattle.survey_commands.specs.Records.{between};
+ghost use Rattle.survey_commands.specs.inner.Outputs.{note_text, output_note, output_notes};
+
+use m_fixed::Value;
+use m_places::Label;
+use m_ports::{Failed, Sink, give_pieces};
+use observables::{FaceLabel, FaceOutput};
+
+/// Gives the notes of outputs with these values, with something between them.
+pub(crate) fn give_notes<K: Sink>(
+    labels: &[FaceLabel],
+    outputs: &[FaceOutput],
+    values: &[Value],
+    out: &mut K,
+) -> Result<(), Failed>
+    requires { length values.now ≤ length outputs.now }
+    ensures { Gives K.written K.faults out.old out.new result (output_notes false labels.now outputs.now values.now) }
+{
+    let mut some = false;
+    for (k, value) in values.iter().enumerate() {
+        let note = output_note(labels, &outputs[k], *value);
+        give_note(some, note, out)?;
+        some = some_after(some, note);
+    }
+    Ok(())
+}
+
+// The verification that an output with this value notes, if it notes one.
+fn output_note<'a>(labels: &'a [FaceLabel], output: &FaceOutput, value: Value) -> Option<&'a Label>
+    ensures { option_copied result ≡ output_note labels.now output.now value }
+{
+    match output {
+        FaceOutput::Named(_) => None,
+        FaceOutput::Noted(number) => note_told(labels, *number, value),
+    }
+}
+
+// The verification that a note with this value tells, if it tells one.
+fn note_told(labels: &[FaceLabel], number: u32, value: Value) -> Option<&Label>
+    ensures { option_copied result ≡ note_told labels.now number value }
+{
+    if is_told(value) {
+        verif_at(labels, number)
+    } else {
+        None
+    }
+}
+
+fn is_told(value: Value) -> bool
+    ensures { result ≡ is_told value }
+{
+    match value {
+        Value::Undef => false,
+        Value::Num(amount) => amount.millionths() != 0,
+        Value::Over => false,
+    }
+}
+
+// The verification that the label with this number tells, if it tells one.
+fn verif_at(labels: &[FaceLabel], number: u32) -> Option<&Label>
+    ensures { option_copied result ≡ verif_at labels.now number }
+{
+    match labels.get(number as usize) {
+        Some(FaceLabel::Verif(label)) => Some(label),
+        Some(FaceLabel::DriverLine(_)) => None,
+        None => None,
+    }
+}
+
+// Whether there are some notes after this one.
+fn some_after(some: bool, note: Option<&Label>) -> bool
+    ensures { result ≡ (some || is_some (option_copied note.entry)) }
+{
+    some || note.is_some()
+}
+
+// Gives a note, where there are some before it or none.
+fn give_note<K: Sink>(some: bool, note: Option<&Label>, out: &mut K) -> Result<(), Failed>
+    ensures { Gives K.written K.faults out.old out.new result (note_text some (option_copied note.entry)) }
+{
+    match note {
+        Some(label) => give_label(between(some), label.verif.bytes(), label.error.bytes(), out),
+        None => give_pieces(out, &[]),
+    }
+}
+
+fn between(some: bool) -> &'static [u8]
+    ensures { result.now ≡ between some }
+{
+    if some { b"; " } else { b"" }
+}
+
+fn give_label<'a, K: Sink>(
+    before: &'a [u8],
+    verif: &'a [u8],
+    error: &'a [u8],
+    out: &mut K,
+) -> Result<(), Failed>
+    ensures { Gives K.written K.faults out.old out.new result (joined (before.now ∷ verif.now ∷ codes " " ∷ error.now ∷ [])) }
+{
+    give_pieces(out, &[before, verif, b" ", error])
+}

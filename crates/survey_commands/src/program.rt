@@ -1,0 +1,128 @@
+//! The top call.
+ghost use Rattle.std.specs.Prelude.{◌≡◌, ◌<◌, ℕ, List, Some, false};
+ghost use Rattle.command_plans.specs.Attempts.{TakesWithin};
+ghost use Rattle.command_plans.specs.Printing.{Prints};
+ghost use Rattle.command_plans.specs.Views.{Disk, files_view, output_view};
+ghost use Rattle.command_plans.specs.declared.status.Status.{Status};
+ghost use Rattle.m_ports.specs.Counts.{Rose};
+ghost use Rattle.survey_commands.specs.Command.{command_of, limit_of, writes_early};
+ghost use Rattle.survey_commands.specs.Clauses.{PrintsOutput, ReadsInOrder, WritesFront, StopsInFront, AnswersValid, IsToldUsage};
+ghost use Rattle.survey_commands.specs.Lines.{usage_line};
+ghost use Rattle.survey_commands.specs.Output.{Output, AreOneOutput};
+ghost use Rattle.survey_commands.specs.inner.Courses.{Course};
+
+use crate::answer::answer;
+use crate::command::{Command, command_of};
+use crate::gather::gather;
+use command_plans::{Status, printed, tell};
+use m_places::Word;
+use m_ports::{Files, Sink, give_pieces};
+use std::alloc::Global;
+use std::thread::Threads;
+
+const USAGE: &[u8] =
+    b"usage: m_survey table LIST DRIVER REQUESTS TABLE, table CODEFILE TABLE, version";
+
+// Prints the usage line. It takes no memory.
+fn print_usage<K: Sink>(out: &mut K) -> Status
+    ensures { Prints usage_line Status.Usage (output_view K.written K.faults out.old) (output_view K.written K.faults out.new) result }
+{
+    printed(give_pieces(out, &[USAGE, b"\n"]), Status::Usage)
+}
+
+// Does the command that the words are.
+fn perform<R: Threads + Sync, F: Files, K: Sink>(
+    rt: &R,
+    alloc: Global,
+    words: &[Word],
+    files: &mut F,
+    out: &mut K,
+) -> Status
+    ensures { Course words.now (files_view F.told F.attempts F.taken files.old) (files_view F.told F.attempts F.taken files.new)
+        (output_view K.written K.faults out.old) (output_view K.written K.faults out.new) result }
+{
+    match command_of(alloc, words) {
+        Ok(Some(command)) => {
+            let status = act(rt, alloc, &command, files, out);
+            drop(command);
+            status
+        }
+        Ok(None) => print_usage(out),
+        Err(_) => Status::Memory,
+    }
+}
+
+// Does a command: gathers its files, and answers them.
+fn act<R: Threads + Sync, F: Files, K: Sink>(
+    rt: &R,
+    alloc: Global,
+    command: &Command,
+    files: &mut F,
+    out: &mut K,
+) -> Status
+    ensures { (words : List (List ℕ)) → command_of words ≡ Some command.now
+        → Course words (files_view F.told F.attempts F.taken files.old) (files_view F.told F.attempts F.taken files.new)
+        (output_view K.written K.faults out.old) (output_view K.written K.faults out.new) result }
+{
+    match gather(alloc, files, command) {
+        Ok(work) => {
+            let status = answer(rt, alloc, &work, out);
+            drop(work);
+            status
+        }
+        Err(ending) => {
+            let status = tell(out, &ending);
+            drop(ending);
+            status
+        }
+    }
+}
+
+/// Does the command that the words are: fetches its files, and prints its answer.
+///
+/// The words are those after the program's name. All that is printed, faults too, goes to `out`.
+pub fn m_survey<R: Threads + Sync, F: Files, K: Sink>(
+    rt: &R,
+    alloc: Global,
+    words: &[Word],
+    files: &mut F,
+    out: &mut K,
+) -> Status
+    // Where the files are told, if the command fetches one, and neither reading, writing nor memory failed, the text that is appended and
+    // the status are an `Output` of the words and the files.
+    ensures text { PrintsOutput words.now (files_view F.told F.attempts F.taken files.old)
+        (output_view K.written K.faults out.old) (output_view K.written K.faults out.new) result }
+
+    // The attempts on files are those of `fetches_of`, at most the last of them failed, and a read fault is told only there. All files
+    // together give at most one byte past the limit for each that was tried.
+    ensures reading { ReadsInOrder words.now (files_view F.told F.attempts F.taken files.old) (files_view F.told F.attempts F.taken files.new)
+        (output_view K.written K.faults out.old) (output_view K.written K.faults out.new) result }
+    ensures taken { TakesWithin (limit_of words.now) (files_view F.told F.attempts F.taken files.old)
+        (files_view F.told F.attempts F.taken files.new) result }
+
+    // A write fault is told only where one happened and always where one did, and what was written is the prefix of a text.
+    ensures write_fault { result ≡ Status.WriteFault → Rose (K.faults out.old) (K.faults out.new) }
+    ensures write_told { K.faults out.old < K.faults out.new → result ≡ Status.WriteFault }
+    ensures writing { WritesFront words.now (files_view F.told F.attempts F.taken files.old) (files_view F.told F.attempts F.taken files.new)
+        (output_view K.written K.faults out.old) (output_view K.written K.faults out.new) result }
+
+    // Without memory nothing was written, but by a command that writes in parts, which has written the prefix of an output.
+    ensures memory { result ≡ Status.Memory → writes_early words.now ≡ false → K.written out.new ≡ K.written out.old }
+    ensures memory_front { StopsInFront words.now (files_view F.told F.attempts F.taken files.old)
+        (output_view K.written K.faults out.old) (output_view K.written K.faults out.new) result }
+
+    // What is valid is answered, unless a read, a write or memory failed.
+    ensures completeness { AnswersValid words.now (files_view F.told F.attempts F.taken files.old) (files_view F.told F.attempts F.taken files.new)
+        (output_view K.written K.faults out.old) (output_view K.written K.faults out.new) result }
+
+    // The usage line is printed exactly for words that are no command.
+    ensures usage { IsToldUsage words.now result }
+{
+    perform(rt, alloc, words, files, out)
+}
+
+/// The same words and files have one output: one text and one status. Left open is which of several cycles or recursions an error shows.
+pub fn one_output()
+    ensures { (words : List (List ℕ)) (disk : Disk) (one other : List ℕ) (status outcome : Status) →
+        Output words disk one status → Output words disk other outcome → AreOneOutput one status other outcome }
+{}

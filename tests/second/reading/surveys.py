@@ -1,0 +1,47 @@
+"""The commands of m_survey."""
+
+from .code_files import read_code
+from .commands import CODE_FILE_BYTES, DONE, FILE_BYTES, NO_COMMAND, NOT_READ, REFUSED, Output, fetched, gathered
+from .faults import Refused, RingRefused, Unreadable
+from .files import read_table
+from .records import record
+from .sources import Compiled
+from .texts import is_utf8
+
+USAGE = b"usage: m_survey table LIST DRIVER REQUESTS TABLE, table CODEFILE TABLE, version\n"
+VERSION = b"vodmejka 1.0.0\n"
+
+
+def survey_output(words, files):
+    """What m_survey prints, and with which status. `files` has the bytes of each file by its name."""
+    try:
+        return Output(*survey_answer(words, files))
+    except RingRefused as refusal:
+        return Output(refusal.line + b"\n", REFUSED, refusal)
+    except Refused as refusal:
+        return Output(refusal.line + b"\n", REFUSED)
+    except Unreadable as missing:
+        return Output(b"unreadable " + missing.name + b"\n", NOT_READ)
+
+
+def survey_answer(words, files):
+    """The same, where refusals are raised."""
+    if words == [b"version"]:
+        return VERSION, DONE
+    if words[:1] == [b"table"] and all(is_utf8(word) for word in words):
+        if len(words) == 5:
+            source = gathered(words[1:4], files)
+            table = fetched(words[4], files, FILE_BYTES)
+            compiled = Compiled(source)
+            return table_text(compiled, compiled.request_names, read_table(table, compiled.declared.inputs, compiled.declared.types)), DONE
+        if len(words) == 3:
+            code_file = fetched(words[1], files, CODE_FILE_BYTES)
+            table = fetched(words[2], files, FILE_BYTES)
+            code = read_code(code_file)
+            return table_text(code, code.request_names(), read_table(table, code.inputs, dict(zip(code.inputs, code.types)))), DONE
+    return USAGE, NO_COMMAND
+
+
+def table_text(told, names, rows):
+    """The first record, and one for each row."""
+    return record([b"name", b"stop", b"notes", *names]) + b"".join(record([row.label, *told.record(row.amounts)]) for row in rows)
