@@ -261,7 +261,7 @@ def language_of(words: list[str]) -> list[str]:
     return left
 
 
-def said(key: str, **values) -> str:
+def said(key: str, **values: object) -> str:
     """The sentence with this key, in the language that was chosen."""
     english, french = TEXTS[key]
     return (french if Language.name == FRENCH else english).format(**values)
