@@ -59,9 +59,13 @@ class Reader:
         except IndexError:
             return self.end
 
-    def want(self, what):
-        if what not in self.wanted:
-            self.wanted.append(what)
+    def want(self, *what):
+        """Notes what could stand here; one word may be noted several times."""
+        self.wanted += what
+
+    def wants(self):
+        """What could stand here, each once."""
+        return tuple(dict.fromkeys(self.wanted))
 
     def step(self):
         token = self.peek()
@@ -79,9 +83,9 @@ class Reader:
         return token.text in texts and token.kind in ("sign", "word")
 
     def take_if(self, *texts):
-        for text in texts:
-            self.want(text)
-        return self.step().text if self.next_is(*texts) else None
+        self.wanted += texts
+        token = self.peek()
+        return self.step().text if token.text in texts and token.kind in ("sign", "word") else None
 
     def take(self, *texts):
         return self.take_if(*texts) or self.stuck()
@@ -226,10 +230,10 @@ class Terms(Reader):
     def primary(self):
         self.want(VALUE)
         token = self.peek()
+        if token.kind == "word" and token.text not in RESERVED:
+            return self.read()
         if token.kind == "number":
             return ("number", self.step().text)
-        if self.is_word():
-            return self.read()
         if self.next_is("("):
             self.step()
             inner = self.term()
@@ -247,10 +251,10 @@ class Terms(Reader):
     def read(self):
         token = self.step()
         self.want("[")
+        if not self.next_is("(", "["):
+            return ("name", token.text, token.byte)
         if self.next_is("("):
             self.stuck(no_function(token.text))
-        if not self.next_is("["):
-            return ("name", token.text, token.byte)
         self.step()
         index = self.term()
         self.take("]")
