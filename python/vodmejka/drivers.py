@@ -236,7 +236,7 @@ class Driver:
                 hint = "a ) may be missing"
             if not hint and token.text == "," and reader.at and reader.peek(-1).kind == "number" and reader.peek(1).kind == "number":
                 hint = f"a decimal sign is a point: {reader.peek(-1).text}.{reader.peek(1).text}"
-            self.fault("syntax", line.number, token.byte, token.text or "the end of the line", reader.wanted, hint)
+            self.fault("syntax", line.number, token.byte, token.text or "the end of the line", reader.wants(), hint)
             return None
         self.kinds += [(attribute, values, line.number, byte) for attribute, values, byte in reader.kinds]
         self.cells += [(*cell, line.number) for cell in reader.cells]

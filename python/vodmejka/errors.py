@@ -68,7 +68,7 @@ def hint_of(line: str) -> str | None:
     if match := LINED.fullmatch(line):
         table: Mapping[str, str] = {"driver": sentences.DRIVER, "household": sentences.HOUSEHOLD}.get(match[1], {})
         if match[1] == "code":
-            return sentences.CODE
+            return sentences.code()
         found = next((text for what, text in table.items() if (match[3] or "").startswith(what)), None)
         if found:
             return found

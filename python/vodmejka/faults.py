@@ -26,7 +26,7 @@ class Files:
     """The rule files of a list, each with its items, and the faults so far."""
 
     def __init__(self, application, names):
-        self.application, self.found, self.files, self.lines = application, [], [], {}
+        self.application, self.listed, self.found, self.files, self.lines = application, names, [], [], {}
         names = list(dict.fromkeys(names))
         for name, content in zip(names, source.fetch_rules(names)):
             reader, faults = items.read(content)
@@ -43,11 +43,11 @@ class Files:
 class Names:
     """What the files of a list declare, and the faults of names."""
 
-    def __init__(self, files, list_name):
+    def __init__(self, files):
         self.files = files
-        base = source.RuleBase(list_name, bounded=False)
+        heads = {name: source.RuleFile(name, content, reader.tokens) for name, content, reader in files.files}
         self.variables, self.errors, self.done, codes = {}, set(), set(), set()
-        for file in base.files:
+        for file in (heads[name] for name in files.listed):
             for variable in file.variables:
                 byte = int(variable.place.rsplit(" ", 1)[1])
                 if variable.name in self.variables:
@@ -153,7 +153,7 @@ def all_faults(list_name, driver, names):
         application, listed = source.read_list_text(list_name, source.fetch(list_name).removeprefix(source.MARK))
         files = Files(application, listed)
         if not any(fault.what in UNREADABLE for fault in files.found):
-            declared = Names(files, list_name)
+            declared = Names(files)
             declared.look_at_all()
             variables = declared.variables
     order = {name: number for number, (name, _, _) in enumerate(files.files)}

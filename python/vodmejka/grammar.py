@@ -9,6 +9,8 @@ RESERVED = reserved("m")
 OF_ONE = ("present", "abs", "positif", "positif_ou_nul", "null", "arr", "inf")
 OF_TWO = ("max", "min")
 COMPARISONS = ("=", "!=", "<", "<=", ">", ">=")
+LOOSEST, NEGATION, COMPARISON, SUM, TIGHTEST = 1, 3, 4, 5, 6
+LEVELS = {"ou": LOOSEST, "et": 2, **dict.fromkeys((*COMPARISONS, "non", "dans"), COMPARISON), "+": SUM, "-": SUM, "*": TIGHTEST, "/": TIGHTEST}
 OPERATORS = "an operator (+ - * / = < et ou ..)"
 TURNED = {"=>": ">=", "=<": "<=", "<>": "!=", "><": "!="}
 OTHER_WORDS = {"arrondi": "arr", "round": "arr", "entier": "inf", "tronque": "inf", "floor": "inf", "sum": "somme", "and": "et", "or": "ou", "not": "non",
@@ -57,9 +59,13 @@ class Reader:
         except IndexError:
             return self.end
 
-    def want(self, what):
-        if what not in self.wanted:
-            self.wanted.append(what)
+    def want(self, *what):
+        """Notes what could stand here; one word may be noted several times."""
+        self.wanted += what
+
+    def wants(self):
+        """What could stand here, each once."""
+        return tuple(dict.fromkeys(self.wanted))
 
     def step(self):
         token = self.peek()
@@ -77,9 +83,9 @@ class Reader:
         return token.text in texts and token.kind in ("sign", "word")
 
     def take_if(self, *texts):
-        for text in texts:
-            self.want(text)
-        return self.step().text if self.next_is(*texts) else None
+        self.wanted += texts
+        token = self.peek()
+        return self.step().text if token.text in texts and token.kind in ("sign", "word") else None
 
     def take(self, *texts):
         return self.take_if(*texts) or self.stuck()
@@ -163,45 +169,48 @@ class Terms(Reader):
             return self.step().text
         return self.whole() if self.peek().kind == "number" else self.name("a name in capital letters")
 
-    def chain(self, read, *signs):
-        first = read()
+    def term(self):
+        return self.operation(LOOSEST)
+
+    def operation(self, least):
+        """A term whose operators bind at least so tightly. Operators of one level are taken from left to right; of comparisons there is one, and none on what
+        `non` made."""
+        if least <= NEGATION:
+            self.want("non")
+        if least <= NEGATION and self.next_is("non"):
+            found, most = ("op", self.step().text, [self.operation(COMPARISON)]), NEGATION
+        else:
+            found, most = self.factor(), TIGHTEST
         while True:
             self.want(OPERATORS)
-            if not self.next_is(*signs):
-                return first
-            first = ("op", self.step().text, [first, read()])
+            token = self.peek()
+            level = LEVELS.get(token.text, 0)
+            if not least <= level <= most:
+                return found
+            if level == COMPARISON:
+                found, most = self.compared(found) if token.text in COMPARISONS else self.listed(found), NEGATION
+            else:
+                found = ("op", self.step().text, [found, self.operation(level + 1)])
 
-    def term(self):
-        return self.chain(self.conjunction, "ou")
+    def compared(self, left):
+        sign = self.step().text
+        turned = TURNED.get(sign + self.peek().text) if self.peek().kind == "sign" else None
+        if turned:
+            self.want(VALUE)
+            self.stuck(f"M writes {turned} for {sign}{self.peek().text}")
+        if self.next_is("="):
+            self.want(VALUE)
+            self.stuck(f"M writes {'=' if sign == '=' else sign} for a comparison, and no second =")
+        return ("op", sign, [left, self.operation(SUM)])
 
-    def conjunction(self):
-        return self.chain(self.negation, "et")
-
-    def negation(self):
-        self.want("non")
-        return ("op", self.step().text, [self.relation()]) if self.next_is("non") else self.relation()
-
-    def relation(self):
-        left = self.sum()
-        if self.next_is(*COMPARISONS):
-            sign = self.step().text
-            turned = TURNED.get(sign + self.peek().text) if self.peek().kind == "sign" else None
-            if turned:
-                self.want(VALUE)
-                self.stuck(f"M writes {turned} for {sign}{self.peek().text}")
-            if self.next_is("="):
-                self.want(VALUE)
-                self.stuck(f"M writes {'=' if sign == '=' else sign} for a comparison, and no second =")
-            return ("op", sign, [left, self.sum()])
-        if self.next_is("non") or self.next_is("dans"):
-            isnt = self.take_if("non") is not None
-            self.take("dans")
-            self.take("(")
-            members = self.separated(self.member, ",")
-            self.take(")")
-            found = ("op", "dans", [left, *members])
-            return ("op", "non", [found]) if isnt else found
-        return left
+    def listed(self, left):
+        isnt = self.take_if("non") is not None
+        self.take("dans")
+        self.take("(")
+        members = self.separated(self.member, ",")
+        self.take(")")
+        found = ("op", "dans", [left, *members])
+        return ("op", "non", [found]) if isnt else found
 
     def member(self):
         if self.is_word():
@@ -214,12 +223,6 @@ class Terms(Reader):
         sign = self.take_if("-") or ""
         return ("number", sign + self.kind("number", "a number").text)
 
-    def sum(self):
-        return self.chain(self.product, "+", "-")
-
-    def product(self):
-        return self.chain(self.factor, "*", "/")
-
     def factor(self):
         self.want("-")
         return ("op", "neg", [(self.step(), self.primary())[1]]) if self.next_is("-") else self.primary()
@@ -227,10 +230,10 @@ class Terms(Reader):
     def primary(self):
         self.want(VALUE)
         token = self.peek()
+        if token.kind == "word" and token.text not in RESERVED:
+            return self.read()
         if token.kind == "number":
             return ("number", self.step().text)
-        if self.is_word():
-            return self.read()
         if self.next_is("("):
             self.step()
             inner = self.term()
@@ -248,10 +251,10 @@ class Terms(Reader):
     def read(self):
         token = self.step()
         self.want("[")
+        if not self.next_is("(", "["):
+            return ("name", token.text, token.byte)
         if self.next_is("("):
             self.stuck(no_function(token.text))
-        if not self.next_is("["):
-            return ("name", token.text, token.byte)
         self.step()
         index = self.term()
         self.take("]")

@@ -17,6 +17,8 @@ from .places import decode
 CUT_TEXT = re.compile(rb"(?P<text>\"[^\"\n]*)")
 SIGNS = {"\u2264": "<=", "\u2265": ">=", "\u2260": "!=", "\u00d7": "*", "\u00f7": "/", "\u2212": "-", "\u2013": "-", "\u2014": "-"}
 BLANKS = "\u00a0\u202f\u2009\u2007\ufeff\u200b"
+# How much deeper brackets and conditionals stand behind a token; at `regle` and `verif` none is open.
+DEEPER = {"(": 1, "[": 1, "si": 1, ")": -1, "]": -1, "finsi": -1, "erreur": -1, "regle": -sys.maxsize, "verif": -sys.maxsize}
 KINDS_OF_ERRORS = ("anomalie", "discordance", "informative")
 
 
@@ -89,7 +91,7 @@ class RuleReader(Terms):
     def note(self):
         token = self.peek()
         found = "the end of the file" if token.kind == "end" else token.text if len(token.text) < 40 else token.text[:40] + ".."
-        self.faults.append(Fault("syntax", token.byte, found, tuple(self.wanted), self.hint or self.guess()))
+        self.faults.append(Fault("syntax", token.byte, found, self.wants(), self.hint or self.guess()))
 
     def guess(self):
         """What may help, by what stands round the place."""
@@ -337,16 +339,10 @@ def too_deep(tokens):
     """The first token at which brackets and conditionals stand too deep."""
     depth = 0
     for token in tokens:
-        if token.kind == "text":
-            continue
-        if token.text in ("(", "[", "si"):
-            depth += 1
-        elif token.text in (")", "]", "finsi", "erreur"):
-            depth = max(0, depth - 1)
-        elif token.text in ("regle", "verif"):
-            depth = 0
-        if depth > BRACKET_DEPTH:
-            return [deep_fault(token)]
+        if (change := DEEPER.get(token.text)) is not None:
+            depth = max(0, depth + change)
+            if depth > BRACKET_DEPTH:
+                return [deep_fault(token)]
     return []
 
 

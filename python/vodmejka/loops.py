@@ -47,6 +47,8 @@ def header_faults(header):
 
 def instances(headers, words):
     """The letters that these words have, at each of their values: of many instances the first."""
+    if not headers:
+        return [{}]
     bound = {letter: values for header in headers for letter, values in header}
     letters = [letter for letter in bound if any(letter in word for word in words)]
     products = itertools.product(*(values_of(bound[letter]) for letter in letters))
@@ -68,6 +70,8 @@ def is_number(word):
 
 
 def replaced(word, letters):
+    if not letters:
+        return word
     return "".join(letters.get(letter, letter) for letter in word)
 
 

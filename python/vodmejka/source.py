@@ -185,13 +185,13 @@ def quick_tokens(content, byte, tokens, most=sys.maxsize):
 
 
 class RuleFile:
-    """The items of one rule file."""
+    """The items of one rule file. The tokens may be there already."""
 
-    def __init__(self, name, content):
+    def __init__(self, name, content, tokens=None):
         self.name = name
         self.bytes = content
         self.lines = Lines(self.bytes)
-        self.tokens = self.read_tokens()
+        self.tokens = self.read_tokens() if tokens is None else tokens
         self.variables, self.rules = [], []
         self.read_items()
 

@@ -6,9 +6,12 @@ from __future__ import annotations
 
 import os
 
+from . import texts_mend
+
 ENGLISH, FRENCH = "en", "fr"
 
 TEXTS = {
+    **texts_mend.TEXTS,
     "rule.bad byte": (
         "No token begins here: accented letters stand in texts and comments only, and a point between digits.",
         "Aucun mot ne commence ici : les lettres accentuées ne se trouvent que dans les textes et les commentaires, et un point entre des chiffres."),

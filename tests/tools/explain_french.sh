@@ -20,3 +20,10 @@ for key, (english, french) in TEXTS.items():
         print(key)
 print(len(TEXTS) >= 40)
 P
+# Lines that name no place, code files and marked files, in both languages.
+for said in 'refused cycle A B' 'refused unknown code' 'refused code line 3: bad line' 'failed 7 E1 anomalie'; do
+    echo "$said" | "$ROOT/tools/explain" --lang fr | tail -n 1
+done
+printf '\357\273\277iliad\na.m\n' >marked.list
+echo 'refused list line 1' | "$ROOT/tools/explain" --lang fr --list marked.list | tail -n 1
+echo 'refused unknown code' | "$ROOT/tools/explain" --lang en | tail -n 1

@@ -29,7 +29,7 @@ from .. import drivers, faults, items, runs, source
 from ..hints import Hints
 from ..places import faulty_field, line_at, pointer, records, text_at
 from ..texts import language_of
-from ..sentences import CODE, DRIVER, HOUSEHOLD, MARKED, OTHERS, RULES
+from ..sentences import DRIVER, HOUSEHOLD, OTHERS, RULES, code, marked
 
 ROLES = ("list", "driver", "requests", "household")
 OTHER_ROLES = {"exec": ("code", "household"), "check": ("list", "household", "report")}
@@ -90,8 +90,8 @@ class Explainer:
         content = texts[name].content
         if what == "bad byte":
             bad = next((other for other in items.tokens_of(content)[1] if other.byte == byte and other.hint), None)
-            marked = byte == 0 and content.startswith(source.MARK)
-            return place, lines, MARKED if marked else could_stand(bad).strip() if bad else RULES[fault]
+            is_marked = byte == 0 and content.startswith(source.MARK)
+            return place, lines, marked() if is_marked else could_stand(bad).strip() if bad else RULES[fault]
         farthest = next((other for other in items.read(content)[1] if other.byte >= byte and other.what == "syntax"), None)
         if farthest is None:
             return place, lines, RULES[fault]
@@ -139,7 +139,7 @@ class Explainer:
 
     def list_fault(self, role, number):
         if number == 1 and self.is_marked(role):
-            mend = MARKED
+            mend = marked()
         elif role == "requests":
             mend = "No variable has this name, or a cell's number is missing or past its table; look for blanks, too."
         elif number == 1:
@@ -170,7 +170,7 @@ class Explainer:
             return self.list_fault(match[1], int(match[2]))
         match = re.fullmatch(r"refused code line ([1-9][0-9]{0,14}): .*", line)
         if match:
-            return (*self.line_place("code", int(match[1])), CODE)
+            return (*self.line_place("code", int(match[1])), code())
         match = re.fullmatch(r"refused report line ([1-9][0-9]{0,14}): .*", line)
         if match:
             return (*self.line_place("report", int(match[1])), self.other(line))

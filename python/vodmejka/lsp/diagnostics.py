@@ -8,7 +8,7 @@ from typing import Any
 from .. import drivers, faults, items, source
 from ..commands import slips
 from ..commands.explain import could_stand
-from ..sentences import DRIVER, MARKED, RULES
+from ..sentences import DRIVER, RULES, marked
 from .base import Base
 from .checks import ERROR, HINT, INFORMATION, WARNING, Declared, token_length
 from .occurrences import tokens_in
@@ -164,7 +164,7 @@ def kinds_of_no_input(text: DriverText, base: Base) -> Iterator[Diagnostic]:
 def of_bytes(text: Text) -> Iterator[Diagnostic]:
     """What is told of the bytes: a byte order mark that the client hides, carriage returns, and letters that the client could not read."""
     if text.on_disk is not None and text.on_disk.startswith(source.MARK) and not text.content.startswith(source.MARK):
-        yield diagnostic(text, 0, 0, ERROR, "bad byte", MARKED)
+        yield diagnostic(text, 0, 0, ERROR, "bad byte", marked())
     alone = re.search(rb"\r(?!\n)", text.content)
     if alone:
         yield diagnostic(text, alone.start(), alone.end(), WARNING, "a carriage return alone, which ends no line: a comment or a name goes on after it")
