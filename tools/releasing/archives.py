@@ -4,11 +4,10 @@ from __future__ import annotations
 import hashlib
 import os
 import shutil
-import subprocess
 import tempfile
 
 from . import debian, trees, wheels
-from .proved import TOP, VERSION, Refused, Release
+from .proved import VERSION, Refused, Release
 
 
 def write_release(folder: str, release: Release) -> list[str]:
@@ -34,11 +33,7 @@ def write_release(folder: str, release: Release) -> list[str]:
 def write_sources(folder: str, release: Release) -> str:
     """The archive of all that the commit has."""
     name = f"vodmejka-{VERSION}.source.tar.gz"
-    words = ["git", "archive", "--format=tar", f"--prefix=vodmejka-{VERSION}/", f"--mtime=@{release.epoch}", release.commit]
-    ran = subprocess.run(words, cwd=TOP, capture_output=True, check=False)
-    if ran.returncode:
-        raise Refused(f"git archive: {ran.stderr.decode(errors='replace').strip()}")
-    put(folder, name, trees.gzipped(ran.stdout))
+    put(folder, name, trees.tar_gz(trees.from_repository({".": f"vodmejka-{VERSION}"}), release))
     return name
 
 
