@@ -16,6 +16,8 @@ MAINTAINER = "Vodmejka maintainers <maintainers@users.noreply.vodmejka.example>"
 DOCUMENTS = "usr/share/doc/vodmejka"
 NO_LICENCE = """Vodmejka: French income tax rules in M, computed by a verified program.
 
+Copyright 2026 the owner of the repository of Vodmejka.
+
 No licence is given yet for the program, the Python package, the rules and the
 documents: choosing one is for their owner. Until then nothing is permitted
 beyond what the law permits by itself.
@@ -44,8 +46,8 @@ fi
 """
 OVERRIDES = """# The programs are byte for byte those that were built once their proofs passed, and their digests are published.
 vodmejka: unstripped-binary-or-object
-# They are built by a toolchain of their own, whose code has no frame to be protected.
-vodmejka: hardening-no-fortify-functions
+# Rule files and what is printed of them are Latin-1, as those of the administration.
+vodmejka: national-encoding [usr/share/doc/vodmejka/examples/*]
 """
 
 
