@@ -2,7 +2,7 @@
 # Looks at what tools/release makes: that two clones give the same bytes, that it refuses what isn't proved or committed, that lintian has nothing to say, that
 # completions complete, and that wheels and the package install and compute where there is no toolchain: in an environment of Python, and in a
 # root of Debian's packages alone, which debootstrap makes. What isn't installed, or a mirror that can't be reached, is left out with a line. Needs a program
-# in out, and no change that isn't committed. tests/release.sh [MIRROR]; as root, since debootstrap and chroot need it. It takes three minutes.
+# in out, and no change that isn't committed. tests/release.sh [MIRROR]; as root, since debootstrap and chroot need it. It takes five minutes.
 cd "$(dirname "$0")/.." || exit 1
 mirror=${1:-http://deb.debian.org/debian}
 room=$(mktemp -d) || exit 1
@@ -122,7 +122,7 @@ fi
 
 # A root of Debian's packages alone.
 # within COMMAND: what a user of that root gets of a command, started where the package has its documents.
-within() { chroot "$root" /usr/bin/env -i PATH=/usr/sbin:/usr/bin:/sbin:/bin LC_ALL=C.UTF-8 MANROFFOPT=-P-c sh -c "cd /usr/share/doc/vodmejka 2>/dev/null; $1"; }
+within() { chroot "$root" /usr/bin/env -i PATH=/usr/sbin:/usr/bin:/sbin:/bin LC_ALL=C.UTF-8 sh -c "cd /usr/share/doc/vodmejka 2>/dev/null; $1"; }
 if ! command -v debootstrap >/dev/null 2>&1; then
     echo "release: a root of Debian: not run: debootstrap isn't installed"
 elif ! debootstrap --variant=minbase --include=ca-certificates bookworm "$root" "$mirror" >"$room/debootstrap" 2>&1; then
@@ -134,8 +134,8 @@ else
     if within "apt-get -qq update && DEBIAN_FRONTEND=noninteractive $install /root/vodmejka_*.deb man-db python3-venv" >"$room/apt" 2>&1; then
         passed=$((passed + 1))
         says "README's household" "$answer" within "$household"
-        says "man m_tax" "m_tax - computes the French income tax from rules written in M" within "man -P cat m_tax | col -bx | sed -n '/^NAME/{n; s/^ *//p}'"
-        says "man in French" "m_tax - calcule l'impôt sur le revenu à partir de règles écrites en M" within "LC_ALL=C.UTF-8 man -L fr -P cat m_tax | col -bx | sed -n '/^NOM/{n; s/^ *//p}'"
+        says "man m_tax" "m_tax - computes the French income tax from rules written in M" within "man m_tax | sed -n '/^NAME/{n; s/^ *//p}'"
+        says "man in French" "m_tax - calcule l'impôt sur le revenu à partir de règles écrites en M" within "man -L fr m_tax | sed -n '/^NOM/{n; s/^ *//p}'"
         says "a page of rules" "<!doctype html>" within "vodmejka page examples/impot2023/rules.list examples/impot2023/driver.mpp >/tmp/page.html && head -c 15 /tmp/page.html | tr A-Z a-z"
         says "pip install of the wheel" 2286 within "python3 -m venv /root/venv && /root/venv/bin/pip install -q --no-index /root/*manylinux*.whl && /root/venv/bin/python -c \"$library\""
         says "dpkg's digests" "" within "dpkg --verify vodmejka"
