@@ -94,10 +94,15 @@ if command -v bash >/dev/null 2>&1; then
     says "a code in bash" "1AJ" completed vodmejka marginal examples/first/rules.list - household.csv 1
     says "a variable in bash" "IRN" completed vodmejka why examples/first/rules.list household.csv IR
 fi
-if command -v zsh >/dev/null 2>&1; then says "zsh" "" zsh -n "$room/files/usr/share/zsh/vendor-completions/_vodmejka"; else echo "release: zsh: not run: it isn't installed"; fi
+if command -v zsh >/dev/null 2>&1; then
+    says "zsh" "" zsh -n "$room/files/usr/share/zsh/vendor-completions/_vodmejka"
+else
+    echo "release: zsh: not run: it isn't installed"
+fi
 if command -v fish >/dev/null 2>&1; then
     script=$room/files/usr/share/fish/vendor_completions.d/vodmejka.fish
-    says "a code in fish" "1AJ" env "PATH=$room/files/usr/bin:$PATH" fish -c "source $script; complete -C 'vodmejka marginal examples/first/rules.list - h.csv 1A'"
+    says "a code in fish" "1AJ" env "PATH=$room/files/usr/bin:$PATH" fish -c "
+        source $script; complete -C 'vodmejka marginal examples/first/rules.list - h.csv 1A'"
 else
     echo "release: fish: not run: it isn't installed"
 fi
@@ -135,11 +140,15 @@ else
         passed=$((passed + 1))
         says "README's household" "$answer" within "$household"
         says "man m_tax" "m_tax - computes the French income tax from rules written in M" within "man m_tax | sed -n '/^NAME/{n; s/^ *//p}'"
-        says "man in French" "m_tax - calcule l'impôt sur le revenu à partir de règles écrites en M" within "man -L fr m_tax | sed -n '/^NOM/{n; s/^ *//p}'"
-        says "a page of rules" "<!doctype html>" within "vodmejka page examples/impot2023/rules.list examples/impot2023/driver.mpp >/tmp/page.html && head -c 15 /tmp/page.html | tr A-Z a-z"
-        says "pip install of the wheel" 2286 within "python3 -m venv /root/venv && /root/venv/bin/pip install -q --no-index /root/*manylinux*.whl && /root/venv/bin/python -c \"$library\""
+        says "man in French" "m_tax - calcule l'impôt sur le revenu à partir de règles écrites en M" within "
+            man -L fr m_tax | sed -n '/^NOM/{n; s/^ *//p}'"
+        says "a page of rules" "<!doctype html>" within "
+            vodmejka page examples/impot2023/rules.list examples/impot2023/driver.mpp >/tmp/page.html && head -c 15 /tmp/page.html"
+        says "pip install of the wheel" 2286 within "
+            python3 -m venv /root/venv && /root/venv/bin/pip install -q --no-index /root/*manylinux*.whl && /root/venv/bin/python -c \"$library\""
         says "dpkg's digests" "" within "dpkg --verify vodmejka"
-        says "removal" "gone" within "apt-get -qq -o Dpkg::Use-Pty=0 remove vodmejka >/dev/null 2>&1; ls -d /usr/lib/python3/dist-packages/vodmejka /usr/bin/m_tax 2>/dev/null || echo gone"
+        within "apt-get -qq -o Dpkg::Use-Pty=0 remove vodmejka" >"$room/apt" 2>&1
+        says "removal" "" within "find /usr -path '*vodmejka*' -o -name 'm_tax*'"
     else
         failed=$((failed + 1))
         echo "release: apt install in a root of Debian:"

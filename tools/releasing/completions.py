@@ -27,7 +27,8 @@ def options_of(name: str) -> list[str]:
 
 def bash(options: dict[str, list[str]]) -> str:
     cases = "\n".join(f"        {name}) options='{' '.join(words)}' ;;" for name, words in options.items())
-    return BASH.replace("@COMMANDS@", " ".join(options)).replace("@OPTIONS@", cases).replace("@CODES@", listed(CODES)).replace("@NAMES@", listed(NAMES))
+    made = BASH.replace("@COMMANDS@", " ".join(options)).replace("@OPTIONS@", cases)
+    return made.replace("@CODES@", listed(CODES)).replace("@NAMES@", listed(NAMES))
 
 
 def zsh(options: dict[str, list[str]]) -> str:
@@ -38,7 +39,7 @@ def zsh(options: dict[str, list[str]]) -> str:
 
 def fish(options: dict[str, list[str]]) -> str:
     lines = [FISH.replace("@CODES@", CODES.replace("LIST", "$list")).replace("@NAMES@", NAMES.replace("LIST", "$list"))]
-    lines += [f"complete -c m_tax -n __fish_use_subcommand -f -a '{' '.join(PROGRAM)}'", f"complete -c vodmejka -n __fish_use_subcommand -f -a '{' '.join(options)}'"]
+    lines += [f"complete -c {command} -n __fish_use_subcommand -f -a '{' '.join(names)}'" for command, names in (("m_tax", PROGRAM), ("vodmejka", options))]
     for name, words in options.items():
         lines += [f"complete -c vodmejka -n '__fish_seen_subcommand_from {name}' -l {word[2:]}" for word in words]
     return "\n".join([*lines, ""])

@@ -56,7 +56,8 @@ def package_tree(release: Release) -> Tree:
     made = {f"usr/bin/{name}": (content, True) for name, content in release.programs.items()}
     made["usr/bin/vodmejka"] = (COMMAND, True)
     made |= trees.plain((f"usr/lib/python3/dist-packages/{entry}", content) for entry, content in python_files())
-    made |= trees.plain((f"usr/share/man/{path}.gz", trees.gzipped(text.encode())) for path, text in manuals.pages(release.epoch, list(release.programs)).items())
+    pages = manuals.pages(release.epoch, list(release.programs))
+    made |= trees.plain((f"usr/share/man/{path}.gz", trees.gzipped(text.encode())) for path, text in pages.items())
     made |= trees.plain((path, text.encode()) for path, text in completions.scripts().items())
     made |= documents(release)
     made["usr/share/lintian/overrides/vodmejka"] = (OVERRIDES.encode(), False)

@@ -49,8 +49,8 @@ def help_of(name: str) -> str:
 
 def overview(names: list[str], day: str) -> str:
     """The page of `vodmejka` itself."""
-    lines = [head("VODMEJKA", day), ".SH NAME", "vodmejka \\- tools for rules of the French income tax in M", ".SH SYNOPSIS", ".B vodmejka", ".I COMMAND WORD ..",
-             ".SH DESCRIPTION", "Each command tells its words by", ".BR \\-\\-help ,", "and has a page of its own.", ".SH COMMANDS"]
+    lines = [head("VODMEJKA", day), ".SH NAME", "vodmejka \\- tools for rules of the French income tax in M",
+             ".SH SYNOPSIS", ".B vodmejka", ".I COMMAND WORD ..", ".SH DESCRIPTION", "Each command tells its words by", ".BR \\-\\-help ,", "and has a page of its own.", ".SH COMMANDS"]
     for name in names:
         lines += [".TP", f".BR {escaped('vodmejka-' + name)} (1)", line_of(help_of(name).splitlines()[0])]
     lines += [*environment(), ".SH SEE ALSO", ".BR m_tax (1)", ""]
@@ -60,11 +60,12 @@ def overview(names: list[str], day: str) -> str:
 def command_page(name: str, text: str, day: str) -> str:
     """The page of a command: its first line, its words, and the rest as paragraphs and terms."""
     first, _, rest = text.partition("\n")
-    blocks = [entries_of(part) if part.startswith("    ") else part for part in re.split(r"\n\s*\n", rest.strip("\n")) if part.strip()]
-    blocks = [piece for block in blocks for piece in (split_at_terms(block) if isinstance(block, str) else [block])]
+    blocks = [piece for part in re.split(r"\n\s*\n", rest.strip("\n")) for piece in split_at_terms(part)]
     usage = next((block for block in blocks if isinstance(block, list)), [])
-    lines = [head(f"VODMEJKA-{name.upper()}", day), ".SH NAME", f"vodmejka\\-{escaped(name)} \\- {escaped(first[:1].lower() + first[1:].rstrip('.'))}", ".SH SYNOPSIS"]
-    lines += [piece for entry in usage for piece in (line_of(re.sub(rf"(^|\| ){name}\b", rf"\1vodmejka {name}", entry.term)), ".br")]
+    purpose = escaped(first[:1].lower() + first[1:].rstrip("."))
+    lines = [head(f"VODMEJKA-{name.upper()}", day), ".SH NAME", f"vodmejka\\-{escaped(name)} \\- {purpose}", ".SH SYNOPSIS"]
+    for entry in usage:
+        lines += [line_of(re.sub(rf"(^|\| ){name}\b", rf"\1vodmejka {name}", entry.term)), ".br"]
     lines += [".SH DESCRIPTION"]
     for block in blocks:
         if isinstance(block, str):
@@ -75,10 +76,11 @@ def command_page(name: str, text: str, day: str) -> str:
 
 
 def split_at_terms(block: str) -> Iterator[str | list[Entry]]:
-    """A paragraph, and what stands indented below its lines without a blank line between."""
+    """A paragraph, where there is one, and what stands indented below its lines without a blank line between."""
     kept = block.splitlines()
     at = next((number for number, line in enumerate(kept) if line.startswith("    ")), len(kept))
-    yield "\n".join(kept[:at])
+    if at > 0:
+        yield "\n".join(kept[:at])
     if at < len(kept):
         yield entries_of("\n".join(kept[at:]))
 

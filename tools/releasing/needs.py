@@ -1,6 +1,7 @@
 """What a program needs of the machine that runs it: the libraries that it names, and the version of the C library."""
 from __future__ import annotations
 
+import os
 import re
 import subprocess
 import tempfile
@@ -13,7 +14,8 @@ def oldest_glibc(name: str, program: bytes) -> tuple[int, int]:
     with tempfile.NamedTemporaryFile() as file:
         file.write(program)
         file.flush()
-        ran = subprocess.run(["readelf", "-W", "-d", "-V", file.name], capture_output=True, text=True, check=False, env={"LC_ALL": "C", "PATH": "/usr/bin:/bin"})
+        environment = {"LC_ALL": "C", "PATH": os.environ.get("PATH", os.defpath)}
+        ran = subprocess.run(["readelf", "-W", "-d", "-V", file.name], capture_output=True, text=True, check=False, env=environment)
     if ran.returncode:
         raise Refused(f"readelf: {ran.stderr.strip()}")
     libraries = re.findall(r"\(NEEDED\).*\[(.*)\]", ran.stdout)
