@@ -61,7 +61,7 @@ def command_page(name: str, text: str, day: str) -> str:
     """The page of a command: its first line, its words, and the rest as paragraphs and terms."""
     first, _, rest = text.partition("\n")
     blocks = [piece for part in re.split(r"\n\s*\n", rest.strip("\n")) for piece in split_at_terms(part)]
-    usage = next((block for block in blocks if isinstance(block, list)), [])
+    usage: list[Entry] = next((block for block in blocks if isinstance(block, list)), [])
     purpose = escaped(first[:1].lower() + first[1:].rstrip("."))
     lines = [head(f"VODMEJKA-{name.upper()}", day), ".SH NAME", f"vodmejka\\-{escaped(name)} \\- {purpose}", ".SH SYNOPSIS"]
     for entry in usage:

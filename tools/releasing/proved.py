@@ -14,7 +14,7 @@ PROGRAMS = ("m_tax", "m_survey")
 SOURCES = ("crates.txt", "crates/*/src", "crates/*/specs", "crates/*/proofs")
 sys.path.insert(0, os.path.join(TOP, "python"))
 
-from vodmejka.version import VERSION  # noqa: E402
+from vodmejka.version import VERSION as VERSION  # noqa: E402
 
 
 class Refused(Exception):
