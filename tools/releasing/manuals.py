@@ -27,15 +27,16 @@ class Entry:
 
 
 def pages(epoch: int, programs: list[str]) -> dict[str, str]:
-    """All man pages, by their paths below `man`. Of a program only where it is released."""
+    """All man pages, by their paths below `man`. Those of a program only where it is released."""
     from vodmejka import commands
     day = time.strftime("%Y-%m-%d", time.gmtime(epoch))
     made = {f"man1/vodmejka-{name}.1": command_page(name, help_of(name), day) for name in commands.names()}
     made["man1/vodmejka.1"] = overview(commands.names(), day)
     for name in programs:
         for source, path in ((f"{name}.1", f"man1/{name}.1"), (f"{name}.fr.1", f"fr/man1/{name}.1")):
-            with open(os.path.join(SOURCES, source), encoding="utf-8") as file:
-                made[path] = file.read().replace("@DAY@", day).replace("@VERSION@", VERSION)
+            if os.path.exists(written := os.path.join(SOURCES, source)):
+                with open(written, encoding="utf-8") as file:
+                    made[path] = file.read().replace("@DAY@", day).replace("@VERSION@", VERSION)
     return made
 
 
