@@ -15,8 +15,8 @@ import zipfile
 HERE = os.path.dirname(os.path.abspath(__file__))
 NAME = "vodmejka"
 CLONE = f"{NAME}/clone.path"
-PURE = "Wheel-Version: 1.0\nGenerator: vodmejka\nRoot-Is-Purelib: true\nTag: py3-none-any\n"
-SCRIPTS = b"[console_scripts]\nvodmejka = vodmejka.__main__:main\n"
+ANY = "py3-none-any"
+SCRIPTS = "[console_scripts]\nvodmejka = vodmejka.__main__:main\n"
 WEB = f"{NAME}/web"
 FIRST = (1980, 1, 1, 0, 0, 0)
 
@@ -27,6 +27,12 @@ def build_wheel(wheel_directory, config_settings=None, metadata_directory=None):
     if (top := clone()) is not None:
         files[CLONE] = os.fsencode(top) + b"\n"
     return written(wheel_directory, files)
+
+
+def build_whole(wheel_directory, programs, tag):
+    """Writes a wheel with programs inside, for the machines that the tag names, and answers its name. `programs` are the contents by their names."""
+    files = {entry: content_of(entry) for entry in package_files()}
+    return written(wheel_directory, files, {f"{NAME}/bin/{name}": content for name, content in programs.items()}, tag)
 
 
 def build_editable(wheel_directory, config_settings=None, metadata_directory=None):
@@ -48,17 +54,21 @@ def build_sdist(sdist_directory, config_settings=None):
     return f"{top}.tar.gz"
 
 
-def written(folder, files):
-    """Writes a wheel with these files, and answers its name."""
+def written(folder, files, programs=(), tag=ANY):
+    """Writes a wheel with these files and programs, and answers its name. Each program is a command of its own name too."""
     info = f"{NAME}-{version()}.dist-info"
-    files = {**files, f"{info}/METADATA": metadata(), f"{info}/WHEEL": PURE.encode(), f"{info}/entry_points.txt": SCRIPTS}
+    programs = dict(programs)
+    scripts = SCRIPTS + "".join(f"{name} = vodmejka.program:inside\n" for name in map(os.path.basename, programs))
+    about = f"Wheel-Version: 1.0\nGenerator: vodmejka\nRoot-Is-Purelib: {'false' if programs else 'true'}\nTag: {tag}\n"
+    files = {**files, **programs, f"{info}/METADATA": metadata(), f"{info}/WHEEL": about.encode(), f"{info}/entry_points.txt": scripts.encode()}
     lines = [f"{path},sha256={digest(content)},{len(content)}\n" for path, content in files.items()]
     files[f"{info}/RECORD"] = "".join([*lines, f"{info}/RECORD,,\n"]).encode()
-    wheel = f"{NAME}-{version()}-py3-none-any.whl"
+    wheel = f"{NAME}-{version()}-{tag}.whl"
     with zipfile.ZipFile(os.path.join(folder, wheel), "w", zipfile.ZIP_DEFLATED) as out:
         for path, content in files.items():
             entry = zipfile.ZipInfo(path, FIRST)
-            entry.external_attr = 0o644 << 16
+            entry.external_attr = (0o100755 if path in programs else 0o100644) << 16
+            entry.compress_type = zipfile.ZIP_DEFLATED
             out.writestr(entry, content)
     return wheel
 

@@ -73,6 +73,28 @@ class Wheels(unittest.TestCase):
         self.assertFalse(os.path.exists(folder + "/vodmejka/clone.path"))
         self.assertIn("there is no program m_tax", self.found(folder).stderr)
 
+    def test_a_wheel_with_a_program_inside(self):
+        """Its own program comes before one of the path, and is a command; a command without its program says so."""
+        with open(self.program(self.room + "/made"), "w", encoding="ascii") as file:
+            file.write('#!/bin/sh\necho "$# $2"\nexit 6\n')
+        with open(self.room + "/made", "rb") as file:
+            wheel = backend(self.package).build_whole(self.room, {"m_tax": file.read()}, "py3-none-manylinux_2_34_x86_64")
+        self.assertEqual(wheel, "vodmejka-1.0.0-py3-none-manylinux_2_34_x86_64.whl")
+        with zipfile.ZipFile(os.path.join(self.room, wheel)) as archive:
+            modes = {entry.filename: entry.external_attr >> 16 for entry in archive.infolist()}
+            scripts = archive.read("vodmejka-1.0.0.dist-info/entry_points.txt").decode().splitlines()
+        self.assertEqual([name for name, mode in modes.items() if mode & 0o111], ["vodmejka/bin/m_tax"])
+        self.assertEqual(scripts, ["[console_scripts]", "vodmejka = vodmejka.__main__:main", "m_tax = vodmejka.program:inside"])
+        folder = self.unpacked(wheel)
+        os.chmod(folder + "/vodmejka/bin/m_tax", 0o755)
+        self.program(self.room + "/none/m_tax")
+        self.assertEqual(self.found(folder).stdout, folder + "/vodmejka/bin/m_tax\n")
+        start = "import sys; sys.path.insert(0, sys.argv.pop(1)); from vodmejka.program import inside; sys.argv[0] = sys.argv.pop(1); inside()"
+        ran = [subprocess.run([sys.executable, "-B", "-c", start, folder, name, "run", "a b"], capture_output=True, text=True, check=False)
+               for name in ("/some/bin/m_tax", "/some/bin/m_other")]
+        self.assertEqual((ran[0].stdout, ran[0].returncode), ("2 a b\n", 6))
+        self.assertEqual((ran[1].stderr, ran[1].returncode), (f"{folder}/vodmejka/bin/m_other: No such file or directory\n", 1))
+
     def test_what_a_wheel_says(self):
         folder = self.unpacked(backend(self.package).build_wheel(self.room))
         with open(f"{folder}/vodmejka-{vodmejka.__version__}.dist-info/METADATA", encoding="utf-8") as file:

@@ -7,6 +7,7 @@ import io
 import os
 import shutil
 import subprocess
+import sys
 import tempfile
 import weakref
 from decimal import Decimal
@@ -19,18 +20,29 @@ Amount = Union[Decimal, int, str, None]
 ENCODING = "latin-1"
 CLONE = "clone.path"
 TOP = os.path.dirname(os.path.dirname(os.path.dirname(os.path.realpath(__file__))))
+INSIDE = os.path.join(os.path.dirname(os.path.realpath(__file__)), "bin")
 
 
 def program_path(program: str | None = None) -> str:
-    """The program: the one that is named, or the one of the variable M_TAX, which must be there then; else what `./build` made in the repository round this
-    package, or from which it was installed, `m_tax` of the path, or the script of the repository."""
+    """The program: the one that is named, or the one of the variable M_TAX, which must be there then; else the one inside this package, what `./build` made in
+    the repository round it, or from which it was installed, `m_tax` of the path, or the script of the repository."""
     named = program or os.environ.get("M_TAX")
     tops = [TOP, *clone()]
-    others = [*(os.path.join(top, "out", "m_tax") for top in tops), shutil.which("m_tax"), *(os.path.join(top, "m_tax") for top in tops)]
+    built = [os.path.join(INSIDE, "m_tax"), *(os.path.join(top, "out", "m_tax") for top in tops)]
+    others = [*built, shutil.which("m_tax"), *(os.path.join(top, "m_tax") for top in tops)]
     for candidate in others if not named else (shutil.which(named) or named,):
         if candidate and os.access(candidate, os.X_OK) and os.path.isfile(candidate):
             return os.path.abspath(candidate)
     raise Broken(f"there is no program {named}" if named else "there is no program m_tax: name it by M_TAX, or run ./build in the repository")
+
+
+def inside() -> None:
+    """Becomes the program of this package that the command is named after, which wheels with programs inside have."""
+    program = os.path.join(INSIDE, os.path.basename(sys.argv[0]))
+    try:
+        os.execv(program, [program, *sys.argv[1:]])
+    except OSError as fault:
+        sys.exit(f"{program}: {fault.strerror}")
 
 
 def clone() -> list[str]:

@@ -1,0 +1,1 @@
+"""What `tools/release` makes: packages, archives, pages and completions of the program that was proved and of the Python package."""
