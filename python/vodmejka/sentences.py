@@ -1,5 +1,6 @@
 """A sentence for each error of docs/REFUSALS.md, which says what to mend."""
 from collections.abc import Iterator, Mapping, Sequence
+from typing import Any
 
 from .texts import TEXTS, said
 
@@ -55,10 +56,10 @@ FORMS = [
 ]
 
 
-class Others(Sequence):
+class Others(Sequence[Any]):
     """The forms of the lines that name no place, each with its sentence in the language that was chosen."""
 
-    def __getitem__(self, number):
+    def __getitem__(self, number: Any) -> Any:
         form, key = FORMS[number]
         return form, said("other." + key)
 
