@@ -2,7 +2,8 @@
 """Every definition that the theorem of the program stands on, with its place and its lines: what an auditor has to read.
 
     tests/definitions.py            prints how many there are, by crate and by command
-    tests/definitions.py --page     prints docs/DEFINITIONS.md
+    tests/definitions.py --head     prints the lines that docs/PROVED.md has of it
+    tests/definitions.py --page     prints each definition with its place and its lines, as a page
 
 It begins at the clauses of `m_tax` in m_commands, and goes along the names that each definition of `crates/*/specs` and each type
 of `crates/*/src` cites. What the kit states (lists, numbers, options) is not followed. Lines of comments and empty lines aren't counted.
@@ -201,6 +202,16 @@ def by_command():
     return shared, rows
 
 
+def print_head(count, lines, shared, commands):
+    """Prints how many definitions there are, and how many lines there are to read for one command."""
+    print(f"The clauses of `m_tax` lead to {count} definitions and types with {lines} lines of code, down to the operators; what the kit states of lists, numbers")
+    print("and options isn't counted. The answers of one command need fewer. All commands share the lines of words, files, limits, statuses and of what is written")
+    print(f"when something fails, which are {shared}; with these are to be read\n")
+    print("| " + " | ".join(f"`{command}`" for command, _ in commands) + " |")
+    print("|" + "---:|" * len(commands))
+    print("| " + " | ".join(str(count) for _, count in commands) + " |")
+
+
 def main():
     reading = Reading()
     top, todo = clauses()
@@ -211,24 +222,18 @@ def main():
     crates = {}
     for d in found:
         crates.setdefault(d.crate, []).append(d)
-    if sys.argv[1:] != ["--page"]:
+    if sys.argv[1:] not in (["--head"], ["--page"]):
         for crate in sorted(crates):
             print(f"{crate}: {len(crates[crate])} definitions, {sum(d.count for d in crates[crate])} lines")
         for command, count in commands:
             print(f"{command} alone: {count} lines")
         print(f"all: {len(found)} definitions, {lines} lines")
         return
-    print("# What the theorem stands on\n")
-    print("Every definition and type that the clauses of `m_tax` lead to, down to the operators: what is to be read by who wants to know "
-          "what was proved. `tests/definitions.py --page` makes this")
-    print("page. Lines are those of code; what the kit states of lists, numbers and options isn't followed.\n")
-    print(f"In all {len(found)} definitions, {lines} lines.\n")
-    print("Who wants to know what one command answers reads less: the lines that all commands share, of words, files, limits, statuses "
-          "and what is written when")
-    print(f"something fails, are {shared}, and with them are to be read\n")
-    print("| Command | lines |\n|---|---:|")
-    for command, count in commands:
-        print(f"| `{command}` | {count} |")
+    if sys.argv[1:] == ["--page"]:
+        print("# Everything you must read to know what was proved\n")
+    print_head(len(found), lines, shared, commands)
+    if sys.argv[1:] == ["--head"]:
+        return
     print()
     print("| Crate | definitions | lines |\n|---|---:|---:|")
     for crate in sorted(crates):

@@ -1,7 +1,7 @@
 #!/bin/sh
 # Compares what the documents say with what the repository has, where a text can be compared: the crates with the tables of
 # ARCHITECTURE and PROVED, the calls that PROVED names with their crates, the limits with FORMATS, the usage line's copies, the reserved
-# words with LANGUAGE, DRIVER and the files for editors, MUTANTS and DEFINITIONS with the files they are made of, links with files, words with ARCHITECTURE's
+# words with LANGUAGE, DRIVER and the files for editors, the definitions that PROVED counts, links with files, words with ARCHITECTURE's
 # table of English, and the size of the front page. Prints a line for each difference, and a count. The status is 0 where there is none.
 cd "$(dirname "$0")/.." || exit 1
 room=$(mktemp -d) || exit 1
@@ -85,17 +85,19 @@ for pair in m.tmLanguage.json:listed mpp.tmLanguage.json:driver_listed; do
     same "the words of ${pair%:*} and their list" "$room/coloured" "$room/${pair#*:}"
 done
 
-# MUTANTS and DEFINITIONS are made by scripts.
+# What PROVED says of how much there is to read, and what the script counts; the list of mutants can be made.
 if command -v python3 >/dev/null 2>&1; then
-    python3 -B tests/tries.py --page >"$room/mutants"
-    same "MUTANTS and what tests/tries.py --page prints" docs/MUTANTS.md "$room/mutants"
-    python3 -B tests/definitions.py --page >"$room/definitions"
-    same "DEFINITIONS and what tests/definitions.py --page prints" docs/DEFINITIONS.md "$room/definitions"
+    awk '/^## /{inside = /^## Everything you must read/; next} inside && /^`tests/{exit} inside' docs/PROVED.md | sed '1d;$d' >"$room/told"
+    python3 -B tests/definitions.py --head >"$room/counted"
+    same "the lines to read of PROVED and what tests/definitions.py --head prints" "$room/counted" "$room/told"
+    if python3 -B tests/tries.py --page >"$room/mutants" && [ "$(wc -l <"$room/mutants")" -gt 1000 ]; then echo made; else echo failed; fi >"$room/page"
+    echo made >"$room/made"
+    same "tests/tries.py --page and a list of mutants" "$room/made" "$room/page"
 fi
 
-# English: no page and no comment of a crate has a word that ARCHITECTURE's table replaces, outside of code; MUTANTS, which is made of the files, has them.
+# English: no page and no comment of a crate has a word that ARCHITECTURE's table replaces, outside of code.
 replaced="front|fronts|behind|want of|wrong body|wrong bodies|second reading|refusal|refusals|weighs"
-for page in $(git ls-files '*.md' | grep -v '^crates/\|^bench/\|^unlanded/\|^docs/MUTANTS.md'); do
+for page in $(git ls-files '*.md' | grep -v '^crates/\|^bench/\|^unlanded/'); do
     awk '/^```/{code = !code; next} !code' "$page" | sed 's/`[^`]*`//g; s/REFUSALS.md//g; s/front page//g; s/leave it behind//g' |
         grep -niwE "$replaced" | sed "s|^|$page: |"
 done >"$room/words"
@@ -116,7 +118,7 @@ same "the links of the pages and the files" "$room/links" "$room/there"
 
 # The French pages have the commands and answers of the English ones.
 blocks() { awk '/^```/{code = !code; print "--"; next} code' "$1"; }
-for pair in README.md:LISEZMOI.md docs/FIRST_HOUR.md:docs/fr/PREMIERE_HEURE.md; do
+for pair in README.md:LISEZMOI.md docs/FIRST_HOUR.md:docs/fr/PREMIERE_HEURE.md docs/PAGE.md:docs/fr/PAGE.md; do
     blocks "${pair%:*}" >"$room/blocks"
     blocks "${pair#*:}" >"$room/french"
     same "the commands and answers of ${pair%:*} and of ${pair#*:}" "$room/blocks" "$room/french"

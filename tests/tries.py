@@ -14,7 +14,7 @@ The verdicts are `refused`: the search doesn't prove a goal of the function; `hi
 a name that it cites is gone, and the search alone doesn't decide, which says nothing of the clause before somebody has looked at the
 goal; `PROVED`, which is a clause to strengthen; `allowed`, for those in brackets that are proved; and `not judged`, with the reason.
 Where an answer doesn't fit, the body is tried once more without the function's answers. --stands says which entries no longer stand in their
-files, and how many do, and checks nothing. --page prints docs/MUTANTS.md, which lists all entries and the edits of crates/*/must-fail. The
+files, and how many do, and checks nothing. --page lists all entries and the edits of crates/*/must-fail. The
 status is 1 where one is proved or doesn't stand.
 """
 import re
@@ -196,8 +196,7 @@ def tried(crate_folder, crate):
 
 HEAD = """# All mutants
 
-Made by `tests/tries.py --page > docs/MUTANTS.md` from `tests/tries` and `crates/*/must-fail`; `tests/documents.sh` compares it. What they say of the
-contracts stands in [STRENGTH.md](STRENGTH.md). "Edits" are the mutants that the gate tries each time; the rows are tried by `tests/tries.py`. In brackets
+Printed by `tests/tries.py --page` from `tests/tries` and `crates/*/must-fail`. What they say of the contracts stands in docs/STRENGTH.md. "Edits" are the mutants that the gate tries each time; the rows are tried by `tests/tries.py`. In brackets
 stands what is right or free, and may be proved.
 """
 

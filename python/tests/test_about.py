@@ -40,7 +40,8 @@ class Said(Room):
 
     def test_a_variable(self):
         made, place = self.looped.variable("BC"), self.room.name + "/a.m"
-        self.assertEqual((made.kind, made.code, made.description, made.attributes, made.place), ("calculee", None, "half", {"restituee": None}, place + " line 7"))
+        self.assertEqual((made.kind, made.code, made.description), ("calculee", None, "half"))
+        self.assertEqual((made.attributes, made.place), ({"restituee": None}, place + " line 7"))
         (formula,) = made.formulas
         self.assertEqual((formula.sets, formula.text, formula.letters), ("BC", "Bi = Ai * TAUX + 0", {"i": "C"}))
         self.assertEqual(formula.place, f"{place} line 9, rule 20")

@@ -6,7 +6,7 @@ import types
 import unittest
 
 from room import Room
-from vodmejka import OVER, Refused, Stopped
+from vodmejka import OVER, Refused, Rules, Stopped
 from vodmejka.frames import exact, fault_of, narrow
 
 
@@ -109,6 +109,7 @@ class Frames(Room):
             ("1BB", [0, 2], 'household "martin", code 1BB: 2 is neither 0 nor 1'), ("1AJ", ["1", "1,5"], 'household "martin", code 1AJ: 1,5 is no amount'),
             ("1AJ", [1.0, float("inf")], 'household "martin", code 1AJ: inf is no amount'),
             ("1AJ", [1, 10**14], 'household "martin", code 1AJ: 100000000000000 is beyond the greatest amount'),
+            ("1AJ", ["1", "\u20ac"], 'household "martin", code 1AJ: \u20ac is no amount'),
             ("1AJ", [1, object], "household \"martin\", code 1AJ: <class 'object'> is no amount"),
         ):
             with self.assertRaises(Refused) as caught:
@@ -116,6 +117,31 @@ class Frames(Room):
             self.assertEqual(caught.exception.line, line)
         with self.assertRaisesRegex(Refused, "household 1, code 1BB: 0.5 is neither"):
             self.rules.batch(self.frame({"1BB": [0, 0.5]}))
+
+    def test_labels_that_stand_twice(self):
+        frame = self.frame({"1AJ": [1500, 2000], "k": ["a", "b"]}, index=["x", "x"])
+        found = self.rules.batch(frame, keep=["k"])
+        self.assertEqual((list(found["k"]), list(found["IRN"]), list(found.index)), (["a", "b"], [500.0, 1000.0], ["x", "x"]))
+
+    def test_columns_of_other_types(self):
+        """Nullable whole numbers, truths, categories and texts; rows in another order keep their labels."""
+        pandas = self.pandas
+        frame = self.frame({"1AJ": pandas.array([2000, None], dtype="Int64"), "1BB": [True, False]})
+        self.assertEqual(list(self.rules.batch(frame)["IRN"]), [1001.0, 0.0])
+        frame = self.frame({"1AJ": ["1500", ""], "1BB": pandas.Categorical([0, 1])}).iloc[::-1]
+        self.assertEqual(self.rules.batch(frame)["IRN"].to_dict(), {1: 1.0, 0: 500.0})
+
+    def test_frames_by_a_code_file(self):
+        """It computes one household after the other, and names them as ever."""
+        self.rules.write_code(self.room.name + "/a.code")
+        rules = Rules.from_code(self.room.name + "/a.code")
+        self.assertEqual(list(rules.batch(self.frame({"1AJ": [1500, 2000]}))["IRN"]), [500.0, 1000.0])
+        with self.assertRaisesRegex(Refused, 'household "martin", code 1BB: 2 is neither 0 nor 1'):
+            rules.batch(self.frame({"1AJ": [1, 1], "1BB": [0, 2]}, index=["dupont", "martin"]))
+        told = rules.batch([{"1AJ": 1500}, {"1BB": 2}])
+        self.assertEqual(next(told)["IRN"], 500)
+        with self.assertRaisesRegex(Refused, "refused household line 3: not of its type"):
+            next(told)
 
     def test_frames_without_values(self):
         """The columns are those of what is asked for, whatever the households are told."""

@@ -11,7 +11,7 @@ import zipfile
 from unittest import mock
 
 import vodmejka
-from vodmejka import program
+from vodmejka import program, runs
 
 HERE = os.path.dirname(os.path.dirname(os.path.abspath(__file__)))
 
@@ -110,6 +110,20 @@ class Found(unittest.TestCase):
                     file.write("#!/bin/sh\n")
                 os.chmod(path, 0o755)
                 self.assertEqual(program.program_path(), path)
+
+    def test_commands_of_an_installed_package(self):
+        """They have the program that the package finds; in a repository they have its script."""
+        with tempfile.TemporaryDirectory() as room, mock.patch.dict(os.environ, {"PATH": room, "M_TAX": ""}), \
+                mock.patch.object(program, "TOP", room + "/nowhere"), mock.patch.object(runs, "TOP", room + "/nowhere"):
+            path = room + "/m_tax"
+            with open(path, "w", encoding="ascii") as file:
+                file.write("#!/bin/sh\n")
+            self.assertEqual(runs.program_path(), room + "/nowhere/m_tax")
+            os.chmod(path, 0o755)
+            self.assertEqual(runs.program_path(), path)
+            os.mkdir(room + "/nowhere")
+            shutil.copy(path, room + "/nowhere/m_tax")
+            self.assertEqual(runs.program_path(), room + "/nowhere/m_tax")
 
 
 if __name__ == "__main__":

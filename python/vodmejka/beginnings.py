@@ -1,4 +1,4 @@
-"""The files of a new rule base, in English and French: rules, a driver, a household, cases that reach all of them, and the check of a continuous integration."""
+"""The files of a new rule base, in English and French: rules, a driver, a household, cases that reach all of them, and a check."""
 from __future__ import annotations
 
 LIST = """iliad

@@ -244,7 +244,7 @@ class Rules:
         self.cells, self.points, self.application = Cells(base), points, base.application
         self.cell_points: list[int | None] = [None] * len(self.cells.names)
         self.terms = Terms(self.cells, points, self.cell_points)
-        self.readers = [(file, placed.read(file.bytes)) for file in base.files]
+        self.readers = [(file, placed.read(file)) for file in base.files]
         self.kinds = {name: kind for _, reader in self.readers for name, kind in reader.kinds_of_errors.items()}
         self.texts = {item.name: item.texts for _, reader in self.readers for item in reader.declarations if item.kind in self.kinds.values()}
         self.formulas: dict[int, tuple[Read, int | None, set[int]]] = {}

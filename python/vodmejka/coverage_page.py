@@ -29,7 +29,8 @@ def shown(name: str) -> str:
 def summary(followed: Coverage, excepted: set[str]) -> str:
     found = [(kind, reached, of) for kind, reached, of in followed.summary(excepted) if of]
     found.append(("all", sum(one for _, one, _ in found), sum(one for _, _, one in found)))
-    rows = [[escaped(said(f"coverage.kind.{kind}")), str(reached), str(of), said("coverage.rate", percent=percent_of(reached, of))] for kind, reached, of in found]
+    rate = lambda reached, of: said("coverage.rate", percent=percent_of(reached, of))
+    rows = [[escaped(said(f"coverage.kind.{kind}")), str(reached), str(of), rate(reached, of)] for kind, reached, of in found]
     return plain_pages.table([said("coverage.kind"), said("coverage.reached"), said("coverage.count"), said("coverage.percent")], rows)
 
 

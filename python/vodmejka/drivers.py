@@ -3,15 +3,15 @@
 The program names the line after the longest prefix that is a driver, which may be a line that begins a block. This reading names the line and the token
 that no rule can take, and goes on with the next line.
 """
-import os
 import re
 import sys
 from typing import NamedTuple
 
 from . import grammar, source
 from .limits import AMOUNT, BRACKET_DEPTH, DRIVER_LEVEL
+from .reserved import reserved
 
-RESERVED = set(source.fetch(os.path.join(os.path.dirname(os.path.realpath(__file__)), "words", "mpp.words")).decode().split())
+RESERVED = reserved("mpp")
 TOKEN = re.compile(rb"(?P<word>[0-9]*[A-Za-z_][A-Za-z0-9_]*)|(?P<number>[0-9]+\.[0-9]+|[0-9]+)|(?P<sign>==|!=|<=|>=|<-|[-()\[\],:=<>+*/])")
 COMPARISONS = ("==", "!=", "<", "<=", ">", ">=")
 OPERATORS = "an operator (+ - * / == < and or ..)"

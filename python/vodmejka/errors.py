@@ -2,6 +2,7 @@
 from __future__ import annotations
 
 import re
+from collections.abc import Mapping
 
 from . import sentences
 
@@ -65,7 +66,7 @@ def hint_of(line: str) -> str | None:
     if match := PLACED.fullmatch(line):
         return next((text for what, text in sentences.RULES.items() if match[4] == what or match[4].startswith(what + " ")), None)
     if match := LINED.fullmatch(line):
-        table = {"driver": sentences.DRIVER, "household": sentences.HOUSEHOLD}.get(match[1], {})
+        table: Mapping[str, str] = {"driver": sentences.DRIVER, "household": sentences.HOUSEHOLD}.get(match[1], {})
         if match[1] == "code":
             return sentences.code()
         found = next((text for what, text in table.items() if (match[3] or "").startswith(what)), None)

@@ -98,12 +98,15 @@ class Names:
                     fault = f"bad target {word}"
                 elif twice := [cell for cell in cells if (word, cell) in self.done]:
                     fault = f"defined twice {word}" + ("" if twice[0] is None else f"[{twice[0]}]")
-                elif is_repeated(formula.loops, formula.target):
-                    fault = f"defined twice {word}" + ("" if cells[0] is None else f"[{cells[0]}]")
                 self.done.update((word, cell) for cell in cells)
             if fault is not None:
                 self.files.add(name, content, formula.byte, fault)
                 return
+        found = instances(formula.loops, [formula.target])
+        if found and is_repeated(formula.loops, formula.target):
+            word = replaced(formula.target, found[0])
+            cell = "[0]" if formula.slot == "X" else "" if formula.slot is None else f"[{int(formula.slot)}]"
+            self.files.add(name, content, formula.byte, f"defined twice {word}{cell}")
 
     def look_at(self, name, content, term, loops):
         for word, index, byte, round_it in reads_of(term, loops):

@@ -58,6 +58,7 @@ class Households:
                 continue
             try:
                 amount = exact(code, value, shown)
+                str(amount).encode("ascii")
             except (TypeError, ValueError, OverflowError):
                 raise Refused(f"{self.label(row)}, code {code}: {value} is no amount") from None
             yield amount

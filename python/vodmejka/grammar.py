@@ -1,11 +1,11 @@
 """The grammar of headers and terms of rule files, as docs/LANGUAGE.md has it, and what a reading keeps: the token at which it can't go on, and what could
 stand there."""
-import os
 import re
 
 from . import source
+from .reserved import reserved
 
-RESERVED = set(source.fetch(os.path.join(os.path.dirname(os.path.realpath(__file__)), "words", "m.words")).decode().split())
+RESERVED = reserved("m")
 OF_ONE = ("present", "abs", "positif", "positif_ou_nul", "null", "arr", "inf")
 OF_TWO = ("max", "min")
 COMPARISONS = ("=", "!=", "<", "<=", ">", ">=")

@@ -59,8 +59,8 @@ def group_line(group: Group) -> dict[str, Any]:
     relative = None if not group.before else float(change / group.before)
     return {
         "group": group.name, "households": group.households, "weight": exact(Fraction(group.weight)),
-        "before": exact(group.before), "after": exact(group.after), "change": exact(change), "mean change": mean, "relative change": relative, "winners": exact(Fraction(group.winners)),
-        "losers": exact(Fraction(group.losers)), "unchanged": exact(Fraction(group.unchanged)), "gained": exact(group.gained), "lost": exact(group.lost),
+        "before": exact(group.before), "after": exact(group.after), "change": exact(change), "mean change": mean,
+        "relative change": relative, "winners": exact(Fraction(group.winners)), "losers": exact(Fraction(group.losers)), "unchanged": exact(Fraction(group.unchanged)), "gained": exact(group.gained), "lost": exact(group.lost),
         "stopped": group.stopped, "undefined": group.undefined, "over": group.over,
     }
 

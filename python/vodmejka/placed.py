@@ -1,6 +1,7 @@
 """A reading of rule files that keeps where the pieces of terms stand: the parts of conditionals, the arguments of max and min, whole formulas and checks."""
 from __future__ import annotations
 
+import sys
 from typing import Any, NamedTuple
 
 from . import items, source
@@ -72,7 +73,7 @@ class PlacedReader(items.RuleReader):
         self.placed_checks.append(Placed(self.checks[-1], self.rule, self.count, self._span(begin)))
 
 
-def read(content: bytes) -> PlacedReader:
+def read(file: source.RuleFile) -> PlacedReader:
     """The items of a file that the program accepts."""
-    tokens, _ = items.tokens_of(content)
-    return PlacedReader(tokens).read_all()
+    sys.setrecursionlimit(max(sys.getrecursionlimit(), 20_000))
+    return PlacedReader(file.tokens).read_all()

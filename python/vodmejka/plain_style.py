@@ -11,6 +11,7 @@ a{color:#000091}
 a:focus-visible,input:focus-visible,summary:focus-visible{outline:3px solid #0a76f6;outline-offset:2px}
 code,pre,.name{font-family:"Liberation Mono",monospace;font-size:.9em}
 pre{background:#f6f6f6;padding:.75rem;overflow-x:auto;line-height:1.45;margin:.5rem 0}
+pre .name{font-size:1em}
 pre.formula{white-space:pre-wrap;overflow-wrap:anywhere}
 .wide{overflow-x:auto}
 table{border-collapse:collapse;margin:.5rem 0}

@@ -54,7 +54,7 @@ class Reference:
     def __init__(self, list_name: str, driver: bytes | None, names: dict[str, str]):
         self.base, self.names = source.RuleBase(list_name), names
         self.variables = {variable.name: variable for variable in self.base.variables}
-        self.sizes = {name: variable.size for name, variable in self.variables.items() if variable.size is not None}
+        self.descriptions = {name: described(variable) for name, variable in self.variables.items()}
         self.files = {file.name: file for file in self.base.files}
         self.formulas: dict[str, list[Formula]] = {}
         self.checks: list[Check] = []
@@ -68,7 +68,7 @@ class Reference:
         self.driven = self.lines_of_driver(driver) if driver is not None else {}
 
     def read(self, file: source.RuleFile) -> None:
-        reader, passage = placed.read(file.bytes), passages.Passages(file)
+        reader, passage = placed.read(file), passages.Passages(file)
         for item in reader.declarations:
             place = file.name, file.lines.number(item.byte)
             if item.texts and item.kind in ("anomalie", "discordance", "informative"):
@@ -83,7 +83,8 @@ class Reference:
                 item = found.item
                 pieces = self.pieces(file, passage, item.condition, item.byte, {}, found.span[1])
                 comments = list(dict.fromkeys([*passage.comments_at(passage_head(passage, item.byte)), *passage.comments_at(item.byte)]))
-                self.checks.append(Check(found.rule, item.error, pieces, file.name, file.lines.number(item.byte), comments, self.reads(item.condition, {}, None)))
+                reads = self.reads(item.condition, {})
+                self.checks.append(Check(found.rule, item.error, pieces, file.name, file.lines.number(item.byte), comments, reads))
 
     def add(self, file: source.RuleFile, passage: passages.Passages, found: placed.Placed) -> None:
         """Adds the instances of a formula. Of one of a whole table the first cell stands for all."""
@@ -93,10 +94,10 @@ class Reference:
             name = loops.replaced(item.target, letters)
             cell = name if item.slot is None else f"{name}[{item.slot}]"
             pieces = self.pieces(file, passage, item.term, item.byte, letters, found.span[1])
-            shown = Formula(cell, pieces, found.rule, file.name, line, comments, self.reads(item.term, letters, item.slot))
+            shown = Formula(cell, pieces, found.rule, file.name, line, comments, self.reads(item.term, letters))
             self.formulas.setdefault(name, []).append(shown)
 
-    def reads(self, term: Any, letters: dict[str, str], slot: str | None) -> list[str]:
+    def reads(self, term: Any, letters: dict[str, str]) -> list[str]:
         """The variables that a term reads, each once, in their order."""
         own = [[(letter, [(value, value)]) for letter, value in letters.items()]] if letters else []
         found: dict[str, bool] = {}
@@ -149,12 +150,16 @@ class Reference:
         return found
 
     def description(self, name: str) -> str:
-        variable = self.variables[name]
-        return "" if variable.kind == "const" else " ".join(places.decode(variable.told.encode("latin-1")).split())
+        return self.descriptions[name]
 
     def rests_on(self, name: str) -> list[str]:
         """The variables that the formulas of a variable read, each once."""
         return list(dict.fromkeys(read for formula in self.formulas.get(name, ()) for read in formula.reads))
+
+
+def described(variable: source.Variable) -> str:
+    """What a declaration says, in one line."""
+    return "" if variable.kind == "const" else " ".join(places.decode(variable.told.encode("latin-1")).split())
 
 
 def text_of(text: str) -> str:

@@ -41,7 +41,7 @@ class Pages:
     def __init__(self, reference: Reference, title: str, driver: str | None, articles: list[Article]):
         self.reference, self.title, self.driver, self.articles = reference, title, driver, articles
         self.sources = {file.name: f"s/{k}.html" for k, file in enumerate(reference.base.files, 1)}
-        self.drawn = pictures.drawn(reference)
+        self.drawn, self.heads = pictures.drawn(reference), dict[str, str]()
 
     def all(self) -> Iterator[tuple[str, str]]:
         """Each file with its text."""
@@ -59,11 +59,17 @@ class Pages:
     # ---- pieces of pages
 
     def page(self, title: str, body: str, up: str, script: str = "") -> str:
+        if up not in self.heads:
+            self.heads[up] = self.head(up)
+        return plain_pages.page(title, body, script, self.heads[up])
+
+    def head(self, up: str) -> str:
+        """The links above a page."""
         links = [f'<a href="{up}index.html">{escaped(self.title)}</a>', *(f'<a href="{up}{kind}.html">{escaped(said(f"doc.{kind}"))}</a>' for kind in LISTS)]
         links.append(f'<a href="{up}verifications.html">{escaped(said("doc.verifications"))}</a>')
         if self.driver is not None:
             links.append(f'<a href="{up}driver.html">{escaped(said("doc.driver"))}</a>')
-        return plain_pages.page(title, body, script, f"<nav>{' '.join(links)}</nav>\n")
+        return f"<nav>{' '.join(links)}</nav>\n"
 
     def link(self, name: str, up: str, text: str | None = None) -> str:
         return f'<a class="name" href="{up}{file_of(name)}">{escaped(text or name)}</a>'
@@ -181,6 +187,8 @@ class Pages:
                      f"<p><code>{escaped(check.error)}</code> {escaped(said(f'doc.error.{error.kind}'))}<br>{linked(error.text, self.articles)}</p>",
                      self.comment(check.comments), f'<pre class="formula">{self.code(check.pieces, "")}</pre>',
                      f'<p class="said">{self.place(check.path, check.line, "")}</p>']
+            if set(check.reads) - {piece.name for piece in check.pieces}:  # (names with the letters of a sum are no links)
+                body.append(self.names(check.reads, ""))
         raised = {check.error for check in self.reference.checks}
         rows = [[f"<code>{escaped(name)}</code>", linked(error.text, self.articles), self.place(error.path, error.line, "")]
                 for name, error in self.reference.errors.items() if name not in raised]
@@ -193,7 +201,8 @@ class Pages:
             text = content.decode("utf-8")
         except UnicodeDecodeError:
             text = content.decode("latin-1")
-        lines = [f'<span class="line" id="l{k}"><span class="no">{k}</span>{escaped(line)}</span>' for k, line in enumerate(text.replace("\r\n", "\n").split("\n"), 1)]
+        numbered = enumerate(text.replace("\r\n", "\n").split("\n"), 1)
+        lines = [f'<span class="line" id="l{k}"><span class="no">{k}</span>{escaped(line)}</span>' for k, line in numbered]
         return self.page(name, f'<pre class="sheet">{"".join(lines)}</pre>', up)
 
 

@@ -6,7 +6,7 @@ import hashlib
 import os
 import re
 import tempfile
-from typing import TYPE_CHECKING, Any, Iterable, Iterator, Mapping, overload
+from typing import TYPE_CHECKING, Any, Generator, Iterable, Mapping, overload
 
 from .answers import Answer, Form, answer_of
 from .batches import Answers, Batch
@@ -128,8 +128,8 @@ class Rules:
         `rows` is an iterable of households; then this is an iterator of answers. Or it is a frame of pandas, whose columns are codes; then this is a frame with
         its index, with the columns that `keep` names, a column for each value, `over` with the names of the values that overflow and `notes` with the errors
         that were noted. With numbers="float64" values are floats, and one that isn't exact in a float is an error; "micros" gives whole millionths, "decimal"
-        decimals. Undefined is NaN, NA or None; what overflows is infinite, NA or OVER. A household that is stopped is an error, `Stopped`; with stops="keep" its
-        values are undefined, and a column `stop` has the line.
+        decimals. Undefined is NaN, NA or None; what overflows is infinite, NA or OVER. A household that is stopped is an error, `Stopped`; with
+        stops="keep" its values are undefined, and a column `stop` has the line.
         """
         if hasattr(rows, "columns") and hasattr(rows, "itertuples"):
             return self._frame(rows, rows_at_once, numbers, stops, keep)
@@ -272,7 +272,7 @@ class Rules:
 
     def _answers(self, rows: Iterable[Household], at_once: int) -> Answers:
         if not self._words:
-            return Answers([self.run(row)] for row in rows)
+            return Answers(self._alone(rows))
         form = Form(self._outputs())
         notes = sum(line.startswith("note ") for line in self._lines)
         size = max(1, min(at_once, ROWS, VALUES // (len(form.names) + notes + 1)))
@@ -280,6 +280,17 @@ class Rules:
         taken: Iterable[Household] = rows if isinstance(rows, (list, tuple)) else (dict(row) for row in rows)
         batch = Batch(self._program, ["batch", *self._words], self._room.name, form, size, self.types(), self._told, self.timeout)
         return batch.answers(taken)
+
+    def _alone(self, rows: Iterable[Household]) -> Generator[list[Answer], None, None]:
+        """The answers of a code file, which has no batches. What is refused has the line that it would have in a table of all."""
+        for number, row in enumerate(rows, 2):
+            try:
+                yield [self.run(row)]
+            except Refused as refused:
+                what = refused.line.partition(": ")[2]
+                if refused.file != "household" or not what:
+                    raise
+                raise Refused(f"refused household line {1 if what == 'unknown code' else number}: {what}") from None
 
     def _frame(self, frame: pandas.DataFrame, at_once: int, numbers: str, stops: str, keep: Iterable[str]) -> pandas.DataFrame:
         """The answers to the rows of a frame, as a frame."""

@@ -14,7 +14,9 @@ import threading
 import time
 
 from . import source
+from .errors import Broken
 from .program import TOP
+from .program import program_path as installed_program_path
 
 PIECE = 1_048_576
 
@@ -70,7 +72,11 @@ def free_memory():
 
 
 def program_path():
+    """The program that M_TAX names, or else the script of this repository; where the package is installed, the one that the package finds."""
     program = os.environ.get("M_TAX") or os.path.join(TOP, "m_tax")
+    if not os.environ.get("M_TAX") and not os.path.exists(program):
+        with contextlib.suppress(Broken):
+            return installed_program_path()
     return os.path.abspath(shutil.which(program) or program)
 
 

@@ -1,10 +1,10 @@
 """A sentence for each error of docs/REFUSALS.md, which says what to mend."""
-from collections.abc import Mapping, Sequence
+from collections.abc import Iterator, Mapping, Sequence
 
 from .texts import TEXTS, said
 
 
-class Sentences(Mapping):
+class Sentences(Mapping[str, str]):
     """The sentences of a kind of faults by what the program calls these, in the language that was chosen."""
 
     def __init__(self, kind: str):
@@ -16,7 +16,7 @@ class Sentences(Mapping):
             raise KeyError(name)
         return said(self.prefix + name)
 
-    def __iter__(self):
+    def __iter__(self) -> Iterator[str]:
         return iter(self.names)
 
     def __len__(self) -> int:

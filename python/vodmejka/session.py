@@ -6,14 +6,16 @@ import os
 import subprocess
 import threading
 from types import TracebackType
-from typing import Callable, Iterator, Protocol
+from typing import TYPE_CHECKING, Callable, Iterator, Protocol
 
-from . import reasons
 from .answers import Answer, answer_of
 from .errors import Interrupted, Refused
 from .guard import memory_file
 from .program import ENCODING, Amount, raise_for, spelled, started
 from .whys import Why
+
+if TYPE_CHECKING:
+    from . import reasons
 
 CLOSING = 2.0  # seconds
 

@@ -37,7 +37,8 @@ class Sweep:
         self.values = [[told if isinstance(told, Stop) else decimal_of(told[of]) for told in column] for column in answers]
 
     def __repr__(self) -> str:
-        return f"<Sweep of {self.of} along {self.code}: {len(self.amounts)} amounts from {self.amounts[0]} to {self.amounts[-1]}, {len(self.values)} rule bases>"
+        bases = f"{len(self.values)} rule base{'' if len(self.values) == 1 else 's'}"
+        return f"<Sweep of {self.of} along {self.code}: {len(self.amounts)} amounts from {self.amounts[0]} to {self.amounts[-1]}, {bases}>"
 
     def _repr_html_(self) -> str:
         rows = [[amount, *("stopped" if isinstance(told, Stop) else told for told in column)] for amount, *column in zip(self.amounts, *self.values)]

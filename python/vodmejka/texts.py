@@ -120,8 +120,8 @@ TEXTS = {
         "words: coverage LIST DRIVER CASES.. [--least PERCENT] [--except FILE] [--page FILE] [--lcov FILE] [--lang en|fr] [--here]; see --help",
         "mots : coverage LIST DRIVER CASES.. [--least POURCENTAGE] [--except FICHIER] [--page FICHIER] [--lcov FICHIER] [--lang en|fr] [--here] ; voir --help"),
     "coverage.least": ("--least takes a percentage from 0 to 100, and not {text}", "--least attend un pourcentage de 0 à 100, et non {text}"),
-    "coverage.exception.none": ("{name} line {line}: there is no {key}", "{name} ligne {line} : rien ne s'appelle {key}"),
-    "coverage.exception.reached": ("{name} line {line}: a case reaches {key}", "{name} ligne {line} : un cas atteint {key}"),
+    "coverage.exception.none": ("{name} line {line}: there is no {point}", "{name} ligne {line} : rien ne s'appelle {point}"),
+    "coverage.exception.reached": ("{name} line {line}: a case reaches {point}", "{name} ligne {line} : un cas atteint {point}"),
     "coverage.differs": ("nothing is said of coverage: {what}", "la couverture n'est pas donnée : {what}"),
     "coverage.formula": ("no case gives it a value other than 0", "aucun cas ne lui donne une valeur autre que 0"),
     "coverage.si.alors": ("in no case does the condition hold", "la condition n'est vraie dans aucun cas"),
@@ -167,9 +167,10 @@ TEXTS = {
     "new.title": ("A rule base in M", "Une base de règles en M"),
     "new.readme": (
         "A tax with two brackets, an allowance for children and a reduction for gifts. Put your own rules in its place. Start these commands in this folder:",
-        "Un impôt à deux tranches, un abattement par enfant et une réduction pour dons. Remplacez ces règles par les vôtres. Lancez ces commandes dans ce dossier :"),
+        "Un impôt à deux tranches, un abattement par enfant et une réduction pour dons. Remplacez-les par les vôtres. Lancez ces commandes dans ce dossier :"),
     "new.heading": ("A tax to begin with.", "Un impôt pour commencer."),
-    "new.replace": ("Save files as UTF-8 or Latin-1, without a byte order mark.", "Enregistrez les fichiers en UTF-8 ou en Latin-1, sans marque d'ordre des octets."),
+    "new.replace": ("Save files as UTF-8 or Latin-1, without a byte order mark.",
+                    "Enregistrez les fichiers en UTF-8 ou en Latin-1, sans marque d'ordre des octets."),
     "new.wages": ("wages", "salaires déclarés"),
     "new.children": ("number of children", "nombre d'enfants à charge"),
     "new.gifts": ("gifts", "dons"),
@@ -263,7 +264,7 @@ def language_of(words: list[str]) -> list[str]:
     return left
 
 
-def said(key: str, **values) -> str:
+def said(key: str, **values: object) -> str:
     """The sentence with this key, in the language that was chosen."""
     english, french = TEXTS[key]
     return (french if Language.name == FRENCH else english).format(**values)

@@ -101,7 +101,7 @@ class Variables:
             one = self.reasons.formulas.get(cell)
             if one is not None:
                 sets = name if one.formula.slot == "X" else cell
-                written = one.written
-                made = Formula(sets, one.text, dict(one.letters), written.file.name, written.line(one.formula.byte), written.rule(one.formula.byte))
+                written, byte = one.written, one.formula.byte
+                made = Formula(sets, written.formula(byte), dict(one.letters), written.file.name, written.line(byte), written.rule(byte))
                 found.setdefault((made.file, one.formula.byte, sets), made)
         return found.values()

@@ -2,9 +2,10 @@
 from __future__ import annotations
 
 import html
-from typing import Iterator, Mapping
+from typing import TYPE_CHECKING, Iterator, Mapping
 
-from . import reasons
+if TYPE_CHECKING:
+    from . import reasons
 
 NOTHING = ("undefined", "= 0")
 

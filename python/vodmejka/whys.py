@@ -1,12 +1,14 @@
 """What a session tells of why a variable has its value."""
 from __future__ import annotations
 
-from typing import Callable
+from typing import TYPE_CHECKING, Callable
 
-from . import reasons
 from .answers import Value, value_of
 from .errors import Broken
 from .why_trees import Tree
+
+if TYPE_CHECKING:
+    from . import reasons
 
 
 class Why:

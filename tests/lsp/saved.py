@@ -73,11 +73,15 @@ class Saved:
         self.client.notify("textDocument/didSave", textDocument={"uri": self.uri})
 
     def valued(self, line, what):
-        """Waits for a value; the program's answer comes when it comes."""
+        """Waits for a value of the text as it is now; the program's answer comes when it comes."""
         until = time.monotonic() + 300
-        while what not in str(self.client.at("textDocument/hover", self.uri, line, 1)) and time.monotonic() < until:
+        while not self.is_valued(line, what) and time.monotonic() < until:
             time.sleep(0.2)
         self.hover(line)
+
+    def is_valued(self, line, what):
+        found = str(self.client.at("textDocument/hover", self.uri, line, 1))
+        return what in found and "before the changes" not in found
 
 
 def main():

@@ -4,7 +4,10 @@ import subprocess
 
 SECONDS = 600
 # What a household may have of some inputs of the examples without a stop; of others it is a whole amount below 60,000.
-FITTING = {b"0NB": b"1 1.5 2 2.5 3 4".split(), b"7UD": b"0 500 1000.5".split(), b"0AM": [b"1"], b"0BT": [b"0"], b"0CF": b"0 1 2 3 6".split()}
+FITTING = {
+    b"0NB": b"1 1.5 2 2.5 3 4".split(), b"7UD": b"0 500 1000.5".split(), b"0AM": [b"1"], b"0BT": [b"0"], b"0CF": b"0 1 2 3 6".split(),
+    b"0CH": b"0 1 2".split(), b"0CG": [b"0"], b"0CI": [b"0"], b"4BE": b"0 1000 15000".split(),
+}
 
 
 class Wrong(Exception):

@@ -1,10 +1,9 @@
 # needs the program
 # The real year: all that the rules and the driver return, and the verifications, are those of the second calculation, also of amounts of a billion; the
-# answers that are kept; the cases reach all formulas and branches; the driver without benefits.
+# answers that are kept; the driver without benefits.
 cd "$ROOT" || exit 1
 python3 examples/impot2023/check.py --count 2000 --seed 7
 python3 examples/impot2023/check.py --extremes
-python3 examples/impot2023/coverage.py | tail -n 1
 "$M_TAX" batch examples/impot2023/rules.list examples/impot2023/driver.mpp - examples/impot2023/households.csv |
     cmp - examples/impot2023/answers.txt && echo "the answers that are kept"
 printf 'name,0AM,0CF,1AJ\nbefore,1,3,190000\nbehind,1,3,191000\n' >"$OLDPWD/two.csv"

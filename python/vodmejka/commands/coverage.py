@@ -79,7 +79,7 @@ def exceptions(name: str | None, followed: coverage.Coverage) -> set[str]:
         if not key or key.startswith("#"):
             continue
         if key not in reached or reached[key]:
-            raise Wrong(texts.said("coverage.exception.none" if key not in reached else "coverage.exception.reached", name=name, line=number, key=key))
+            raise Wrong(texts.said("coverage.exception.none" if key not in reached else "coverage.exception.reached", name=name, line=number, point=key))
         found.add(key)
     return found
 

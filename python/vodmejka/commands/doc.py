@@ -15,6 +15,7 @@ else, 2 for wrong words, 3 where a file can't be read, and 4 where one can't be 
 """
 from __future__ import annotations
 
+import gc
 import os
 import shutil
 import tempfile
@@ -91,6 +92,7 @@ def make(words: list[str]) -> None:
         files = laws.Files([list_name, said[1], "-"], tempfile.mkdtemp(dir=room), None)
         files.compiled(files.list, files.words[1], "-")
         driver = None if said[1] == "-" else said[1]
+        gc.disable()  # (nothing that is made here is dropped before the end, and looking for it again and again takes a third of the time)
         made = reference.Reference(files.list, files.driver, files.names)
         pages = reference_pages.Pages(made, found.get("--title") or reference_pages.shown(said[0]), driver, patterns)
         count = write(pages.all(), found["--into"])
