@@ -1,6 +1,5 @@
 """A sentence for each error of docs/REFUSALS.md, which says what to mend."""
-from collections.abc import Iterator, Mapping, Sequence
-from typing import Any
+from collections.abc import Iterator, Mapping
 
 from .texts import TEXTS, said
 
@@ -56,15 +55,11 @@ FORMS = [
 ]
 
 
-class Others(Sequence[Any]):
+class Others:
     """The forms of the lines that name no place, each with its sentence in the language that was chosen."""
 
-    def __getitem__(self, number: Any) -> Any:
-        form, key = FORMS[number]
-        return form, said("other." + key)
-
-    def __len__(self) -> int:
-        return len(FORMS)
+    def __iter__(self) -> Iterator[tuple[str, str]]:
+        return ((form, said("other." + key)) for form, key in FORMS)
 
 
 OTHERS = Others()
