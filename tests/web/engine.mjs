@@ -80,7 +80,7 @@ function partOf(row, file, otherwise) {
 
 function rows() {
   const words = (name) => partOf(name, 'words', '').trim().split(' ');
-  const names = readdirSync(ROWS).filter((name) => words(name)[0] === 'exec');
+  const names = readdirSync(ROWS).filter((name) => !name.startsWith('survey_') && words(name)[0] === 'exec');
   let tried = 0;
   for (const name of names) {
     const [, code, household] = words(name).map((word) => [join(ROWS, name, word), join(SHARED, word)].find(existsSync));
