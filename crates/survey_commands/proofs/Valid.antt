@@ -1,7 +1,6 @@
 -- What is valid is answered.
 use Rattle.std.proofs.Common.{◌≡◌, ◌+◌, ℕ, Bool, true, List, [], ◌∷◌, ◌++◌, Some, Ok, Err, refl, sym, ap, ◌∙◌, subst, zero-add, arith, inl, inr}
 use Rattle.std.specs.Prelude.{if◌then◌else◌}
-use Rattle.m_places.specs.declared.source.Source.{Source}
 use Rattle.m_ports.specs.Counts.{Rose}
 use Rattle.m_ports.specs.Files.{failed_count}
 use Rattle.m_ports.specs.declared.files.Attempt.{Attempt}

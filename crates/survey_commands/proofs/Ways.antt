@@ -1,6 +1,6 @@
 -- From what was told and written to how a table was answered, and how what was gathered was answered, in one form for all commands.
 use Rattle.std.proofs.Common.{◌≡◌, ℕ, List, Err, refl, subst, ◌∙◌, sym, inl, inr}
-use Rattle.std.specs.Prelude.{Bool, true, false, Some}
+use Rattle.std.specs.Prelude.{true, false, Some}
 use Rattle.std.proofs.Common.{ap}
 use Rattle.std.specs.Option.{option_map_or}
 use Rattle.m_fixed.specs.declared.amount.Value.{Value}
