@@ -41,6 +41,10 @@ nothing = record { undef = true; over = false; range = None }
 abbrev pub type_fact : InputType → Possible
 type_fact kind = amounts_of true (type_range kind)
 
+-- the same of each input
+abbrev pub type_facts : List Coded → List Possible
+type_facts inputs = map (λ input. type_fact input.kind) inputs
+
 -- ---- a record
 
 -- what the word of a record says: the input has an amount, it has none, or either

@@ -1,8 +1,7 @@
 //! What is known of each input, by the ranges that name some of them.
-ghost use Rattle.std.specs.Prelude.{◌≡◌, ◌<◌, [], IfOk, length, map};
+ghost use Rattle.std.specs.Prelude.{◌≡◌, ◌<◌, IfOk, length, map};
 ghost use Rattle.std.specs.List.{AllByRecursion};
-ghost use Rattle.definedness.specs.Facts.{IsFact};
-ghost use Rattle.input_ranges.specs.Ranges.{facts_within};
+ghost use Rattle.input_ranges.specs.Ranges.{facts_within, type_fact, type_facts};
 
 use crate::bounds::type_fact;
 use definedness::Fact;
@@ -20,7 +19,7 @@ pub(crate) struct InputRange {
 
 /// What may be given of each input where no range is known: nothing, or any amount of its type. Its only error is running out of memory.
 pub fn type_facts(alloc: Global, inputs: &[Coded]) -> Result<Seq<Fact>, AllocError>
-    ensures { IfOk result (λ facts. facts ≡ facts_within [] inputs.now) }
+    ensures { IfOk result (λ facts. facts ≡ type_facts inputs.now) }
 {
     Ok(Seq::from_vec(facts_of_types(alloc, inputs)?))
 }
@@ -35,13 +34,13 @@ pub(crate) fn facts_within(
     ensures { IfOk result (λ facts. facts ≡ facts_within ranges.now inputs.now) }
 {
     let mut facts = facts_of_types(alloc, inputs)?;
-    put_ranges(ranges, &mut facts, inputs);
+    put_ranges(inputs, ranges, &mut facts);
     Ok(Seq::from_vec(facts))
 }
 
 // What is known of each input by its type.
 fn facts_of_types(alloc: Global, inputs: &[Coded]) -> Result<Vec<Fact>, AllocError>
-    ensures { IfOk result (λ facts. facts.items ≡ facts_within [] inputs.now) }
+    ensures { IfOk result (λ facts. facts.items ≡ map (λ input. type_fact input.kind) inputs.now) }
 {
     let mut facts = Vec::with_capacity(alloc, inputs.len())?;
     for input in inputs {
@@ -51,14 +50,15 @@ fn facts_of_types(alloc: Global, inputs: &[Coded]) -> Result<Vec<Fact>, AllocErr
 }
 
 // Puts what ranges say in the place of what the types do. The first range of an input decides.
-fn put_ranges(ranges: &[InputRange], facts: &mut [Fact], inputs: &[Coded])
+fn put_ranges(inputs: &[Coded], ranges: &[InputRange], facts: &mut [Fact])
     requires known { AllByRecursion (λ range. range.input < length inputs.now) ranges.now }
-    requires types { facts.old ≡ facts_within [] inputs.now }
+    requires types { facts.old ≡ type_facts inputs.now }
     ensures { facts.new ≡ facts_within ranges.now inputs.now }
 {
     let mut left = ranges.len();
     while left > 0 {
         left -= 1;
-        facts[ranges[left].input as usize] = ranges[left].fact;
+        let range = &ranges[left];
+        facts[range.input as usize] = range.fact;
     }
 }

@@ -10,7 +10,7 @@ ghost use Rattle.household.specs.InTurn.{in_turn};
 ghost use Rattle.household.specs.Household.{input_type};
 ghost use Rattle.household.specs.Reader.{left_of};
 ghost use Rattle.household.specs.declared.fault.HouseholdFault.TheVariants.{Memory};
-ghost use Rattle.input_ranges.specs.Ranges.{range_of, range_said, ranges_of, ranges_said, row_of, typed_range};
+ghost use Rattle.input_ranges.specs.Ranges.{fact_said, range_of, range_said, ranges_of, ranges_said, row_of, typed_range};
 
 use crate::bounds::{is_typed, possible_said};
 use crate::given::{Given, given_of};

@@ -1,0 +1,1 @@
+-- What ranges say is facts.
