@@ -6,36 +6,39 @@ ghost use Rattle.flat_code.specs.Faces.{IsFaceOf};
 ghost use Rattle.flat_code.specs.Runs.{IsFlat};
 ghost use Rattle.micro_m.specs.Bases.{IsValidBase};
 ghost use Rattle.m_lint.specs.declared.finding.Finding.TheVariants.{NeverStops};
-ghost use Rattle.m_lint.specs.Findings.{is_never_stopping, numbers_with};
+ghost use Rattle.m_lint.specs.Findings.{never_stopping, numbers_with};
 ghost use Rattle.m_lint.specs.inner.Loud.{is_unmarked};
 
 use crate::Finding;
 use crate::finding::add_if;
 use crate::labels::{has_text, marked_labels};
 use crate::loud::loud_marks;
+use definedness::Fact;
 use flat_code::Flat;
 use m_names::Names;
 use micro_m::Base;
 use observables::Face;
 use std::alloc::{AllocError, Global};
 
-/// Adds the checks of a base whose labels are never told.
-pub(crate) fn add_never_stopping(
+/// Adds the checks of a base whose labels are never told, where the nodes of the program have these facts. Its only error is running
+/// out of memory.
+pub fn add_never_stopping(
     alloc: Global,
+    known: &[Fact],
     base: &Base,
     flat: &Flat,
     face: &Face,
     findings: &mut Vec<Finding>,
 ) -> Result<(), AllocError>
+    requires known { length known.now ≡ length flat.now.nodes }
     requires valid { IsValidBase base.now }
     requires few { length base.now.checks < 2 ^ 32 }
     requires flat { IsFlat flat.now }
     requires shown { IsFaceOf face.now flat.now }
     requires first_labels { take (length base.now.labels) face.now.labels ≡ map Verif base.now.labels }
-    ensures { OnOk result (findings.new.items ≡ findings.old.items
-        ++ map NeverStops (numbers_with (is_never_stopping base.now flat.now face.now) (length base.now.checks))) }
+    ensures { OnOk result (findings.new.items ≡ findings.old.items ++ never_stopping known.now base.now flat.now face.now) }
 {
-    let marks = loud_marks(alloc, flat, face)?;
+    let marks = loud_marks(alloc, known, flat, face)?;
     let names = marked_labels(alloc, face.labels.as_slice(), &marks)?;
     add_unmarked(alloc, base, &marks, &names, findings)
 }

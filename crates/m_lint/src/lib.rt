@@ -16,6 +16,8 @@ mod loud;
 mod print;
 mod reads;
 
+pub use checks::add_never_stopping;
+pub use facts::facts_of;
 pub use finding::Finding;
 pub use found::lint;
 pub use laws::{findings_are_true, reads_agree};

@@ -1,6 +1,4 @@
 use Rattle.std.proofs.Common.{◌≡◌, ◌∙◌, refl, ap, sym, length, arith, []}
-use Rattle.flat_code.specs.Facts.{facts}
-use Rattle.flat_code.specs.Runs.{entries_of}
 use Rattle.m_lint.specs.declared.finding.Finding.TheVariants.{NeverStops}
 use Rattle.m_lint.specs.Findings.{is_never_stopping}
 use Rattle.m_lint.specs.inner.Loud.{loud_of, with_labels, is_unmarked}
@@ -19,9 +17,9 @@ returns c =
     let base = c.args.base.now in
     let flat = c.args.flat.now in
     let face = c.args.face.now in
-    let marks : c.in_ok-marks.marks.items ≡ loud_of (entries_of facts flat.nodes) flat face = c.in_ok-marks.ensures.marks in
-    let names : c.in_ok-names.names ≡ with_labels face.labels (loud_of (entries_of facts flat.nodes) flat face) [] =
+    let marks : c.in_ok-marks.marks.items ≡ loud_of c.args.known.now flat face = c.in_ok-marks.ensures.marks in
+    let names : c.in_ok-names.names ≡ with_labels face.labels (loud_of c.args.known.now flat face) [] =
     c.in_ok-names.ensures ∙ ap (λ labels. with_labels labels c.deref.result.now []) c.as_slice.ensures ∙ ap (λ bs. with_labels face.labels bs []) (c.deref.ensures.value ∙ marks) in
-    found-same c.add_unmarked.result NeverStops c.args.findings.now.items _ _ (is_never_stopping base flat face) (length base.checks) (length base.checks) refl
-    (λ k low. ap (λ bs. is_unmarked base bs c.in_ok-names.names k) (c.deref-2.ensures.value ∙ marks) ∙ ap (λ ns. is_unmarked base (loud_of (entries_of facts flat.nodes) flat face) ns k) names ∙ unmarked-never base flat face k c.requires.first_labels)
+    found-same c.add_unmarked.result NeverStops c.args.findings.now.items _ _ (is_never_stopping c.args.known.now base flat face) (length base.checks) (length base.checks) refl
+    (λ k low. ap (λ bs. is_unmarked base bs c.in_ok-names.names k) (c.deref-2.ensures.value ∙ marks) ∙ ap (λ ns. is_unmarked base (loud_of c.args.known.now flat face) ns k) names ∙ unmarked-never c.args.known.now base flat face k c.requires.first_labels)
     c.add_unmarked.ensures
