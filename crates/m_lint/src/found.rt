@@ -1,20 +1,17 @@
 //! All findings.
 
-ghost use Rattle.std.specs.Prelude.{◌≡◌, ◌<◌, ◌^◌, ◌++◌, IfOk, OnOk, length, map, take};
+ghost use Rattle.std.specs.Prelude.{◌≡◌, ◌<◌, ◌^◌, IfOk, length, map, take};
 ghost use Rattle.observables.specs.declared.face.FaceLabel.TheVariants.{Verif};
-ghost use Rattle.flat_code.specs.Facts.{facts};
 ghost use Rattle.flat_code.specs.Faces.{IsFaceOf};
-ghost use Rattle.flat_code.specs.Runs.{IsFlat, entries_of};
 ghost use Rattle.m_symbols.specs.Declarations.{owners_from};
 ghost use Rattle.micro_m.specs.Bases.{IsValidBase};
-ghost use Rattle.m_lint.specs.Findings.{findings_of, never_stopping, AreWithinCounts};
+ghost use Rattle.m_lint.specs.Findings.{findings_of, AreWithinCounts};
 
 use crate::Finding;
 use crate::cells::add_never_defined;
 use crate::checks::add_never_stopping;
-use crate::facts::facts_of;
 use crate::inputs::add_unused;
-use flat_code::{Flat, Tidy};
+use flat_code::Tidy;
 use m_places::Seq;
 use m_symbols::Symbols;
 use micro_m::Base;
@@ -43,26 +40,7 @@ pub fn lint(
 {
     let mut findings = Vec::new(alloc);
     add_never_defined(alloc, base, symbols, &mut findings)?;
-    add_generally_never_stopping(alloc, base, tidy.flat(), face, &mut findings)?;
+    add_never_stopping(alloc, base, tidy.flat(), face, &mut findings)?;
     add_unused(alloc, tidy.flat(), &mut findings)?;
     Ok(Seq::from_vec(findings))
-}
-
-// Adds the checks whose labels are never told, where nothing is known of the inputs.
-fn add_generally_never_stopping(
-    alloc: Global,
-    base: &Base,
-    flat: &Flat,
-    face: &Face,
-    findings: &mut Vec<Finding>,
-) -> Result<(), AllocError>
-    requires valid { IsValidBase base.now }
-    requires few { length base.now.checks < 2 ^ 32 }
-    requires flat { IsFlat flat.now }
-    requires shown { IsFaceOf face.now flat.now }
-    requires first_labels { take (length base.now.labels) face.now.labels ≡ map Verif base.now.labels }
-    ensures { OnOk result (findings.new.items ≡ findings.old.items ++ never_stopping (entries_of facts flat.now.nodes) base.now flat.now face.now) }
-{
-    let known = facts_of(alloc, flat.nodes.as_slice(), flat.inputs, &[])?;
-    add_never_stopping(alloc, &known, base, flat, face, findings)
 }
