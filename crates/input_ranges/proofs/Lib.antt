@@ -1,3 +1,3 @@
+pub mod FieldLemmas
 pub mod RangeLemmas
 pub mod RowLemmas
-pub mod FactLemmas

@@ -46,16 +46,22 @@ known_at n (range ∷ ranges) zero d h l = h.0
 known_at n (range ∷ ranges) (suc k) d h l = known_at n ranges k d h.1 (omega arith)
 
 -- the next range, from the back on, says what may be given of its input
-pub next_put : (inputs : List Coded) (ranges : List InputRange) (facts : List Possible) (left : ℕ) (range : InputRange) → AllByRecursion (λ r. r.input < length inputs) ranges → 0 < left → left ≤ length ranges
-    → range ≡ get_or ranges (left - 1) range → facts ≡ facts_within (drop left ranges) inputs
+pub next_put : (inputs : List Coded) (ranges : List InputRange) (facts : List Possible) (left : ℕ) (range d : InputRange) → AllByRecursion (λ r. r.input < length inputs) ranges → 0 < left → left ≤ length ranges
+    → range ≡ get_or ranges (left - 1) d → facts ≡ facts_within (drop left ranges) inputs
     → (range.input < length inputs) × (set facts range.input range.fact ≡ facts_within (drop (left - 1) ranges) inputs)
-next_put inputs ranges facts left range known some within read filled =
+next_put inputs ranges facts left range d known some within read filled =
     let at = left - 1 in
     let next : at + 1 ≡ left = omega arith in
     let at_within : at < length ranges = omega arith in
-    let in_range : range.input < length inputs = subst (λ (r : InputRange). r.input < length inputs) (sym read) (known_at (length inputs) ranges at range known at_within) in
-    let cut : drop at ranges ≡ range ∷ drop left ranges = drop_more ranges at range at_within ∙ (λ i. sym read i ∷ drop (next i) ranges) in
+    let in_range : range.input < length inputs = subst (λ (r : InputRange). r.input < length inputs) (sym read) (known_at (length inputs) ranges at d known at_within) in
+    let cut : drop at ranges ≡ range ∷ drop left ranges = drop_more ranges at d at_within ∙ (λ i. sym read i ∷ drop (next i) ranges) in
     (in_range, ap (λ fs. set fs range.input range.fact) filled ∙ one_more (drop left ranges) range inputs in_range ∙ ap (λ rs. facts_within rs inputs) (sym cut))
+
+-- a range that is there is read whatever stands for one that isn't
+pub same_read : (ranges : List InputRange) (k : ℕ) (one other : InputRange) → k < length ranges → get_or ranges k one ≡ get_or ranges k other
+same_read [] k one other l = absurd (omega arith)
+same_read (range ∷ ranges) zero one other l = refl
+same_read (range ∷ ranges) (suc k) one other l = same_read ranges k one other (omega arith)
 
 length_from : (ranges : List InputRange) (n : ℕ) (inputs : List Coded) → length (facts_from ranges n inputs) ≡ length inputs
 length_from ranges n [] = refl

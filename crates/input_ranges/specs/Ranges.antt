@@ -134,10 +134,14 @@ row_of inputs before fields =
     if nat_le ROWS (length before) then Err TooManyRows
     else if_read (new_range (line_behind (length before)) before) (range_of inputs (line_behind (length before)) fields)
 
--- whether these fields are the first record of ranges: `code`, `given`, `least` and `greatest`
-abbrev pub is_header : List (List ℕ) → Bool
-is_header (code ∷ given ∷ least ∷ greatest ∷ []) =
+-- whether four fields are `code`, `given`, `least` and `greatest`
+abbrev pub are_headings : List ℕ → List ℕ → List ℕ → List ℕ → Bool
+are_headings code given least greatest =
     bytes_eq code (codes "code") && bytes_eq given (codes "given") && bytes_eq least (codes "least") && bytes_eq greatest (codes "greatest")
+
+-- whether these fields are the first record of ranges
+abbrev pub is_header : List (List ℕ) → Bool
+is_header (code ∷ given ∷ least ∷ greatest ∷ []) = are_headings code given least greatest
 is_header _ = false
 
 -- the ranges that records say

@@ -58,7 +58,7 @@ fn put_ranges(inputs: &[Coded], ranges: &[InputRange], facts: &mut [Fact])
     let mut left = ranges.len();
     while left > 0 {
         left -= 1;
-        let range = &ranges[left];
-        facts[range.input as usize] = range.fact;
+        let InputRange { input, fact } = ranges[left];
+        facts[input as usize] = fact;
     }
 }

@@ -97,8 +97,7 @@ fn read_range(
     codes: &Codes,
 ) -> Result<InputRange, HouseholdFault>
     requires { codes.now ≡ inputs.now }
-    ensures range { result ≡ range_of inputs.now line (fields_of row.now) }
-    ensures known { IfOk result (λ range. range.input < length inputs.now) }
+    ensures { result ≡ range_of inputs.now line (fields_of row.now) }
 {
     if row.len() != 4 {
         return Err(HouseholdFault::BadRow(line));

@@ -1,5 +1,6 @@
 pub mod Clauses
 pub mod EachLemmas
+pub mod FactsLemmas
 pub mod Faults
 pub mod OneOutput
 pub mod OutputLemmas

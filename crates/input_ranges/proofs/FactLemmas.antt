@@ -1,1 +1,0 @@
--- What ranges say is facts.

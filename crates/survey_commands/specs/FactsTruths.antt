@@ -1,0 +1,1 @@
+-- When the lines of `facts` are true of a source.
