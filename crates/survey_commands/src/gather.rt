@@ -3,14 +3,13 @@ ghost use Rattle.std.specs.Prelude.{◌≡◌, true, false, IfOk};
 ghost use Rattle.command_plans.specs.Trips.{GoesAlong};
 ghost use Rattle.command_plans.specs.Views.{files_view};
 ghost use Rattle.survey_commands.specs.Answer.{WorkKeepsLimits};
-ghost use Rattle.command_plans.specs.Source.{optional_plan};
 ghost use Rattle.survey_commands.specs.Command.{code_table_plan, facts_plan, plan_of, source_table_plan};
 ghost use Rattle.survey_commands.specs.inner.Courses.{IsWorkOf, work_in_parts};
 
 use crate::command::Command;
 use crate::work::Work;
-use command_plans::{Ending, SourceNames, fetch, gather_source, is_none};
-use m_places::{Name, Seq};
+use command_plans::{Ending, SourceNames, fetch, gather_optional, gather_source};
+use m_places::Name;
 use m_places::limits::{CODE_FILE_BYTES, FILE_BYTES};
 use m_ports::Files;
 use std::alloc::Global;
@@ -60,24 +59,8 @@ fn gather_facts<F: Files>(
     ensures kind { IfOk result (λ work. work_in_parts work ≡ false) }
 {
     let source = gather_source(alloc, files, names)?;
-    let bytes = gather_ranges(alloc, files, ranges)?;
+    let bytes = gather_optional(alloc, files, ranges)?;
     Ok(Work::Facts(source, bytes))
-}
-
-// Fetches ranges, where there are any.
-fn gather_ranges<F: Files>(
-    alloc: Global,
-    files: &mut F,
-    ranges: &Name,
-) -> Result<Option<Seq<u8>>, Ending>
-    ensures { GoesAlong (optional_plan ranges.now) (files_view F.told F.attempts F.taken files.old)
-        (files_view F.told F.attempts F.taken files.new) result }
-{
-    if is_none(ranges) {
-        return Ok(None);
-    }
-    let bytes = fetch(alloc, files, ranges, FILE_BYTES)?;
-    Ok(Some(bytes))
 }
 
 // Gathers a code file, and a table after it.
