@@ -1,0 +1,4 @@
+pub mod DependLemmas
+pub mod ListLemmas
+pub mod MaskLemmas
+pub mod ValueLemmas

@@ -1,5 +1,5 @@
 //! The inputs on which nodes may depend.
-ghost use Rattle.std.specs.Prelude.{◌≡◌, ◌<◌, ◌≤◌, ◌++◌, IfOk, OnOk, filter, length, map};
+ghost use Rattle.std.specs.Prelude.{◌≡◌, ◌<◌, ◌≤◌, ◌++◌, ◌∷◌, [], IfOk, OnOk, filter, length, map, if◌then◌else◌};
 ghost use Rattle.std.specs.List.{AllByRecursion, range_with_len};
 ghost use Rattle.flat_code.specs.Runs.{AreNodes};
 ghost use Rattle.input_reads.specs.Reads.{depends_on};
@@ -32,15 +32,21 @@ pub fn dependences(
     let mut found = Vec::with_capacity(alloc, asked.len())?;
     let mut from = 0;
     while from < asked.len() {
-        let to = from + least(asked.len() - from, 64);
+        let to = from + group_of(asked.len() - from);
         add_group(alloc, nodes, inputs, known, &asked[from..to], &mut found)?;
         from = to;
     }
     Ok(Seq::from_vec(found))
 }
 
-fn least(a: usize, b: usize) -> usize {
-    if a < b { a } else { b }
+// How many are in a group, of so many that are left.
+fn group_of(left: usize) -> usize
+    requires { 0 < left }
+    ensures some { 0 < result }
+    ensures within { result ≤ left }
+    ensures few { result ≤ 64 }
+{
+    if left < 64 { left } else { 64 }
 }
 
 // The same of 64 asked nodes at most, after what was found before.
@@ -74,9 +80,24 @@ fn numbers_with(alloc: Global, masks: &[u64], k: usize) -> Result<Vec<u32>, Allo
 {
     let mut list = Vec::new(alloc);
     for n in 0..masks.len() {
-        if masks[n] >> k & 1 == 1 {
-            list.push(n as u32)?;
-        }
+        add_if(has_bit(masks[n], k), n as u32, &mut list)?;
     }
     Ok(list)
+}
+
+fn has_bit(mask: u64, k: usize) -> bool
+    requires { k < 64 }
+    ensures { result ≡ has mask k }
+{
+    (mask >> k) % 2 == 1
+}
+
+// Adds a number, if it is so.
+fn add_if(is_so: bool, n: u32, list: &mut Vec<u32>) -> Result<(), AllocError>
+    ensures { OnOk result (list.new.items ≡ list.old.items ++ (if is_so then n ∷ [] else [])) }
+{
+    if is_so {
+        list.push(n)?;
+    }
+    Ok(())
 }

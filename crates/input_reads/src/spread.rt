@@ -1,11 +1,10 @@
 //! From asked nodes back to the inputs on which they may depend: 64 asked nodes at a time, with a bit for each.
-ghost use Rattle.std.specs.Prelude.{◌≡◌, ℕ, ◌<◌, ◌≤◌, true, false, List, length, IfOk};
+ghost use Rattle.std.specs.Prelude.{◌≡◌, ℕ, ◌<◌, ◌≤◌, true, List, length, IfOk};
 ghost use Rattle.std.specs.List.{AllByRecursion};
 ghost use Rattle.flat_code.specs.declared.program.Node.TheVariants.{Input};
 ghost use Rattle.flat_code.specs.Runs.{AreNodes, IsNode};
-ghost use Rattle.input_reads.specs.Reads.{may_depend};
 ghost use Rattle.input_reads.specs.Steps.{LooksAt, Gives, Takes};
-ghost use Rattle.input_reads.specs.inner.Masks.{has, mask_at, number_at, Adds, IsMarked, IsSpread};
+ghost use Rattle.input_reads.specs.inner.Masks.{mask_at, Adds, IsMarked, IsSpread, AreMasks};
 
 use crate::looks::{is_open, looks_at_second, looks_at_third};
 use definedness::Fact;
@@ -84,7 +83,7 @@ fn spread_back(masks: &mut [u64], found: &mut [u64], known: &[Fact], nodes: &[No
 fn mark_asked(masks: &mut [u64], asked: &[u32])
     requires few { length asked.now ≤ 64 }
     requires within { AllByRecursion (λ p. p < length masks.old) asked.now }
-    requires none { (k x : ℕ) → has (mask_at masks.old x) k ≡ false }
+    requires none { (x : ℕ) → mask_at masks.old x ≡ 0 }
     ensures size { length masks.new ≡ length masks.old }
     ensures marked { IsMarked asked.now (length asked.now) masks.new }
 {
@@ -93,19 +92,39 @@ fn mark_asked(masks: &mut [u64], asked: &[u32])
     }
 }
 
-// For each input a mask: bit k is 1 where the asked node k may depend on it.
-pub fn input_masks(alloc: Global, nodes: &[Node], inputs: u32, known: &[Fact], asked: &[u32]) -> Result<Vec<u64>, AllocError>
+// For each input a mask, where no bit is 1 yet: bit k is 1 where the asked node k may depend on it.
+fn fill(masks: &mut [u64], found: &mut [u64], known: &[Fact], nodes: &[Node], asked: &[u32])
+    requires nodes { AreNodes (length found.old) 0 nodes.now }
+    requires known { length known.now ≡ length nodes.now }
+    requires masks { length masks.old ≡ length nodes.now }
+    requires few { length asked.now ≤ 64 }
+    requires within { AllByRecursion (λ p. p < length nodes.now) asked.now }
+    requires none { (x : ℕ) → mask_at masks.old x ≡ 0 }
+    requires none_found { (n : ℕ) → mask_at found.old n ≡ 0 }
+    ensures size { length found.new ≡ length found.old }
+    ensures found { AreMasks known.now nodes.now asked.now found.new }
+{
+    mark_asked(masks, asked);
+    spread_back(masks, found, known, nodes);
+}
+
+/// For each input a mask: bit k is 1 where the asked node k may depend on it. Of asked nodes there are 64 at most.
+pub fn input_masks(
+    alloc: Global,
+    nodes: &[Node],
+    inputs: u32,
+    known: &[Fact],
+    asked: &[u32],
+) -> Result<Vec<u64>, AllocError>
     requires nodes { AreNodes inputs 0 nodes.now }
     requires known { length known.now ≡ length nodes.now }
     requires few { length asked.now ≤ 64 }
     requires within { AllByRecursion (λ p. p < length nodes.now) asked.now }
     ensures size { IfOk result (λ found. length found.items ≡ inputs) }
-    ensures found { IfOk result (λ found. (k n : ℕ) → k < length asked.now
-        → has (mask_at found.items n) k ≡ may_depend known.now nodes.now (number_at asked.now k) n) }
+    ensures found { IfOk result (λ found. AreMasks known.now nodes.now asked.now found.items) }
 {
     let mut masks = vec![in alloc; 0u64; nodes.len()]?;
     let mut found = vec![in alloc; 0u64; inputs as usize]?;
-    mark_asked(&mut masks, asked);
-    spread_back(&mut masks, &mut found, known, nodes);
+    fill(&mut masks, &mut found, known, nodes, asked);
     Ok(found)
 }
