@@ -84,7 +84,7 @@ depend-at known nodes inputs p n valid h =
     grown-at step nodes p h
     ∙ ap (λ k. is_open (fact_at known k) && looks_at known n (λ x. get_or before x false) (node_at nodes p)) (front-length step nodes p h)
     ∙ ap (λ b. is_open (fact_at known p) && b)
-        (looks-same known n inputs p (λ x. get_or before x false) (λ x. may_depend known nodes x n) (node_at nodes p) (are-valid inputs nodes valid p h) (λ x l. grown-before step nodes p x h l))
+    (looks-same known n inputs p (λ x. get_or before x false) (λ x. may_depend known nodes x n) (node_at nodes p) (are-valid inputs nodes valid p h) (λ x l. grown-before step nodes p x h l))
 
 looks-into : (known : List Possible) (n : ℕ) (test : ℕ → Bool) (node : Node) → looks_at known n test node ≡ true
     → (node ≡ Input n) ⊎ ((x : ℕ) × LooksAt known node x × (test x ≡ true))
@@ -95,9 +95,9 @@ looks-into known n test (Do op a b c) h =
     let third = looks_at_third op (fact_at known a) in
     ⊎_elim
     (λ e. ⊎_elim
-        (λ f. inr (a, inl refl, f))
-        (λ f. let g = and_parts second (test b) f in inr (b, inr (inl (g.0, refl)), g.1))
-        (or_cases (test a) (second && test b) e))
+    (λ f. inr (a, inl refl, f))
+    (λ f. let g = and_parts second (test b) f in inr (b, inr (inl (g.0, refl)), g.1))
+    (or_cases (test a) (second && test b) e))
     (λ e. let g = and_parts third (test c) e in inr (c, inr (inr (g.0, refl)), g.1))
     (or_cases (test a || (second && test b)) (third && test c) h)
 
@@ -110,9 +110,9 @@ looks-out known n x test (Do op a b c) h t =
     ⊎_elim
     (λ e. or_left (test a || (second && test b)) (third && test c) (or_left (test a) (second && test b) (ap test (sym e) ∙ t)))
     (λ r. ⊎_elim
-        (λ e. or_left (test a || (second && test b)) (third && test c) (or_right (test a) (second && test b) (and_from second (test b) e.0 (ap test (sym e.1) ∙ t))))
-        (λ e. or_right (test a || (second && test b)) (third && test c) (and_from third (test c) e.0 (ap test (sym e.1) ∙ t)))
-        r)
+    (λ e. or_left (test a || (second && test b)) (third && test c) (or_right (test a) (second && test b) (and_from second (test b) e.0 (ap test (sym e.1) ∙ t))))
+    (λ e. or_right (test a || (second && test b)) (third && test c) (and_from third (test c) e.0 (ap test (sym e.1) ∙ t)))
+    r)
     h
 
 pub looks-below : (known : List Possible) (inputs p x : ℕ) (node : Node) → IsNode inputs p node → LooksAt known node x → x < p
@@ -169,11 +169,11 @@ pub by-test : (known : List Possible) (nodes : List Node) (inputs n p : ℕ) →
 by-test known nodes inputs n p valid (input g) =
     depend-at known nodes inputs p n valid (gives-within known nodes p n g)
     ∙ and_from (is_open (fact_at known p)) (looks_at known n (λ x. may_depend known nodes x n) (node_at nodes p)) g.0
-        (ap (looks_at known n (λ x. may_depend known nodes x n)) g.1 ∙ eq-eqb n n refl)
+    (ap (looks_at known n (λ x. may_depend known nodes x n)) g.1 ∙ eq-eqb n n refl)
 by-test known nodes inputs n p valid (argument {x} t d) =
     depend-at known nodes inputs p n valid (takes-within known nodes p x t)
     ∙ and_from (is_open (fact_at known p)) (looks_at known n (λ x. may_depend known nodes x n) (node_at nodes p)) t.0
-        (looks-out known n x (λ x. may_depend known nodes x n) (node_at nodes p) t.1 (by-test known nodes inputs n x valid d))
+    (looks-out known n x (λ x. may_depend known nodes x n) (node_at nodes p) t.1 (by-test known nodes inputs n x valid d))
 
 -- what a node depends on is an input
 pub depends-within : (known : List Possible) (nodes : List Node) (inputs n p : ℕ) → AreNodes inputs 0 nodes → Depends known nodes n p → n < inputs

@@ -46,16 +46,16 @@ add-one masks x mask r told h = record {
   size = length-set masks x (bit_or (mask_at masks x) mask);
   keeps = λ k y b. ⊎_elim
       (λ (is : y ≡ x). ap (λ z. has (mask_at (with_mask masks x mask) z) k) is ∙ with-same masks x mask k h
-          ∙ or_left (has (mask_at masks x) k) (has mask k) (ap (λ z. has (mask_at masks z) k) (sym is) ∙ b))
+      ∙ or_left (has (mask_at masks x) k) (has mask k) (ap (λ z. has (mask_at masks z) k) (sym is) ∙ b))
       (λ (ne : y ≢ x). with-other masks x y mask k ne ∙ b)
       (cases_eq y x);
   adds = λ k y r b.
       ap (λ z. has (mask_at (with_mask masks x mask) z) k) r.1 ∙ with-same masks x mask k h ∙ or_right (has (mask_at masks x) k) (has mask k) b;
   only = λ k y b. ⊎_elim
       (λ (is : y ≡ x). ⊎_elim
-          (λ old. inl (ap (λ z. has (mask_at masks z) k) is ∙ old))
-          (λ new. inr ((told, is), new))
-          (or_cases (has (mask_at masks x) k) (has mask k) (sym (with-same masks x mask k h) ∙ ap (λ z. has (mask_at (with_mask masks x mask) z) k) (sym is) ∙ b)))
+      (λ old. inl (ap (λ z. has (mask_at masks z) k) is ∙ old))
+      (λ new. inr ((told, is), new))
+      (or_cases (has (mask_at masks x) k) (has mask k) (sym (with-same masks x mask k h) ∙ ap (λ z. has (mask_at (with_mask masks x mask) z) k) (sym is) ∙ b)))
       (λ (ne : y ≢ x). inl (sym (with-other masks x y mask k ne) ∙ b))
       (cases_eq y x);
 }
@@ -105,9 +105,9 @@ bit-same masks x k h small =
 bit-other : (masks : List ℕ) (x y k j : ℕ) → x < length masks → k < 64 → j ≢ k → has (mask_at (with_bit masks x k) y) j ≡ has (mask_at masks y) j
 bit-other masks x y k j h small ne = ⊎_elim
     (λ (is : y ≡ x). ap (λ z. has (mask_at (with_bit masks x k) z) j) is
-        ∙ ap (λ m. has m j) (get_or-set_same masks x (bit_or (mask_at masks x) (1 * 2 ^ k % 2 ^ 64)) 0 h)
-        ∙ ap (λ b. eqb b 1) (bit_at_set_other w64 (mask_at masks x) k small j ne)
-        ∙ ap (λ z. has (mask_at masks z) j) (sym is))
+    ∙ ap (λ m. has m j) (get_or-set_same masks x (bit_or (mask_at masks x) (1 * 2 ^ k % 2 ^ 64)) 0 h)
+    ∙ ap (λ b. eqb b 1) (bit_at_set_other w64 (mask_at masks x) k small j ne)
+    ∙ ap (λ z. has (mask_at masks z) j) (sym is))
     (λ (other : y ≢ x). with-other masks x y (1 * 2 ^ k % 2 ^ 64) j other)
     (cases_eq y x)
 
@@ -116,14 +116,14 @@ pub marked-more : (asked masks : List ℕ) (k x : ℕ) → x ≡ number_at asked
 marked-more asked masks k x e h small m = record {
   marks = λ j l. ⊎_elim
       (λ (is : j ≡ k). subst (λ i. has (mask_at (with_bit masks x k) (number_at asked i)) i ≡ true) (sym is)
-          (ap (λ z. has (mask_at (with_bit masks x k) z) k) (sym e) ∙ bit-same masks x k h small))
+      (ap (λ z. has (mask_at (with_bit masks x k) z) k) (sym e) ∙ bit-same masks x k h small))
       (λ (ne : j ≢ k). bit-other masks x (number_at asked j) k j h small ne ∙ m.marks j (omega arith))
       (cases_eq j k);
   only = λ j y b. ⊎_elim
       (λ (is : j ≡ k). ⊎_elim
-          (λ (same : y ≡ x). let lt : j < k + 1 = omega arith in (lt, same ∙ e ∙ ap (number_at asked) (sym is)))
-          (λ (ne : y ≢ x). let z = m.only j y (sym (with-other masks x y (1 * 2 ^ k % 2 ^ 64) j ne) ∙ b) in let l : j < k = z.0 in absurd (omega arith))
-          (cases_eq y x))
+      (λ (same : y ≡ x). let lt : j < k + 1 = omega arith in (lt, same ∙ e ∙ ap (number_at asked) (sym is)))
+      (λ (ne : y ≢ x). let z = m.only j y (sym (with-other masks x y (1 * 2 ^ k % 2 ^ 64) j ne) ∙ b) in let l : j < k = z.0 in absurd (omega arith))
+      (cases_eq y x))
       (λ (ne : j ≢ k). let z = m.only j y (sym (bit-other masks x y k j h small ne) ∙ b) in let l : j < k = z.0 in let lt : j < k + 1 = omega arith in (lt, z.1))
       (cases_eq j k);
 }
@@ -149,12 +149,12 @@ spread-step known nodes inputs asked p q masks found masks' found' valid next a 
   left = λ k n l d. ⊎_elim
       (λ f. inl (b.keeps k n f))
       (λ r. ⊎_elim
-          (λ (lt : r.0 < q). inr (r.0, lt, a.keeps k r.0 r.2, r.3))
-          (λ (ge : q ≤ r.0).
-              let below : r.0 < p = r.1 in
-              let is : r.0 ≡ q = omega arith in
-              go k n (subst (λ x. has (mask_at masks x) k ≡ true) is r.2) (subst (Depends known nodes n) is r.3))
-          (cases_lt r.0 q))
+      (λ (lt : r.0 < q). inr (r.0, lt, a.keeps k r.0 r.2, r.3))
+      (λ (ge : q ≤ r.0).
+      let below : r.0 < p = r.1 in
+      let is : r.0 ≡ q = omega arith in
+      go k n (subst (λ x. has (mask_at masks x) k ≡ true) is r.2) (subst (Depends known nodes n) is r.3))
+      (cases_lt r.0 q))
       (s.left k n l d);
 }
   where

@@ -54,9 +54,9 @@ plain-same : (op : Op) (a b c x y z : Value) → arity_of op ≤ 2 → a ≡ x �
 plain-same op a b c x y z few first second =
     ap (λ v. op_value op v b c) first
     ∙ ⊎_elim
-        (λ (lt : 1 < arity_of op). ap (λ v. op_value op x v c) (second (lt-ltb 1 (arity_of op) lt)) ∙ third_is_ignored op x y c z few)
-        (λ (ge : arity_of op ≤ 1). let one : arity_of op ≡ 1 = omega (arith, some-arity op, ge) in second_is_ignored op x b c y z one)
-        (cases_lt 1 (arity_of op))
+    (λ (lt : 1 < arity_of op). ap (λ v. op_value op x v c) (second (lt-ltb 1 (arity_of op) lt)) ∙ third_is_ignored op x y c z few)
+    (λ (ge : arity_of op ≤ 1). let one : arity_of op ≡ 1 = omega (arith, some-arity op, ge) in second_is_ignored op x b c y z one)
+    (cases_lt 1 (arity_of op))
 
 op-same : (op : Op) (f : Possible) (a b c x y z : Value) → Holds f a → a ≡ x → (looks_at_second op f ≡ true → b ≡ y) → (looks_at_third op f ≡ true → c ≡ z)
     → op_value op a b c ≡ op_value op x y z
@@ -88,11 +88,11 @@ agree known nodes inputs p before now valid held kept =
     same-entry p lt some all agreed (Do op a b c) is h =
         let low : (x : ℕ) → LooksAt known (Do op a b c) x → x < p = λ x l. looks-below known inputs p x (Do op a b c) h l in
         let below : (x : ℕ) → LooksAt known (Do op a b c) x → value_at (node_values before nodes) x ≡ value_at (node_values now nodes) x =
-            λ x l. let lx : x < p = low x l in all x lx (omega arith) (λ n d. agreed n (argument (some, subst (λ node. LooksAt known node x) (sym is) l) d)) in
+        λ x l. let lx : x < p = low x l in all x lx (omega arith) (λ n d. agreed n (argument (some, subst (λ node. LooksAt known node x) (sym is) l) d)) in
         let la : a < p = h.0 in
         op-same op (fact_at known a) (value_at (node_values before nodes) a) (value_at (node_values before nodes) b) (value_at (node_values before nodes) c)
-            (value_at (node_values now nodes) a) (value_at (node_values now nodes) b) (value_at (node_values now nodes) c)
-            (holds a (omega arith)) (below a (inl refl)) (λ e. below b (inr (inl (e, refl)))) (λ e. below c (inr (inr (e, refl))))
+        (value_at (node_values now nodes) a) (value_at (node_values now nodes) b) (value_at (node_values now nodes) c)
+        (holds a (omega arith)) (below a (inl refl)) (λ e. below b (inr (inl (e, refl)))) (λ e. below c (inr (inr (e, refl))))
 
     each : (p : ℕ)
         → ((q : ℕ) → q < p → q < length nodes → ((n : ℕ) → Depends known nodes n q → value_at before n ≡ value_at now n) → value_at (node_values before nodes) q ≡ value_at (node_values now nodes) q)
