@@ -1,11 +1,12 @@
 -- The numbers below a count that pass a test, and parts of lists.
-use Rattle.std.proofs.Common.{◌≡◌, ℕ, zero, suc, ◌+◌, ◌<◌, ◌≤◌, Bool, true, false, cond, List, [], ◌∷◌, ◌++◌, length, get_or, map, take, drop, append_assoc, All, refl, ap, sym, ◌∙◌, subst, inl, inr, ⊎_elim, arith}
+use Rattle.std.proofs.Common.{◌≡◌, ℕ, zero, suc, ◌+◌, ◌<◌, ◌≤◌, Bool, true, false, cond, List, [], ◌∷◌, ◌++◌, length, get_or, map, take, drop, append_assoc, All, refl, ap, sym, ◌∙◌, subst, ⊎_elim, arith}
 use Rattle.std.specs.Prelude.{filter, Contains}
 use Rattle.std.specs.List.{AllByRecursion, range_with_len}
-use Rattle.std.proofs.lemmas.Bool.{cases_lt}
+use Rattle.std.proofs.lemmas.Bool.{cases_lt, true≢false}
 use Rattle.std.proofs.lemmas.List.{map-append, take_more}
 use Rattle.std.proofs.Math.Seq.{take-add}
-use Rattle.std.proofs.lemmas.List.Elements.{filter_passes}
+use Rattle.std.proofs.lemmas.List.Elements.{filter_passes, filter-append, All-filter}
+use Rattle.std.proofs.lemmas.List.FromFn.{length-range_with_len, get_or-range_with_len}
 
 from-more : (test : ℕ → Bool) (first n last : ℕ) → first + n ≡ last → filter test (range_with_len first (suc n)) ≡ filter test (range_with_len first n) ++ cond (test last) (last ∷ []) []
 from-more test first zero last e = let same : first ≡ last = omega (arith, e) in ap (λ k. cond (test k) (k ∷ []) []) same
@@ -19,6 +20,27 @@ from-more test first (suc n) last e =
 -- one number more
 pub numbers-more : (test : ℕ → Bool) (n : ℕ) → filter test (range_with_len 0 (n + 1)) ≡ filter test (range_with_len 0 n) ++ cond (test n) (n ∷ []) []
 numbers-more test n = let next : n + 1 ≡ suc n = omega arith in ap (λ k. filter test (range_with_len 0 k)) next ∙ from-more test 0 n n (omega arith)
+
+-- one element more
+pub passing-more : (test : ℕ → Bool) (xs : List ℕ) (i : ℕ) → i < length xs → filter test (take (i + 1) xs) ≡ filter test (take i xs) ++ cond (test (get_or xs i 0)) (get_or xs i 0 ∷ []) []
+passing-more test xs i h = ap (filter test) (take_more xs i 0 h) ∙ filter-append test (take i xs) (get_or xs i 0 ∷ [])
+
+-- a test after another that passes all that it does
+pub after-wider : (p q : ℕ → Bool) (xs : List ℕ) → ((n : ℕ) → p n ≡ true → q n ≡ true) → filter p (filter q xs) ≡ filter p xs
+after-wider p q [] wide = refl
+after-wider p q (x ∷ xs) wide = by (p x) (q x) refl refl (after-wider p q xs wide)
+  where
+    by : (a b : Bool) → p x ≡ a → q x ≡ b → filter p (filter q xs) ≡ filter p xs → filter p (cond b (x ∷ filter q xs) (filter q xs)) ≡ cond a (x ∷ filter p xs) (filter p xs)
+    by true true e f behind = ap (λ c. cond c (x ∷ filter p (filter q xs)) (filter p (filter q xs))) e ∙ ap (λ ys. x ∷ ys) behind
+    by false true e f behind = ap (λ c. cond c (x ∷ filter p (filter q xs)) (filter p (filter q xs))) e ∙ behind
+    by true false e f behind = absurd (true≢false (sym (wide x e) ∙ f))
+    by false false e f behind = behind
+
+-- the numbers below a count are below it, whichever pass
+pub all-below : (test : ℕ → Bool) (n : ℕ) → All (λ k. k < n) (filter test (range_with_len 0 n))
+all-below test n =
+    All-filter test (λ k. k < n) (range_with_len 0 n)
+    (λ i d l. let within : i < n = omega (arith, l, length-range_with_len 0 n) in omega (arith, within, get_or-range_with_len 0 n i d within))
 
 -- the same numbers pass two tests that agree
 from-same : (f g : ℕ → Bool) (first n : ℕ) → ((k : ℕ) → k < first + n → f k ≡ g k) → filter f (range_with_len first n) ≡ filter g (range_with_len first n)

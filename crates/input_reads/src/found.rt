@@ -1,9 +1,9 @@
 //! The inputs on which nodes may depend.
-ghost use Rattle.std.specs.Prelude.{◌≡◌, ◌<◌, ◌≤◌, ◌++◌, ◌∷◌, [], IfOk, OnOk, filter, length, map, if◌then◌else◌};
+ghost use Rattle.std.specs.Prelude.{◌≡◌, ◌<◌, ◌≤◌, ◌++◌, ◌∷◌, [], All, IfOk, OnOk, filter, length, map, if◌then◌else◌};
 ghost use Rattle.std.specs.List.{AllByRecursion, range_with_len};
 ghost use Rattle.flat_code.specs.Runs.{AreNodes};
 ghost use Rattle.input_reads.specs.Reads.{depends_on};
-ghost use Rattle.input_reads.specs.inner.Masks.{has, mask_at};
+ghost use Rattle.input_reads.specs.inner.Masks.{has, mask_at, is_reached};
 
 use crate::spread::input_masks;
 use definedness::Fact;
@@ -16,7 +16,8 @@ use std::alloc::{AllocError, Global};
 ///
 /// Of the nodes `Input(0)`, `Input(1)` and `Do(Op::Choose, 0, 1, 1)`, where the first is known to be 1, the last depends on input 1 alone.
 ///
-/// It goes once through the nodes, and through the inputs, for each 64 asked nodes, and takes a step for each input of each asked node.
+/// For each 64 asked nodes it goes once through the nodes and the inputs, and then, for each of the 64, through the inputs on which one of
+/// them may depend.
 pub fn dependences(
     alloc: Global,
     nodes: &[Node],
@@ -65,22 +66,36 @@ fn add_group(
     ensures { OnOk result (found.new.items ≡ found.old.items ++ map (depends_on known.now nodes.now inputs) asked.now) }
 {
     let masks = input_masks(alloc, nodes, inputs, known, asked)?;
+    let reached = reached(alloc, &masks)?;
     for k in 0..asked.len() {
-        let list = numbers_with(alloc, &masks, k)?;
+        let list = with_bit(alloc, &reached, &masks, k)?;
         found.push(Seq::from_vec(list))?;
     }
     Ok(())
 }
 
-// The numbers whose masks have a bit, in ascending order.
-fn numbers_with(alloc: Global, masks: &[u64], k: usize) -> Result<Vec<u32>, AllocError>
-    requires bit { k < 64 }
-    requires few { length masks.now < 4_294_967_296 }
-    ensures { IfOk result (λ list. list.items ≡ filter (λ n. has (mask_at masks.now n) k) (range_with_len 0 (length masks.now))) }
+// The inputs whose masks aren't 0, in ascending order.
+fn reached(alloc: Global, masks: &[u64]) -> Result<Vec<u32>, AllocError>
+    requires { length masks.now < 4_294_967_296 }
+    ensures { IfOk result (λ list. list.items ≡ filter (is_reached masks.now) (range_with_len 0 (length masks.now))) }
 {
     let mut list = Vec::new(alloc);
     for n in 0..masks.len() {
-        add_if(has_bit(masks[n], k), n as u32, &mut list)?;
+        add_if(masks[n] != 0, n as u32, &mut list)?;
+    }
+    Ok(list)
+}
+
+// Of these inputs, in order, those whose masks have a bit.
+fn with_bit(alloc: Global, inputs: &[u32], masks: &[u64], k: usize) -> Result<Vec<u32>, AllocError>
+    requires bit { k < 64 }
+    requires within { All (λ n. n < length masks.now) inputs.now }
+    ensures { IfOk result (λ list. list.items ≡ filter (λ n. has (mask_at masks.now n) k) inputs.now) }
+{
+    let mut list = Vec::new(alloc);
+    for i in 0..inputs.len() {
+        let n = inputs[i];
+        add_if(has_bit(masks[n as usize], k), n, &mut list)?;
     }
     Ok(list)
 }
