@@ -1,12 +1,11 @@
 -- The numbers below a count that pass a test, and parts of lists.
-use Rattle.std.proofs.Common.{◌≡◌, ℕ, zero, suc, ◌+◌, ◌<◌, ◌≤◌, Bool, true, false, cond, List, [], ◌∷◌, ◌++◌, length, get_or, map, take, drop, append_assoc, All, refl, ap, sym, ◌∙◌, subst, ⊎_elim, arith}
+use Rattle.std.proofs.Common.{◌≡◌, ℕ, zero, suc, ◌+◌, ◌<◌, ◌≤◌, Bool, true, false, cond, List, [], ◌∷◌, ◌++◌, length, map, take, drop, All, refl, ap, sym, ◌∙◌, subst, ⊎_elim, arith}
 use Rattle.std.specs.Prelude.{filter, Contains}
 use Rattle.std.specs.List.{AllByRecursion, range_with_len}
-use Rattle.std.proofs.lemmas.Bool.{cases_lt, true≢false}
-use Rattle.std.proofs.lemmas.List.{map-append, take_more}
+use Rattle.std.proofs.lemmas.Bool.{cases_lt}
+use Rattle.std.proofs.lemmas.List.{map-append}
 use Rattle.std.proofs.Math.Seq.{take-add}
-use Rattle.std.proofs.lemmas.List.Elements.{filter_passes, filter-append, All-filter}
-use Rattle.std.proofs.lemmas.List.FromFn.{length-range_with_len, get_or-range_with_len}
+use Rattle.std.proofs.lemmas.List.Elements.{filter_passes}
 
 from-more : (test : ℕ → Bool) (first n last : ℕ) → first + n ≡ last → filter test (range_with_len first (suc n)) ≡ filter test (range_with_len first n) ++ cond (test last) (last ∷ []) []
 from-more test first zero last e = let same : first ≡ last = omega (arith, e) in ap (λ k. cond (test k) (k ∷ []) []) same
@@ -20,27 +19,6 @@ from-more test first (suc n) last e =
 -- one number more
 pub numbers-more : (test : ℕ → Bool) (n : ℕ) → filter test (range_with_len 0 (n + 1)) ≡ filter test (range_with_len 0 n) ++ cond (test n) (n ∷ []) []
 numbers-more test n = let next : n + 1 ≡ suc n = omega arith in ap (λ k. filter test (range_with_len 0 k)) next ∙ from-more test 0 n n (omega arith)
-
--- one element more
-pub passing-more : (test : ℕ → Bool) (xs : List ℕ) (i : ℕ) → i < length xs → filter test (take (i + 1) xs) ≡ filter test (take i xs) ++ cond (test (get_or xs i 0)) (get_or xs i 0 ∷ []) []
-passing-more test xs i h = ap (filter test) (take_more xs i 0 h) ∙ filter-append test (take i xs) (get_or xs i 0 ∷ [])
-
--- a test after another that passes all that it does
-pub after-wider : (p q : ℕ → Bool) (xs : List ℕ) → ((n : ℕ) → p n ≡ true → q n ≡ true) → filter p (filter q xs) ≡ filter p xs
-after-wider p q [] wide = refl
-after-wider p q (x ∷ xs) wide = by (p x) (q x) refl refl (after-wider p q xs wide)
-  where
-    by : (a b : Bool) → p x ≡ a → q x ≡ b → filter p (filter q xs) ≡ filter p xs → filter p (cond b (x ∷ filter q xs) (filter q xs)) ≡ cond a (x ∷ filter p xs) (filter p xs)
-    by true true e f behind = ap (λ c. cond c (x ∷ filter p (filter q xs)) (filter p (filter q xs))) e ∙ ap (λ ys. x ∷ ys) behind
-    by false true e f behind = ap (λ c. cond c (x ∷ filter p (filter q xs)) (filter p (filter q xs))) e ∙ behind
-    by true false e f behind = absurd (true≢false (sym (wide x e) ∙ f))
-    by false false e f behind = behind
-
--- the numbers below a count are below it, whichever pass
-pub all-below : (test : ℕ → Bool) (n : ℕ) → All (λ k. k < n) (filter test (range_with_len 0 n))
-all-below test n =
-    All-filter test (λ k. k < n) (range_with_len 0 n)
-    (λ i d l. let within : i < n = omega (arith, l, length-range_with_len 0 n) in omega (arith, within, get_or-range_with_len 0 n i d within))
 
 -- the same numbers pass two tests that agree
 from-same : (f g : ℕ → Bool) (first n : ℕ) → ((k : ℕ) → k < first + n → f k ≡ g k) → filter f (range_with_len first n) ≡ filter g (range_with_len first n)
@@ -99,14 +77,7 @@ all-drop P zero xs h = h
 all-drop P (suc n) [] h = tt
 all-drop P (suc n) (x ∷ xs) h = all-drop P n xs h.1
 
--- ---- what is found, one after another, and a group after another
-
-pub found-more : {X : Type 0} (f : ℕ → X) (old found new : List X) (asked : List ℕ) (k : ℕ) (one : X) → k < length asked → found ≡ old ++ map f (take k asked)
-    → one ≡ f (get_or asked k 0) → new ≡ found ++ one ∷ [] → new ≡ old ++ map f (take (k + 1) asked)
-found-more f old found new asked k one h before is more =
-    more ∙ ap (λ xs. xs ++ one ∷ []) before ∙ ap (λ x. (old ++ map f (take k asked)) ++ x ∷ []) is
-    ∙ append_assoc old (map f (take k asked)) (f (get_or asked k 0) ∷ [])
-    ∙ ap (λ xs. old ++ xs) (sym (map-append f (take k asked) (get_or asked k 0 ∷ [])) ∙ ap (map f) (sym (take_more asked k 0 h)))
+-- ---- a group after another
 
 pub group-more : {X : Type 0} (f : ℕ → X) (found new : List X) (asked : List ℕ) (from count to : ℕ) → from + count ≡ to → found ≡ map f (take from asked)
     → new ≡ found ++ map f (take count (drop from asked)) → new ≡ map f (take to asked)

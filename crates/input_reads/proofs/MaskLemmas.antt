@@ -1,9 +1,8 @@
 -- Masks: one added, one node after another, and what the bits say at the end.
-use Rattle.std.proofs.Common.{◌≡◌, ◌≢◌, ℕ, zero, suc, ◌+◌, ◌*◌, ◌%◌, ◌^◌, ◌<◌, ◌≤◌, Bool, true, false, eqb, List, All, length, set, bit_or, w64, refl, ap, sym, ◌∙◌, subst, inl, inr, ⊎_elim, arith}
-use Rattle.std.specs.Prelude.{not, ◌||◌, ◌⊎◌, filter, max}
-use Rattle.std.specs.List.{range_with_len}
+use Rattle.std.proofs.Common.{◌≡◌, ◌≢◌, ℕ, zero, suc, ◌+◌, ◌*◌, ◌%◌, ◌^◌, ◌<◌, ◌≤◌, Bool, true, false, eqb, List, length, set, bit_or, w64, refl, ap, sym, ◌∙◌, subst, inl, inr, ⊎_elim, arith}
+use Rattle.std.specs.Prelude.{◌||◌, ◌⊎◌, max}
 use Rattle.std.specs.Int.{bit_at}
-use Rattle.std.proofs.lemmas.Bool.{cases_eq, cases_lt, or_cases, or_left, or_right, true≢false, eq-eqb, ne_eqb}
+use Rattle.std.proofs.lemmas.Bool.{cases_eq, cases_lt, or_cases, or_left, or_right, true≢false, eq-eqb}
 use Rattle.std.proofs.lemmas.List.{get_or-set_same, get_or-set_other, length-set}
 use Rattle.std.proofs.lemmas.Nat.Bits.{bit_at-zero, bit_at-lt, bit_at_or, bit_at_set_same, bit_at_set_other}
 use Rattle.definedness.specs.Facts.{Possible}
@@ -12,18 +11,13 @@ use Rattle.flat_code.specs.Runs.{AreNodes}
 use Rattle.input_reads.specs.Reads.{may_depend}
 use Rattle.input_reads.specs.Steps.{Gives, Takes, Depends}
 use Rattle.input_reads.specs.Steps.Depends.{input, argument}
-use Rattle.input_reads.specs.inner.Masks.{has, mask_at, is_reached, number_at, Adds, IsMarked, IsSpread, AreMasks}
-use Rattle.input_reads.proofs.ListLemmas.{after-wider, all-below}
+use Rattle.input_reads.specs.inner.Masks.{has, mask_at, number_at, Adds, IsMarked, IsSpread, AreMasks}
 use Rattle.input_reads.proofs.DependLemmas.{by-steps, by-test, takes-below}
 
 -- ---- bits
 
 pub has-zero : (k : ℕ) → has 0 k ≡ false
 has-zero k = ap (λ x. eqb x 1) (bit_at-zero k)
-
--- a mask with a bit isn't 0
-pub bit-reached : (masks : List ℕ) (n k : ℕ) → has (mask_at masks n) k ≡ true → is_reached masks n ≡ true
-bit-reached masks n k b = ap not (ne_eqb (mask_at masks n) 0 (λ none. true≢false (sym b ∙ ap (λ m. has m k) none ∙ has-zero k)))
 
 max-one : (x y : ℕ) → x < 2 → y < 2 → eqb (max x y) 1 ≡ (eqb x 1 || eqb y 1)
 max-one zero zero h i = refl
@@ -182,23 +176,3 @@ spread-end known nodes inputs asked masks found valid s = record {
       (λ b. by-test known nodes inputs n (number_at asked k) valid (s.input k n l b))
       (λ b. ⊎_elim (λ f. f) (λ r. let none : r.0 < 0 = r.1 in absurd (omega arith)) (s.left k n l (by-steps known nodes inputs (number_at asked k) n valid b)));
 }
-
--- ---- the inputs that are reached
-
-reached-are : (masks now reached inputs : List ℕ) → now ≡ masks → reached ≡ filter (is_reached now) (range_with_len 0 (length now)) → inputs ≡ reached
-    → inputs ≡ filter (is_reached masks) (range_with_len 0 (length masks))
-reached-are masks now reached inputs e found same = same ∙ found ∙ ap (λ ms. filter (is_reached ms) (range_with_len 0 (length ms))) e
-
-pub reached-below : (masks now again reached inputs : List ℕ) → now ≡ masks → again ≡ masks → reached ≡ filter (is_reached now) (range_with_len 0 (length now)) → inputs ≡ reached
-    → All (λ n. n < length again) inputs
-reached-below masks now again reached inputs e d found same =
-    subst (λ ms. All (λ n. n < length ms) inputs) (sym d)
-    (subst (λ ns. All (λ n. n < length masks) ns) (sym (reached-are masks now reached inputs e found same)) (all-below (is_reached masks) (length masks)))
-
--- those with a bit are those of all that have it
-pub reached-with : (masks now again reached inputs list : List ℕ) (k : ℕ) → now ≡ masks → again ≡ masks → reached ≡ filter (is_reached now) (range_with_len 0 (length now))
-    → inputs ≡ reached → list ≡ filter (λ n. has (mask_at again n) k) inputs → list ≡ filter (λ n. has (mask_at masks n) k) (range_with_len 0 (length masks))
-reached-with masks now again reached inputs list k e d found same is =
-    is ∙ ap (λ ms. filter (λ n. has (mask_at ms n) k) inputs) d
-    ∙ ap (filter (λ n. has (mask_at masks n) k)) (reached-are masks now reached inputs e found same)
-    ∙ after-wider (λ n. has (mask_at masks n) k) (is_reached masks) (range_with_len 0 (length masks)) (λ n b. bit-reached masks n k b)

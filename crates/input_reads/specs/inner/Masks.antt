@@ -1,5 +1,5 @@
 -- Masks of 64 bits: bit k of a node's mask is 1 where the asked node k reaches it.
-use Rattle.std.specs.Prelude.{◌≡◌, ℕ, ◌<◌, ◌==◌, Bool, true, not, ◌⊎◌, List, length, slice_index_or}
+use Rattle.std.specs.Prelude.{◌≡◌, ℕ, ◌<◌, ◌==◌, Bool, true, ◌⊎◌, List, length, slice_index_or}
 use Rattle.std.specs.Int.{bit_at}
 use Rattle.definedness.specs.Facts.{Possible}
 use Rattle.flat_code.specs.declared.program.Node.{Node}
@@ -11,10 +11,6 @@ has mask k = bit_at mask k == 1
 
 abbrev pub mask_at : List ℕ → ℕ → ℕ
 mask_at masks x = slice_index_or masks x 0
-
--- an input whose mask isn't 0
-abbrev pub is_reached : List ℕ → ℕ → Bool
-is_reached masks n = not (mask_at masks n == 0)
 
 abbrev pub number_at : List ℕ → ℕ → ℕ
 number_at asked k = slice_index_or asked k 0
