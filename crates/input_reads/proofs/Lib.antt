@@ -1,3 +1,4 @@
+pub mod BitLemmas
 pub mod DependLemmas
 pub mod ListLemmas
 pub mod MaskLemmas

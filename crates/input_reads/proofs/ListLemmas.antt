@@ -1,9 +1,9 @@
 -- The numbers below a count that pass a test, and parts of lists.
-use Rattle.std.proofs.Common.{◌≡◌, ℕ, zero, suc, ◌+◌, ◌<◌, ◌≤◌, Bool, true, false, cond, List, [], ◌∷◌, ◌++◌, length, get_or, map, take, drop, append_assoc, All, refl, ap, sym, ◌∙◌, subst, inl, inr, ⊎_elim, arith}
+use Rattle.std.proofs.Common.{◌≡◌, ℕ, zero, suc, ◌+◌, ◌<◌, ◌≤◌, Bool, true, false, cond, List, [], ◌∷◌, ◌++◌, length, map, take, drop, All, refl, ap, sym, ◌∙◌, subst, ⊎_elim, arith}
 use Rattle.std.specs.Prelude.{filter, Contains}
 use Rattle.std.specs.List.{AllByRecursion, range_with_len}
 use Rattle.std.proofs.lemmas.Bool.{cases_lt}
-use Rattle.std.proofs.lemmas.List.{map-append, take_more}
+use Rattle.std.proofs.lemmas.List.{map-append}
 use Rattle.std.proofs.Math.Seq.{take-add}
 use Rattle.std.proofs.lemmas.List.Elements.{filter_passes}
 
@@ -77,14 +77,7 @@ all-drop P zero xs h = h
 all-drop P (suc n) [] h = tt
 all-drop P (suc n) (x ∷ xs) h = all-drop P n xs h.1
 
--- ---- what is found, one after another, and a group after another
-
-pub found-more : {X : Type 0} (f : ℕ → X) (old found new : List X) (asked : List ℕ) (k : ℕ) (one : X) → k < length asked → found ≡ old ++ map f (take k asked)
-    → one ≡ f (get_or asked k 0) → new ≡ found ++ one ∷ [] → new ≡ old ++ map f (take (k + 1) asked)
-found-more f old found new asked k one h before is more =
-    more ∙ ap (λ xs. xs ++ one ∷ []) before ∙ ap (λ x. (old ++ map f (take k asked)) ++ x ∷ []) is
-    ∙ append_assoc old (map f (take k asked)) (f (get_or asked k 0) ∷ [])
-    ∙ ap (λ xs. old ++ xs) (sym (map-append f (take k asked) (get_or asked k 0 ∷ [])) ∙ ap (map f) (sym (take_more asked k 0 h)))
+-- ---- a group after another
 
 pub group-more : {X : Type 0} (f : ℕ → X) (found new : List X) (asked : List ℕ) (from count to : ℕ) → from + count ≡ to → found ≡ map f (take from asked)
     → new ≡ found ++ map f (take count (drop from asked)) → new ≡ map f (take to asked)

@@ -1,7 +1,7 @@
 -- Where two lists of inputs agree on what a node may depend on, it has one value.
-use Rattle.std.proofs.Common.{◌≡◌, ℕ, ◌+◌, ◌<◌, ◌≤◌, Bool, true, false, List, length, Option, None, Some, refl, ap, sym, ◌∙◌, subst, inl, inr, ⊎_elim, arith}
+use Rattle.std.proofs.Common.{◌≡◌, ℕ, ◌<◌, ◌≤◌, Bool, true, false, List, length, Option, None, Some, refl, ap, sym, ◌∙◌, subst, inl, inr, ⊎_elim, arith}
 use Rattle.std.specs.Prelude.{ℤ, nat_lt, is_none, if◌then◌else◌}
-use Rattle.std.proofs.lemmas.Bool.{cases_lt, cases_Bool, lt-ltb}
+use Rattle.std.proofs.lemmas.Bool.{cases_lt, lt-ltb}
 use Rattle.m_fixed.specs.declared.amount.Value.{Value}
 use Rattle.m_fixed.specs.declared.amount.Value.TheVariants.{Undef, Num, Over}
 use Rattle.m_fixed.specs.declared.operator.Op.{Op}
@@ -20,7 +20,7 @@ use Rattle.flat_code.proofs.ReadLemmas.{strong, are-valid}
 use Rattle.flat_code.proofs.RunLemmas.{length-node_values}
 use Rattle.flat_code.proofs.FixedLemmas.{values_fixed}
 use Rattle.input_reads.specs.Reads.{fact_at, is_open, looks_at_second, looks_at_third}
-use Rattle.input_reads.specs.Steps.{LooksAt, Takes, Depends, AreHeld}
+use Rattle.input_reads.specs.Steps.{LooksAt, Depends, AreHeld}
 use Rattle.input_reads.specs.Steps.Depends.{input, argument}
 use Rattle.input_reads.proofs.DependLemmas.{looks-below}
 

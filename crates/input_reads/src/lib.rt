@@ -5,6 +5,7 @@
 
 mod found;
 mod laws;
+mod lists;
 mod looks;
 mod spread;
 

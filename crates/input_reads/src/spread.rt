@@ -13,7 +13,7 @@ use m_fixed::Op;
 use std::alloc::{AllocError, Global};
 
 // Adds a mask to that of a number, if it is read.
-fn add_if(is_read: bool, masks: &mut [u64], x: u32, mask: u64)
+fn add_mask(is_read: bool, masks: &mut [u64], x: u32, mask: u64)
     requires { x < length masks.old }
     ensures { Adds (λ y. (is_read ≡ true) × (y ≡ x)) mask masks.old masks.new }
 {
@@ -29,9 +29,9 @@ fn add_to_arguments(masks: &mut [u64], known: &[Fact], op: Op, a: u32, b: u32, c
     ensures { Adds (LooksAt known.now (Node.Do op a b c)) mask masks.old masks.new }
 {
     let first = known[a as usize];
-    add_if(true, masks, a, mask);
-    add_if(looks_at_second(op, first), masks, b, mask);
-    add_if(looks_at_third(op, first), masks, c, mask);
+    add_mask(true, masks, a, mask);
+    add_mask(looks_at_second(op, first), masks, b, mask);
+    add_mask(looks_at_third(op, first), masks, c, mask);
 }
 
 // Adds the mask of a node of which more than one value is possible to those of the nodes at which it looks, or to that of its input.
@@ -42,7 +42,7 @@ fn add_node(masks: &mut [u64], found: &mut [u64], known: &[Fact], node: Node, ma
     ensures found { Adds (λ n. node ≡ Input n) mask found.old found.new }
 {
     match node {
-        Node::Input(n) => add_if(true, found, n, mask),
+        Node::Input(n) => add_mask(true, found, n, mask),
         Node::Lit(_) => {}
         Node::Do(op, a, b, c) => add_to_arguments(masks, known, op, a, b, c, mask),
     }

@@ -1,5 +1,4 @@
-use Rattle.std.proofs.Common.{◌<◌, length, arith}
-use Rattle.input_reads.specs.inner.Masks.{number_at}
+use Rattle.std.proofs.Common.{◌<◌, length}
 use Rattle.input_reads.proofs.ListLemmas.{all-from}
 use Rattle.input_reads.proofs.MaskLemmas.{spread-start, spread-end}
 use Rattle.input_reads.proofs.spread.fill.Goals as goal

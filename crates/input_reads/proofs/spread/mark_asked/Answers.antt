@@ -1,4 +1,4 @@
-use Rattle.std.proofs.Common.{◌≡◌, ◌<◌, ap, ◌∙◌, length, refl, arith}
+use Rattle.std.proofs.Common.{◌<◌, ap, ◌∙◌, length, refl, arith}
 use Rattle.std.proofs.lemmas.List.{length-set}
 use Rattle.input_reads.specs.inner.Masks.{has, number_at}
 use Rattle.input_reads.proofs.ListLemmas.{all-from}
