@@ -1,5 +1,5 @@
 -- Outputs that are the first with their names, one after another.
-use Rattle.std.proofs.Common.{◌≡◌, ℕ, zero, suc, ◌+◌, ◌<◌, Bool, true, false, cond, List, [], ◌∷◌, ◌++◌, length, get_or, take, Option, Some, None, slice_get, refl, ap, sym, ◌∙◌, arith}
+use Rattle.std.proofs.Common.{◌≡◌, ℕ, ◌+◌, ◌<◌, Bool, true, false, cond, List, [], ◌∷◌, ◌++◌, length, get_or, take, Option, Some, None, slice_get, refl, ap, sym, ◌∙◌}
 use Rattle.std.specs.Prelude.{◌||◌, not}
 use Rattle.std.specs.Option.{option_map_or, option_and_then}
 use Rattle.std.specs.Str.{bytes_eq}
@@ -9,7 +9,7 @@ use Rattle.m_names.proofs.NameLemmas.{same, has-append}
 use Rattle.observables.specs.declared.face.FaceOutput.{FaceOutput}
 use Rattle.observables.specs.declared.face.FaceOutput.TheVariants.{Named, Noted}
 use Rattle.observables.specs.Outputs.{names_of}
-use Rattle.m_facts.specs.Found.{name_of, name_at, is_first}
+use Rattle.m_facts.specs.Found.{name_of, is_first}
 use Rattle.m_facts.specs.inner.Parts.{with_output}
 
 -- the same names are there

@@ -1,10 +1,8 @@
 -- Lines in parts.
-use Rattle.std.proofs.Common.{◌≡◌, ℕ, zero, suc, ◌+◌, ◌<◌, ◌≤◌, List, [], ◌∷◌, ◌++◌, length, get_or, drop, Option, Some, None, Result, slice_get, refl, ap, sym, subst, ◌∙◌, append_assoc, append-nil, ⊎_elim, ◌⊎◌, inl, inr, arith}
+use Rattle.std.proofs.Common.{◌≡◌, ℕ, ◌+◌, ◌<◌, ◌≤◌, List, [], ◌∷◌, ◌++◌, length, get_or, drop, refl, ap, sym, ◌∙◌, append-nil, ◌⊎◌, inl, inr, arith}
 use Rattle.std.specs.Prelude.{codes, min}
-use Rattle.std.specs.Option.{option_map_or, option_and_then}
 use Rattle.std.proofs.lemmas.Bool.{cases_lt}
 use Rattle.std.proofs.lemmas.List.{drop_more, drop_all}
-use Rattle.m_ports.specs.Giving.{Gives}
 use Rattle.m_text.specs.Pieces.{joined, new_line}
 use Rattle.definedness.specs.Facts.{Possible}
 use Rattle.observables.specs.declared.face.Face.{Face}
@@ -17,10 +15,6 @@ use Rattle.m_lint.specs.Lines.{stops_line}
 use Rattle.m_facts.specs.declared.found.FactsFound.{FactsFound}
 use Rattle.m_facts.specs.Lines.{fact_line, facts_lines, named_facts, silent_lines, code_at, codes_text, reads_line, printed_name, reads_lines, found_text}
 use Rattle.m_facts.specs.inner.Parts.{output_line, outputs_lines}
-
--- the same is given under another name
-pub gives-text : {S T E : Type 0} (written : S → Option (List ℕ)) (faults : S → ℕ) (old new : S) (result : Result T E) (text other : List ℕ) → text ≡ other → Gives written faults old new result text → Gives written faults old new result other
-gives-text written faults old new result text other e given = subst (λ t. Gives written faults old new result t) e given
 
 -- ---- outputs
 

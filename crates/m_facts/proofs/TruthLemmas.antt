@@ -1,5 +1,5 @@
 -- What is found is true.
-use Rattle.std.proofs.Common.{◌≡◌, ℕ, zero, suc, ◌+◌, ◌<◌, ◌≤◌, Bool, true, false, cond, List, [], ◌∷◌, length, get_or, drop, map, Option, Some, None, slice_get, Contains, refl, ap, sym, ◌∙◌, subst, ⊎_elim, arith}
+use Rattle.std.proofs.Common.{◌≡◌, ℕ, ◌+◌, ◌<◌, ◌≤◌, Bool, true, false, cond, List, [], ◌∷◌, length, get_or, drop, map, Option, Some, None, slice_get, refl, ap, sym, ◌∙◌, subst, ⊎_elim, arith}
 use Rattle.std.specs.Prelude.{is_some, filter, option_map}
 use Rattle.std.specs.List.{AllByRecursion, AllZip, range_with_len}
 use Rattle.std.specs.Option.{option_map_or}
@@ -19,7 +19,7 @@ use Rattle.observables.specs.Inputs.{AreValuesOf}
 use Rattle.observables.specs.Answers.{Told, values, stopped, label_number, cause_of, told_of}
 use Rattle.observables.specs.Outputs.{are_named, notes_of, notes_stand_first, verif_at}
 use Rattle.flat_code.specs.declared.program.Flat.{Flat}
-use Rattle.flat_code.specs.Facts.{AreWithin, facts_with}
+use Rattle.flat_code.specs.Facts.{AreWithin}
 use Rattle.flat_code.specs.Faces.{IsFaceOf}
 use Rattle.flat_code.specs.Runs.{IsFlat, node_values, value_at, first_stop, flat_run}
 use Rattle.flat_code.proofs.FactLemmas.{flat-within}
@@ -29,12 +29,12 @@ use Rattle.input_reads.proofs.DependLemmas.{by-test, depends-within}
 use Rattle.input_reads.proofs.ListLemmas.{number-has, all-drop}
 use Rattle.input_reads.proofs.ValueLemmas.{agree}
 use Rattle.micro_m.specs.declared.base.Base.{Base}
-use Rattle.m_lint.specs.Findings.{fact_at, is_never_stopping, never_stopping}
+use Rattle.m_lint.specs.Findings.{fact_at, is_never_stopping}
 use Rattle.m_lint.proofs.TruthLemmas.{named-none, label-silent, never-told}
 use Rattle.m_facts.specs.Found.{known_of, node_of, found_of}
 use Rattle.m_facts.specs.Lines.{named_facts}
 use Rattle.m_facts.proofs.FindLemmas.{all-at}
-use Rattle.m_facts.specs.Truths.{AreAllowed, ArePossible, IsSilent, DependsOn}
+use Rattle.m_facts.specs.Truths.{ArePossible, IsSilent, DependsOn}
 
 abbrev TellsAll : Flat → Face → (List Value → Told) → Type 0
 TellsAll flat face tells = (vs : List Value) → AreValuesOf face.inputs vs → told_of face.labels (notes_of face.outputs) (flat_run flat vs) ≡ Some (tells vs)
@@ -113,7 +113,7 @@ silent-true base flat face given tells valid shown all =
     let known = known_of flat given in
     filter-all (IsSilent base face.inputs given tells) (is_never_stopping known base flat face) (range_with_len 0 (length base.checks))
     (λ k e. λ label is vs allowed told.
-        never-told known flat face label (node_values vs flat.nodes) (tells vs) valid (held flat given vs valid allowed.within) (label-silent known base flat face k label is e) (all vs allowed.may) told)
+    never-told known flat face label (node_values vs flat.nodes) (tells vs) valid (held flat given vs valid allowed.within) (label-silent known base flat face k label is e) (all vs allowed.may) told)
 
 -- ---- dependences
 
@@ -144,12 +144,12 @@ depends-true flat face given tells place k valid shown all is = λ vs ws first s
     let told_ws = all ws second.may ∙ ap Some d in
     ⊎_elim
     (λ (low : k < length flat.outputs).
-        told-at flat face vs told notes place k told_vs is low
-        ∙ agree known flat.nodes flat.inputs p vs ws valid.nodes
-          (λ q lt. held flat given vs valid first.within q (omega (arith, lt, length-node_values vs flat.nodes)))
-          (λ q lt. held flat given ws valid second.within q (omega (arith, lt, length-node_values ws flat.nodes)))
-          (all-at (length flat.nodes) k flat.outputs valid.outputs low)
-          (λ n steps. same n (number-has (may_depend known flat.nodes p) flat.inputs n (depends-within known flat.nodes flat.inputs n p valid.nodes steps) (by-test known flat.nodes flat.inputs n p valid.nodes steps)))
-        ∙ sym (told-at flat face ws said others place k told_ws is low))
+    told-at flat face vs told notes place k told_vs is low
+    ∙ agree known flat.nodes flat.inputs p vs ws valid.nodes
+    (λ q lt. held flat given vs valid first.within q (omega (arith, lt, length-node_values vs flat.nodes)))
+    (λ q lt. held flat given ws valid second.within q (omega (arith, lt, length-node_values ws flat.nodes)))
+    (all-at (length flat.nodes) k flat.outputs valid.outputs low)
+    (λ n steps. same n (number-has (may_depend known flat.nodes p) flat.inputs n (depends-within known flat.nodes flat.inputs n p valid.nodes steps) (by-test known flat.nodes flat.inputs n p valid.nodes steps)))
+    ∙ sym (told-at flat face ws said others place k told_ws is low))
     (λ (high : length flat.outputs ≤ k). told-past flat face vs told notes place k told_vs is high ∙ sym (told-past flat face ws said others place k told_ws is high))
     (cases_lt k (length flat.outputs))

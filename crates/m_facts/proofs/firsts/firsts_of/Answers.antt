@@ -3,8 +3,7 @@ use Rattle.std.proofs.lemmas.Option.{slice_get_read}
 use Rattle.m_names.specs.Names.{has}
 use Rattle.m_lint.proofs.NumberLemmas.{numbers-next}
 use Rattle.m_facts.specs.Found.{is_first}
-use Rattle.m_facts.specs.inner.Parts.{with_output}
-use Rattle.m_facts.proofs.FirstLemmas.{SameNames, names-next, first-is}
+use Rattle.m_facts.proofs.FirstLemmas.{names-next, first-is}
 use Rattle.m_facts.proofs.firsts.firsts_of.Goals.{then-branch+in_ok-push, else-branch}
 use Rattle.m_facts.proofs.firsts.firsts_of.Goals as goal
 

@@ -1,8 +1,8 @@
-use Rattle.std.proofs.Common.{◌≡◌, rules, Some, true, false, sym, ◌∙◌}
+use Rattle.std.proofs.Common.{◌≡◌, rules, Some, true, false}
 use Rattle.std.specs.Ordering.{int_eq}
 use Rattle.m_facts.specs.inner.Parts.{words_after}
+use Rattle.m_lint.proofs.PrintLemmas.{gives-text}
 use Rattle.m_facts.proofs.LineLemmas.{number-line, interval-line}
-use Rattle.m_facts.proofs.PrintLemmas.{gives-text}
 use Rattle.m_facts.proofs.line.print_fact.Goals as goal
 
 pub returns-then-eq : goal.returns-then-eq

@@ -1,4 +1,4 @@
-use Rattle.std.proofs.Common.{get_or, refl, ap, arith}
+use Rattle.std.proofs.Common.{get_or, refl}
 use Rattle.std.proofs.lemmas.Result.{err_from_is_err_and}
 use Rattle.m_ports.proofs.GivingLemmas.{piece_given, piece_failed}
 use Rattle.m_facts.proofs.PrintLemmas.{codes-at}

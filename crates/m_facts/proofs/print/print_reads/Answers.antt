@@ -1,8 +1,8 @@
 use Rattle.std.proofs.Common.{◌≡◌, get_or, refl, ap, ◌∙◌, length, arith}
 use Rattle.std.proofs.lemmas.Result.{err_from_is_err_and}
 use Rattle.m_ports.proofs.GivingLemmas.{piece_given, piece_failed, all_given}
-use Rattle.m_facts.specs.Lines.{printed_name, reads_line}
-use Rattle.m_facts.proofs.PrintLemmas.{gives-text, reads-at, reads-end, within-both, past-one}
+use Rattle.m_facts.specs.Lines.{printed_name}
+use Rattle.m_facts.proofs.PrintLemmas.{reads-at, reads-end, within-both, past-one}
 use Rattle.m_facts.proofs.print.print_reads.Goals as goal
 
 pub returns-in_err-print_read : goal.returns-in_err-print_read
