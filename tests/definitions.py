@@ -1,11 +1,11 @@
 #!/usr/bin/env python3
-"""Every definition that the theorem of the program stands on, with its place and its lines: what an auditor has to read.
+"""Every definition that the theorem of the program rests on, with its file and its lines: everything you must read to know what was proved.
 
     tests/definitions.py            prints how many there are, by crate and by command
-    tests/definitions.py --head     prints the lines that docs/PROVED.md has of it
+    tests/definitions.py --head     prints the paragraph of docs/PROVED.md on it
     tests/definitions.py --page     prints each definition with its place and its lines, as a page
 
-It begins at the clauses of `m_tax` in m_commands, and goes along the names that each definition of `crates/*/specs` and each type
+It begins at the clauses of `m_tax` in m_commands, and follows the names that each definition of `crates/*/specs` and each type
 of `crates/*/src` cites. What the kit states (lists, numbers, options) is not followed. Lines of comments and empty lines aren't counted.
 """
 import os
@@ -203,10 +203,10 @@ def by_command():
 
 
 def print_head(count, lines, shared, commands):
-    """Prints how many definitions there are, and how many lines there are to read for one command."""
-    print(f"The clauses of `m_tax` lead to {count} definitions and types with {lines} lines of code, down to the operators; what the kit states of lists, numbers")
-    print("and options isn't counted. The answers of one command need fewer. All commands share the lines of words, files, limits, statuses and of what is written")
-    print(f"when something fails, which are {shared}; with these are to be read\n")
+    """Prints how many definitions there are, and how many lines one must read for one command."""
+    print(f"The clauses of `m_tax` lead to {count} definitions and types with {lines} lines, down to the operators; comments, and what the kit states of lists, numbers")
+    print(f"and options, aren't counted. {shared} of these lines are shared by all commands: arguments, files, limits, statuses, and what is written when something fails.")
+    print("For one command alone, with the shared lines:\n")
     print("| " + " | ".join(f"`{command}`" for command, _ in commands) + " |")
     print("|" + "---:|" * len(commands))
     print("| " + " | ".join(str(count) for _, count in commands) + " |")
