@@ -99,6 +99,14 @@ echo none >"$room/none"
 [ -s "$room/words" ] || echo none >"$room/words"
 same "the words of the pages and comments and ARCHITECTURE's table" "$room/none" "$room/words"
 
+# Pages say what is reported, requested or equal, without figures of speech. (Pages that are to be rewritten still are left out.)
+figures="told|tells?|said|asked for|befalls?|comes to|goes along|its like|what there is|as ever|dearest|reckons?"
+for page in README.md CONTRIBUTING.md SECURITY.md $(git ls-files 'docs/*.md' | grep -v '^docs/fr/\|PYTHON\|TOOLS\|SCALE\|SURVEY\|FACTS'); do
+    awk '/^```/{code = !code; next} !code' "$page" | sed 's/`[^`]*`//g' | grep -niwE "$figures" | sed "s|^|$page: |"
+done >"$room/figures"
+[ -s "$room/figures" ] || echo none >"$room/figures"
+same "the words of the pages and those of the field" "$room/none" "$room/figures"
+
 # Links: each names a file that is there.
 git ls-files '*.md' | grep -v '^unlanded/' | while read -r page; do
     sed 's/`[^`]*`//g' "$page" | grep -oE '\]\([^):]+\)' | sed 's/^](//; s/)$//; s/#.*//' | while read -r link; do
