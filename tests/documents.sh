@@ -125,7 +125,7 @@ for pair in README.md:LISEZMOI.md docs/FIRST_HOUR.md:docs/fr/PREMIERE_HEURE.md d
 done
 
 # Pages keep their sizes, in KB: who adds something says it shorter, or leaves something out.
-sizes="README.md 9 docs/ARCHITECTURE.md 20 docs/PROVED.md 18 docs/DECISIONS.md 30 docs/PROOFS.md 12 docs/STRENGTH.md 6"
+sizes="README.md 9 docs/ARCHITECTURE.md 20 docs/PROVED.md 15 docs/DECISIONS.md 18 docs/PROOFS.md 12 docs/STRENGTH.md 6"
 echo "$sizes" | xargs -n 2 | while read -r page most; do
     if [ "$(wc -c <"$page")" -le $((most * 1024)) ]; then echo "$page at most $most KB"; else echo "$page has $(wc -c <"$page") bytes"; fi
 done >"$room/sizes"
