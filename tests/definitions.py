@@ -204,9 +204,12 @@ def by_command():
 
 def print_head(count, lines, shared, commands):
     """Prints how many definitions there are, and how many lines one must read for one command."""
-    print(f"The clauses of `m_tax` lead to {count} definitions and types with {lines} lines, down to the operators; comments, and what the kit states of lists, numbers")
-    print(f"and options, aren't counted. {shared} of these lines are shared by all commands: arguments, files, limits, statuses, and what is written when something fails.")
-    print("For one command alone, with the shared lines:\n")
+    print(
+        f"The clauses of `m_tax` lead to {count} definitions and types with {lines} lines, down to the operators; comments, and what the kit states of "
+        "lists, numbers\nand options, aren't counted. "
+        f"{shared} of these lines are shared by all commands: arguments, files, limits, statuses, and what is written when "
+        "something fails.\nFor one command alone, with the shared lines:\n"
+    )
     print("| " + " | ".join(f"`{command}`" for command, _ in commands) + " |")
     print("|" + "---:|" * len(commands))
     print("| " + " | ".join(str(count) for _, count in commands) + " |")
