@@ -1,5 +1,5 @@
 -- On which inputs the value of a node may depend, by what is known of all nodes.
-use Rattle.std.specs.Prelude.{ℕ, ◌==◌, Bool, true, false, ◌&&◌, ◌||◌, nat_lt, List, [], ◌∷◌, ◌++◌, length, filter, fold, slice_index_or, is_none}
+use Rattle.std.specs.Prelude.{ℕ, ◌==◌, Bool, false, ◌&&◌, ◌||◌, nat_lt, List, [], ◌∷◌, ◌++◌, length, filter, fold, slice_index_or, is_none}
 use Rattle.std.specs.List.{range_with_len}
 use Rattle.m_fixed.specs.declared.operator.Op.{Op}
 use Rattle.m_fixed.specs.declared.operator.Op.TheVariants.{Choose}

@@ -1,10 +1,10 @@
 //! The inputs on which nodes may depend.
-ghost use Rattle.std.specs.Prelude.{◌≡◌, ◌<◌, ◌≤◌, ◌++◌, IfOk, OnOk, filter, length, map};
-ghost use Rattle.std.specs.List.{AllByRecursion, range_with_len};
+ghost use Rattle.std.specs.Prelude.{◌≡◌, ◌<◌, ◌≤◌, ◌++◌, IfOk, OnOk, length, map};
+ghost use Rattle.std.specs.List.{AllByRecursion};
 ghost use Rattle.flat_code.specs.Runs.{AreNodes};
 ghost use Rattle.input_reads.specs.Reads.{depends_on};
-ghost use Rattle.input_reads.specs.inner.Masks.{has, mask_at};
 
+use crate::lists::{add_lists, lists_of};
 use crate::spread::input_masks;
 use definedness::Fact;
 use flat_code::Node;
@@ -16,7 +16,7 @@ use std::alloc::{AllocError, Global};
 ///
 /// Of the nodes `Input(0)`, `Input(1)` and `Do(Op::Choose, 0, 1, 1)`, where the first is known to be 1, the last depends on input 1 alone.
 ///
-/// It goes once through the nodes, and through the inputs, for each 64 asked nodes, and takes a step for each input of each asked node.
+/// It takes a step for each node and each input, for each 64 asked nodes, and one for each input of each asked node.
 pub fn dependences(
     alloc: Global,
     nodes: &[Node],
@@ -32,15 +32,21 @@ pub fn dependences(
     let mut found = Vec::with_capacity(alloc, asked.len())?;
     let mut from = 0;
     while from < asked.len() {
-        let to = from + least(asked.len() - from, 64);
+        let to = from + group_of(asked.len() - from);
         add_group(alloc, nodes, inputs, known, &asked[from..to], &mut found)?;
         from = to;
     }
     Ok(Seq::from_vec(found))
 }
 
-fn least(a: usize, b: usize) -> usize {
-    if a < b { a } else { b }
+// How many are in a group, of so many that are left.
+fn group_of(left: usize) -> usize
+    requires { 0 < left }
+    ensures some { 0 < result }
+    ensures within { result ≤ left }
+    ensures few { result ≤ 64 }
+{
+    left.min(64)
 }
 
 // The same of 64 asked nodes at most, after what was found before.
@@ -59,24 +65,6 @@ fn add_group(
     ensures { OnOk result (found.new.items ≡ found.old.items ++ map (depends_on known.now nodes.now inputs) asked.now) }
 {
     let masks = input_masks(alloc, nodes, inputs, known, asked)?;
-    for k in 0..asked.len() {
-        let list = numbers_with(alloc, &masks, k)?;
-        found.push(Seq::from_vec(list))?;
-    }
-    Ok(())
-}
-
-// The numbers whose masks have a bit, in ascending order.
-fn numbers_with(alloc: Global, masks: &[u64], k: usize) -> Result<Vec<u32>, AllocError>
-    requires bit { k < 64 }
-    requires few { length masks.now < 4_294_967_296 }
-    ensures { IfOk result (λ list. list.items ≡ filter (λ n. has (mask_at masks.now n) k) (range_with_len 0 (length masks.now))) }
-{
-    let mut list = Vec::new(alloc);
-    for n in 0..masks.len() {
-        if masks[n] >> k & 1 == 1 {
-            list.push(n as u32)?;
-        }
-    }
-    Ok(list)
+    let lists = lists_of(alloc, &masks, asked.len())?;
+    add_lists(lists, found)
 }

@@ -5,8 +5,9 @@
 
 mod found;
 mod laws;
+mod lists;
 mod looks;
 mod spread;
 
 pub use found::dependences;
-pub use laws::{dependences_suffice, dependences_are_steps};
+pub use laws::{dependences_are_steps, dependences_suffice};

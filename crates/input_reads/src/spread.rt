@@ -1,11 +1,10 @@
 //! From asked nodes back to the inputs on which they may depend: 64 asked nodes at a time, with a bit for each.
-ghost use Rattle.std.specs.Prelude.{◌≡◌, ℕ, ◌<◌, ◌≤◌, true, false, List, length, IfOk};
+ghost use Rattle.std.specs.Prelude.{◌≡◌, ℕ, ◌<◌, ◌≤◌, true, List, length, IfOk};
 ghost use Rattle.std.specs.List.{AllByRecursion};
 ghost use Rattle.flat_code.specs.declared.program.Node.TheVariants.{Input};
 ghost use Rattle.flat_code.specs.Runs.{AreNodes, IsNode};
-ghost use Rattle.input_reads.specs.Reads.{may_depend};
 ghost use Rattle.input_reads.specs.Steps.{LooksAt, Gives, Takes};
-ghost use Rattle.input_reads.specs.inner.Masks.{has, mask_at, number_at, Adds, IsMarked, IsSpread};
+ghost use Rattle.input_reads.specs.inner.Masks.{mask_at, Adds, IsMarked, IsSpread, AreMasks};
 
 use crate::looks::{is_open, looks_at_second, looks_at_third};
 use definedness::Fact;
@@ -14,7 +13,7 @@ use m_fixed::Op;
 use std::alloc::{AllocError, Global};
 
 // Adds a mask to that of a number, if it is read.
-fn add_if(is_read: bool, masks: &mut [u64], x: u32, mask: u64)
+fn add_mask(is_read: bool, masks: &mut [u64], x: u32, mask: u64)
     requires { x < length masks.old }
     ensures { Adds (λ y. (is_read ≡ true) × (y ≡ x)) mask masks.old masks.new }
 {
@@ -30,9 +29,9 @@ fn add_to_arguments(masks: &mut [u64], known: &[Fact], op: Op, a: u32, b: u32, c
     ensures { Adds (LooksAt known.now (Node.Do op a b c)) mask masks.old masks.new }
 {
     let first = known[a as usize];
-    add_if(true, masks, a, mask);
-    add_if(looks_at_second(op, first), masks, b, mask);
-    add_if(looks_at_third(op, first), masks, c, mask);
+    add_mask(true, masks, a, mask);
+    add_mask(looks_at_second(op, first), masks, b, mask);
+    add_mask(looks_at_third(op, first), masks, c, mask);
 }
 
 // Adds the mask of a node of which more than one value is possible to those of the nodes at which it looks, or to that of its input.
@@ -43,7 +42,7 @@ fn add_node(masks: &mut [u64], found: &mut [u64], known: &[Fact], node: Node, ma
     ensures found { Adds (λ n. node ≡ Input n) mask found.old found.new }
 {
     match node {
-        Node::Input(n) => add_if(true, found, n, mask),
+        Node::Input(n) => add_mask(true, found, n, mask),
         Node::Lit(_) => {}
         Node::Do(op, a, b, c) => add_to_arguments(masks, known, op, a, b, c, mask),
     }
@@ -84,7 +83,7 @@ fn spread_back(masks: &mut [u64], found: &mut [u64], known: &[Fact], nodes: &[No
 fn mark_asked(masks: &mut [u64], asked: &[u32])
     requires few { length asked.now ≤ 64 }
     requires within { AllByRecursion (λ p. p < length masks.old) asked.now }
-    requires none { (k x : ℕ) → has (mask_at masks.old x) k ≡ false }
+    requires none { (x : ℕ) → mask_at masks.old x ≡ 0 }
     ensures size { length masks.new ≡ length masks.old }
     ensures marked { IsMarked asked.now (length asked.now) masks.new }
 {
@@ -93,19 +92,39 @@ fn mark_asked(masks: &mut [u64], asked: &[u32])
     }
 }
 
-// For each input a mask: bit k is 1 where the asked node k may depend on it.
-pub fn input_masks(alloc: Global, nodes: &[Node], inputs: u32, known: &[Fact], asked: &[u32]) -> Result<Vec<u64>, AllocError>
+// For each input a mask, where no bit is 1 yet: bit k is 1 where the asked node k may depend on it.
+fn fill(masks: &mut [u64], found: &mut [u64], known: &[Fact], nodes: &[Node], asked: &[u32])
+    requires nodes { AreNodes (length found.old) 0 nodes.now }
+    requires known { length known.now ≡ length nodes.now }
+    requires masks { length masks.old ≡ length nodes.now }
+    requires few { length asked.now ≤ 64 }
+    requires within { AllByRecursion (λ p. p < length nodes.now) asked.now }
+    requires none { (x : ℕ) → mask_at masks.old x ≡ 0 }
+    requires none_found { (n : ℕ) → mask_at found.old n ≡ 0 }
+    ensures size { length found.new ≡ length found.old }
+    ensures found { AreMasks known.now nodes.now asked.now found.new }
+{
+    mark_asked(masks, asked);
+    spread_back(masks, found, known, nodes);
+}
+
+/// For each input a mask: bit k is 1 where the asked node k may depend on it. Of asked nodes there are 64 at most.
+pub fn input_masks(
+    alloc: Global,
+    nodes: &[Node],
+    inputs: u32,
+    known: &[Fact],
+    asked: &[u32],
+) -> Result<Vec<u64>, AllocError>
     requires nodes { AreNodes inputs 0 nodes.now }
     requires known { length known.now ≡ length nodes.now }
     requires few { length asked.now ≤ 64 }
     requires within { AllByRecursion (λ p. p < length nodes.now) asked.now }
     ensures size { IfOk result (λ found. length found.items ≡ inputs) }
-    ensures found { IfOk result (λ found. (k n : ℕ) → k < length asked.now
-        → has (mask_at found.items n) k ≡ may_depend known.now nodes.now (number_at asked.now k) n) }
+    ensures found { IfOk result (λ found. AreMasks known.now nodes.now asked.now found.items) }
 {
     let mut masks = vec![in alloc; 0u64; nodes.len()]?;
     let mut found = vec![in alloc; 0u64; inputs as usize]?;
-    mark_asked(&mut masks, asked);
-    spread_back(&mut masks, &mut found, known, nodes);
+    fill(&mut masks, &mut found, known, nodes, asked);
     Ok(found)
 }

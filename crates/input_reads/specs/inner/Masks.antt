@@ -3,6 +3,7 @@ use Rattle.std.specs.Prelude.{◌≡◌, ℕ, ◌<◌, ◌==◌, Bool, true, ◌
 use Rattle.std.specs.Int.{bit_at}
 use Rattle.definedness.specs.Facts.{Possible}
 use Rattle.flat_code.specs.declared.program.Node.{Node}
+use Rattle.input_reads.specs.Reads.{may_depend}
 use Rattle.input_reads.specs.Steps.{Depends}
 
 abbrev pub has : ℕ → ℕ → Bool
@@ -33,3 +34,7 @@ pub record IsSpread (known : List Possible) (nodes : List Node) (asked : List �
   pub input : (k n : ℕ) → k < length asked → has (mask_at found n) k ≡ true → Depends known nodes n (number_at asked k)
   pub left : (k n : ℕ) → k < length asked → Depends known nodes n (number_at asked k)
       → (has (mask_at found n) k ≡ true) ⊎ ((q : ℕ) × (q < p) × (has (mask_at masks q) k ≡ true) × Depends known nodes n q)
+
+-- bit k of an input's mask is 1 where the asked node k may depend on the input
+pub record AreMasks (known : List Possible) (nodes : List Node) (asked found : List ℕ) : Type 0 where
+  pub bit : (k n : ℕ) → k < length asked → has (mask_at found n) k ≡ may_depend known nodes (number_at asked k) n
