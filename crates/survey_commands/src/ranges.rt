@@ -80,10 +80,7 @@ fn tell_digits<'a, K: Sink>(digits: &'a [u8], words: &'a [u8], out: &mut K) -> S
         (output_view K.written K.faults out.old) (output_view K.written K.faults out.new) result }
 {
     printed(
-        give_pieces(
-            out,
-            &[b"refused ranges line ", digits, b": ", words, b"\n"],
-        ),
+        give_pieces(out, &[b"refused ranges line ", digits, b": ", words, b"\n"]),
         Status::Refused,
     )
 }
