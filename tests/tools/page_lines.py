@@ -53,8 +53,6 @@ def main(page, heading, other=None, other_heading=None):
         if is_command(block):
             printed = printed_by(block[0])
             print(f"{block[0]}: {len(printed)} lines")
-            if block[0].startswith("python3 "):
-                print("\n".join(printed))
         elif block and block != printed:
             print("other lines are printed:", *(line for line in block + printed if (line in block) != (line in printed)), sep="\n  ")
         for line in cited:
