@@ -1,6 +1,6 @@
 # needs the program
 # The real year: all that the rules and the driver return, and the verifications, are those of the second calculation, also of amounts of a billion; the
-# answers that are kept; the driver without benefits; all that lint and slips print of it.
+# answers that are kept; the driver without benefits; all that lint and slips print of it, and of two reforms: what the pages explain.
 cd "$ROOT" || exit 1
 python3 examples/impot2023/check.py --count 2000 --seed 7
 python3 examples/impot2023/check.py --extremes
@@ -16,3 +16,8 @@ for driver in examples/impot2023/driver.mpp - examples/impot2023/without.mpp; do
 done
 tools/slips --driver examples/impot2023/driver.mpp examples/impot2023/rules.list
 echo "without a driver:"; tools/slips examples/impot2023/rules.list
+for reform in capital children; do
+    echo "$reform:"
+    "$M_TAX" lint examples/reform2023/$reform/rules.list examples/impot2023/driver.mpp examples/impot2023/all.txt
+    tools/slips --driver examples/impot2023/driver.mpp examples/reform2023/$reform/rules.list
+done
