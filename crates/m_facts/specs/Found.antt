@@ -1,5 +1,5 @@
 -- What is found of the requested cells of a program, where facts of its inputs are known.
-use Rattle.std.specs.Prelude.{ℕ, ◌+◌, Bool, false, not, List, [], ◌∷◌, length, map, take, slice_get, slice_index_or, Option, Some, None}
+use Rattle.std.specs.Prelude.{ℕ, Bool, false, not, List, length, map, take, slice_get, slice_index_or, Option, Some, None}
 use Rattle.std.specs.Option.{option_map_or, option_and_then}
 use Rattle.m_names.specs.Names.{has}
 use Rattle.definedness.specs.Facts.{Possible}

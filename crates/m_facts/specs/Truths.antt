@@ -1,23 +1,17 @@
 -- When what is found is true: what it says holds of whatever households within the facts are told.
-use Rattle.std.specs.Prelude.{◌≡◌, ℕ, ◌+◌, List, Contains, length, Some, slice_index_or}
-use Rattle.std.specs.List.{AllByRecursion, AllZip}
+use Rattle.std.specs.Prelude.{◌≡◌, ℕ, List, Contains, Some}
+use Rattle.std.specs.List.{AllZip}
 use Rattle.m_fixed.specs.declared.amount.Value.{Value}
-use Rattle.m_fixed.specs.declared.amount.Value.TheVariants.{Undef}
 use Rattle.m_places.specs.declared.verification.Label.{Label}
 use Rattle.definedness.specs.Facts.{Possible, Holds}
-use Rattle.observables.specs.declared.face.Face.{Face}
 use Rattle.observables.specs.declared.inputs.Coded.{Coded}
 use Rattle.observables.specs.Answers.{Told, values}
 use Rattle.observables.specs.Inputs.{AreValuesOf}
-use Rattle.observables.specs.Outputs.{notes_of}
-use Rattle.flat_code.specs.declared.program.Flat.{Flat}
 use Rattle.flat_code.specs.Facts.{AreWithin}
 use Rattle.flat_code.specs.Runs.{value_at}
-use Rattle.input_reads.specs.Reads.{depends_on}
 use Rattle.micro_m.specs.declared.base.Base.{Base}
 use Rattle.m_lint.specs.Findings.{label_of_check}
 use Rattle.m_lint.specs.Truths.{Tells}
-use Rattle.m_facts.specs.Found.{known_of, node_of}
 
 -- values that inputs may have, each of which is possible by the fact of its input
 pub record AreAllowed (inputs : List Coded) (given : List Possible) (vs : List Value) : Type 0 where

@@ -1,6 +1,6 @@
 //! Laws of what is found. Each function does nothing: its contract is the law. They hold whatever answers the program gives in the place of
 //! a source: where its run, read through its face, tells to each list of values of its inputs what `tells` does.
-ghost use Rattle.std.specs.Prelude.{◌≡◌, ◌+◌, ℕ, List, Some, Contains, length, map};
+ghost use Rattle.std.specs.Prelude.{◌≡◌, ◌+◌, ℕ, List, Some, length};
 ghost use Rattle.std.specs.List.{AllByRecursion};
 ghost use Rattle.m_fixed.specs.declared.amount.Value.{Value};
 ghost use Rattle.definedness.specs.Facts.{Possible};
@@ -13,7 +13,7 @@ ghost use Rattle.flat_code.specs.Faces.{IsFaceOf};
 ghost use Rattle.flat_code.specs.Runs.{IsFlat, flat_run};
 ghost use Rattle.input_reads.specs.Reads.{depends_on};
 ghost use Rattle.micro_m.specs.declared.base.Base.{Base};
-ghost use Rattle.m_facts.specs.Found.{known_of, node_of, firsts_of, found_of};
+ghost use Rattle.m_facts.specs.Found.{known_of, node_of, found_of};
 ghost use Rattle.m_facts.specs.Lines.{named_facts};
 ghost use Rattle.m_facts.specs.Truths.{ArePossible, IsSilent, DependsOn};
 
@@ -36,6 +36,6 @@ pub fn silent_checks_never_stop()
 pub fn dependences_suffice()
     ensures { (flat : Flat) (face : Face) (given : List Possible) (tells : List Value → Told) (place k : ℕ) → IsFlat flat → IsFaceOf face flat
         → ((vs : List Value) → AreValuesOf face.inputs vs → told_of face.labels (notes_of face.outputs) (flat_run flat vs) ≡ Some (tells vs))
-        → Contains (firsts_of face.outputs) k → k ≡ length (notes_of face.outputs) + place
+        → k ≡ length (notes_of face.outputs) + place
         → DependsOn face.inputs given tells place (depends_on (known_of flat given) flat.nodes flat.inputs (node_of flat.outputs k)) }
 {}

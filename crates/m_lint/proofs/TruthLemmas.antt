@@ -160,7 +160,7 @@ told-zero f Undef q h e = cc e
 told-zero f (Num z) q h e = both_ways (is_zero z) (not-true (is_zero z) e) (quiet-zero f z q h)
 told-zero f Over q h e = cc e
 
-named-none : (outputs : List FaceOutput) → are_named outputs ≡ true → notes_of outputs ≡ []
+pub named-none : (outputs : List FaceOutput) → are_named outputs ≡ true → notes_of outputs ≡ []
 named-none [] e = refl
 named-none (Named name ∷ outputs) e = named-none outputs e
 named-none (Noted number ∷ outputs) e = cc e
