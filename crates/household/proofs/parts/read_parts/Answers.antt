@@ -1,7 +1,4 @@
-use Rattle.std.proofs.Common.{◌≡◌, ℕ, ◌*◌, ◌≤◌, ◌<◌, List, Ok, Err, get_or, length, ap, arith, subst, sym}
-use Rattle.m_places.specs.Refusals.{Outcome}
-use Rattle.household.specs.declared.cuts.TheConstants.{BETWEEN}
-use Rattle.household.specs.declared.fault.HouseholdFault.TheVariants.{Memory}
+use Rattle.std.proofs.Common.{arith, subst, sym}
 use Rattle.household.specs.inner.Cuts.{AreCuts, left_at}
 use Rattle.household.proofs.PartLemmas.{by_rows, cuts_in_part, rows_said}
 use Rattle.household.proofs.parts.read_parts.Goals as goal
