@@ -1,7 +1,6 @@
 -- Of equal checks the first alone.
-use Rattle.std.proofs.Common.{◌≡◌, ℕ, suc, zero, ◌+◌, ◌<◌, ◌≤◌, Bool, true, false, List, [], ◌∷◌, ◌++◌, length, get_or, map, refl, ap, sym, ◌∙◌, subst, inl, inr, ⊎_elim, arith}
+use Rattle.std.proofs.Common.{◌≡◌, ℕ, suc, zero, ◌+◌, ◌<◌, ◌≤◌, Bool, true, false, List, [], ◌∷◌, ◌++◌, length, map, refl, ap, sym, ◌∙◌, subst, inl, inr, ⊎_elim, arith}
 use Rattle.std.specs.Prelude.{Option, Some, None}
-use Rattle.std.specs.List.{AllByRecursion}
 use Rattle.std.specs.Option.{option_or, option_map_or}
 use Rattle.std.proofs.lemmas.Bool.{cases_lt}
 use Rattle.std.proofs.lemmas.List.{get_or_append_left, get_or_push, length_push, length-map, get_or-map}
@@ -18,7 +17,7 @@ use Rattle.flat_code.specs.declared.program.Check.{Check}
 use Rattle.flat_code.specs.declared.program.Flat.{Flat}
 use Rattle.flat_code.specs.Runs.{node_values, value_at, check_stop, first_stop, IsCheck, IsFlat}
 use Rattle.flat_code.specs.Entries.{node_at}
-use Rattle.flat_code.specs.Tidy.{ReadsCheck, IsRoot, IsReached, root, argument, IsTidy, check_at, is_made_by}
+use Rattle.flat_code.specs.Tidy.{ReadsCheck, IsRoot, IsReached, root, argument, IsTidy, check_at}
 use Rattle.flat_code.specs.Passes.{Becomes}
 use Rattle.flat_code.proofs.RunLemmas.{one_of_all}
 use Rattle.common_terms.specs.Numbers.{IsEntered}
@@ -60,18 +59,18 @@ taken-there table old check new number e entered other =
     let size : length table ≡ length old = ap length e ∙ length-map old check_node in
     ⊎_elim
     (λ (same : new ≡ table).
-        let size' : length new ≡ length table = ap length same in
-        let lt : number < length new = entered.within in
-        let k : number < length old = omega arith in
-        let is : check_node (check_at old number) ≡ check_node check = sym (node-of old number k) ∙ sym (ap (λ ns. node_at ns number) (same ∙ e)) ∙ entered.is in
-        (same, there number k (same-check (check_at old number) check is) refl))
+    let size' : length new ≡ length table = ap length same in
+    let lt : number < length new = entered.within in
+    let k : number < length old = omega arith in
+    let is : check_node (check_at old number) ≡ check_node check = sym (node-of old number k) ∙ sym (ap (λ ns. node_at ns number) (same ∙ e)) ∙ entered.is in
+    (same, there number k (same-check (check_at old number) check is) refl))
     (λ more.
-        let size' : length new ≡ length table + 1 = ap length more.0 ∙ length_push table (check_node check) in
-        let lt : number < length new = entered.within in
-        ⊎_elim
-        (λ (k : number < length table). absurd (more.1 number k (sym (get_or_append_left table (check_node check ∷ []) (Lit Undef) number k) ∙ sym (ap (λ ns. node_at ns number) more.0) ∙ entered.is)))
-        (λ (g : length table ≤ number). absurd (other (omega arith)))
-        (cases_lt number (length table)))
+    let size' : length new ≡ length table + 1 = ap length more.0 ∙ length_push table (check_node check) in
+    let lt : number < length new = entered.within in
+    ⊎_elim
+    (λ (k : number < length table). absurd (more.1 number k (sym (get_or_append_left table (check_node check ∷ []) (Lit Undef) number k) ∙ sym (ap (λ ns. node_at ns number) more.0) ∙ entered.is)))
+    (λ (g : length table ≤ number). absurd (other (omega arith)))
+    (cases_lt number (length table)))
     entered.adds
 
 pub taken-added : (table : List Node) (old : List Check) (check : Check) (new : List Node) (number : ℕ) → table ≡ map check_node old → IsEntered table new (check_node check) number → number ≡ length table
@@ -80,8 +79,10 @@ taken-added table old check new number e entered last =
     let size : length table ≡ length old = ap length e ∙ length-map old check_node in
     ⊎_elim
     (λ (same : new ≡ table). let size' : length new ≡ length table = ap length same in let lt : number < length new = entered.within in absurd (omega arith))
-    (λ more. (more.0 ∙ ap (λ ns. ns ++ check_node check ∷ []) e ∙ sym (map-push old check),
-        added (λ j lt same. more.1 j (omega arith) (ap (λ ns. node_at ns j) e ∙ node-of old j lt ∙ ap check_node same)) refl))
+    (λ more. (
+      more.0 ∙ ap (λ ns. ns ++ check_node check ∷ []) e ∙ sym (map-push old check),
+      added (λ j lt same. more.1 j (omega arith) (ap (λ ns. node_at ns j) e ∙ node-of old j lt ∙ ap check_node same)) refl,
+    ))
     entered.adds
   where
     map-push : (xs : List Check) (c : Check) → map check_node (xs ++ c ∷ []) ≡ map check_node xs ++ check_node c ∷ []
@@ -153,13 +154,13 @@ with-added old new c absent h =
     record {
       unlike = λ i j lt lt' e. ⊎_elim
           (λ (l : i < length new). ⊎_elim
-              (λ (m : j < length new). h.unlike i j l m (sym (at-left new c i l) ∙ e ∙ at-left new c j m))
-              (λ (g : length new ≤ j). absurd (absent i l (sym (at-left new c i l) ∙ e ∙ at-last new c j (omega arith))))
-              (cases_lt j (length new)))
+          (λ (m : j < length new). h.unlike i j l m (sym (at-left new c i l) ∙ e ∙ at-left new c j m))
+          (λ (g : length new ≤ j). absurd (absent i l (sym (at-left new c i l) ∙ e ∙ at-last new c j (omega arith))))
+          (cases_lt j (length new)))
           (λ (f : length new ≤ i). ⊎_elim
-              (λ (m : j < length new). absurd (absent j m (sym (at-left new c j m) ∙ sym e ∙ at-last new c i (omega arith))))
-              (λ (g : length new ≤ j). omega arith)
-              (cases_lt j (length new)))
+          (λ (m : j < length new). absurd (absent j m (sym (at-left new c j m) ∙ sym e ∙ at-last new c i (omega arith))))
+          (λ (g : length new ≤ j). omega arith)
+          (cases_lt j (length new)))
           (cases_lt i (length new));
       few = omega arith;
       from = λ j l. ⊎_elim

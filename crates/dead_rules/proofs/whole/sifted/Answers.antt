@@ -1,4 +1,4 @@
-use Rattle.std.proofs.Common.{◌≡◌, ◌∙◌, ap, refl, sym, subst}
+use Rattle.std.proofs.Common.{sym, subst}
 use Rattle.flat_code.specs.Passes.{Becomes}
 use Rattle.flat_code.specs.Tidy.{IsTidy}
 use Rattle.dead_rules.specs.inner.Firsts.{AreFirsts, with_checks}
