@@ -114,7 +114,7 @@ numbered notes expected = map (λ e. (notes + e.0, e.1)) expected
 abbrev pub numbered_cases : ℕ → Cases → Cases
 numbered_cases notes cases = record { rows = cases.rows; expected = map (numbered notes) cases.expected }
 
--- What bytes say where this is the face: the number of an output is its number in the face, from 0, notes before names. Behind one note the
+-- What bytes say where this is the face: the number of an output is its number in the face, from 0, notes before names. After one note the
 -- field `=IRN` means the output 1, where `IRN` is the first name.
 abbrev pub face_cases : List Coded → Face → List ℕ → Result Cases CasesFault
 face_cases inputs face bytes = if_read (λ cases. Ok (numbered_cases (length (notes_of face.outputs)) cases)) (cases_of inputs (names_of face.outputs) bytes)
