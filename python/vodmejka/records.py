@@ -55,6 +55,11 @@ def spelled(rows):
     return out.getvalue()
 
 
+def unlike_a_formula(text):
+    """A text with a sign before it that keeps a spreadsheet from computing it."""
+    return b"'" + text if text[:1] in (b"=", b"+", b"-", b"@", b"\t", b"\r") else text
+
+
 def records(source, longest, is_whole=True):
     """The records of a table, each without its end and with what its first field says; blank lines are none. A record has at most so many bytes. A whole table
     may begin with a byte order mark."""

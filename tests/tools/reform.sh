@@ -16,7 +16,11 @@ M
 printf 'name,1AJ,poids,age\ndupont,2500,2,40\nmartin,500,1,30\ndurand,1500,0.5,50\nleroy,-1,1,20\n' > table.csv
 "$ROOT/tools/variant" before.list SEUIL=2000 after
 "$ROOT/tools/reform" before.list after/rules.list - - table.csv --of IRN --weight poids --by age --step 1AJ=1000 --into report; echo "status $?"
-cat report/households.csv report/summary.csv
+cat report/households.csv
+cut -d, -f 1-15 report/summary.csv
+# Each line of the summary and the page name the rules before and after and the program by their digests.
+cut -d, -f 16- report/summary.csv | sort -u | sed -E 's/[0-9a-f]{64}/DIGEST/g'
+sed 1d report/summary.csv | cut -d, -f 16- | sort -u | tr , '\n' | while read -r digest; do grep -c "<code>$digest</code>" report/report.html; done
 python3 - <<'P'
 import html.parser
 class Page(html.parser.HTMLParser):
