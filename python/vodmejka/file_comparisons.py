@@ -170,8 +170,10 @@ class Comparer:
                 raise
             raise Refused(refused.line.replace(f"line {found[1]}:", f"line {int(found[1]) + before}:", 1)) from None
         entries = list(fields_of(printed, "the program's answer"))[1:]
-        if len(entries) != count or any(entry[0] != LABEL for entry in entries):
+        if len(entries) != count:
             raise Broken(f"{len(entries)} answers for {count} households")
+        if any(entry[0] != LABEL or len(entry) != len(FIRST) + len(side.names) for entry in entries):
+            raise Broken("an answer of another household")
         columns = list(zip(*entries)) or [()] * (len(FIRST) + len(side.names))
         return {name: list(columns[at]) for name, at in (("stop", 1), *((name, len(FIRST) + k) for k, name in enumerate(side.names)))}
 

@@ -78,5 +78,5 @@ def body_of(printed: Printed, names: Sequence[str]) -> bytes | mmap.mmap:
     """What was printed, where its first line has these names; else an error."""
     line = ",".join([*FIRST, *names]).encode(ENCODING) + b"\n"
     if printed[: len(line)] != line or printed[-1:] != b"\n":
-        raise Broken(f"m_survey printed {printed[:200]!r} .. {printed[-100:]!r}, and not the csv of {', '.join(names)}")
+        raise Broken(f"m_survey printed something else than the csv of {', '.join(names)}")
     return printed
