@@ -12,6 +12,7 @@ from .batch_files import batch_file
 from .batches import Answers, Batch
 from .cases import Mismatch, mismatches_of
 from .errors import Broken, NotFound, Refused
+from .facts import Facts, Within, facts_of, ranges_text, without_facts
 from .frames import Households, frame_of
 from .limits import CODE_FILE_BYTES, ROWS
 from .program import ENCODING, Folder, Program, digest_of, household_bytes, is_trial, run, whole_file
@@ -183,6 +184,22 @@ class Rules:
             os.unlink(self._path(name))
         return mismatches_of(lines_of(text).split("\n")[:-1])
 
+    def facts(self, ranges: Mapping[str, Within] | None = None) -> Facts:
+        """What holds of the requested values for all households whose amounts lie within ranges: `{"1AJ": (0, 10**6)}` are households that have no 1AJ, or one
+        of 0 to 1,000,000, and anything elsewhere. An input may also be "yes", "no" or "maybe" given, or a `Range`."""
+        if not self._words:
+            raise Broken("facts need rules: a code file has no sources")
+        program = self._survey().program
+        name = self._room.put(ranges_text(ranges)) if ranges else "-"
+        try:
+            text, _ = self._run("facts", *self._words, name, program=program)
+        except Refused as refused:
+            raise without_facts(refused) from None
+        finally:
+            if ranges:
+                os.unlink(self._path(name))
+        return facts_of(lines_of(text), (self.digest, program.digest))
+
     # ---- what the rules are
 
     def inputs(self) -> dict[str, Variable]:
@@ -271,10 +288,11 @@ class Rules:
             out.write(content)
         return name
 
-    def _run(self, *words: str) -> tuple[bytes, int]:
+    def _run(self, *words: str, program: Program | None = None) -> tuple[bytes, int]:
+        program = program or self._program
         try:
-            told = run(self.program, *words, folder=self._room.name, timeout=self.timeout)
-            self._program.check()
+            told = run(program.path, *words, folder=self._room.name, timeout=self.timeout)
+            program.check()
             return told
         except Refused as refused:
             raise Refused(self._told(refused.line)) from None
