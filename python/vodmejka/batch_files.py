@@ -78,13 +78,13 @@ def batch_file(
     if format == "parquet" and numbers == "decimal":
         raise ValueError('numbers: "float64" or "micros", since a column of Parquet has no over among decimals')
     households = HouseholdFile(path, types, keep, format == "csv")
-    written = Csv(households, names, stops) if format == "csv" else Parquet(households, names, numbers, stops)
+    written: Csv | Parquet = Csv(households, names, stops) if format == "csv" else Parquet(households, names, numbers, stops)
     count = 0
     try:
         with whole_file(os.path.abspath(os.fspath(out)), 0o666 & ~MASK) as file:
             for part, run in households.runs(survey, rows):
                 written.put(file, part, printed_of(run, part, names))
-                count += part.count
+                count += part.rows
             written.end(file)
     finally:
         households.table.close()
@@ -100,8 +100,8 @@ def printed_of(run: Run, part: Part, names: Sequence[str]) -> bytes:
         if found is None or int(found[1]) < 2:
             raise
         raise Refused(refused.line.replace(f"line {found[1]}:", f"line {int(found[1]) + part.before}:", 1)) from None
-    if printed.count(b"\n") != part.count + 1:
-        raise Broken(f"{printed.count(10) - 1} answers for {part.count} households")
+    if printed.count(b"\n") != part.rows + 1:
+        raise Broken(f"{printed.count(10) - 1} answers for {part.rows} households")
     return printed
 
 
@@ -168,8 +168,8 @@ class Parquet:
         given = pandas.DataFrame(rows, columns=[head[at] for at in columns], dtype=object)
         given.index = pandas.Index(given["name"], dtype=object)
         told = Told(Households(given, {}, list(given.columns)), self._names, self._numbers, self._stops)
-        if part.count:
-            told.add(0, part.count, printed)
+        if part.rows:
+            told.add(0, part.rows, printed)
         return told.frame().reset_index(drop=True)
 
     def _write(self, file: BinaryIO, frame: pandas.DataFrame) -> None:

@@ -2,11 +2,13 @@
 from __future__ import annotations
 
 import itertools
+import operator
 from decimal import Decimal
 from fractions import Fraction
 from typing import Any, Iterable, Iterator, Mapping, NamedTuple, Sequence
 
 from .answers import Answer, Over
+from .bar_pictures import Picture, bars
 from .errors import Refused
 from .expressions import UNIT, Amount, Expression, millionths
 from .groups import Group, Row, gini_of, group_line, tenths, whole_parts
@@ -87,6 +89,11 @@ class Comparison:
             return rows
         return pandas.DataFrame(rows).set_index("group")
 
+    def plot(self) -> Picture:
+        """The mean gain of a household of each group, or of all where there are no groups, as a picture, which notebooks show."""
+        shown = self.groups[1:] or self.groups
+        return Picture(bars([(short_name(group.name), [group.mean_gain]) for group in shown], ""))
+
     def _repr_html_(self) -> str:
         rows = [group_line(group) for group in self.groups]
         digests = f"rules {short(self.digests[0])} before, {short(self.digests[1])} after, program {short(self.program)}"
@@ -127,6 +134,11 @@ def compare(
     whole.add(one.row(None, scale) for one in made)
     groups = [whole, *itertools.chain.from_iterable(grouped(made, by, sign, scale))]
     return Comparison(of, gain, net, by, groups, (before.digest, after.digest), before.program_digest, made)
+
+
+def short_name(name: str) -> str:
+    """The name of a group below a bar: of a tenth its number."""
+    return name.split(" ")[1] if name.startswith("tenth ") else name
 
 
 def sign_of(gain: str) -> int:
@@ -232,7 +244,7 @@ def grouped(households: Sequence[Compared], by: Sequence[str], sign: int, scale:
 
 def in_tenths(rows: Sequence[Row], name: str, sign: int, scale: int) -> list[Group]:
     """The tenths of households by what orders them, and those without it, if any."""
-    ordered = sorted((row for row in rows if row[0] is not None), key=lambda row: row[0])
+    ordered = sorted((row for row in rows if row[0] is not None), key=operator.itemgetter(0))
     apart = group_of_rows(f"no {name}", [row for row in rows if row[0] is None], sign, scale)
     found = tenths(name, ordered, sum(row[1] for row in ordered), sign, scale)
     return [*found, apart] if apart.households else found

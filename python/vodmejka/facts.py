@@ -66,7 +66,7 @@ class Facts(Mapping[str, Fact]):
         return f"<Facts of {len(self)} values, {len(self.never_stops)} verifications never stop; rules {short(self.digests[0])}>"
 
     def _repr_html_(self) -> str:
-        rows = [[name, fact, " ".join(fact.depends)] for name, fact in self.items()]
+        rows = [[name, str(fact), " ".join(fact.depends)] for name, fact in self.items()]
         never = [f"never stops {number} {error}" for number, error in self.never_stops]
         return section([repr(self).strip("<>")], table(["value", "is", "depends on"], rows) + section(never or ["no verification is known to stop nobody"]))
 

@@ -296,7 +296,7 @@ def added(constant: int, terms: Sequence[tuple[int, Any]]) -> int | str:
     whys = [amount for _, amount in terms if isinstance(amount, str)]
     if whys:
         return "undefined" if "undefined" in whys else OVER
-    return constant + sum(factor * amount for factor, amount in terms)
+    return constant + sum(int(factor * amount) for factor, amount in terms)
 
 
 def why_of(before: int | str, after: int | str) -> str:

@@ -9,7 +9,7 @@ import decimal
 import io
 import re
 from decimal import Decimal
-from typing import TYPE_CHECKING, Any, Iterator, Mapping, Sequence
+from typing import TYPE_CHECKING, Any, Iterable, Iterator, Mapping, Sequence
 
 from .answers import LABEL, OVER
 from .cells import NoAmount, exact, narrow, rows_of
@@ -209,7 +209,7 @@ class Told:
                 self.values[name][begin + great] = [int(amount.scaleb(6)) for amount in amounts]
             self._note_over(begin, name, is_over)
 
-    def _look(self, begin: int, name: str, rows: Sequence[int], amounts: Sequence[Decimal]) -> None:
+    def _look(self, begin: int, name: str, rows: Iterable[int], amounts: Sequence[Decimal]) -> None:
         """Refuses amounts that a number of the form that is asked for doesn't tell from others."""
         for row, amount in zip(rows, amounts):
             if self.numbers == "float64" and (abs(amount) >= EXACT or amount != amount.to_integral_value()):

@@ -47,6 +47,11 @@ class Group:
         return self._sum(3)
 
     @property
+    def mean_gain(self) -> Fraction:
+        """What a household gains in the mean, in whole units; it is 0 where there is none."""
+        return (self.after - self.before) * self.sign / (self.weight or 1)
+
+    @property
     def apart(self) -> int:
         """How many households are in no sum."""
         return self.stopped + self.undefined + self.over

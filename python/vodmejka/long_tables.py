@@ -17,7 +17,7 @@ class Part(NamedTuple):
     """Some records of a table, each with a line feed, how many they are, and how many stand before them."""
 
     text: bytes
-    count: int
+    rows: int
     before: int
 
 

@@ -194,7 +194,7 @@ def whole_file(path: str, mode: int = 0o600) -> Iterator[BinaryIO]:
     with tempfile.NamedTemporaryFile(dir=os.path.dirname(path), prefix=".vodmejka-", delete=False) as out:
         try:
             os.fchmod(out.fileno(), mode)
-            yield out.file
+            yield out.file  # type: ignore[misc]
             out.flush()
             os.fsync(out.fileno())
             os.replace(out.name, path)

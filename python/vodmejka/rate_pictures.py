@@ -31,7 +31,7 @@ def ticks(low: Decimal, high: Decimal, most: int) -> Iterator[Decimal]:
     """Round numbers that cut a range into at most so many parts."""
     span = max(high - low, Decimal(1) / 1000)
     part = Decimal(10) ** (span.adjusted() - 1)
-    for factor in (1, 2, Decimal("2.5"), 5, 10, 20, 25, 50, 100):
+    for factor in map(Decimal, ("1", "2", "2.5", "5", "10", "20", "25", "50", "100")):
         if span / (part * factor) <= most:
             part *= factor
             break
@@ -73,7 +73,7 @@ def thinned(points: Sequence[Point | None]) -> list[Point | None]:
 def picture(amounts: Sequence[Decimal], curves: Sequence[Curve], code: str) -> str:
     """The rates of curves along the amounts of a code."""
     shown = [rate for curve in curves for rates in (curve.marginal, curve.mean) for rate in rates if rate is not None]
-    low, high = (decimal_of(found(*shown, edge) * 100) for found, edge in ((min, Fraction(0)), (max, Fraction(1, 10))))
+    low, high = decimal_of(min([*shown, Fraction(0)]) * 100), decimal_of(max([*shown, Fraction(1, 10)]) * 100)
     first, last = amounts[0], amounts[-1]
 
     def x(value: Decimal) -> float:

@@ -3,34 +3,8 @@ import html
 from fractions import Fraction
 
 from .amounts import plain
+from .bar_pictures import bars
 from .file_comparisons import RATES
-
-WIDTH, HEIGHT = 760, 260
-
-
-def bars(pairs, unit):
-    """A picture of bars: pairs of a label and one or two heights."""
-    heights = [height for _, several in pairs for height in several]
-    low, high = min(0, *heights), max(0, *heights)
-    span = (high - low) or 1
-    wide = (WIDTH - 80) / max(1, len(pairs))
-
-    def y(height):
-        return 20 + float((high - height) / span) * (HEIGHT - 60)
-
-    out = [f'<svg viewBox="0 0 {WIDTH} {HEIGHT}" role="img" font-family="sans-serif" font-size="11">']
-    for height in sorted({low, high, 0}):
-        out.append(f'<line x1="70" y1="{y(height):.1f}" x2="{WIDTH}" y2="{y(height):.1f}" stroke="#ccc"/>')
-        out.append(f'<text x="64" y="{y(height) + 4:.1f}" text-anchor="end">{float(height):,.4g}{unit}</text>')
-    for number, (label, several) in enumerate(pairs):
-        each = wide * 0.8 / len(several)
-        for k, height in enumerate(several):
-            top, end = min(y(height), y(0)), max(y(height), y(0))
-            left = 75 + number * wide + k * each
-            out.append(f'<rect x="{left:.1f}" y="{top:.1f}" width="{max(1, each - 1):.1f}" height="{end - top:.1f}" '
-                       f'fill="{("#1b5e9b", "#d08a3c")[k]}"><title>{html.escape(label)}: {float(height):,.6g}{unit}</title></rect>')
-        out.append(f'<text x="{75 + number * wide + wide * 0.4:.1f}" y="{HEIGHT - 16}" text-anchor="middle">{html.escape(label)}</text>')
-    return "\n".join([*out, "</svg>"])
 
 
 def shares(counts, total):
@@ -77,7 +51,7 @@ def page(words, found, step, heads, lines):
     ]
     tenths = [group for group in groups[1:] if words.by is not None and group.name.startswith("tenth ")]
     if tenths:
-        gains = [(group.name.split()[1], [(group.after - group.before) * sign / (group.weight or 1)]) for group in tenths]
+        gains = [(group.name.split()[1], [group.mean_gain]) for group in tenths]
         parts += [f"<h2>The gain by tenth of {html.escape(words.by)}</h2><p>The mean gain of a household of each tenth.</p>", bars(gains, "")]
     if step:
         parts += [f"<h2>Marginal rates</h2><p>The share of households by what {html.escape(step[1])} more of {html.escape(step[0])} adds, "

@@ -3,6 +3,7 @@ from __future__ import annotations
 
 import heapq
 import marshal
+import operator
 import os
 import tempfile
 from typing import Any, Iterable, Iterator
@@ -13,7 +14,7 @@ LENGTH = 8
 
 def packed(rows: Iterable[tuple[Any, ...]]) -> bytes:
     """Rows of plain values in the order of their first fields, those with equal ones as they come."""
-    ordered = sorted(rows, key=lambda row: row[0])
+    ordered = sorted(rows, key=operator.itemgetter(0))
     pieces = [marshal.dumps(ordered[begin : begin + CHUNK]) for begin in range(0, len(ordered), CHUNK)]
     return b"".join(len(piece).to_bytes(LENGTH, "big") + piece for piece in pieces)
 
@@ -33,7 +34,7 @@ class Ordered:
     def rows(self) -> Iterator[tuple[Any, ...]]:
         """All rows in order; of equal ones those of the parts before come first."""
         self._file.flush()
-        return heapq.merge(*(self._part(*place) for place in zip(self._ends, self._ends[1:])), key=lambda row: row[0])
+        return iter(heapq.merge(*(self._part(*place) for place in zip(self._ends, self._ends[1:])), key=operator.itemgetter(0)))
 
     def close(self) -> None:
         self._file.close()

@@ -7,9 +7,11 @@ from fractions import Fraction
 from typing import Iterable, Iterator, Mapping, NamedTuple, Sequence, Union
 
 from .answers import Answer, Over, Stop, Value
+from .bar_pictures import Picture
 from .errors import Refused, Stopped
 from .expressions import UNIT, Amount, Expression, millionths
 from .program import Amount as Given
+from .rate_pictures import Curve, picture
 from .rules import Rules
 from .shown import section, short, table
 
@@ -46,6 +48,15 @@ class Sweep:
         rows = [[amount, *("stopped" if isinstance(told, Stop) else told for told in column)] for amount, *column in zip(self.amounts, *self.values)]
         heads = [self.code, *(f"{self.of} by {short(digest)}" for digest in self.digests)]
         return section([f"{self.of} along {self.code}: {len(self.amounts)} amounts"], table(heads, rows))
+
+    def plot(self) -> Picture:
+        """The marginal and the mean rates by each of the rule bases, as a picture, which notebooks show."""
+        curves = []
+        for base, digest in enumerate(self.digests):
+            name = self.of if len(self.digests) == 1 else f"{self.of} by rules {base} ({short(digest)})"
+            rates = self.rates(base)
+            curves.append(Curve(name, self.of, [marginal for _, marginal, _ in rates], [mean for _, _, mean in rates]))
+        return Picture(picture(self.amounts, curves, self.code))
 
     def net(self, net: str, base: int = -1) -> list[Value]:
         """What is kept at each amount by a rule base, as `1AJ - TOTAL`; undefined where the household is stopped."""
