@@ -98,6 +98,17 @@ class Faults(Room):
         made = subprocess.run([sys.executable, "-c", script], input=text, env=ENVIRONMENT, stdout=subprocess.PIPE, check=True)
         self.assertEqual(made.stdout, b"['1500', '1500']\n")
 
+    def test_rules_that_are_pickled_have_one_m_survey(self):
+        """Another one than at their maker's isn't used."""
+        text = pickle.dumps(self.rules)
+        other = self.put("other", "#!/bin/sh\n")
+        os.chmod(other, 0o755)
+        with mock.patch.dict(os.environ, {"M_SURVEY": other}):
+            rules = pickle.loads(text)
+            with self.assertRaisesRegex(Broken, "is another program than the one that these rules were made with"):
+                rules.batch_file(self.put("t.csv", "name\n"), self.room.name + "/o.csv")
+        self.assertEqual(pickle.loads(text).batch_file(self.put("t.csv", "name\na\n"), self.room.name + "/o.csv"), 1)
+
     def by_code(self):
         self.rules.write_code(self.room.name + "/a.code")
         return Rules.from_code(self.room.name + "/a.code")

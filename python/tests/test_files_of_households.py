@@ -9,7 +9,7 @@ from decimal import Decimal
 from unittest import mock
 
 from room import Room
-from test_compare import HOUSEHOLDS, TAXED
+from test_compare import HOUSEHOLDS, Changed
 from vodmejka import Broken, NotFound, Refused, Rules, Stopped, compare, compare_file
 from vodmejka.long_tables import LongTable
 from vodmejka.sorting import Ordered, packed
@@ -146,14 +146,11 @@ class Written(Room):
             self.written("name\n", format="parquet")
 
 
-class Changed(Room):
+class OfFiles(Changed):
     """What is told of a file is what `compare` tells of its households."""
 
     def setUp(self):
         super().setUp()
-        self.put("a.m", TAXED)
-        self.before = Rules(self.list, cache=self.room.name + "/cache")
-        self.after = self.before.variant({"SEUIL": 2000, "SAUT": 0})
         rows = [["name", "1AJ", "w", "region"], *([f"h{k}", one["1AJ"], one["w"], one["region"]] for k, one in enumerate(HOUSEHOLDS))]
         text = io.StringIO(newline="")
         csv.writer(text, lineterminator="\n").writerows(rows)
@@ -169,6 +166,17 @@ class Changed(Room):
                     self.assertEqual(getattr(one, what), getattr(other, what), (of, one.name, what))
             self.assertEqual((made.cost, made.digests), (found.cost, found.digests))
             self.assertEqual(found.program, self.before.survey_digest)
+
+    def test_by_code_files(self):
+        """They give all values; more than the one that is asked for."""
+        words = {"of": "TAX", "weight": "w", "by": ["tenth:TAX", "region"]}
+        found = compare_file(self.before, self.after, self.path, **words).made
+        codes = []
+        for rules in (self.before, self.after):
+            rules.write_code(self.room.name + "/a.code")
+            codes.append(Rules.from_code(self.room.name + "/a.code"))
+        made = compare_file(*codes, self.path, **words).made
+        self.assertEqual([(group.name, group.before, group.after) for group in made.groups], [(group.name, group.before, group.after) for group in found.groups])
 
     def test_in_parts(self):
         """The same by parts of two households, which are computed in any order."""

@@ -382,9 +382,9 @@ def comparer_of(
             if name not in asked and name not in codes[0] | codes[1]:
                 raise Refused(f"{name} is neither a requested value nor a code of the rules; there are {', '.join(asked)}")
         ordering = [name for name, at in order if at is None] if rules is before else []
-        names = list(dict.fromkeys(name for name in [*of.names, *ordering] if name in asked))
+        survey, names = rules.survey_of(list(dict.fromkeys(name for name in [*of.names, *ordering] if name in asked)))
         columns = [at for at, name in enumerate(head) if at and name in own]
-        sides.append(Side(rules.survey_of(names), names, columns, csv_text([["name", *(head[at] for at in columns)]])))
+        sides.append(Side(survey, names, columns, csv_text([["name", *(head[at] for at in columns)]])))
     more = None
     if step is not None:
         if step[0] not in head[1:] or not all(step[0] in own for own in codes):

@@ -42,6 +42,7 @@ class Rules:
     _sources: Sources | None
     _read: Variables | None = None
     _surveyor: Program | None = None
+    _survey_digest: str | None = None
 
     def __init__(
         self, list: str | os.PathLike[str], driver: str | os.PathLike[str] | None = None, requests: str | os.PathLike[str] | None = None, *,
@@ -90,7 +91,10 @@ class Rules:
         if self._sources is None:
             with open(self._code, "rb") as file:
                 code = file.read()
-        return unpickled, (self._sources, code, self.program, self._program.digest, self._cache, self.timeout)
+        survey = None
+        with contextlib.suppress(Broken):  # (an older installation has no m_survey)
+            survey = self.survey_digest
+        return unpickled, (self._sources, code, self.program, self._program.digest, survey, self._cache, self.timeout)
 
     def variant(
         self, values: Mapping[str, Number] | None = None, *, replace: Mapping[str, Text] | None = None, driver: Text | None = None,
@@ -351,15 +355,18 @@ class Rules:
         """The program of tables, m_survey, over the source or the code file."""
         if self._surveyor is None:
             self._surveyor = Program(None, "m_survey", self.program)
+        if self._survey_digest not in (None, self._surveyor.digest):
+            raise Broken(f"{self._surveyor.path} is another program than the one that these rules were made with")
         return Survey(self._surveyor, self._words or [self._code], self._room.name, self._told, self.timeout)
 
-    def survey_of(self, names: Sequence[str]) -> Survey:
-        """The program of tables, asked for some values alone, which may be handed to another process for as long as these rules are there."""
-        if not self._words:
-            raise Broken("a table of some values needs rules: a code file has no sources")
-        requests = self._room.put("".join(f"{name}\n" for name in names).encode(ENCODING))
+    def survey_of(self, names: Sequence[str]) -> tuple[Survey, list[str]]:
+        """The program of tables, and what it is asked for: some values alone, or by a code file all. It may be handed to another process for as long as these
+        rules are there."""
         whole = self._survey()
-        return Survey(whole.program, [*self._words[:-1], requests], whole.folder, str, self.timeout)
+        if not self._words:
+            return Survey(whole.program, whole.words, whole.folder, str, self.timeout), self._outputs()
+        requests = self._room.put("".join(f"{name}\n" for name in names).encode(ENCODING))
+        return Survey(whole.program, [*self._words[:-1], requests], whole.folder, str, self.timeout), list(names)
 
 
 def part_size(at_once: int, values: int) -> int:
@@ -376,7 +383,7 @@ def kept_code(path: str) -> bytes | None:
 
 
 def unpickled(
-    sources: Sources | None, code: bytes | None, path: str, digest: str, cache: str | None, timeout: float | None
+    sources: Sources | None, code: bytes | None, path: str, digest: str, survey: str | None, cache: str | None, timeout: float | None
 ) -> Rules:
     """Rules as they were pickled, by the program of the same path, or else the one that is found here, which has to be the same."""
     program = Program(path if os.access(path, os.X_OK) else None)
@@ -384,9 +391,11 @@ def unpickled(
         raise Broken(f"{program.path} is another program than the one that these rules were made with")
     if sources is None:
         assert code is not None
-        return Rules._by_code(code, program, timeout)
-    made = Rules.__new__(Rules)
-    made._begin(sources, program, cache, timeout)
+        made = Rules._by_code(code, program, timeout)
+    else:
+        made = Rules.__new__(Rules)
+        made._begin(sources, program, cache, timeout)
+    made._survey_digest = survey
     return made
 
 
