@@ -9,7 +9,7 @@ from typing import Any, Iterable, Iterator, Mapping, NamedTuple, Sequence
 
 from .answers import Answer, Over
 from .bar_pictures import Picture, bars
-from .errors import Refused
+from .errors import Broken, Refused
 from .expressions import UNIT, Amount, Expression, millionths
 from .groups import Group, Row, gini_of, group_line, tenths, whole_parts
 from .rules import Rules
@@ -117,6 +117,8 @@ def compare(
     "more" more of it.
     """
     sign_of(gain)
+    if before.program_digest != after.program_digest:
+        raise Broken("the rules before and after are computed by two programs")
     sums = [Expression(text) for text in (of, *([net] if net is not None else []))]
     codes = [set(before.inputs()), set(after.inputs())]
     tenths = [name.removeprefix(TENTH) for name in by if name.startswith(TENTH)]

@@ -239,7 +239,7 @@ class Told:
         made.update(over=self.over, notes=self.notes)
         if self.stops == "keep":
             made["stop"] = self.stop
-        return pandas.DataFrame(made, index=self.households.frame.index, columns=self.heads, copy=False)
+        return pandas.DataFrame(made, index=self.households.frame.index, copy=False)
 
 
 def read(printed: bytes, names: Sequence[str], columns: Sequence[str], kind: str) -> pandas.DataFrame:

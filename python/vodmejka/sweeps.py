@@ -31,12 +31,12 @@ class Drop(NamedTuple):
 class Sweep:
     """The answers along an amount.
 
-    `amounts` has the amounts in order, `values[k]` the values of `of` by the rule base number k, `digests` those of the rule bases. A household that is stopped
-    at some amount is an error, `Stopped`, unless it is made with `stops="keep"`: then its value is the `Stop`.
+    `amounts` has the amounts in order, `values[k]` the values of `of` by the rule base number k, `digests` and `programs` the digests of the rule bases and of
+    their programs. A household that is stopped at some amount is an error, `Stopped`, unless it is made with `stops="keep"`: then its value is the `Stop`.
     """
 
-    def __init__(self, code: str, of: str, amounts: Sequence[Decimal], answers: Sequence[Along], digests: Sequence[str]):
-        self.code, self.of, self.amounts, self.digests = code, of, list(amounts), list(digests)
+    def __init__(self, code: str, of: str, amounts: Sequence[Decimal], answers: Sequence[Along], digests: Sequence[str], programs: Sequence[str]):
+        self.code, self.of, self.amounts, self.digests, self.programs = code, of, list(amounts), list(digests), list(programs)
         self._answers = answers
         self.values = [self.values_of(of, base) for base in range(len(answers))]
 
@@ -118,7 +118,7 @@ def sweep(
         raise ValueError('stops: "raise" or "keep"')
     others = {name: Fraction(str(amount)) * UNIT for name, amount in household.items() if name != code and amount not in (None, "")}
     columns = [answers_along(base, household, code, along, of, others, stops) for base in bases]
-    return Sweep(code, of, along, columns, [base.digest for base in bases])
+    return Sweep(code, of, along, columns, [base.digest for base in bases], [base.program_digest for base in bases])
 
 
 def answers_along(
