@@ -12,9 +12,9 @@ def nearest(amounts):
     return numpy.floor(amounts + 0.5)
 
 
-def scale(income):
+def scale(income, law):
     """The tax on the income for one part."""
-    tax, steps = numpy.zeros_like(income), OF_2023.scale()
+    tax, steps = numpy.zeros_like(income), law.scale()
     for (threshold, rate), (above, _) in zip(steps, [*steps[1:], (numpy.inf, 0)]):
         tax += float(rate) * numpy.clip(income - threshold, 0, above - threshold)
     return tax
@@ -29,15 +29,15 @@ def income_of(box):
     return nearest(net + pensions - numpy.minimum(4321, off))
 
 
-def total(box):
+def total(box, law=OF_2023):
     """The tax and the contribution on high incomes, of columns by their codes, where an empty box is 0."""
     income, couple = income_of(box), box["0AM"] == 1
     persons = numpy.where(couple, 2.0, 1.0)
     alone = (box["0BT"] == 1) & ~couple & (box["0CF"] > 0)
     children = numpy.minimum(box["0CF"], 2) / 2 + numpy.maximum(box["0CF"] - 2, 0) + alone / 2
     parts = persons + children
-    by_parts, by_persons = (scale(income / count) * count for count in (parts, persons))
-    cap = numpy.where(alone, 4149 + OF_2023.half_part * (2 * children - 2), OF_2023.half_part * 2 * children)
+    by_parts, by_persons = (scale(income / count, law) * count for count in (parts, persons))
+    cap = numpy.where(alone, 4149 + law.half_part * (2 * children - 2), law.half_part * 2 * children)
     gross = numpy.maximum(by_parts, by_persons - cap)
     rebate = numpy.minimum(gross, numpy.maximum(0, numpy.where(couple, 1444, 873) - 0.4525 * gross))
     to_aid = numpy.minimum(1000, box["7UD"])
