@@ -7,7 +7,8 @@ import unittest
 
 from room import Room
 from vodmejka import OVER, Refused, Rules, Stopped
-from vodmejka.frames import exact, fault_of, narrow
+from vodmejka.cells import exact, narrow
+from vodmejka.frames import fault_of
 
 
 class Short(float):
@@ -59,7 +60,7 @@ class Frames(Room):
         self.assertEqual((str(found["IRN"].dtype), list(found["IRN"])), ("float64", [1001.5, 0.0, 9_999_000.0]))
         self.assertEqual((list(found["C"].isna()), found["C"].iloc[2]), ([False, True, False], float("inf")))
         self.assertEqual((list(found["over"]), list(found["notes"])), (["", "", "C"], ["", "", "A30"]))
-        self.assertEqual(found.attrs, {"source": self.rules.digest, "program": self.rules.program_digest})
+        self.assertEqual(found.attrs, {"source": self.rules.digest, "program": self.rules.survey_digest})
         short = self.frame({"1AJ": [16777.1, 1000.3]}, dtype="float32")
         self.assertEqual([str(value) for value in self.rules.batch(short, numbers="decimal")["IRN"]], ["15777.1", "0.3"])
 
@@ -84,12 +85,12 @@ class Frames(Room):
         frame = self.frame({"1AJ": [2000, -1, -2]}, index=["a", "dupont", "martin"])
         with self.assertRaises(Stopped) as caught:
             self.rules.batch(frame)
-        said = 'household "dupont": failed 20 A20 anomalie; 2 of 3 households are stopped: stops="keep" keeps them'
-        self.assertEqual((str(caught.exception), caught.exception.line), (said, "failed 20 A20 anomalie"))
+        said = 'household "dupont": failed 20 A20; 2 of 3 households are stopped: stops="keep" keeps them'
+        self.assertEqual((str(caught.exception), caught.exception.line), (said, "failed 20 A20"))
         self.assertEqual(str(pickle.loads(pickle.dumps(caught.exception))), said)
         for numbers in ("float64", "micros", "decimal"):
             found = self.rules.batch(frame, stops="keep", numbers=numbers)
-            self.assertEqual((list(found["IRN"].isna()), list(found["stop"])), ([False, True, True], [None, *["failed 20 A20 anomalie"] * 2]))
+            self.assertEqual((list(found["IRN"].isna()), list(found["stop"])), ([False, True, True], [None, *["failed 20 A20"] * 2]))
 
     def test_columns_that_are_kept(self):
         frame = self.frame({"weight": [1.5, 2.5], "1AJ": [1500, 2000], "region": ["n", "s"]})
