@@ -23,17 +23,18 @@ TOP = os.path.dirname(os.path.dirname(os.path.dirname(os.path.realpath(__file__)
 INSIDE = os.path.join(os.path.dirname(os.path.realpath(__file__)), "bin")
 
 
-def program_path(program: str | None = None) -> str:
-    """The program: the one that is named, or the one of the variable M_TAX, which must be there then; else the one inside this package, what `./build` made in
-    the repository round it, or from which it was installed, `m_tax` of the path, or the script of the repository."""
-    named = program or os.environ.get("M_TAX")
+def program_path(program: str | None = None, name: str = "m_tax") -> str:
+    """The program of this name, m_tax or m_survey: the one that `program` names, or the one of the variable M_TAX or M_SURVEY, which must be there then; else
+    the one inside this package, what `./build` made in the repository round it, or from which it was installed, that of the path, or the script of the
+    repository."""
+    named = program or os.environ.get(name.upper())
     tops = [TOP, *clone()]
-    built = [os.path.join(INSIDE, "m_tax"), *(os.path.join(top, "out", "m_tax") for top in tops)]
-    others = [*built, shutil.which("m_tax"), *(os.path.join(top, "m_tax") for top in tops)]
+    built = [os.path.join(INSIDE, name), *(os.path.join(top, "out", name) for top in tops)]
+    others = [*built, shutil.which(name), *(os.path.join(top, name) for top in tops)]
     for candidate in others if not named else (shutil.which(named) or named,):
         if candidate and os.access(candidate, os.X_OK) and os.path.isfile(candidate):
             return os.path.abspath(candidate)
-    raise Broken(f"there is no program {named}" if named else "there is no program m_tax: name it by M_TAX, or run ./build in the repository")
+    raise Broken(f"there is no program {named}" if named else f"there is no program {name}: name it by {name.upper()}, or run ./build in the repository")
 
 
 def inside() -> None:

@@ -143,9 +143,9 @@ def values_of(names):
 
 
 def whole_form(names):
-    """The form of a household's lines where all is as it must be: its label, and its stop or its notes and values."""
+    """The form of a household's lines where all is as it must be: its label, and its stop, which is the second group, or its notes and values."""
     lines = b"".join(re.escape(name) + VALUE for name in names)
-    return re.compile(HEAD.pattern + b"(?:" + STOP.pattern + b"|" + NOTES.pattern + lines + b")")
+    return re.compile(HEAD.pattern + b"(?:(" + STOP.pattern + b")|" + NOTES.pattern + lines + b")")
 
 
 def strange(text, at):
@@ -156,12 +156,12 @@ def strange(text, at):
 
 
 def read_answer(path, names=None):
-    """The labels of an answer of `batch`, and the names of its values, where they aren't given. Each household has its notes and then a line for each
-    name, in one order, or a stop and nothing else."""
-    labels = []
+    """The labels of an answer of `batch`, the names of its values, where they aren't given, and how many households stopped. Each household has its notes
+    and then a line for each name, in one order, or a stop and nothing else."""
+    labels, stops = [], 0
     with open(path, "rb") as file:
         if os.fstat(file.fileno()).st_size == 0:
-            return labels, names
+            return labels, names, stops
         with mmap.mmap(file.fileno(), 0, access=mmap.ACCESS_READ) as text:
             at, forms, whole = 0, None, None
             while at < len(text):
@@ -170,6 +170,7 @@ def read_answer(path, names=None):
                 found = whole and len(names) <= AT_ONCE and whole.match(text, at)
                 if found:
                     labels.append(found[1])
+                    stops += found[2] is not None
                     at = found.end()
                     continue
                 head = HEAD.match(text, at)
@@ -179,6 +180,7 @@ def read_answer(path, names=None):
                 at = head.end()
                 stop = STOP.match(text, at)
                 if stop:
+                    stops += 1
                     at = stop.end()
                     continue
                 at = NOTES.match(text, at).end()
@@ -190,7 +192,7 @@ def read_answer(path, names=None):
                     if found is None:
                         raise strange(text, at)
                     at = found.end()
-    return labels, names
+    return labels, names, stops
 
 
 def names_at(text, at):
