@@ -1,4 +1,5 @@
 """Frames of Dask, where it is there: by threads, and by a cluster of three processes, of which one is lost."""
+import logging
 import os
 import signal
 import unittest
@@ -56,13 +57,20 @@ class Frames(Room):
             self.assertEqual([None if self.pandas.isna(cube) else cube for cube in found["C"]], cubes)
             self.assertEqual([*found["over"]], ["", "", "C"])
 
+    def stopped(self, work):
+        """That the one stopped household is the same error as of a frame of pandas."""
+        with self.assertRaises(Stopped) as here:
+            self.rules.batch(self.whole, keep=["weight"])
+        with self.assertRaises(Stopped) as there:
+            work(self.rules.map(self.cut(self.whole), keep=["weight"]))
+        self.assertEqual((there.exception.line, there.exception.line[:13]), (here.exception.line, "failed 20 A20"))
+        self.assertIn('household "h33"', str(there.exception))
+
     def test_stops(self):
+        """An error, or kept."""
         self.whole.loc["h33", "1AJ"] = -1
         frame = self.cut(self.whole)
-        with self.assertRaises(Stopped) as caught:
-            self.rules.map(frame, keep=["weight"]).compute(scheduler="threads")
-        self.assertEqual(caught.exception.line, "failed 20 A20 anomalie")
-        self.assertIn('household "h33"', str(caught.exception))
+        self.stopped(lambda made: made.compute(scheduler="threads"))
         kept = self.rules.map(frame, keep=["weight"], stops="keep").compute(scheduler="threads")
         self.assertEqual([*kept["stop"].notna()], [k == 33 for k in range(ROWS)])
         self.same(kept, self.rules.batch(self.whole, keep=["weight"], stops="keep"))
@@ -100,7 +108,8 @@ class Frames(Room):
             from distributed import Client, LocalCluster, wait
         except ImportError:
             self.skipTest("no distributed")
-        with LocalCluster(n_workers=3, threads_per_worker=1, dashboard_address=None) as cluster, Client(cluster) as client:
+        words = {"n_workers": 3, "threads_per_worker": 1, "dashboard_address": None, "silence_logs": logging.CRITICAL}
+        with LocalCluster(**words) as cluster, Client(cluster) as client:
             made = client.persist(self.rules.map(self.frame, keep=["weight"]))
             wait(made)
             holders = {worker for workers in client.who_has(made).values() for worker in workers}
@@ -108,9 +117,7 @@ class Frames(Room):
             os.kill(pid, signal.SIGKILL)
             self.same(client.compute(made, sync=True), self.rules.batch(self.whole, keep=["weight"]))
             self.whole.loc["h33", "1AJ"] = -1
-            with self.assertRaises(Stopped) as caught:
-                client.compute(self.rules.map(self.cut(self.whole), keep=["weight"]), sync=True)
-            self.assertEqual(caught.exception.line, "failed 20 A20 anomalie")
+            self.stopped(lambda made: client.compute(made, sync=True))
 
 
 if __name__ == "__main__":
