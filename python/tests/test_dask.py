@@ -49,7 +49,9 @@ class Frames(Room):
     def test_forms_of_numbers(self):
         """Types are known before anything is computed. The cube of 22,000 is beyond the greatest amount."""
         whole = self.pandas.DataFrame({"1AJ": [2000, None, 22_000]}, index=["a", "b", "c"])
-        forms = {"float64": ("float64", [8e9, None, float("inf")]), "micros": ("Int64", [8 * 10**15, None, None]), "decimal": ("object", [8 * 10**9, None, OVER])}
+        forms = {
+            "float64": ("float64", [8e9, None, float("inf")]), "micros": ("Int64", [8 * 10**15, None, None]), "decimal": ("object", [8 * 10**9, None, OVER])
+        }
         for numbers, (dtype, cubes) in forms.items():
             made = self.rules.map(self.cut(whole), numbers=numbers)
             self.assertEqual(str(made.dtypes["C"]), dtype)
@@ -108,7 +110,7 @@ class Frames(Room):
             from distributed import Client, LocalCluster, wait
         except ImportError:
             self.skipTest("no distributed")
-        words = {"n_workers": 3, "threads_per_worker": 1, "dashboard_address": None, "silence_logs": logging.CRITICAL}
+        words = {"n_workers": 3, "threads_per_worker": 1, "local_directory": self.room.name, "dashboard_address": None, "silence_logs": logging.CRITICAL}
         with LocalCluster(**words) as cluster, Client(cluster) as client:
             made = client.persist(self.rules.map(self.frame, keep=["weight"]))
             wait(made)
