@@ -8,6 +8,7 @@ from .reserved import reserved
 RESERVED = reserved("m")
 OF_ONE = ("present", "abs", "positif", "positif_ou_nul", "null", "arr", "inf")
 OF_TWO = ("max", "min")
+CALLED = frozenset(("somme", *OF_ONE, *OF_TWO))
 COMPARISONS = ("=", "!=", "<", "<=", ">", ">=")
 LOOSEST, NEGATION, COMPARISON, SUM, TIGHTEST = 1, 3, 4, 5, 6
 LEVELS = {"ou": LOOSEST, "et": 2, **dict.fromkeys((*COMPARISONS, "non", "dans"), COMPARISON), "+": SUM, "-": SUM, "*": TIGHTEST, "/": TIGHTEST}
@@ -68,7 +69,10 @@ class Reader:
         return tuple(dict.fromkeys(self.wanted))
 
     def step(self):
-        token = self.peek()
+        try:
+            token = self.tokens[self.at]
+        except IndexError:
+            token = self.end
         self.at += 1
         self.wanted.clear()
         self.hint = ""
@@ -79,12 +83,18 @@ class Reader:
         raise Stuck
 
     def next_is(self, *texts):
-        token = self.peek()
+        try:
+            token = self.tokens[self.at]
+        except IndexError:
+            return False
         return token.text in texts and token.kind in ("sign", "word")
 
     def take_if(self, *texts):
         self.wanted += texts
-        token = self.peek()
+        try:
+            token = self.tokens[self.at]
+        except IndexError:
+            return None
         return self.step().text if token.text in texts and token.kind in ("sign", "word") else None
 
     def take(self, *texts):
@@ -176,19 +186,19 @@ class Terms(Reader):
         """A term whose operators bind at least so tightly. Operators of one level are taken from left to right; of comparisons there is one, and none on what
         `non` made."""
         if least <= NEGATION:
-            self.want("non")
+            self.wanted.append("non")
         if least <= NEGATION and self.next_is("non"):
             found, most = ("op", self.step().text, [self.operation(COMPARISON)]), NEGATION
         else:
             found, most = self.factor(), TIGHTEST
         while True:
-            self.want(OPERATORS)
-            token = self.peek()
-            level = LEVELS.get(token.text, 0)
+            self.wanted.append(OPERATORS)
+            sign = self.peek().text
+            level = LEVELS.get(sign, 0)
             if not least <= level <= most:
                 return found
             if level == COMPARISON:
-                found, most = self.compared(found) if token.text in COMPARISONS else self.listed(found), NEGATION
+                found, most = self.compared(found) if sign in COMPARISONS else self.listed(found), NEGATION
             else:
                 found = ("op", self.step().text, [found, self.operation(level + 1)])
 
@@ -224,33 +234,34 @@ class Terms(Reader):
         return ("number", sign + self.kind("number", "a number").text)
 
     def factor(self):
-        self.want("-")
+        self.wanted.append("-")
         return ("op", "neg", [(self.step(), self.primary())[1]]) if self.next_is("-") else self.primary()
 
     def primary(self):
-        self.want(VALUE)
+        self.wanted.append(VALUE)
         token = self.peek()
         if token.kind == "word" and token.text not in RESERVED:
             return self.read()
         if token.kind == "number":
             return ("number", self.step().text)
-        if self.next_is("("):
+        sign = token.text if token.kind in ("sign", "word") else ""
+        if sign == "(":
             self.step()
             inner = self.term()
             self.take(")")
             return inner
-        if self.next_is("X"):
+        if sign == "X":
             self.step()
             return ("X",)
-        if self.next_is("si"):
+        if sign == "si":
             return self.conditional()
-        if self.next_is("somme", *OF_ONE, *OF_TWO):
+        if sign in CALLED:
             return self.called(self.step().text)
         return self.stuck(f"{token.text} is a reserved word, and no value" if token.kind == "word" else "")
 
     def read(self):
         token = self.step()
-        self.want("[")
+        self.wanted.append("[")
         if not self.next_is("(", "["):
             return ("name", token.text, token.byte)
         if self.next_is("("):

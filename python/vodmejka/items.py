@@ -338,11 +338,10 @@ def take_tokens(content, byte, tokens, faults, most=sys.maxsize, is_cut=False):
 def too_deep(tokens):
     """The first token at which brackets and conditionals stand too deep."""
     depth = 0
-    for token in tokens:
-        if (change := DEEPER.get(token.text)) is not None:
-            depth = max(0, depth + change)
-            if depth > BRACKET_DEPTH:
-                return [deep_fault(token)]
+    for token in [token for token in tokens if token.text in DEEPER]:
+        depth = max(0, depth + DEEPER[token.text])
+        if depth > BRACKET_DEPTH:
+            return [deep_fault(token)]
     return []
 
 

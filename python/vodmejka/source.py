@@ -3,9 +3,11 @@
 These tools read files that the program accepts, and look at the heads of items alone: what a formula says is passed over. A byte order mark is passed over
 too; `slips` and `explain` tell it. grammar.py reads formulas.
 """
+import bisect
 import contextlib
 import dataclasses
 import io
+import itertools
 import os
 import re
 import signal
@@ -175,12 +177,10 @@ def read_list_text(name, content):
 
 def quick_tokens(content, byte, tokens, most=sys.maxsize):
     """Adds tokens up to the first byte that begins none, until there are so many; the byte behind the last one comes back."""
-    match = AFTER_GAPS.match(content, byte)
-    while match is not None and len(tokens) < most:
-        kind = match.lastgroup
-        tokens.append(Token(kind, match[kind].decode("latin-1"), match.start(kind)))
+    for match in itertools.islice(iter(AFTER_GAPS.scanner(content, byte).match, None), most - len(tokens)):
+        at = match.lastindex
+        tokens.append(Token(match.lastgroup, match[at].decode("latin-1"), match.start(at)))
         byte = match.end()
-        match = AFTER_GAPS.match(content, byte)
     return byte
 
 
@@ -192,6 +192,7 @@ class RuleFile:
         self.bytes = content
         self.lines = Lines(self.bytes)
         self.tokens = self.read_tokens() if tokens is None else tokens
+        self.ends = [at for at, token in enumerate(self.tokens) if token.text == ";"]
         self.variables, self.rules = [], []
         self.read_items()
 
@@ -228,9 +229,8 @@ class RuleFile:
 
     def behind(self, at):
         """The token behind the next `;`."""
-        while at < len(self.tokens) and self.tokens[at].text != ";":
-            at += 1
-        return at + 1
+        found = bisect.bisect_left(self.ends, at)
+        return self.ends[found] + 1 if found < len(self.ends) else len(self.tokens) + 1
 
     def read_rule(self, at):
         begin = self.tokens[at]

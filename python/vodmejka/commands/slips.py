@@ -114,7 +114,6 @@ class Base:
 
     def look_at(self, file, term, headers):
         for word, index, byte, round_it in reads_of(term, headers):
-            place = file.place(byte)
             words = None if index is None else words_of(index)
             for letters in instances(round_it, [word, *(words or [])]):
                 name = replaced(word, letters)
@@ -123,7 +122,7 @@ class Base:
                 self.read.update(cells_read(name, size, index, letters))
                 if number is not None and size is not None and not -1 < number < size:
                     what = "is undefined" if number > 0 else "is 0"
-                    self.past.append(f"{place}: {name}[{int(number)}] is past the table, which has {size} cells, and {what}")
+                    self.past.append(f"{file.place(byte)}: {name}[{int(number)}] is past the table, which has {size} cells, and {what}")
                     break
 
 
