@@ -4,6 +4,7 @@ import re
 
 from . import source
 from .reserved import reserved
+from .texts import said
 
 RESERVED = reserved("m")
 OF_ONE = ("present", "abs", "positif", "positif_ou_nul", "null", "arr", "inf")
@@ -41,10 +42,10 @@ def meant(word):
 def no_function(word):
     """What to write for a call of what is no function."""
     if meant(word) in (*OF_ONE, *OF_TWO, "somme"):
-        return f"M writes {meant(word)} for {word}, in small letters"
+        return said("help.writes_small", right=meant(word), wrong=word)
     if is_name(word):
-        return f"{word} is no function; a cell of a table is written {word}[..]"
-    return f"{word} is no function of this M: docs/LANGUAGE.md says what to write in its place"
+        return said("help.cell", word=word)
+    return said("help.no_function", word=word)
 
 
 class Reader:
@@ -110,14 +111,14 @@ class Reader:
             return self.step()
         token = self.peek()
         if token.kind == "word":
-            self.stuck(f"{token.text} is a reserved word, and no name")
+            self.stuck(said("help.no_name", word=token.text))
         return self.stuck(ahead_hint)
 
     def name(self, what):
         token = self.peek()
         if self.is_word() and not is_name(token.text):
             self.want(what)
-            self.stuck(f"{token.text} has small letters, and no name of a variable has; they stand for loops")
+            self.stuck(said("help.small", word=token.text))
         return self.word(what).text
 
     def kind(self, kind, what):
@@ -207,10 +208,10 @@ class Terms(Reader):
         turned = TURNED.get(sign + self.peek().text) if self.peek().kind == "sign" else None
         if turned:
             self.want(VALUE)
-            self.stuck(f"M writes {turned} for {sign}{self.peek().text}")
+            self.stuck(said("help.writes", right=turned, wrong=sign + self.peek().text))
         if self.next_is("="):
             self.want(VALUE)
-            self.stuck(f"M writes {'=' if sign == '=' else sign} for a comparison, and no second =")
+            self.stuck(said("help.one_equals", sign=sign))
         return ("op", sign, [left, self.operation(SUM)])
 
     def listed(self, left):
@@ -257,7 +258,7 @@ class Terms(Reader):
             return self.conditional()
         if sign in CALLED:
             return self.called(self.step().text)
-        return self.stuck(f"{token.text} is a reserved word, and no value" if token.kind == "word" else "")
+        return self.stuck(said("help.no_value", word=token.text) if token.kind == "word" else "")
 
     def read(self):
         token = self.step()
@@ -292,12 +293,11 @@ class Terms(Reader):
             if word in OF_TWO:
                 if self.next_is(")"):
                     self.want(",")
-                    self.stuck(f"{word} has two arguments")
+                    self.stuck(said("help.two", word=word))
                 self.take(",")
                 found[2].append(self.term())
         if self.next_is(","):
             self.want(")")
-            has = "two arguments" if word in OF_TWO else "one argument"
-            self.stuck(f"{word} has {has}: {word}(a, {word}(b, c)) for three" if word in OF_TWO else f"{word} has {has}")
+            self.stuck(said("help.three" if word in OF_TWO else "help.one", word=word))
         self.take(")")
         return found

@@ -13,6 +13,7 @@ from .grammar import RESERVED, VALUE, Stuck, Terms, meant
 from .limits import AMOUNT, BRACKET_DEPTH
 from .loops import whole
 from .places import decode
+from .texts import said
 
 CUT_TEXT = re.compile(rb"(?P<text>\"[^\"\n]*)")
 SIGNS = {"\u2264": "<=", "\u2265": ">=", "\u2260": "!=", "\u00d7": "*", "\u00f7": "/", "\u2212": "-", "\u2013": "-", "\u2014": "-"}
@@ -97,13 +98,13 @@ class RuleReader(Terms):
         """What may help, by what stands round the place."""
         token, before, behind = self.peek(), self.peek(-1) if self.at else self.end, self.peek(1)
         if token.text == "," and before.kind == "number" and behind.kind == "number":
-            return f"a decimal sign is a point: {before.text}.{behind.text}"
+            return said("help.decimal", number=f"{before.text}.{behind.text}")
         if token.text == "/" and behind.text in ("/", "*"):
             return "a comment begins with #"
         for one in (token, before):
             word = meant(one.text) if one.kind == "word" and one.text not in RESERVED else None
             if word and (one is token or word in ("si", "non", "somme")):
-                return f"M writes {word} for {one.text}"
+                return said("help.writes", right=word, wrong=one.text)
         begins = token.kind == "end" or token.text in ("regle", "verif", "si", "pour") or self.is_word() and behind.text in ("=", ":", "[")
         if ":" in self.wanted and begins:
             return "a : is missing before it"
@@ -181,7 +182,7 @@ class RuleReader(Terms):
             self.take("]")
             if self.next_is(":"):
                 self.want("=")
-                self.stuck(f"the size of a table stands after tableau: {target} : tableau[{slot}] calculee")
+                self.stuck(said("help.tableau", name=target, size=slot))
         self.take("=")
         if self.next_is("="):
             self.want(VALUE)
@@ -206,7 +207,7 @@ class RuleReader(Terms):
         byte, name = self.peek().byte, self.name("a declaration (NAME :)")
         if self.next_is("[") and self.peek(2).text == "]" and self.peek(3).text == ":":
             self.want(":")
-            self.stuck(f"the size of a table stands after tableau: {name} : tableau[{self.peek(1).text}] calculee")
+            self.stuck(said("help.tableau", name=name, size=self.peek(1).text))
         if self.next_is("=", "["):
             self.want(":")
             self.stuck("a formula stands in a rule: regle 10 : application : iliad ; before it")
@@ -270,7 +271,7 @@ class RuleReader(Terms):
 def of_byte(content, byte, shown):
     """What may help with characters that begin no token."""
     if shown[0] in SIGNS:
-        return f"M writes {SIGNS[shown[0]]} for {shown[0]}"
+        return said("help.writes", right=SIGNS[shown[0]], wrong=shown[0])
     if shown[0] in BLANKS:
         return "a hard blank or another that isn't plain: write a plain one"
     if shown[0] in "'\u2018\u2019\u201c\u201d\u00ab\u00bb`":
@@ -284,7 +285,7 @@ def of_byte(content, byte, shown):
     begun = re.compile(rb"[A-Za-z0-9_\x80-\xff]*\Z").search(content[max(0, byte - 60) : byte])[0]
     word = begun + re.compile(rb"[A-Za-z0-9_\x80-\xff]*").match(content, byte)[0]
     bare = "".join(letter for letter in unicodedata.normalize("NFD", decode(word)) if letter.isascii())
-    return f"reserved words have no accents: {bare}" if bare in RESERVED else "accented letters stand in texts and comments only"
+    return said("help.no_accents", word=bare) if bare in RESERVED else "accented letters stand in texts and comments only"
 
 
 def tokens_of(content):
@@ -301,7 +302,7 @@ def tokens_of(content):
 
 def too_great(tokens):
     """The faults of numbers above the greatest amount."""
-    return [Fault("number too great", token.byte, token.text, (), f"numbers end at {AMOUNT}")
+    return [Fault("number too great", token.byte, token.text, (), said("help.greatest", number=AMOUNT))
             for token in tokens if token.kind == "number" and len(token.text) > 13 and float(token.text) > AMOUNT]
 
 

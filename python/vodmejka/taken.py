@@ -4,9 +4,11 @@ from __future__ import annotations
 
 import itertools
 import math
+from collections.abc import Mapping
 from fractions import Fraction
 
 from .loops import instances, replaced, values_of
+from .texts import said
 
 MILLION = 1_000_000
 MOST = 10_000_000_000_000
@@ -38,7 +40,7 @@ def literal(text: str) -> Fraction:
 class Taken:
     """Evaluates a term over the values of cells, and notes the cells that indexes came to and the branches that were taken."""
 
-    def __init__(self, values: dict[str, str], sizes: dict[str, int], letters: dict[str, str], own: int | None):
+    def __init__(self, values: Mapping[str, str], sizes: Mapping[str, int], letters: dict[str, str], own: int | None):
         self.values, self.sizes, self.letters, self.own = values, sizes, letters, own
         self.notes: list[str] = []
 
@@ -106,7 +108,7 @@ class Taken:
     def chosen(self, parts) -> Fraction | None:
         condition = self.value(parts[0])
         if condition is None:
-            self.notes.append("no branch")
+            self.notes.append(said("why.no_branch"))
             return None
         self.notes.append("alors" if condition else "sinon")
         if condition:
@@ -123,7 +125,7 @@ OPERATORS = {
 }
 
 
-def told(formula, values: dict[str, str], sizes: dict[str, int], cell: str) -> list[str]:
+def told(formula, values: Mapping[str, str], sizes: Mapping[str, int], cell: str) -> list[str]:
     """The cells and the branches that the formula of a cell took, in the order in which it is read; nothing where this comes to another value."""
     taken = Taken(values, sizes, formula.letters, formula.number)
     try:
