@@ -65,7 +65,8 @@ class Tree:
     def place(self, cell: str, formula: reasons.Formula) -> str:
         """Where a formula stands, and what it took."""
         taken = told(formula, self.lines, self.rules.sizes, cell) if self.is_told_taken else []
-        return said("why.taken", place=formula.place(), what=", ".join(taken)) if taken else formula.place()
+        place = str(formula.place())
+        return said("why.taken", place=place, what=", ".join(taken)) if taken else place
 
     def text(self) -> Iterator[str]:
         """The tree as lines."""
