@@ -1,11 +1,11 @@
 #!/usr/bin/env python3
-"""Every definition that the theorem of the program stands on, with its place and its lines: what an auditor has to read.
+"""Every definition that the theorem of the program rests on, with its file and its lines: everything you must read to know what was proved.
 
     tests/definitions.py            prints how many there are, by crate and by command
-    tests/definitions.py --head     prints the lines that docs/PROVED.md has of it
+    tests/definitions.py --head     prints the paragraph of docs/PROVED.md on it, and --write puts it there
     tests/definitions.py --page     prints each definition with its place and its lines, as a page
 
-It begins at the clauses of `m_tax` in m_commands, and goes along the names that each definition of `crates/*/specs` and each type
+It begins at the clauses of `m_tax` in m_commands, and follows the names that each definition of `crates/*/specs` and each type
 of `crates/*/src` cites. What the kit states (lists, numbers, options) is not followed. Lines of comments and empty lines aren't counted.
 """
 import os
@@ -202,14 +202,51 @@ def by_command():
     return shared, rows
 
 
-def print_head(count, lines, shared, commands):
-    """Prints how many definitions there are, and how many lines there are to read for one command."""
-    print(f"The clauses of `m_tax` lead to {count} definitions and types with {lines} lines of code, down to the operators; what the kit states of lists, numbers")
-    print("and options isn't counted. The answers of one command need fewer. All commands share the lines of words, files, limits, statuses and of what is written")
-    print(f"when something fails, which are {shared}; with these are to be read\n")
-    print("| " + " | ".join(f"`{command}`" for command, _ in commands) + " |")
-    print("|" + "---:|" * len(commands))
-    print("| " + " | ".join(str(count) for _, count in commands) + " |")
+def head(found):
+    """The paragraph of docs/PROVED.md: how many definitions there are, and how many lines one must read for one command."""
+    shared, commands = by_command()
+    return (
+        f"The clauses of `m_tax` lead to {len(found)} definitions and types with {sum(d.count for d in found)} lines, down to the operators; comments, and what "
+        "the kit states of lists, numbers\nand options, aren't counted. "
+        f"{shared} of these lines are shared by all commands: arguments, files, limits, statuses, and what is written when something fails.\n"
+        "For one command alone, with the shared lines:\n\n"
+        "| " + " | ".join(f"`{command}`" for command, _ in commands) + " |\n"
+        "|" + "---:|" * len(commands) + "\n"
+        "| " + " | ".join(str(count) for _, count in commands) + " |\n"
+    )
+
+
+def write_head(found):
+    """Puts the paragraph into docs/PROVED.md, in the place of the one there."""
+    text = "\n".join(read("docs/PROVED.md"))
+    begin, end = text.index("The clauses of `m_tax` lead to"), text.index("\n`tests/definitions.py --page`")
+    with open(os.path.join(ROOT, "docs/PROVED.md"), "w", encoding="utf-8") as page:
+        page.write(text[:begin] + head(found) + text[end:])
+
+
+def by_crate(found):
+    """The definitions of each crate, the crates in order of their names."""
+    crates = {}
+    for d in found:
+        crates.setdefault(d.crate, []).append(d)
+    return sorted(crates.items())
+
+
+def print_page(found):
+    """Prints each definition with its place and its lines."""
+    print("# Everything you must read to know what was proved\n")
+    print(head(found))
+    print("| Crate | definitions | lines |\n|---|---:|---:|")
+    for crate, rows in by_crate(found):
+        print(f"| {crate} | {len(rows)} | {sum(d.count for d in rows)} |")
+    for crate, rows in by_crate(found):
+        print(f"\n## {crate}\n")
+        files = {}
+        for d in rows:
+            files.setdefault(d.path, []).append(d)
+        for path in sorted(files):
+            named = ", ".join(f"`{d.name}` {d.count}" for d in sorted(files[path], key=lambda d: d.line))
+            print(f"- [{path[len('crates/'):]}](../{path}): {named}")
 
 
 def main():
@@ -217,35 +254,21 @@ def main():
     top, todo = clauses()
     reading.walk(todo)
     found = [top, *sorted(reading.seen.values(), key=lambda d: (d.path, d.line))]
-    lines = sum(d.count for d in found)
-    shared, commands = by_command()
-    crates = {}
-    for d in found:
-        crates.setdefault(d.crate, []).append(d)
-    if sys.argv[1:] not in (["--head"], ["--page"]):
-        for crate in sorted(crates):
-            print(f"{crate}: {len(crates[crate])} definitions, {sum(d.count for d in crates[crate])} lines")
-        for command, count in commands:
-            print(f"{command} alone: {count} lines")
-        print(f"all: {len(found)} definitions, {lines} lines")
-        return
-    if sys.argv[1:] == ["--page"]:
-        print("# Everything you must read to know what was proved\n")
-    print_head(len(found), lines, shared, commands)
-    if sys.argv[1:] == ["--head"]:
-        return
-    print()
-    print("| Crate | definitions | lines |\n|---|---:|---:|")
-    for crate in sorted(crates):
-        print(f"| {crate} | {len(crates[crate])} | {sum(d.count for d in crates[crate])} |")
-    for crate in sorted(crates):
-        print(f"\n## {crate}\n")
-        files = {}
-        for d in crates[crate]:
-            files.setdefault(d.path, []).append(d)
-        for path in sorted(files):
-            named = ", ".join(f"`{d.name}` {d.count}" for d in sorted(files[path], key=lambda d: d.line))
-            print(f"- [{path[len('crates/'):]}](../{path}): {named}")
+    match sys.argv[1:]:
+        case []:
+            for crate, rows in by_crate(found):
+                print(f"{crate}: {len(rows)} definitions, {sum(d.count for d in rows)} lines")
+            for command, count in by_command()[1]:
+                print(f"{command} alone: {count} lines")
+            print(f"all: {len(found)} definitions, {sum(d.count for d in found)} lines")
+        case ["--head"]:
+            print(head(found), end="")
+        case ["--write"]:
+            write_head(found)
+        case ["--page"]:
+            print_page(found)
+        case _:
+            sys.exit(__doc__)
 
 
 main()

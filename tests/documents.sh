@@ -1,8 +1,8 @@
 #!/bin/sh
-# Compares what the documents say with what the repository has, where a text can be compared: the crates with the tables of
-# ARCHITECTURE and PROVED, the calls that PROVED names with their crates, the limits with FORMATS, the usage line's copies, the reserved
-# words with LANGUAGE, DRIVER and the files for editors, the definitions that PROVED counts, links with files, words with ARCHITECTURE's
-# table of English, and the size of the front page. Prints a line for each difference, and a count. The status is 0 where there is none.
+# Compares the documents with the repository, where a text can be compared: the crates with their first comments, the files and names that
+# pages cite, the limits with FORMATS, the usage line's copies, the reserved words with LANGUAGE, DRIVER and the files for editors, the
+# definitions that PROVED counts, links with files, words with ARCHITECTURE's table of English, and sizes of pages with their limits.
+# Prints a line for each difference, and a count. The status is 0 where there is none.
 cd "$(dirname "$0")/.." || exit 1
 room=$(mktemp -d) || exit 1
 trap 'rm -rf "$room"' EXIT
@@ -19,30 +19,22 @@ same() {
     diff "$2" "$3" | sed -n 's/^[<>]/    &/p'
 }
 
-# Crates: the index, the folders, and the tables of ARCHITECTURE under "The crates, and what each may not know", which have its groups in its order.
-sed -n 's/^\([a-z][a-z0-9_]*\)[^:#]*:.*/\1/p; s/^# /# /p' crates.txt >"$room/groups"
-grep -v '^#' "$room/groups" | sort >"$room/index"
+# Crates: crates.txt is the one list of them. Each has a folder, and a first comment, from which tests/crates.py prints the table.
+sed -n 's/^\([a-z][a-z0-9_]*\)[^:#]*:.*/\1/p' crates.txt >"$room/order"
+sort "$room/order" >"$room/index"
 git ls-files crates | cut -d/ -f2 | sort -u >"$room/folders"
-awk '
-    /^## /{in_table = /^## The crates/}
-    in_table && /^[A-Z].*:$/{group = "# " tolower(substr($0, 1, 1)) substr($0, 2, length($0) - 2)}
-    in_table && /^\| Crate \|/{print group}
-    in_table && /^\| [a-z][a-z0-9_]* \|/{print $2}' docs/ARCHITECTURE.md >"$room/table"
 same "crates.txt and the folders of crates" "$room/index" "$room/folders"
-same "the groups of crates.txt and those of ARCHITECTURE" "$room/groups" "$room/table"
+if command -v python3 >/dev/null 2>&1; then
+    python3 -B tests/crates.py --table | sed -n 's/^| \([a-z][a-z0-9_]*\) | [^|].*/\1/p' >"$room/table"
+    same "crates.txt and the crates that have a first comment" "$room/order" "$room/table"
 
-# PROVED has a row for each crate that isn't of tests and rows alone, and each call that a row names stands in its crate.
-sed -n 's/^\([a-z][a-z0-9_]*\)[^:#]*:.*/\1/p' crates.txt | grep -v '_tests$' | grep -vx -e rows -e worked_rows | sort >"$room/proved"
-awk '/^## /{in_table = /^## Crate by crate/} in_table && /^\| [a-z][a-z0-9_]* \|/{print $2}' docs/PROVED.md | sort >"$room/rows"
-same "crates.txt, without tests, and the table of PROVED" "$room/proved" "$room/rows"
-awk -F'|' '
-    /^## /{in_table = /^## Crate by crate/}
-    in_table && /^\| [a-z]/{gsub(/ /, "", $2); n = split($3, part, "`"); for (k = 2; k <= n; k += 2) print $2, part[k]}' docs/PROVED.md |
-    sed -n 's/^\([a-z0-9_]*\) \(.*::\)\{0,1\}\([A-Za-z_][A-Za-z0-9_][A-Za-z0-9_]*\)$/\1 \3/p' | sort -u >"$room/named"
-while read -r crate word; do
-    if [ -d "crates/$crate" ] && grep -rqw -- "$word" "crates/$crate/src" "crates/$crate/specs" "crates/$crate/proofs" 2>/dev/null; then echo "$crate $word"; fi
-done <"$room/named" >"$room/standing"
-same "the calls and clauses that PROVED names and those of the crates" "$room/named" "$room/standing"
+    # The files and names that pages for developers cite.
+    echo none >"$room/none"
+    python3 -B tests/crates.py --cited docs/ARCHITECTURE.md docs/PROVED.md docs/DECISIONS.md docs/PROOFS.md docs/STRENGTH.md CONTRIBUTING.md \
+        bench/gate/RESULTS.md >"$room/lacking"
+    [ -s "$room/lacking" ] || echo none >"$room/lacking"
+    same "the files and names that pages cite and those of the repository" "$room/none" "$room/lacking"
+fi
 
 # Limits: FORMATS names each by its constant, with its number; commas and underscores are for the eye.
 sed -n 's/^pub const \([A-Z_]*\): [a-z0-9]* = \([0-9_]*\);.*/\1 \2/p' crates/m_places/src/limits.rt | sed 's/_\([0-9]\)/\1/g' | sort >"$room/constants"
@@ -55,7 +47,7 @@ sed -n 's/^\([A-Z_]*\) = \([0-9_]*\)  # .*/\1 \2/p' python/vodmejka/limits.py | 
 same "the limits of m_places and those of the Python library" "$room/constants" "$room/library"
 
 # The usage line: one text wherever it stands.
-git grep -hoE 'usage: m_tax run[^"\\]*TABLE' -- README.md docs crates tests/started.sh | sort -u >"$room/usages"
+git grep -hoE 'usage: m_tax run[^"\\]*TABLE' -- README.md LISEZMOI.md docs crates tests/started.sh | sort -u >"$room/usages"
 head -n 1 "$room/usages" >"$room/usage"
 same "the copies of the usage line" "$room/usage" "$room/usages"
 
@@ -98,7 +90,7 @@ fi
 # English: no page and no comment of a crate has a word that ARCHITECTURE's table replaces, outside of code.
 replaced="front|fronts|behind|want of|wrong body|wrong bodies|second reading|refusal|refusals|weighs"
 for page in $(git ls-files '*.md' | grep -v '^crates/\|^bench/\|^unlanded/'); do
-    awk '/^```/{code = !code; next} !code' "$page" | sed 's/`[^`]*`//g; s/REFUSALS.md//g; s/front page//g; s/leave it behind//g' |
+    awk '/^```/{code = !code; next} !code' "$page" | sed 's/`[^`]*`//g; s/REFUSALS//g; s/front page//g; s/leave it behind//g' |
         grep -niwE "$replaced" | sed "s|^|$page: |"
 done >"$room/words"
 git ls-files 'crates/*.rt' | xargs sed -n 's/^ *\(.*[ ;,{}]\)\{0,1\}\/\/[\/!]\{0,1\} //p' | sed 's/`[^`]*`//g' | grep -iwE "$replaced" >>"$room/words"
@@ -106,6 +98,14 @@ git ls-files 'crates/*.antt' | xargs sed -n 's/^ *-- //p' | sed 's/`[^`]*`//g' |
 echo none >"$room/none"
 [ -s "$room/words" ] || echo none >"$room/words"
 same "the words of the pages and comments and ARCHITECTURE's table" "$room/none" "$room/words"
+
+# Pages say what is reported, requested or equal, without figures of speech. (Pages that are to be rewritten still are left out.)
+figures="told|tells?|said|asked for|befalls?|comes to|goes along|its like|what there is|as ever|dearest|reckons?"
+for page in README.md CONTRIBUTING.md SECURITY.md $(git ls-files 'docs/*.md' | grep -v '^docs/fr/\|PYTHON\|TOOLS\|SCALE\|SURVEY\|FACTS'); do
+    awk '/^```/{code = !code; next} !code' "$page" | sed 's/`[^`]*`//g' | grep -niwE "$figures" | sed "s|^|$page: |"
+done >"$room/figures"
+[ -s "$room/figures" ] || echo none >"$room/figures"
+same "the words of the pages and those of the field" "$room/none" "$room/figures"
 
 # Links: each names a file that is there.
 git ls-files '*.md' | grep -v '^unlanded/' | while read -r page; do
@@ -124,10 +124,15 @@ for pair in README.md:LISEZMOI.md docs/FIRST_HOUR.md:docs/fr/PREMIERE_HEURE.md d
     same "the commands and answers of ${pair%:*} and of ${pair#*:}" "$room/blocks" "$room/french"
 done
 
-# The front page is short.
-if [ "$(wc -c <README.md)" -lt 10240 ]; then echo short; else echo long; fi >"$room/size"
-echo short >"$room/short"
-same "the size of README and 10 KB" "$room/short" "$room/size"
+# Pages keep their sizes, in KB: who adds something says it shorter, or leaves something out.
+sizes="README.md 9 docs/ARCHITECTURE.md 20 docs/PROVED.md 15 docs/DECISIONS.md 18 docs/PROOFS.md 12 docs/STRENGTH.md 6"
+echo "$sizes" | xargs -n 2 | while read -r page most; do
+    if [ "$(wc -c <"$page")" -le $((most * 1024)) ]; then echo "$page at most $most KB"; else echo "$page has $(wc -c <"$page") bytes"; fi
+done >"$room/sizes"
+all=$(git ls-files 'docs/*.md' | xargs cat | wc -c)
+if [ "$all" -le $((240 * 1024)) ]; then echo "docs at most 240 KB"; else echo "docs has $all bytes"; fi >>"$room/sizes"
+{ echo "$sizes" | xargs -n 2 | sed 's/ / at most /; s/$/ KB/'; echo "docs at most 240 KB"; } >"$room/limits"
+same "the sizes of pages and their limits" "$room/limits" "$room/sizes"
 
 echo "documents: $((compared - failed)) passed, $failed failed"
 [ "$failed" -eq 0 ]

@@ -79,10 +79,11 @@ if command -v groff >/dev/null 2>&1; then
 fi
 tests/release_pages.py "$room/files/usr/share/man" >"$room/differences"
 says "what pages have of the help" "" cat "$room/differences"
-completed() {
+completed() { completed_of vodmejka "$@"; }
+completed_of() {
     PATH=$room/files/usr/bin:$PATH bash -c '
-        . "$1/usr/share/bash-completion/completions/vodmejka"; shift
-        COMP_WORDS=("$@"); COMP_CWORD=$(($# - 1)); compopt() { :; }; _vodmejka; echo "${COMPREPLY[*]}"' bash "$room/files" "$@"
+        . "$1/usr/share/bash-completion/completions/$2"; function=_$2; shift 2
+        COMP_WORDS=("$@"); COMP_CWORD=$(($# - 1)); compopt() { :; }; "$function"; echo "${COMPREPLY[*]}"' bash "$room/files" "$@"
 }
 PYTHONPATH=$room/files/usr/lib/python3/dist-packages
 export PYTHONPATH
@@ -92,6 +93,7 @@ if command -v bash >/dev/null 2>&1; then
     says "a command in bash" "table-in table-out" completed vodmejka table
     says "an option in bash" "--only-nonzero --open" completed vodmejka why --o
     says "a code in bash" "1AJ" completed vodmejka marginal examples/first/rules.list - household.csv 1
+    says "a command of m_survey in bash" "table" completed_of m_survey m_survey t
     says "a variable in bash" "IRN" completed vodmejka why examples/first/rules.list household.csv IR
 fi
 if command -v zsh >/dev/null 2>&1; then
@@ -128,6 +130,36 @@ fi
 # A root of Debian's packages alone.
 # within COMMAND: what a user of that root gets of a command, started where the package has its documents.
 within() { chroot "$root" /usr/bin/env -i PATH=/usr/sbin:/usr/bin:/sbin:/bin LC_ALL=C.UTF-8 sh -c "cd /usr/share/doc/vodmejka 2>/dev/null; $1"; }
+# services: starts both services in that root under its own systemd, of a household, one that is rejected, a table, and of inputs that aren't there.
+services() {
+    within "cp systemd/*.service /etc/systemd/system/ && mkdir -p /srv/m_tax/in /srv/m_tax/out && chmod 700 /srv/m_tax/out &&
+        m_tax compile examples/first/rules.list - - >/srv/m_tax/rules.code && cp examples/first/household.csv /srv/m_tax/in/dupont.csv &&
+        printf 'code,amount\n1AJ,x\n' >/srv/m_tax/in/bad.csv && chmod 600 /srv/m_tax/in/*.csv && cp examples/first/table.csv /srv/m_tax/in/2026.csv &&
+        groupadd --system m_tables && chgrp m_tables /srv/m_tax/in/2026.csv && chmod 640 /srv/m_tax/in/2026.csv" || return
+    cat >"$root/etc/systemd/system/services.service" <<'end'
+[Unit]
+After=basic.target
+[Service]
+Type=oneshot
+ExecStart=/bin/sh -c 'for unit in m_tax@dupont m_tax@bad m_survey@2026 m_tax@none m_survey@none; do systemctl start $unit 2>/dev/null; echo "$unit $?"; done >/srv/started; systemctl poweroff --no-block'
+end
+    mkdir -p "$root/etc/systemd/system/basic.target.wants"
+    ln -s ../services.service "$root/etc/systemd/system/basic.target.wants/"
+    umount "$root/proc"
+    timeout 120 systemd-nspawn -q -D "$root" -b --console=read-only --private-network --register=no --keep-unit </dev/null >"$room/boot" 2>&1
+    mount -t proc proc "$root/proc" || exit 1
+    says "services" "m_tax@dupont 0
+m_tax@bad 0
+m_survey@2026 0
+m_tax@none 1
+m_survey@none 1" cat "$root/srv/started"
+    says "a household by its service" "IRN = 1500.5" cat "$root/srv/m_tax/out/dupont.txt"
+    says "a household that is rejected" "refused household line 2: bad amount" cat "$root/srv/m_tax/out/bad.txt"
+    says "a table by its service" "name,stop,notes,IRN
+dupont,,,1500.5
+martin,,,-1000" cat "$root/srv/m_tax/out/2026.csv"
+    says "who may read what they print" "600 600 600" sh -c "echo \$(stat -c %a '$root'/srv/m_tax/out/*)"
+}
 if ! command -v debootstrap >/dev/null 2>&1; then
     echo "release: a root of Debian: not run: debootstrap isn't installed"
 elif ! debootstrap --variant=minbase --include=ca-certificates bookworm "$root" "$mirror" >"$room/debootstrap" 2>&1; then
@@ -140,6 +172,7 @@ else
         passed=$((passed + 1))
         says "README's household" "$answer" within "$household"
         says "man m_tax" "m_tax - computes the French income tax from rules written in M" within "man m_tax | sed -n '/^NAME/{n; s/^ *//p}'"
+        says "man m_survey" "m_survey - computes tables of households from tax rules written in M, as csv" within "man m_survey | sed -n '/^NAME/{n; s/^ *//p}'"
         says "man in French" "m_tax - calcule l'impôt sur le revenu à partir de règles écrites en M" within "
             man -L fr m_tax | sed -n '/^NOM/{n; s/^ *//p}'"
         says "a page of rules" "<!doctype html>" within "
@@ -147,8 +180,15 @@ else
         says "pip install of the wheel" 2286 within "
             python3 -m venv /root/venv && /root/venv/bin/pip install -q --no-index /root/*manylinux*.whl && /root/venv/bin/python -c \"$library\""
         says "dpkg's digests" "" within "dpkg --verify vodmejka"
+        if ! command -v systemd-nspawn >/dev/null 2>&1; then
+            echo "release: services: not run: systemd-nspawn isn't installed"
+        elif ! within "DEBIAN_FRONTEND=noninteractive $install systemd-sysv dbus" >"$room/apt" 2>&1; then
+            echo "release: services: not run: the root has no systemd: $(tail -n 1 "$room/apt")"
+        else
+            services
+        fi
         within "apt-get -qq -o Dpkg::Use-Pty=0 remove vodmejka" >"$room/apt" 2>&1
-        says "removal" "" within "find /usr -path '*vodmejka*' -o -name 'm_tax*'"
+        says "removal" "" within "find /usr -path '*vodmejka*' -o -name 'm_tax*' -o -name 'm_survey*'"
     else
         failed=$((failed + 1))
         echo "release: apt install in a root of Debian:"

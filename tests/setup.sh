@@ -8,5 +8,5 @@ apt-get install -y --no-install-recommends nodejs chromium chromium-driver
 apt-get install -y --no-install-recommends neovim
 # python/tests: frames, by /usr/bin/python3, for which Debian has pandas; types
 apt-get install -y --no-install-recommends python3-pandas mypy
-# tests/release.sh: a look at packages, a root of Debian's packages alone, shells and their completions, environments of Python
-apt-get install -y --no-install-recommends lintian debootstrap zsh fish groff python3-venv
+# tests/release.sh: a look at packages, a root of Debian's packages alone, services in it, shells and their completions, environments of Python
+apt-get install -y --no-install-recommends lintian debootstrap systemd-container zsh fish groff python3-venv

@@ -25,6 +25,22 @@ IRN = somme(i=V,C: NETi) - TRANCHE[1] ;   # \U0001f600 IRN
 verif 1 : application : iliad ;
 si SALV < 0 alors erreur E01 ;
 """
+SLIPS = """PLAFOND : const = 100 ;
+LIBRE : const = 3 ;
+SEUL : calculee : "que rien ne lit" ;
+NUL : calculee restituee : "que rien ne fixe" ;
+E02 : anomalie : "E" : "02" : "00" : "toujours" ;
+E03 : anomalie : "E" : "03" : "00" : "jamais" ;
+regle 20 : application : iliad ;
+IRN = somme(i=V,C: somme(i=V,C: NETi)) - TRANCHE[1] ;
+regle 10 : application : iliad ;
+SEUL = 1 ;
+verif 1 : application : iliad ;
+si PLAFOND > 99 alors erreur E02 ;
+si SALV < 0 alors erreur E01 ;
+regle 10 : application : batch ;
+SEUL = 2 ;
+"""
 DRIVER = """main():
   AVANT <- sans()
   IRN <- call_m()
@@ -208,6 +224,13 @@ def hints(script, rules):
     script.texts[rules] = RULES
 
 
+def slipped(script, rules):
+    """What is declared and not used, or not what was meant."""
+    script.client.change(rules, 2, {"text": SLIPS})
+    script.diagnostics("slips")
+    script.client.change(rules, 2, {"text": RULES})
+
+
 def edited(script, rules):
     """Changes of ranges that count UTF-16 units, several in one message."""
     changes = [edit(1, 47, 1, 50, "x\U0001f600y"), edit(1, 45, 1, 46, "z"), edit(0, 0, 0, 0, "# \n"), edit(2, 51, 2, 52, "")]
@@ -234,6 +257,7 @@ def main():
     listed(script, (base, rules, driver))
     completed(script, rules)
     hints(script, rules)
+    slipped(script, rules)
     edited(script, rules)
     lists(script, rules)
     print("status", script.client.end())

@@ -7,7 +7,8 @@ from . import manuals
 
 CODES = "vodmejka requests --codes LIST 2>/dev/null | sed '1d; s/,.*//'"
 NAMES = "vodmejka requests LIST 2>/dev/null"
-PROGRAM = ("batch", "cases", "check", "compile", "exec", "large", "lint", "run", "serve")
+PROGRAMS = {"m_survey": ("facts", "table", "version"),
+            "m_tax": ("batch", "cases", "check", "compile", "exec", "large", "lint", "run", "serve")}
 
 
 def scripts() -> dict[str, str]:
@@ -15,7 +16,8 @@ def scripts() -> dict[str, str]:
     from vodmejka import commands
     options = {name: options_of(name) for name in commands.names()}
     return {"usr/share/bash-completion/completions/vodmejka": bash(options),
-            "usr/share/bash-completion/completions/m_tax": BASH_PROGRAM.replace("@COMMANDS@", " ".join(PROGRAM)),
+            **{f"usr/share/bash-completion/completions/{name}": BASH_PROGRAM.replace("@NAME@", name).replace("@COMMANDS@", " ".join(words))
+               for name, words in PROGRAMS.items()},
             "usr/share/zsh/vendor-completions/_vodmejka": zsh(options),
             "usr/share/fish/vendor_completions.d/vodmejka.fish": fish(options)}
 
@@ -33,13 +35,15 @@ def bash(options: dict[str, list[str]]) -> str:
 
 def zsh(options: dict[str, list[str]]) -> str:
     cases = "\n".join(f"        {name}) options=({' '.join(words)}) ;;" for name, words in options.items())
-    made = ZSH.replace("@COMMANDS@", " ".join(options)).replace("@OPTIONS@", cases).replace("@PROGRAM@", " ".join(PROGRAM))
+    made = ZSH.replace("@COMMANDS@", " ".join(options)).replace("@OPTIONS@", cases)
+    programs = "".join(f"            {program}) compadd -- {' '.join(words)} ;;\n" for program, words in PROGRAMS.items())
+    made = made.replace("@PROGRAMS@", programs)
     return made.replace("@CODES@", listed(CODES)).replace("@NAMES@", listed(NAMES))
 
 
 def fish(options: dict[str, list[str]]) -> str:
     lines = [FISH.replace("@CODES@", CODES.replace("LIST", "$list")).replace("@NAMES@", NAMES.replace("LIST", "$list"))]
-    lines += [f"complete -c {command} -n __fish_use_subcommand -f -a '{' '.join(names)}'" for command, names in (("m_tax", PROGRAM), ("vodmejka", options))]
+    lines += [f"complete -c {command} -n __fish_use_subcommand -f -a '{' '.join(names)}'" for command, names in (*PROGRAMS.items(), ("vodmejka", options))]
     for name, words in options.items():
         lines += [f"complete -c vodmejka -n '__fish_seen_subcommand_from {name}' -l {word[2:]}" for word in words]
     return "\n".join([*lines, ""])
@@ -78,8 +82,8 @@ _vodmejka() {
 complete -F _vodmejka vodmejka
 """
 
-BASH_PROGRAM = r"""# bash completion for m_tax
-_m_tax() {
+BASH_PROGRAM = r"""# bash completion for @NAME@
+_@NAME@() {
     local word=${COMP_WORDS[COMP_CWORD]}
     if [ "$COMP_CWORD" -eq 1 ]; then
         mapfile -t COMPREPLY < <(compgen -W '@COMMANDS@' -- "$word")
@@ -88,18 +92,20 @@ _m_tax() {
         compopt -o filenames 2>/dev/null
     fi
 }
-complete -F _m_tax m_tax
+complete -F _@NAME@ @NAME@
 """
 
-ZSH = r"""#compdef vodmejka m_tax
+ZSH = r"""#compdef vodmejka m_tax m_survey
 _vodmejka() {
     local -a options
     local list name=$words[2]
     if (( CURRENT == 2 )); then
-        if [[ $service == m_tax ]]; then compadd -- @PROGRAM@; else compadd -- @COMMANDS@ --help; fi
+        case $service in
+@PROGRAMS@            *) compadd -- @COMMANDS@ --help ;;
+        esac
         return
     fi
-    if [[ $service == m_tax ]]; then _files; return; fi
+    if [[ $service != vodmejka ]]; then _files; return; fi
     case $name in
 @OPTIONS@
     esac
@@ -115,7 +121,7 @@ _vodmejka() {
 _vodmejka "$@"
 """
 
-FISH = r"""# fish completions for vodmejka and m_tax
+FISH = r"""# fish completions for vodmejka, m_tax and m_survey
 function __vodmejka_list
     string match -- '*.list' (commandline -opc) | head -n 1
 end

@@ -1,7 +1,7 @@
-//! What code answers, printed as it is made: to a household, to the rows of a table, to cases, and to the household of `large N`. A code
-//! file is run here, and a household or a code file is refused.
+//! What code answers, printed as it is made: to a household, to the rows of a table, to cases, and to the household of `large N`. Code files
+//! are run here, and households and code files are rejected.
 //!
-//! Each call takes loaded code, whatever it was made of, and says what a scheme tells that the code shows.
+//! Each call takes loaded code, whatever it was made of, and answers as any scheme that the code shows.
 //! This crate knows nothing of sources and rules, nor of the words of the command line, and fetches no file.
 #![tactic(auto)]
 

@@ -1,8 +1,8 @@
-//! Commands as plans: which files a command asks for, one after the other, and where it refuses; the list file, and how the files of a source
-//! are gathered along it.
+//! Commands as plans: which files a command requests, in order, and where it rejects them; the list file, and how the files of a source are
+//! gathered.
 //!
-//! The vocabulary of all commands: statuses, errors, what ends a command before it has its files, the call that fetches a file, and the calls
-//! that print a line. This crate knows no command, and nothing of what files say but the list.
+//! It has what all commands share: statuses, errors, what ends a command before it has its files, the call that fetches a file, and the calls
+//! that print a line. This crate knows no command, and reads no file but the list.
 #![tactic(auto)]
 
 mod ending;

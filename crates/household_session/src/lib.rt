@@ -3,6 +3,9 @@
 //!
 //! The loop knows how an input is cut into lines while it comes in pieces, and not what a line says. This crate knows nothing of files, and
 //! nothing but the start of a session takes memory.
+//!
+//! A line over 4,096 bytes is rejected whatever its bytes, so the loop holds at most 4,097. Replies go through a buffer that is emptied after
+//! each line.
 #![tactic(auto)]
 
 mod buffer;

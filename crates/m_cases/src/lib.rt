@@ -1,4 +1,4 @@
-//! Tables of cases: households, what is expected of their answers, and which of that isn't met.
+//! Tables of cases: households, the expected values of their answers, and which expectations aren't met.
 //!
 //! This crate reads the bytes of a table as `household` does, and knows neither rules nor how an answer is computed.
 #![tactic(auto)]

@@ -1,7 +1,6 @@
-//! The compiler: from a source, as bytes, to a tidy program and its register code, or the fault of the earliest step that has one.
+//! The compiler: from a source, as bytes, to a tidy program and its register code, or the error of the earliest faulty step.
 //!
-//! It puts the steps one after the other, and knows what each fault is told as. It knows nothing of files on a disk,
-//! of the command line or of what a household is.
+//! It runs the steps in order, and maps each error to its line. It knows nothing of files on a disk, of the command line or of households.
 #![tactic(auto)]
 
 mod base;

@@ -1,4 +1,4 @@
-//! What a session tells of why a variable has its value reads back as it was made, and is sound to a checker that has the same rules and household.
+//! A session's reply to `why` reads back as the lines it was made of, and `check` accepts it with the same rules and household.
 //!
 //! This crate has no code: what it proves are the contracts of laws.
 #![tactic(auto)]

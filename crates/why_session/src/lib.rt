@@ -1,7 +1,7 @@
-//! A session that also tells why a variable has its value.
+//! A session that also explains why a variable has its value.
 //!
 //! This crate joins a session and a reporter over the same values of the inputs. It knows nothing of files, and nothing of how an
-//! input is cut into lines. Nothing but the start takes memory.
+//! input is cut into lines. Only the start takes memory.
 #![tactic(auto)]
 
 mod asked;

@@ -5,7 +5,7 @@ from collections.abc import Iterable, Iterator
 from typing import Any
 
 from .. import items, loops
-from .pieces import Check, Formula, Piece, RuleText
+from .pieces import Check, Formula, Head, Piece, RuleText
 from .texts import uri_of
 
 Cell = tuple[str, Any]  # a name with nothing, the number of a cell, or `X` for all cells of a table
@@ -52,7 +52,7 @@ class Base:
         self.folder = ""
         self.signature: tuple[int, ...] | None = None
         self.variables, self.errors, self.codes, self.setters, self.targets = Place(), Place(), Place(), Place(), Place()
-        self.readers, self.raisers, self.maybe = Place(), Place(), Place()
+        self.readers, self.raisers, self.maybe, self.heads = Place(), Place(), Place(), Place()
         self.counted = self.returned = 0
         self.is_other = True  # whether what is declared may be other than a driver was looked at with
         self.todo: dict[Piece, None] = {}
@@ -89,6 +89,8 @@ class Base:
                 yield self.setters, (name, slot_of(item))
         elif isinstance(item, Check):
             yield self.raisers, item.error
+        elif isinstance(item, Head):
+            yield self.heads, number_of(item)
         for name in names_read(piece):
             yield self.readers, name
         for name in set(piece.maybe):
@@ -149,6 +151,10 @@ class Base:
             return [*self.raisers.of(name), *self.errors.of(name)]
         if kind == "read":
             return self.variables.of(name)
+        if kind == "raised":
+            return self.errors.of(name)
+        if kind == "head":
+            return self.heads.of(name)
         again = [*self.variables.of(name), *self.targets.of(name)]
         if kind in ("variable", "maybe"):
             again += self.readers.of(name)
@@ -166,6 +172,10 @@ class Base:
                     found.add(("code", item.code))
             elif isinstance(item, Formula):
                 found.update(("set", name, item.slot, self.counts(piece)) for name in targets_of(item))
+            elif isinstance(item, Check):
+                found.add(("raised", item.error))
+            elif isinstance(item, Head):
+                found.add(("head", number_of(item), piece.text.content[piece.begin : piece.end]))
             found.update(("maybe", name) for name in piece.maybe)
             found.update(("read", name, self.counts(piece)) for name in names_read(piece))
         return found
@@ -177,6 +187,11 @@ class Base:
 
 def slot_of(formula: Formula) -> Any:
     return formula.slot if formula.slot in (None, "X") else loops.whole(formula.slot)
+
+
+def number_of(head: Head) -> tuple[str, int]:
+    """What no other rule or verification of an application has."""
+    return head.kind, int(head.number)
 
 
 def targets_of(formula: Formula) -> list[str]:

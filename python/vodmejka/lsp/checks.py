@@ -2,15 +2,16 @@
 from __future__ import annotations
 
 from collections.abc import Iterable, Iterator, Mapping
+from fractions import Fraction
 from typing import Any, NamedTuple
 
 from .. import faults, items, loops, source
 from ..commands import slips
 from ..hints import distance
 from ..limits import TABLE_CELLS
-from ..slips_of_use import TYPES
-from .base import Base, Cell, names_of
-from .pieces import Check, Formula, Piece, PieceReader
+from ..slips_of_use import TYPES, constant_value
+from .base import Base, Cell, names_of, number_of
+from .pieces import Check, Formula, Head, Piece, PieceReader
 
 ERROR, WARNING, INFORMATION, HINT = 1, 2, 3, 4
 
@@ -76,9 +77,9 @@ class Checker(faults.Names):
     files: Any
     done: Any
 
-    def __init__(self, base: Base, set_by_driver: set[Cell] | None = None) -> None:
+    def __init__(self, base: Base, set_by_driver: set[Cell] | None = None, in_driver: set[str] | None = None) -> None:
         self.base, self.variables, self.errors, self.files = base, Declared(base), base.errors, self
-        self.set_by_driver = set_by_driver or set()
+        self.set_by_driver, self.in_driver = set_by_driver or set(), in_driver or set()
         self.told: list[tuple[int, str]] = []
 
     def findings(self, piece: Piece) -> list[Finding]:
@@ -98,7 +99,9 @@ class Checker(faults.Names):
             elif item.error not in self.errors and item.error not in self.base.maybe and not self.base.missing:
                 self.told.append((item.error_byte, f"unknown error {item.error}"))
             self.look_at_reads(piece)
-            slipped = [] if self.told else list(slips_of_reads(self.base, piece))
+            slipped = [] if self.told else [*slips_of_reads(self.base, piece), *slips_of_letters(piece), *self.slips_of_check(piece, item)]
+        elif isinstance(item, Head):
+            slipped = list(self.slips_of_head(piece, item))
         return [self.finding(piece, byte, what) for byte, what in self.told] + slipped
 
     def finding(self, piece: Piece, byte: int, what: str) -> Finding:
@@ -140,13 +143,18 @@ class Checker(faults.Names):
         if item.type is not None and item.type not in TYPES:
             what = f"the type {item.type} of {item.name} is none of {', '.join(TYPES)}, and says nothing"
             yield Finding(item.byte, item.byte + len(item.name), WARNING, what)
+        end = item.byte + len(item.name)
+        if self.is_idle(item):
+            what = {"const": "nothing reads", "calculee": "nothing reads or returns"}.get(item.kind, "no verification has")
+            yield Finding(item.byte, end, INFORMATION, f"{what} {item.name}")
         if item.kind != "calculee":
             return
-        end = item.byte + len(item.name)
         cells: Iterable[int | None] = range(item.size) if item.size is not None else [None]
         bare = [cell for cell in cells if not self.is_set(item.name, cell)]
         if not bare:
             return
+        if is_returned(item) and len(bare) == (item.size or 1) and not self.base.missing:
+            yield Finding(item.byte, end, WARNING, f"{item.name} is returned, and nothing sets it")
         read = self.cells_read(item)
         if item.size is None:
             if (item.name, None) in read:
@@ -156,6 +164,43 @@ class Checker(faults.Names):
         if idle and (len(bare) < item.size or len(idle) < len(bare)):
             shown = ", ".join(f"{item.name}[{cell}]" for cell in idle[:5])
             yield Finding(item.byte, end, WARNING, f"nothing sets {shown}{' ..' if len(idle) > 5 else ''}, {len(idle)} of {item.size} cells")
+
+    def is_idle(self, item: items.Declaration) -> bool:
+        """Whether nothing uses a constant, a computed variable that isn't returned, or an error. Where a file can't be read, it isn't known."""
+        if self.base.missing:
+            return False
+        if item.kind in items.KINDS_OF_ERRORS:
+            return item.name not in self.base.raisers and item.name not in self.base.maybe
+        if item.kind not in ("const", "calculee") or is_returned(item) or item.name in self.in_driver:
+            return False
+        return not any(self.base.counts(piece) for piece in self.base.readers.of(item.name))
+
+    def slips_of_head(self, piece: Piece, head: Head) -> Iterator[Finding]:
+        """A rule or verification whose number an earlier one of the list's application has."""
+        others = self.base.heads.of(number_of(head))
+        if len(others) > 1:
+            mine = [other for other in others if self.base.application in applications_of(other)]
+            first = self.base.first(mine)
+            if piece in mine and first is not piece and first is not None:
+                what = "rule" if head.kind == "regle" else "verification"
+                name = self.base.names.get(first.text, first.text.path)
+                yield Finding(head.byte, head.byte + len(head.kind), WARNING, f"the {what} {head.number} stands twice; the first is in {name}")
+
+    def slips_of_check(self, piece: Piece, check: Formula | Check) -> Iterator[Finding]:
+        """A verification of numbers and constants alone whose condition holds."""
+        if not isinstance(check, Check) or not any(error.item.kind == "anomalie" for error in self.base.errors.of(check.error)):
+            return
+        constants: dict[str, Fraction] = {}
+        for word, _, _, _ in piece.reads:
+            declared = self.base.declared(word)
+            if declared is None or declared.kind != "const" or declared.number is None:
+                return
+            constants[word] = Fraction(declared.number)
+        reader = PieceReader(piece.text, piece.begin, piece.state)
+        reader.piece_at_hand()
+        if reader.checks and constant_value(reader.checks[0].condition, constants):
+            what = f"the condition holds for every household, so {check.error} always stops"
+            yield Finding(check.byte, check.byte + len("si"), WARNING, what)
 
     def is_set(self, name: str, cell: int | None) -> bool:
         places: list[Cell] = [(name, cell)] if cell is None else [(name, cell), (name, "X")]
@@ -171,6 +216,31 @@ class Checker(faults.Names):
                         if loops.replaced(word, letters) == item.name:
                             found.update(slips.cells_read(item.name, item.size, index, letters))
         return found
+
+
+def is_returned(item: items.Declaration) -> bool:
+    return any(word == "restituee" and number is None for word, number in item.attributes)
+
+
+def applications_of(head: Piece) -> tuple[str, ...]:
+    """The applications of a rule or verification: what stands behind its head is of them."""
+    pieces = head.text.pieces
+    number = head.text.at(head.begin)
+    return pieces[number + 1].state.applications if number + 1 < len(pieces) else ()
+
+
+def slips_of_letters(piece: Piece) -> Iterator[Finding]:
+    """A letter that is bound again within its own loop; each letter once."""
+    told: set[str] = set()
+    for word, _, byte, round_it in [*piece.reads, *(("", None, piece.item.byte, loops_of) for loops_of in [getattr(piece.item, "loops", [])])]:
+        bound: set[str] = set()
+        for header in round_it:
+            own = {letter for letter, _ in header}
+            for letter in sorted((own & bound) - told):
+                told.add(letter)
+                what = f"the letter {letter} is bound again within its own loop, and means the inner one there"
+                yield Finding(byte, byte + max(1, len(word)), WARNING, what)
+            bound |= own
 
 
 def slips_of_reads(base: Base, piece: Piece) -> Iterator[Finding]:

@@ -314,7 +314,7 @@ class Workspace:
     def look_at(self, base: Base) -> None:
         until = time.monotonic() + SLICE
         driver = self.driver_of(base)
-        checker = Checker(base, set(driver.driver.set) if driver else set())
+        checker = Checker(base, set(driver.driver.set), {name for name, _, _ in driver.driver.cells}) if driver else Checker(base)
         while base.todo and time.monotonic() < until:
             piece = base.next()
             found = checker.findings(piece)
