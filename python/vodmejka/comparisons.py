@@ -2,14 +2,16 @@
 from __future__ import annotations
 
 import itertools
+import operator
 from decimal import Decimal
 from fractions import Fraction
 from typing import Any, Iterable, Iterator, Mapping, NamedTuple, Sequence
 
 from .answers import Answer, Over
-from .errors import Refused
+from .bar_pictures import Picture, bars
+from .errors import Broken, Refused
 from .expressions import UNIT, Amount, Expression, millionths
-from .groups import Group, gini_of, group_line
+from .groups import Group, Row, gini_of, group_line, tenths, whole_parts
 from .rules import Rules
 from .shown import section, short, table
 from .sweeps import exact
@@ -31,18 +33,24 @@ class Compared(NamedTuple):
     kept: tuple[Fraction | None, Fraction | None]
     why: str
 
+    def row(self, key: Any, scale: int) -> Row:
+        """What it adds to sums, where something orders it."""
+        return key, self.weight, whole_parts(self.before, scale), whole_parts(self.after, scale), self.why
+
 
 class Comparison:
     """The outcome of a change.
 
-    `groups` has the group of all households first, named `all`, and then those of each grouping in order; `households` the single ones. `digests` are those of
-    the two sources. Amounts are exact, as decimals; shares and the Gini coefficient are fractions.
+    `groups` has the group of all households first, named `all`, and then those of each grouping in order; `households` the single ones, where they were kept.
+    `digests` are those of the two sources, `program` that of the program. Amounts are exact, as decimals; shares and the Gini coefficient are fractions.
     """
 
-    def __init__(self, of: str, gain: str, net: str | None, by: Sequence[str], households: list[Compared], digests: tuple[str, str]):
-        self.of, self.gain, self.net, self.by, self.households, self.digests = of, gain, net, list(by), households, digests
-        sign = -1 if gain == "less" else 1
-        self.groups = [Group("all", households, sign), *itertools.chain.from_iterable(grouped(households, by, sign))]
+    def __init__(
+        self, of: str, gain: str, net: str | None, by: Sequence[str], groups: Sequence[Group], digests: tuple[str, str], program: str,
+        households: Sequence[Compared] = (),
+    ):
+        self.of, self.gain, self.net, self.by, self.households = of, gain, net, list(by), list(households)
+        self.groups, self.digests, self.program = list(groups), digests, program
 
     @property
     def all(self) -> Group:
@@ -81,9 +89,14 @@ class Comparison:
             return rows
         return pandas.DataFrame(rows).set_index("group")
 
+    def plot(self) -> Picture:
+        """The mean gain of a household of each group, or of all where there are no groups, as a picture, which notebooks show."""
+        shown = self.groups[1:] or self.groups
+        return Picture(bars([(short_name(group.name), [group.mean_gain]) for group in shown], ""))
+
     def _repr_html_(self) -> str:
         rows = [group_line(group) for group in self.groups]
-        digests = f"rules {short(self.digests[0])} before, {short(self.digests[1])} after"
+        digests = f"rules {short(self.digests[0])} before, {short(self.digests[1])} after, program {short(self.program)}"
         return section([repr(self).strip("<>"), digests], table(list(rows[0]), [list(row.values()) for row in rows]))
 
     def __repr__(self) -> str:
@@ -103,8 +116,9 @@ def compare(
     or a sum as `TOTAL + LEVIES`; `net` a sum of codes and values that says what a household keeps. With gain="less" less of `of` is a gain, as of a tax, with
     "more" more of it.
     """
-    if gain not in GAINS:
-        raise ValueError('gain: "less" or "more"')
+    sign_of(gain)
+    if before.program_digest != after.program_digest:
+        raise Broken("the rules before and after are computed by two programs")
     sums = [Expression(text) for text in (of, *([net] if net is not None else []))]
     codes = [set(before.inputs()), set(after.inputs())]
     tenths = [name.removeprefix(TENTH) for name in by if name.startswith(TENTH)]
@@ -117,7 +131,23 @@ def compare(
                 raise Refused(f"{name} is neither a requested value nor a code of the rules; there are {', '.join(base.outputs())}")
     columns = [name for name in ([weight] if weight is not None else []) + list(by) if not name.startswith(TENTH)]
     made = list(compared(before, after, codes, rows_of(households, columns, keep, codes), sums, weight, by))
-    return Comparison(of, gain, net, by, made, (before.digest, after.digest))
+    sign, scale = sign_of(gain), sums[0].scale
+    whole = Group("all", sign, scale)
+    whole.add(one.row(None, scale) for one in made)
+    groups = [whole, *itertools.chain.from_iterable(grouped(made, by, sign, scale))]
+    return Comparison(of, gain, net, by, groups, (before.digest, after.digest), before.program_digest, made)
+
+
+def short_name(name: str) -> str:
+    """The name of a group below a bar: of a tenth its number."""
+    return name.split(" ")[1] if name.startswith("tenth ") else name
+
+
+def sign_of(gain: str) -> int:
+    """What a change of `of` is multiplied by to be a gain."""
+    if gain not in GAINS:
+        raise ValueError('gain: "less" or "more"')
+    return -1 if gain == "less" else 1
 
 
 def rows_of(households: Any, columns: Sequence[str], keep: Sequence[str], codes: Sequence[set[str]]) -> Iterator[Mapping[str, Any]]:
@@ -201,27 +231,29 @@ def weight_of(number: int, name: str, given: Any) -> int:
     return int(weight)
 
 
-def grouped(households: Sequence[Compared], by: Sequence[str], sign: int) -> Iterator[list[Group]]:
-    """The groups of each grouping: those of a column in the order in which they are met, those of tenths from the least to the greatest."""
+def grouped(households: Sequence[Compared], by: Sequence[str], sign: int, scale: int) -> Iterator[list[Group]]:
+    """The groups of each grouping: those of a column in the order in which they are met, those of tenths from the least to the greatest, and those that have
+    no value for these."""
     for at, name in enumerate(by):
-        found: dict[str, list[Compared]] = {}
         if name.startswith(TENTH):
-            found = in_tenths(households, at, name.removeprefix(TENTH))
-        else:
-            for one in households:
-                found.setdefault(f"{name} {one.groups[at]}", []).append(one)
-        yield [Group(label, members, sign) for label, members in found.items()]
+            yield in_tenths([one.row(one.groups[at], scale) for one in households], name.removeprefix(TENTH), sign, scale)
+            continue
+        found: dict[str, list[Row]] = {}
+        for one in households:
+            found.setdefault(f"{name} {one.groups[at]}", []).append(one.row(None, scale))
+        yield [group_of_rows(label, members, sign, scale) for label, members in found.items()]
 
 
-def in_tenths(households: Sequence[Compared], at: int, name: str) -> dict[str, list[Compared]]:
-    """The households by the tenth of the weight in which their own begins, in order of a value; those without one apart."""
-    found: dict[str, list[Compared]] = {f"tenth {k} of {name}": [] for k in range(1, 11)}
-    ordered = [one for _, _, one in sorted((one.groups[at], k, one) for k, one in enumerate(households) if one.groups[at] is not None)]
-    whole, passed = sum(one.weight for one in ordered), 0
-    for one in ordered:
-        found[f"tenth {min(9, passed * 10 // whole) + 1 if whole else 1} of {name}"].append(one)
-        passed += one.weight
-    apart = [one for one in households if one.groups[at] is None]
-    if apart:
-        found[f"no {name}"] = apart
-    return found
+def in_tenths(rows: Sequence[Row], name: str, sign: int, scale: int) -> list[Group]:
+    """The tenths of households by what orders them, and those without it, if any."""
+    ordered = sorted((row for row in rows if row[0] is not None), key=operator.itemgetter(0))
+    apart = group_of_rows(f"no {name}", [row for row in rows if row[0] is None], sign, scale)
+    found = tenths(name, ordered, sum(row[1] for row in ordered), sign, scale)
+    return [*found, apart] if apart.households else found
+
+
+def group_of_rows(name: str, rows: Iterable[Row], sign: int, scale: int) -> Group:
+    """A group of these households."""
+    made = Group(name, sign, scale)
+    made.add(rows)
+    return made

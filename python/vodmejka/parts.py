@@ -6,7 +6,7 @@ import os
 import re
 import tempfile
 
-from . import records, runs, source, survey
+from . import csv_answers, records, runs, source
 from .runs import Failed, digest, file_digest
 
 
@@ -84,7 +84,7 @@ def look_at(table, wanted, what):
         raise Failed(f"{table} {what}: cut the table again", False)
 
 
-READERS = {"lines": records.read_answer, "csv": survey.read_table}  # what looks through an answer of this form
+READERS = {"lines": records.read_answer, "csv": csv_answers.read_csv}  # what looks through an answer of this form
 
 
 class Made:

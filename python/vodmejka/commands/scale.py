@@ -44,7 +44,7 @@ import re
 import sys
 import tempfile
 
-from .. import records, runs, source, survey
+from .. import csv_answers, records, runs, source
 from ..limits import FILE_BYTES, ROWS
 from ..parts import READERS, Made, Plan, digest_there, look_at, missing, part_path, remove_dead, summary, unfinished, whole, write_whole
 from ..progress import Progress
@@ -287,8 +287,8 @@ def part_only(path, noted, only, with_head):
     if hashlib.sha256(text).hexdigest() != noted:
         raise changed(path)
     head, _, households = text.partition(b"\n")
-    places = survey.columns(head, only)
-    return survey.chosen(text if with_head else households, places, len(head.split(b",")))
+    places = csv_answers.columns(head, only)
+    return csv_answers.chosen(text if with_head else households, places, len(head.split(b",")))
 
 
 def verify(arguments):

@@ -19,7 +19,7 @@ def record_form(count):
     return re.compile(LABEL + rb",(?:" + STOP + rb",%b|,%b(?:,%b){%d})\n" % (b"," * count, NOTES, CELL, count))
 
 
-def read_table(path, names=None):
+def read_csv(path, names=None):
     """The labels of a csv of `m_survey table`, the names of its values, where they aren't given, and how many households stopped. Each record is whole."""
     with open(path, "rb") as file:
         text = file.read()
