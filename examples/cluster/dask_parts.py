@@ -2,8 +2,8 @@
 """Computes those parts of a table that have no answer yet on a cluster of Dask: dask_parts.py SCHEDULER FOLDER CODE DIGEST
 
 SCHEDULER is the address of a scheduler, as tcp://10.0.0.1:8786. FOLDER is what `tools/scale cut` made; CODE is the file that `tools/scale source .. --code CODE`
-wrote, and DIGEST what it told. They stand on a disk that all machines see, as this repository does, or what the variable SCALE names in place of its tools/scale.
-What a lost worker had begun is computed by another one. After a failure the same words compute what is left.
+wrote, and DIGEST what it told. They stand on a disk that all machines see, as this repository does, or the file that the variable SCALE names in place of its
+tools/scale. What a lost worker had begun is computed by another one. After a failure the same words compute what is left.
 """
 import os
 import subprocess
@@ -12,7 +12,7 @@ import sys
 from distributed import Client, as_completed
 
 HERE = os.path.dirname(os.path.realpath(__file__))
-SCALE = os.environ.get("SCALE") or os.path.join(os.path.dirname(os.path.dirname(HERE)), "tools", "scale")
+SCALE = os.path.abspath(os.environ.get("SCALE") or os.path.join(os.path.dirname(os.path.dirname(HERE)), "tools", "scale"))
 
 
 def computed(words):

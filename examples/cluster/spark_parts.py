@@ -2,9 +2,11 @@
 """Computes those parts of a table that have no answer yet on Spark: spark-submit spark_parts.py FOLDER CODE DIGEST
 
 FOLDER is what `tools/scale cut` made; CODE is the file that `tools/scale source .. --code CODE` wrote, and DIGEST what it told. They stand on a disk that all
-machines see, as this repository does, or what the variable SCALE names in place of its tools/scale. Spark has the numbers of the parts and no household: rows that go through it would lose
-bytes that aren't UTF-8, and a filter would have to tell the first line from a household. A command of `pipe` has no environment but what is given, and a folder of its own, so
-words are whole. What a lost machine had begun is computed by another one. After a failure the same words compute what is left.
+machines see, as this repository does, or the file that the variable SCALE names in place of its tools/scale. What a lost machine had begun is computed by another
+one. After a failure the same words compute what is left.
+
+Spark has the numbers of the parts and no household: rows that go through it would lose bytes that aren't UTF-8, and a filter would have to tell the first line from
+a household. A command of `pipe` has a folder of its own, and no environment but what is given.
 """
 import os
 import shlex
@@ -14,7 +16,7 @@ import sys
 from pyspark import SparkContext
 
 HERE = os.path.dirname(os.path.realpath(__file__))
-SCALE = os.environ.get("SCALE") or os.path.join(os.path.dirname(os.path.dirname(HERE)), "tools", "scale")
+SCALE = os.path.abspath(os.environ.get("SCALE") or os.path.join(os.path.dirname(os.path.dirname(HERE)), "tools", "scale"))
 
 
 def main():
