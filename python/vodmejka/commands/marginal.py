@@ -28,6 +28,7 @@ from decimal import Decimal, InvalidOperation
 from typing import NamedTuple
 
 from .. import source
+from ..endings import Wrong
 from ..errors import NotFound, Refused, VodmejkaError
 from ..expressions import UNIT, Expression
 from ..limits import AMOUNT
@@ -35,14 +36,6 @@ from ..rate_pictures import Curve, picture, plain
 from ..rules import Rules
 from ..sweeps import exact, sweep
 from ..texts import TEXTS, language_of, said
-
-
-class Wrong(Exception):
-    """What ends the run, with its status."""
-
-    def __init__(self, text, status=1):
-        super().__init__(text)
-        self.status = status
 
 
 class Told(NamedTuple):
