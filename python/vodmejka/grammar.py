@@ -1,10 +1,15 @@
 """The grammar of headers and terms of rule files, as docs/LANGUAGE.md has it, and what a reading keeps: the token at which it can't go on, and what could
 stand there."""
+from __future__ import annotations
+
 import re
+from typing import Callable, NoReturn, TypeVar
 
 from . import source
+from .loops import Header, Pair, Term
 from .reserved import reserved
 
+Read = TypeVar("Read")
 RESERVED = reserved("m")
 OF_ONE = ("present", "abs", "positif", "positif_ou_nul", "null", "arr", "inf")
 OF_TWO = ("max", "min")
@@ -26,18 +31,18 @@ class Stuck(Exception):
     """No rule can take the token at hand."""
 
 
-def is_name(word):
+def is_name(word: str) -> bool:
     return word.upper() == word
 
 
-def meant(word):
+def meant(word: str) -> str | None:
     """The reserved word that is meant by a word that is none: in other letters, or of another language."""
     small = word.lower()
     found = small if small in RESERVED else OTHER_WORDS.get(small)
     return found if found != word else None
 
 
-def no_function(word):
+def no_function(word: str) -> str:
     """What to write for a call of what is no function."""
     if meant(word) in (*OF_ONE, *OF_TWO, "somme"):
         return f"M writes {meant(word)} for {word}, in small letters"
@@ -49,78 +54,81 @@ def no_function(word):
 class Reader:
     """Takes tokens one after the other, and keeps what could stand in the place of the next one."""
 
-    def __init__(self, tokens):
-        self.tokens, self.at, self.wanted, self.hint = tokens, 0, [], ""
+    def __init__(self, tokens: list[source.Token]):
+        self.tokens, self.at, self.hint = tokens, 0, ""
+        self.wanted: list[str] = []
         self.end = source.Token("end", "", tokens[-1].byte + len(tokens[-1].text) if tokens else 0)
 
-    def peek(self, ahead=0):
+    def peek(self, ahead: int = 0) -> source.Token:
         try:
             return self.tokens[self.at + ahead]
         except IndexError:
             return self.end
 
-    def want(self, *what):
+    def want(self, *what: str) -> None:
         """Notes what could stand here; one word may be noted several times."""
         self.wanted += what
 
-    def wants(self):
+    def wants(self) -> tuple[str, ...]:
         """What could stand here, each once."""
         return tuple(dict.fromkeys(self.wanted))
 
-    def step(self):
+    def step(self) -> source.Token:
         token = self.peek()
         self.at += 1
         self.wanted.clear()
         self.hint = ""
         return token
 
-    def stuck(self, hint=""):
+    def stuck(self, hint: str = "") -> NoReturn:
         self.hint = self.hint or hint
         raise Stuck
 
-    def next_is(self, *texts):
+    def next_is(self, *texts: str) -> bool:
         token = self.peek()
         return token.text in texts and token.kind in ("sign", "word")
 
-    def take_if(self, *texts):
+    def take_if(self, *texts: str) -> str | None:
         self.wanted += texts
         token = self.peek()
         return self.step().text if token.text in texts and token.kind in ("sign", "word") else None
 
-    def take(self, *texts):
+    def take(self, *texts: str) -> str:
         return self.take_if(*texts) or self.stuck()
 
-    def is_word(self, ahead=0):
+    def is_word(self, ahead: int = 0) -> bool:
         token = self.peek(ahead)
         return token.kind == "word" and token.text not in RESERVED
 
-    def word(self, what, ahead_hint=""):
+    def word(self, what: str, ahead_hint: str = "") -> source.Token:
         self.want(what)
         if self.is_word():
             return self.step()
         token = self.peek()
         if token.kind == "word":
             self.stuck(f"{token.text} is a reserved word, and no name")
-        return self.stuck(ahead_hint)
+        self.stuck(ahead_hint)
 
-    def name(self, what):
+    def name(self, what: str) -> str:
         token = self.peek()
         if self.is_word() and not is_name(token.text):
             self.want(what)
             self.stuck(f"{token.text} has small letters, and no name of a variable has; they stand for loops")
         return self.word(what).text
 
-    def kind(self, kind, what):
+    def kind(self, kind: str, what: str) -> source.Token:
         self.want(what)
-        return self.step() if self.peek().kind == kind else self.stuck()
+        if self.peek().kind != kind:
+            self.stuck()
+        return self.step()
 
-    def whole(self, what="a whole number"):
+    def whole(self, what: str = "a whole number") -> str:
         self.want(what)
         if self.peek().kind != "number" or not re.fullmatch("[0-9]{1,9}", self.peek().text):
             self.stuck()
         return self.step().text
 
-    def separated(self, read, sign):
+    def separated(self, read: Callable[[], Read], sign: str) -> list[Read]:
         found = [read()]
         while self.take_if(sign):
             found.append(read())
@@ -130,24 +138,24 @@ class Reader:
 class Terms(Reader):
     """Headers and terms."""
 
-    def header(self):
+    def header(self) -> Header:
         if self.next_is("un"):
             return self.separated(self.walked, "et")
         self.want("un")
         return self.separated(self.assigned, ";")
 
-    def letter(self):
+    def letter(self) -> str:
         self.want("a letter from a to z")
         if not (self.is_word() and re.fullmatch("[a-z]", self.peek().text)):
             self.stuck()
         return self.step().text
 
-    def assigned(self):
+    def assigned(self) -> tuple[str, list[Pair]]:
         letter = self.letter()
         self.take("=")
         return letter, self.values()
 
-    def walked(self):
+    def walked(self) -> tuple[str, list[Pair]]:
         self.take("un")
         letter = self.letter()
         self.take("dans")
@@ -157,28 +165,29 @@ class Terms(Reader):
         self.take(")")
         return letter, values
 
-    def values(self):
+    def values(self) -> list[Pair]:
         return self.separated(self.value, ",")
 
-    def value(self):
+    def value(self) -> Pair:
         low = self.point()
         return (low, self.point()) if self.take_if("..") else (low, low)
 
-    def point(self):
+    def point(self) -> str:
         if self.next_is("X"):
             return self.step().text
         return self.whole() if self.peek().kind == "number" else self.name("a name in capital letters")
 
-    def term(self):
+    def term(self) -> Term:
         return self.operation(LOOSEST)
 
-    def operation(self, least):
+    def operation(self, least: int) -> Term:
         """A term whose operators bind at least so tightly. Operators of one level are taken from left to right; of comparisons there is one, and none on what
         `non` made."""
         if least <= NEGATION:
             self.want("non")
         if least <= NEGATION and self.next_is("non"):
-            found, most = ("op", self.step().text, [self.operation(COMPARISON)]), NEGATION
+            found: Term = ("op", self.step().text, [self.operation(COMPARISON)])
+            most = NEGATION
         else:
             found, most = self.factor(), TIGHTEST
         while True:
@@ -192,7 +201,7 @@ class Terms(Reader):
             else:
                 found = ("op", self.step().text, [found, self.operation(level + 1)])
 
-    def compared(self, left):
+    def compared(self, left: Term) -> Term:
         sign = self.step().text
         turned = TURNED.get(sign + self.peek().text) if self.peek().kind == "sign" else None
         if turned:
@@ -203,31 +212,31 @@ class Terms(Reader):
             self.stuck(f"M writes {'=' if sign == '=' else sign} for a comparison, and no second =")
         return ("op", sign, [left, self.operation(SUM)])
 
-    def listed(self, left):
+    def listed(self, left: Term) -> Term:
         isnt = self.take_if("non") is not None
         self.take("dans")
         self.take("(")
         members = self.separated(self.member, ",")
         self.take(")")
-        found = ("op", "dans", [left, *members])
+        found: Term = ("op", "dans", [left, *members])
         return ("op", "non", [found]) if isnt else found
 
-    def member(self):
+    def member(self) -> Term:
         if self.is_word():
             token = self.step()
             return ("name", token.text, token.byte)
         low = self.signed()
         return ("op", "..", [low, self.signed()]) if self.take_if("..") else low
 
-    def signed(self):
+    def signed(self) -> Term:
         sign = self.take_if("-") or ""
         return ("number", sign + self.kind("number", "a number").text)
 
-    def factor(self):
+    def factor(self) -> Term:
         self.want("-")
         return ("op", "neg", [(self.step(), self.primary())[1]]) if self.next_is("-") else self.primary()
 
-    def primary(self):
+    def primary(self) -> Term:
         self.want(VALUE)
         token = self.peek()
         if token.kind == "word" and token.text not in RESERVED:
@@ -246,9 +255,9 @@ class Terms(Reader):
             return self.conditional()
         if self.next_is("somme", *OF_ONE, *OF_TWO):
             return self.called(self.step().text)
-        return self.stuck(f"{token.text} is a reserved word, and no value" if token.kind == "word" else "")
+        self.stuck(f"{token.text} is a reserved word, and no value" if token.kind == "word" else "")
 
-    def read(self):
+    def read(self) -> Term:
         token = self.step()
         self.want("[")
         if not self.next_is("(", "["):
@@ -260,7 +269,7 @@ class Terms(Reader):
         self.take("]")
         return ("read", token.text, index, token.byte)
 
-    def conditional(self):
+    def conditional(self) -> Term:
         self.step()
         parts = [self.term()]
         self.take("alors")
@@ -270,12 +279,12 @@ class Terms(Reader):
         self.take("finsi")
         return ("op", "si", parts)
 
-    def called(self, word):
+    def called(self, word: str) -> Term:
         self.take("(")
         if word == "somme":
             header = self.header()
             self.take(":")
-            found = ("sum", header, self.term())
+            found: Term = ("sum", header, self.term())
         else:
             found = ("op", word, [self.term()])
             if word in OF_TWO:
