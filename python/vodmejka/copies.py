@@ -8,16 +8,9 @@ import subprocess
 import tempfile
 
 from . import runs, source
+from .endings import Wrong
 from .reasons import Rules
 from .texts import said
-
-
-class Wrong(Exception):
-    """What ends a tool, with its status."""
-
-    def __init__(self, text: str, status: int = 1):
-        super().__init__(text)
-        self.status = status
 
 
 class Stopped(Exception):

@@ -10,7 +10,8 @@ from decimal import Decimal
 from typing import NamedTuple
 
 from . import drivers, source
-from .copies import Copies, Wrong
+from .copies import Copies
+from .endings import Wrong
 from .reasons import Rules
 from .texts import said
 

@@ -8,7 +8,7 @@ from collections.abc import Mapping
 from fractions import Fraction
 from typing import Any, Callable
 
-from .loops import instances, replaced, values_of
+from .loops import replaced, values_of
 from .texts import said
 
 MILLION = 1_000_000

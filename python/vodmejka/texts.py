@@ -6,7 +6,7 @@ from __future__ import annotations
 
 import os
 
-from . import texts_help, texts_mend, texts_tools
+from . import texts_help, texts_mend, texts_reform, texts_tools
 
 ENGLISH, FRENCH = "en", "fr"
 
@@ -14,6 +14,7 @@ TEXTS = {
     **texts_mend.TEXTS,
     **texts_tools.TEXTS,
     **texts_help.TEXTS,
+    **texts_reform.TEXTS,
     "rule.bad byte": (
         "No token begins here: accented letters stand in texts and comments only, and a point between digits.",
         "Aucun mot ne commence ici : les lettres accentuées ne se trouvent que dans les textes et les commentaires, et un point entre des chiffres."),
@@ -275,6 +276,11 @@ def said(key: str, **values: object) -> str:
 def phrase(english: str) -> str:
     """A phrase in the language that was chosen; what is none, as a sign, as it is."""
     return said("phrase." + english) if "phrase." + english in TEXTS else english
+
+
+def numeral(text: str) -> str:
+    """A number with commas between thousands and a point before decimals, as it is written in the language that was chosen."""
+    return text.replace(",", "\u202f").replace(".", ",") if Language.name == FRENCH else text
 
 
 def decimal_sign() -> str:

@@ -29,8 +29,9 @@ import tempfile
 
 sys.dont_write_bytecode = True
 from .. import reasons, runs, source
-from ..copies import Copies, Stopped, Wrong
+from ..copies import Copies, Stopped
 from ..driver_trace import Driver, Trace, cells_of, last
+from ..endings import Wrong, ended
 from ..loops import reads_of
 from ..texts import FRENCH, Language, language_of, said
 from ..why_trees import Tree
@@ -269,15 +270,5 @@ def show(words, found):
 
 
 def main(words):
-    if "--help" in words:
-        print(__doc__, end="")
-        return 0
-    try:
-        words, found = options(language_of(words))
-        return show(words, found)
-    except Wrong as wrong:
-        print(f"why: {wrong}", file=sys.stderr)
-        return wrong.status
-    except source.Refused as refused:
-        print(f"why: {refused}", file=sys.stderr)
-        return 3
+    """The command: see above."""
+    return ended(words, __doc__, lambda words: show(*options(language_of(words))))
