@@ -59,7 +59,7 @@ refuses submit
 rm away/*
 : >begun
 submit "$DIGEST" >log &
-killed above slurm_script
+killed from slurm_script
 if wait $!; then says "joined without a part"; exit 1; fi
 grep -q 'parts have no answer, the first is' away/slurm-*.out || { says "the join doesn't say which part is left"; cat log away/*; exit 1; }
 submit "$DIGEST" >log || { says "not joined"; cat log away/*; exit 1; }
