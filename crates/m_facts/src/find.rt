@@ -23,6 +23,9 @@ use std::alloc::{AllocError, Global};
 /// What is found of a base and the program that it is compiled to, with its face, where the first inputs have these facts. An input past
 /// their end may be undefined or any amount. Its only error is running out of memory.
 ///
+/// Of the nodes `Input(0)`, `Lit(2 units)` and `Do(Op::Mul, 0, 1, 0)`, with the last as an output, where the input is 0 to 5 units, 0 to
+/// 10 units are possible of the output, and it depends on input 0.
+///
 /// It takes a step for each node, check and output, and for each byte of the labels and names; and then, for each 64 requested cells, a
 /// step for each node and input, and one for each input on which a cell may depend.
 pub fn find_facts(

@@ -24,7 +24,7 @@ use Rattle.observables.specs.declared.face.FaceOutput.TheVariants.{Named, Noted}
 use Rattle.observables.specs.declared.inputs.Coded.{Coded}
 use Rattle.observables.specs.declared.inputs.InputType.{InputType}
 use Rattle.observables.specs.Inputs.{IsValueOf, AreValuesOf}
-use Rattle.observables.specs.Answers.{Told, values, stopped, over, label_number, cause_of, is_told, note_told, notes_told, told_of}
+use Rattle.observables.specs.Answers.{Told, values, stopped, label_number, cause_of, is_told, note_told, notes_told, told_of}
 use Rattle.observables.specs.Outputs.{are_named, notes_of, notes_stand_first, verif_at, verif_of}
 use Rattle.flat_code.specs.declared.program.Node.{Node}
 use Rattle.flat_code.specs.declared.program.Node.TheVariants.{Input, Lit, Do}

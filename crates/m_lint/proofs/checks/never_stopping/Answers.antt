@@ -1,4 +1,4 @@
-use Rattle.std.proofs.Common.{◌≡◌, ◌∙◌, refl, ap, sym, length, arith, []}
+use Rattle.std.proofs.Common.{◌≡◌, ◌∙◌, ap, sym, length, arith, []}
 use Rattle.m_lint.specs.Findings.{is_never_stopping}
 use Rattle.m_lint.specs.inner.Loud.{loud_of, with_labels, is_unmarked}
 use Rattle.m_lint.proofs.NumberLemmas.{numbers-found}

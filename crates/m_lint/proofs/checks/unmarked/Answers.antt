@@ -1,4 +1,4 @@
-use Rattle.std.proofs.Common.{◌≡◌, true, false, sym, ap, ◌∙◌, append-nil}
+use Rattle.std.proofs.Common.{true, false, sym, ap, ◌∙◌, append-nil}
 use Rattle.m_lint.specs.inner.Loud.{is_unmarked}
 use Rattle.m_lint.proofs.NumberLemmas.{numbers-next}
 use Rattle.m_lint.proofs.checks.unmarked.Goals.{then-branch+in_ok-push, else-branch}

@@ -1,6 +1,6 @@
 use Rattle.std.proofs.Common.{◌≡◌, ◌≤◌, ◌+◌, drop, length}
 use Rattle.observables.specs.Outputs.{notes_of}
-use Rattle.m_cases.proofs.mismatches.count_notes.Given as goal
+use Rattle.m_cases.proofs.cases.count_notes.Given as goal
 
 abbrev pub invariant-loop-output : goal.invariant-loop-output
 invariant-loop-output l = record {
