@@ -1,5 +1,6 @@
 #!/bin/sh
-# Times a million households by `.batch` of python/vodmejka beside the command alone. It needs ./build before and python3.
+# Times a million households by `.batch` of python/vodmejka beside the command alone, and then frames, files and reforms, where a python3 has pandas. It
+# needs ./build before and python3.
 #
 #     sh bench/python/run.sh [PROGRAM [ROWS]]
 set -eu
@@ -11,3 +12,10 @@ trap 'rm -rf "$work"' EXIT
 trap 'exit 1' HUP INT TERM
 cd "$root"
 python3 -B "$here/measure.py" "$program" "$work" ${2+"$2"}
+for python in python3 /usr/bin/python3; do
+    if "$python" -c 'import pandas' 2>/dev/null; then
+        "$python" -B "$here/frames.py" "$program" "$work" ${2+"$2"}
+        exit
+    fi
+done
+echo "frames: not run: there is no pandas"

@@ -6,6 +6,7 @@ import subprocess
 import sys
 import time
 import unittest
+from unittest import mock
 
 import vodmejka
 from room import Room
@@ -97,6 +98,17 @@ class Faults(Room):
         script = "import pickle, sys; print([str(one.run({'1AJ': 2500})['IRN']) for one in pickle.load(sys.stdin.buffer)])"
         made = subprocess.run([sys.executable, "-c", script], input=text, env=ENVIRONMENT, stdout=subprocess.PIPE, check=True)
         self.assertEqual(made.stdout, b"['1500', '1500']\n")
+
+    def test_rules_that_are_pickled_have_one_m_survey(self):
+        """Another one than at their maker's isn't used."""
+        text = pickle.dumps(self.rules)
+        other = self.put("other", "#!/bin/sh\n")
+        os.chmod(other, 0o755)
+        with mock.patch.dict(os.environ, {"M_SURVEY": other}):
+            rules = pickle.loads(text)
+            with self.assertRaisesRegex(Broken, "is another program than the one that these rules were made with"):
+                rules.batch_file(self.put("t.csv", "name\n"), self.room.name + "/o.csv")
+        self.assertEqual(pickle.loads(text).batch_file(self.put("t.csv", "name\na\n"), self.room.name + "/o.csv"), 1)
 
     def by_code(self):
         self.rules.write_code(self.room.name + "/a.code")

@@ -120,18 +120,38 @@ class Wheels(unittest.TestCase):
         self.assertEqual(subprocess.run(["diff", "-r", first, again], capture_output=True, text=True, check=False).stdout, "")
 
 
+def put_program(room, name):
+    """A new program in a folder, by its path."""
+    path = os.path.join(room, name)
+    os.makedirs(os.path.dirname(path), exist_ok=True)
+    with open(path, "w", encoding="ascii") as file:
+        file.write("#!/bin/sh\n")
+    os.chmod(path, 0o755)
+    return path
+
+
 class Found(unittest.TestCase):
     def test_the_clone_comes_before_the_path(self):
         """What was built in the clone is used rather than an m_tax of the path, and this rather than the clone's script."""
         with tempfile.TemporaryDirectory() as room, mock.patch.dict(os.environ, {"PATH": room + "/bin", "M_TAX": ""}), \
                 mock.patch.object(program, "TOP", room + "/nowhere"), mock.patch.object(program, "clone", lambda: [room + "/clone"]):
             for name in ("clone/m_tax", "bin/m_tax", "clone/out/m_tax"):
-                path = os.path.join(room, name)
-                os.makedirs(os.path.dirname(path), exist_ok=True)
-                with open(path, "w", encoding="ascii") as file:
-                    file.write("#!/bin/sh\n")
-                os.chmod(path, 0o755)
+                path = put_program(room, name)
                 self.assertEqual(program.program_path(), path)
+
+    def test_m_survey_is_the_one_beside_m_tax(self):
+        """Of the script in a clone, of a program and of a symbolic link to one; else as m_tax is found. What M_SURVEY names comes first."""
+        with tempfile.TemporaryDirectory() as room, mock.patch.dict(os.environ, {"PATH": room + "/bin", "M_TAX": "", "M_SURVEY": ""}), \
+                mock.patch.object(program, "TOP", room + "/nowhere"), mock.patch.object(program, "clone", lambda: [room + "/clone"]):
+            os.makedirs(room + "/other")
+            os.symlink(room + "/release/m_tax", room + "/other/m_tax")
+            with self.assertRaisesRegex(vodmejka.Broken, "there is no program m_survey: name it by M_SURVEY"):
+                program.program_path(None, "m_survey", room + "/other/m_tax")
+            for name in ("bin/m_survey", "clone/out/m_survey", "release/m_survey"):
+                path = put_program(room, name)
+                self.assertEqual(program.program_path(None, "m_survey", room + "/other/m_tax"), path)
+            with mock.patch.dict(os.environ, {"M_SURVEY": room + "/bin/m_survey"}):
+                self.assertEqual(program.program_path(None, "m_survey", room + "/other/m_tax"), room + "/bin/m_survey")
 
     def test_commands_of_an_installed_package(self):
         """They have the program that the package finds; in a repository they have its script."""

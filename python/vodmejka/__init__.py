@@ -13,6 +13,8 @@ from .answers import OVER, Answer, Note, Over, Stop, Value
 from .cases import Mismatch
 from .comparisons import Comparison, compare
 from .errors import Broken, Interrupted, NotFound, Refused, Stopped, VodmejkaError
+from .facts import Fact, Facts, Range
+from .file_comparisons import FileComparison, compare_file
 from .rules import Rules
 from .session import Session
 from .sweeps import Sweep, sweep
@@ -21,6 +23,7 @@ from .version import VERSION as __version__
 from .whys import Why
 
 __all__ = [
-    "OVER", "Answer", "Broken", "Comparison", "Formula", "Interrupted", "Mismatch", "Note", "NotFound", "Over", "Refused", "Rules", "Session", "Stop",
-    "Stopped", "Sweep", "Value", "Variable", "VodmejkaError", "Why", "__version__", "compare", "sweep",
+    "OVER", "Answer", "Broken", "Comparison", "Fact", "Facts", "FileComparison", "Formula", "Interrupted", "Mismatch", "Note", "NotFound", "Over", "Range",
+    "Refused", "Rules", "Session", "Stop", "Stopped", "Sweep", "Value", "Variable", "VodmejkaError", "Why", "__version__", "compare",
+    "compare_file", "sweep",
 ]

@@ -1,4 +1,6 @@
 """Amounts as whole numbers of millionths."""
+from __future__ import annotations
+
 import math
 import re
 from fractions import Fraction
@@ -12,7 +14,7 @@ MOST = limits.AMOUNT * UNIT
 AMOUNT = re.compile(r"(-?)([0-9]+)(?:\.([0-9]{1,6}))?")
 
 
-def amount(text):
+def amount(text: str) -> int:
     """The millionths of an amount as the program prints it, or as a table has it."""
     match = AMOUNT.fullmatch(text)
     if match is None:
@@ -24,7 +26,7 @@ def amount(text):
     return -millionths if match[1] else millionths
 
 
-def plain(value):
+def plain(value: int | Fraction) -> str:
     """An amount or a fraction of millionths in whole ones, halves away from zero."""
     size = abs(value) if isinstance(value, int) else math.floor(abs(value) + HALF)
     sign = "-" if value < 0 and size else ""

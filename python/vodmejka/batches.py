@@ -15,10 +15,10 @@ from typing import BinaryIO, Callable, Generator, Iterable, Iterator
 
 from .answers import LABEL_LINE, NEXT_LABEL, Answer, Form, Printed
 from .blocks import Hands, Piece, Told
-from .errors import Broken, Interrupted, NotFound, Refused
+from .errors import Broken, NotFound, Refused
 from .guard import Child, memory_file
 from .limits import FILE_BYTES
-from .program import ENCODING, Program, raise_for, started
+from .program import ENCODING, Program, ended, raise_for, started
 from .tables import Household, Tables, by_columns
 
 AHEAD = 1_000
@@ -76,13 +76,8 @@ class Batch:
         return started(words, cwd=self.folder, pass_fds=given, stdin=subprocess.DEVNULL, stdout=printed, stderr=messages)
 
     def ended(self, child: Child) -> int:
-        """The status of the program at its end. What it printed counts only where the program is the one that all parts before it had."""
-        try:
-            status = child.wait(self.timeout)
-        except subprocess.TimeoutExpired:
-            raise Interrupted(f"the program gave no answer within {self.timeout} s") from None
-        self.program.check()
-        return status
+        """The status of the program at its end."""
+        return ended(child, self.program, self.timeout)
 
     def _handed(self, rows: Iterable[Household]) -> Generator[list[Told], None, None]:
         """The same, some hundred at a time."""

@@ -1,10 +1,16 @@
 """Other values of constants in the texts of rule files: where a name gets its value, and a text with pieces of it replaced."""
+from __future__ import annotations
+
 import decimal
 import re
+from typing import Iterable
 
-from . import items
+from . import items, source
 from .limits import AMOUNT
 
+Piece = tuple[int, int, str]
+"""A piece of a file: its first byte, its end, and how what stands there is spelled."""
+Places = dict[str, list[tuple[source.RuleFile, "Piece | None", int, bool]]]
 NUMBER = re.compile(r"-?([0-9]+)(?:\.[0-9]+)?")
 
 
@@ -12,13 +18,13 @@ class Wrong(Exception):
     """A change that can't be made."""
 
 
-def spelled(value):
+def spelled(value: str) -> bool:
     """Whether a value is spelled as a number of rules, and not too great."""
     match = NUMBER.fullmatch(value)
     return match is not None and len(match[1].lstrip("0")) <= 14 and decimal.Decimal(value).copy_abs() <= AMOUNT
 
 
-def whole(value):
+def whole(value: str) -> str:
     """A number in the one spelling that stands for all of its spellings."""
     sign, digits = ("-", value[1:]) if value.startswith("-") else ("", value)
     before, _, behind = digits.partition(".")
@@ -26,7 +32,7 @@ def whole(value):
     return number if number == "." else sign + number
 
 
-def literal_at(file, at):
+def literal_at(file: source.RuleFile, at: int) -> Piece | None:
     """The number that stands from a token on up to a `;`: its first byte, its end and its spelling; or None."""
     minus = file.text(at) == "-"
     number = at + 1 if minus else at
@@ -36,14 +42,14 @@ def literal_at(file, at):
     return file.tokens[at].byte, end, ("-" if minus else "") + file.text(number)
 
 
-def is_target(file, at):
+def is_target(file: source.RuleFile, at: int) -> bool:
     """Whether a formula or a declaration may begin at a token: what stands before ended something."""
     return at == 0 or file.text(at - 1) in (";", ":")
 
 
-def places_of(files):
+def places_of(files: Iterable[source.RuleFile]) -> Places:
     """Where names and cells get values: for each the files, with what `literal_at` says of the place, and the byte of the name."""
-    places = {}
+    places: Places = {}
     for file in files:
         for at, token in enumerate(file.tokens):
             if token.kind != "word" or not is_target(file, at):
@@ -59,13 +65,13 @@ def places_of(files):
     return places
 
 
-def counts(file, byte, application):
+def counts(file: source.RuleFile, byte: int, application: str) -> bool:
     """Whether the formula at a byte is of a rule of an application, and of no chained one."""
     formulas = items.read(file.bytes)[0].formulas
     return any(formula.byte == byte and application in formula.applications and not formula.is_chained for formula in formulas)
 
 
-def change_of(places, name, value, application):
+def change_of(places: Places, name: str, value: str, application: str) -> tuple[source.RuleFile, Piece]:
     """The file and the piece of it that a change replaces."""
     found = places.get(name, [])
     if not found:
@@ -82,9 +88,10 @@ def change_of(places, name, value, application):
     return file, piece
 
 
-def changed(text, pieces):
+def changed(text: bytes, pieces: Iterable[Piece]) -> bytes:
     """A text with pieces of it replaced: each has its first byte, its end and what stands there now."""
-    parts, at = [], 0
+    parts: list[bytes] = []
+    at = 0
     for begin, end, value in sorted(pieces):
         parts += [text[at:begin], value.encode()]
         at = end

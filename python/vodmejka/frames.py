@@ -1,22 +1,36 @@
-"""Frames of pandas: households as rows, whose columns are codes, and their answers as a frame."""
+"""Frames of pandas: households as rows, whose columns are codes, and what they are told as a frame.
+
+Tables and answers are csv of the program m_survey: columns are written by numpy and read by the C parser of pandas, some ten thousand households at a time,
+so that no object of Python is made for a household or a number.
+"""
 from __future__ import annotations
 
 import decimal
+import io
+import re
 from decimal import Decimal
-from typing import TYPE_CHECKING, Any, Callable, Iterable, Iterator, Mapping, Sequence
+from typing import TYPE_CHECKING, Any, Iterable, Iterator, Mapping, Sequence
 
-from .answers import OVER, Answer, Over, Value
-from .errors import Refused, Stopped
-from .program import Amount, spelled
-from .tables import Household
+from .answers import LABEL, OVER
+from .cells import NoAmount, exact, narrow, rows_of
+from .errors import Broken, Refused, Stopped
+from .limits import AMOUNT, FILE_BYTES
+from .program import ENCODING
+from .surveys import FIRST, Run, Survey, body_of
 
 if TYPE_CHECKING:
+    import numpy
     import pandas
 
 NUMBERS = ("float64", "micros", "decimal")
 STOPS = ("raise", "keep")
-EXACT = Decimal(2**53).scaleb(-6)  # below it a float tells all millionths apart
 MILLIONTH = Decimal(1).scaleb(-6)
+EXACT = Decimal(2**53).scaleb(-6)  # below it a float tells all millionths apart, but for parts of amounts from APART on
+APART = 2**33
+INT64 = 2**63
+SURE = 2**30  # below it a float has its millionths, by a multiplication and rounding
+REFUSED = re.compile(r"refused household line ([0-9]+): .*", re.DOTALL)
+OVERS = re.compile(rb",over(?=[,\n])")
 
 
 class Households:
@@ -41,36 +55,58 @@ class Households:
         label = self.frame.index[row]
         return f"household {quoted(label) if isinstance(label, str) else label}"
 
-    def rows(self) -> Iterator[Household]:
-        """The households."""
-        columns = [self.amounts(code) for code in self.codes]
-        if not columns:
-            return iter([{} for _ in range(len(self.frame))])
-        return (dict(zip(self.codes, amounts)) for amounts in zip(*columns))
-
-    def amounts(self, code: str) -> Iterator[Amount]:
-        """The amounts of a column."""
-        column = self.columns[code]
-        shown, missing = narrow(column.dtype), column.isna().to_numpy()
-        for row, value in enumerate(column):
-            if missing[row]:
-                yield None
-                continue
-            try:
-                amount = exact(code, value, shown)
-                str(amount).encode("ascii")
-            except (TypeError, ValueError, OverflowError):
-                raise Refused(f"{self.label(row)}, code {code}: {value} is no amount") from None
-            yield amount
-
-    def answers(self, batch: Callable[[Iterable[Household]], Iterator[Answer]]) -> Iterator[Answer]:
-        """The answers to them. Where one is refused, its label and the cell are named."""
+    def table(self, begin: int, end: int) -> bytes:
+        """Some rows as a table; NoAmount names the first row of the frame with a cell that is no amount."""
+        head = ",".join(["name", *self.codes]).encode(ENCODING) + b"\n"
+        label = LABEL.encode(ENCODING)
+        if not self.codes:
+            return head + (label + b"\n") * (end - begin)
         try:
-            yield from batch(self.rows())
-        except Refused as refused:
-            if refused.file != "household" or refused.row is None or refused.row < 2:
-                raise
-            raise Refused(self._why(refused.row - 2) or f"{self.label(refused.row - 2)}: {refused.line}") from None
+            return head + rows_of(label, [self.columns[code].iloc[begin:end] for code in self.codes], self.codes)
+        except NoAmount as fault:
+            raise NoAmount(begin + fault.row, f"{self.label(begin + fault.row)}, {fault.why}") from None
+
+    def runs(self, survey: Survey, rows: int) -> Iterator[tuple[int, int, Run]]:
+        """The program on so many rows at a time, each begun while the one before it is handed out. Where a cell is no amount, the rows before it come first."""
+        left = [(begin, min(begin + rows, len(self.frame))) for begin in range(0, len(self.frame), rows)][::-1]
+        waiting: list[tuple[int, int, Run]] = []
+        try:
+            while left:
+                begin, end = left.pop()
+                fault = None
+                try:
+                    table = self.table(begin, end)
+                except NoAmount as wrong:
+                    fault, left, end = Refused(wrong.why), [], wrong.row
+                    table = self.table(begin, end)
+                if len(table) > FILE_BYTES and end - begin > 1:
+                    half = (begin + end) // 2
+                    left += [(half, end), (begin, half)]
+                    continue
+                if begin < end:
+                    waiting.append((begin, end, survey.begun(table)))
+                yield from self._handed(waiting, 0 if fault else 1)
+                if fault is not None:
+                    raise fault
+            yield from self._handed(waiting, 0)
+        finally:
+            for _, _, run in waiting:
+                run.end()
+
+    @staticmethod
+    def _handed(waiting: list[tuple[int, int, Run]], left: int) -> Iterator[tuple[int, int, Run]]:
+        """Hands out runs until so many are left."""
+        while len(waiting) > left:
+            yield waiting[0]
+            waiting.pop(0)[2].end()
+
+    def named(self, refused: Refused, begin: int) -> Refused:
+        """What the program refuses of rows from one on, with the label of the household, and the cell."""
+        found = REFUSED.fullmatch(refused.line)
+        if found is None or int(found[1]) < 2:
+            return refused
+        row = begin + int(found[1]) - 2
+        return Refused(self._why(row) or f"{self.label(row)}: {refused.line}")
 
     def _why(self, row: int) -> str | None:
         """Which cell of a row the program refuses, and why."""
@@ -101,7 +137,7 @@ def fault_of(text: str, type_: str) -> str | None:
         return "is no amount"
     if not amount.is_finite() or "e" in text.lower() or "_" in text or text != text.strip():
         return "is no amount"
-    if abs(amount) > 10**13:
+    if abs(amount) > AMOUNT:
         return "is beyond the greatest amount"
     amount = amount.quantize(MILLIONTH, decimal.ROUND_HALF_UP)
     if type_ == "truth" and amount not in (0, 1):
@@ -112,86 +148,133 @@ def fault_of(text: str, type_: str) -> str | None:
 # ---- answers
 
 
-class Table:
-    """The answers to the households of a frame, taken in one by one, as columns."""
+class Told:
+    """What the households of a frame are told, as columns, which are filled some rows at a time."""
 
     def __init__(self, households: Households, names: Sequence[str], numbers: str, stops: str):
+        import numpy
+
         if numbers not in NUMBERS:
             raise ValueError(f"numbers: one of {', '.join(NUMBERS)}, and not {numbers!r}")
         if stops not in STOPS:
             raise ValueError(f'stops: "raise" or "keep", and not {stops!r}')
-        self.households, self.names, self.numbers, self.stops = households, list(dict.fromkeys(names)), numbers, stops
-        self.values: dict[str, list[Any]] = {name: [] for name in self.names}
-        self.over: list[str] = []
-        self.notes: list[str] = []
-        self.stop: list[str | None] = []
+        self.households, self.asked, self.names = households, list(names), list(dict.fromkeys(names))
+        self.numbers, self.stops, count = numbers, stops, len(households.frame)
         self.heads = [*households.keep, *self.names, "over", "notes", *(["stop"] if stops == "keep" else [])]
         twice = [name for name in self.heads if self.heads.count(name) > 1]
         if twice:
             raise Refused(f"column {quoted(twice[0])} would stand twice in the answers: rename it in the frame")
-        self._known: dict[Value, Any] = {}
+        kind = {"float64": "float64", "micros": "int64", "decimal": "object"}[numbers]
+        self.values = {name: numpy.empty(count, kind) for name in self.names}
+        self.missing = {name: numpy.zeros(count, bool) for name in self.names if numbers == "micros"}
+        self.over, self.notes, self.stop = (numpy.full(count, text, object) for text in ("", "", None))
 
-    def add(self, answer: Answer) -> None:
-        """Takes in the answer to the next household."""
-        told, row = answer.values, len(self.over)
-        for name, column in self.values.items():
-            value = told.get(name)
-            column.append(self._known[value] if value in self._known else self._number(row, name, value))
-        self.over.append(" ".join(name for name in self.names if told.get(name) is OVER))
-        self.notes.append(" ".join(note.error for note in answer.notes))
-        self.stop.append(answer.stop.line if answer.stop else None)
+    def add(self, begin: int, end: int, printed: bytes) -> None:
+        """Takes in what the program printed of some rows."""
+        texts = read(printed, self.asked, FIRST[1:], "category")
+        if len(texts) != end - begin:
+            raise Broken(f"{len(texts)} answers for {end - begin} households")
+        self.stop[begin:end] = by_category(texts["stop"], lambda line: line, None)
+        self.notes[begin:end] = by_category(texts["notes"], lambda line: " ".join(note.split(" ")[1] for note in line.split("; ")), "")
+        if self.names and self.numbers == "decimal":
+            self._decimals(begin, end, read(printed, self.asked, self.names, "str"))
+        elif self.names:
+            self._floats(begin, read(OVERS.sub(b",inf", printed) if b",over" in printed else printed, self.asked, self.names, "float64"), printed)
+
+    def _decimals(self, begin: int, end: int, part: pandas.DataFrame) -> None:
+        """Takes in values as decimals."""
+        known: dict[str, Any] = {"": None, "over": OVER}
+        for name in self.names:
+            column = part[name].tolist()
+            known.update((text, Decimal(text)) for text in set(column) - known.keys())
+            self.values[name][begin:end] = [known[text] for text in column]
+            self._note_over(begin, name, (part[name] == "over").to_numpy())
+
+    def _floats(self, begin: int, part: pandas.DataFrame, printed: bytes) -> None:
+        """Takes in values that were read as floats. Those of great amounts are looked at by their texts."""
+        import numpy
+
+        end = begin + len(part)
+        for name in self.names:
+            column = part[name].to_numpy()
+            is_over, size = numpy.isinf(column), numpy.abs(column)
+            great = numpy.flatnonzero(~is_over & (size >= (APART if self.numbers == "float64" else SURE)))
+            amounts = [Decimal(text) for text in read(printed, self.asked, [name], "str")[name].to_numpy()[great]] if len(great) else []
+            self._look(begin, name, great, amounts)
+            if self.numbers == "float64":
+                self.values[name][begin:end] = column
+            else:
+                self.missing[name][begin:end] = missing = is_over | numpy.isnan(column)
+                self.values[name][begin:end] = numpy.rint(numpy.where(missing, 0, column) * 1e6)
+                self.values[name][begin + great] = [int(amount.scaleb(6)) for amount in amounts]
+            self._note_over(begin, name, is_over)
+
+    def _look(self, begin: int, name: str, rows: Iterable[int], amounts: Sequence[Decimal]) -> None:
+        """Refuses amounts that a number of the form that is asked for doesn't tell from others."""
+        for row, amount in zip(rows, amounts):
+            if self.numbers == "float64" and (abs(amount) >= EXACT or amount != amount.to_integral_value()):
+                self._refuse(begin + int(row), name, f'{amount} is not exact in float64: numbers="micros" or numbers="decimal"')
+            if self.numbers == "micros" and not -INT64 <= int(amount.scaleb(6)) < INT64:
+                self._refuse(begin + int(row), name, f'{amount} has more millionths than an Int64 holds: numbers="decimal"')
+
+    def _refuse(self, row: int, name: str, why: str) -> None:
+        raise Refused(f"{self.households.label(row)}, {name}: {why}")
+
+    def _note_over(self, begin: int, name: str, is_over: numpy.ndarray[Any, Any]) -> None:
+        """Names a value where it overflowed."""
+        for row in is_over.nonzero()[0].tolist():
+            self.over[begin + row] = f"{self.over[begin + row]} {name}".strip()
 
     def frame(self) -> pandas.DataFrame:
         """All that was taken in. Stopped households are an error, unless they are kept."""
         import pandas
 
-        stopped = [row for row, line in enumerate(self.stop) if line is not None]
-        if stopped and self.stops == "raise":
+        stopped = [row for row, line in enumerate(self.stop) if line is not None] if self.stops == "raise" else []
+        if stopped:
             line, count = str(self.stop[stopped[0]]), f"{len(stopped)} of {len(self.stop)} households are stopped"
             raise Stopped(line, f'{self.households.label(stopped[0])}: {line}; {count}: stops="keep" keeps them')
-        kind = {"float64": "float64", "micros": "Int64", "decimal": object}[self.numbers]
-        index = self.households.frame.index
-        made = {name: self.households.columns[name] for name in self.households.keep}
-        made.update((name, pandas.Series(column, index=index, dtype=kind)) for name, column in self.values.items())
-        made.update((name, pandas.Series(column, index=index, dtype=object)) for name, column in (("over", self.over), ("notes", self.notes)))
+        made: dict[str, Any] = {name: self.households.columns[name].array for name in self.households.keep}
+        made.update(self.values)
+        made.update((name, pandas.arrays.IntegerArray(self.values[name], missing)) for name, missing in self.missing.items())
+        made.update(over=self.over, notes=self.notes)
         if self.stops == "keep":
-            made["stop"] = pandas.Series(self.stop, index=index, dtype=object)
-        return pandas.DataFrame(made, index=index, columns=self.heads)
-
-    def _number(self, row: int, name: str, value: Value) -> Any:
-        """A value in the form that is asked for."""
-        if self.numbers == "decimal":
-            return value
-        if value is None or isinstance(value, Over):
-            made: Any = None if self.numbers == "micros" else float("nan") if value is None else float("inf")
-        elif self.numbers == "micros":
-            made = int(value.scaleb(6))
-        elif abs(value) < EXACT:
-            made = float(value)
-        else:
-            raise Refused(f'{self.households.label(row)}, {name}: {value} is not exact in float64: numbers="micros" or numbers="decimal"')
-        if len(self._known) < 1_000_000:
-            self._known[value] = made
-        return made
+            made["stop"] = self.stop
+        return pandas.DataFrame(made, index=self.households.frame.index, copy=False)
 
 
-# ---- amounts
+def read(printed: bytes, names: Sequence[str], columns: Sequence[str], kind: str) -> pandas.DataFrame:
+    """Some columns of the csv that the program printed for the values of names, by the C parser; nothing but an empty field is missing, and of texts none.
+    A float is the one that is nearest to an amount of less than 2^53 millionths."""
+    import pandas
+
+    heads = [*FIRST, *names]
+    places = [heads.index(column) for column in columns]
+    dtypes: Any = {at: kind for at in places}
+    kept = {"keep_default_na": False, "na_values": [""]} if kind != "str" else {"na_filter": False}
+    words = {"header": None, "skiprows": 1, "usecols": places, "dtype": dtypes, "engine": "c", "encoding": ENCODING, "float_precision": "high", **kept}
+    part: pandas.DataFrame = pandas.read_csv(io.BytesIO(printed), low_memory=False, names=range(len(heads)), **words)
+    return part.rename(columns=dict(zip(places, columns)))
 
 
-def narrow(dtype: Any) -> Any:
-    """The type of the values of a column of short floats, which pandas hands out as long ones that show other digits; None of another column."""
-    dtype = getattr(dtype, "numpy_dtype", dtype)
-    return dtype.type if getattr(dtype, "kind", "") == "f" and dtype.itemsize < 8 else None
+def by_category(column: pandas.Series[Any], told: Any, missing: Any) -> Any:
+    """What each text of a column is told as; an empty one is missing."""
+    import numpy
+
+    known = [told(text) for text in column.cat.categories]
+    made = numpy.empty(len(known) + 1, object)
+    made[:] = [*known, missing]
+    return made[column.cat.codes.to_numpy()]
 
 
-def exact(code: str, value: Any, shown: Any = None) -> Amount:
-    """A value of a frame as an amount: whole numbers of any kind, decimals and texts. A float is taken where it is whole, and else as it is shown, as of the
-    type that is given."""
-    if hasattr(value, "item"):
-        value = value.item()
-    if isinstance(value, bool):
-        return int(value)
-    if isinstance(value, float):
-        return int(value) if value.is_integer() else f"{decimal.Decimal(repr(value) if shown is None else str(shown(value))):f}"
-    spelled(code, value)
-    return value  # type: ignore[no-any-return]
+def frame_of(
+    survey: Survey, households: Households, names: Sequence[str], numbers: str, stops: str, rows: int
+) -> pandas.DataFrame:
+    """What the households of a frame are told, so many rows at a time."""
+    told = Told(households, names, numbers, stops)
+    for begin, end, run in households.runs(survey, rows):
+        try:
+            printed = run.printed()
+        except Refused as refused:
+            raise households.named(refused, begin) from None
+        told.add(begin, end, body_of(printed, names)[:])
+    return told.frame()

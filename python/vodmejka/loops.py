@@ -1,21 +1,28 @@
 """Loops of rule files, for tools: the values of their letters, words with letters replaced, and what a term reads. Terms are those of grammar.py."""
+from __future__ import annotations
+
 import itertools
 import math
+from typing import Any, Iterable, Iterator, Mapping, Sequence
 
 from .limits import LOOP_INSTANCES
 
+Pair = tuple[str, str]
+Header = list[tuple[str, list[Pair]]]
+"""The letters of a loop, each with its values as pairs of points."""
+Term = tuple[Any, ...]
+"""A term, as grammar.py says it."""
 MOST_DIGITS = 12  # the most digits of a word that is a number after letters are replaced
 
 
-
-def whole(digits):
+def whole(digits: str) -> int:
     """The number that digits spell. Of one with more than 18 digits that count it is the first 18, which are past every table, too."""
     return int(digits.lstrip("0")[:18] or 0)
 
 
-def values_of(pairs):
+def values_of(pairs: Iterable[Pair]) -> list[str]:
     """The values of an index of a loop, as they are spelled."""
-    found = []
+    found: list[str] = []
     for low, high in pairs:
         if low.isdigit() and high.isdigit():
             found += [f"{k:0{len(low)}}" for k in range(int(low), min(int(high), int(low) + LOOP_INSTANCES) + 1)]
@@ -26,7 +33,7 @@ def values_of(pairs):
     return found
 
 
-def length_of(low, high):
+def length_of(low: str, high: str) -> int:
     """How many values stand from a point to a point; none where the range is bad."""
     if low == high:
         return 1
@@ -35,17 +42,17 @@ def length_of(low, high):
     return max(0, ord(high) - ord(low) + 1) if len(low) == len(high) == 1 and low.isalpha() and high.isalpha() else 0
 
 
-def header_faults(header):
+def header_faults(header: Header) -> list[tuple[int, str]]:
     """The faults of a header as the program tells them, each with the number of the index at whose letter it stands."""
     letters = [letter for letter, _ in header]
     lengths = [[length_of(low, high) for low, high in values] for _, values in header]
     bad = [k for k, letter in enumerate(letters) if letters.count(letter) > 1 or 0 in lengths[k]]
     if bad:
         return [(k, "bad range") for k in bad]
-    return [(0, "loop too large")] if math.prod(map(sum, lengths)) > LOOP_INSTANCES else []
+    return [(0, "loop too large")] if math.prod(sum(several) for several in lengths) > LOOP_INSTANCES else []
 
 
-def instances(headers, words):
+def instances(headers: Sequence[Header], words: Sequence[str]) -> list[dict[str, str]]:
     """The letters that these words have, at each of their values: of many instances the first."""
     if not headers:
         return [{}]
@@ -55,7 +62,7 @@ def instances(headers, words):
     return [dict(zip(letters, values)) for values in itertools.islice(products, LOOP_INSTANCES)]
 
 
-def is_repeated(headers, word):
+def is_repeated(headers: Iterable[Header], word: str) -> bool:
     """Whether a word is the same in several instances, since a letter of the loops isn't in it, or is bound again further in."""
     bound = [(letter, values) for header in headers for letter, values in header]
     seen = dict(bound)
@@ -64,18 +71,18 @@ def is_repeated(headers, word):
     )
 
 
-def is_number(word):
+def is_number(word: str) -> bool:
     """Whether a word of a formula is a number after its letters are replaced."""
     return word.isdigit() and len(word) <= MOST_DIGITS
 
 
-def replaced(word, letters):
+def replaced(word: str, letters: Mapping[str, str]) -> str:
     if not letters:
         return word
     return "".join(letters.get(letter, letter) for letter in word)
 
 
-def reads_of(term, headers):
+def reads_of(term: Term, headers: list[Header]) -> Iterator[tuple[str, Term | None, int, list[Header]]]:
     """The names and tables that a term reads: the word, the index or nothing, the byte, and the loops round it."""
     stack = [(term, headers)]
     while stack:

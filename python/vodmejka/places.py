@@ -1,13 +1,21 @@
 """Places in files, as they are shown: the line with a caret under the byte, and the records of a household."""
+from __future__ import annotations
+
 import re
 import unicodedata
+from typing import Iterable, Iterator, Sequence
 
 from . import source
+from .lines import Lines
 
 WIDEST = 120
+Field = tuple[int, bytes]
+"""A field of a record, after its first byte."""
+Texts = dict[str, "Lines | None"]
+QUOTED, PLAIN = re.compile(rb'"(?:[^"]|"")*(?:"|$)'), re.compile(rb"[^,\r\n]*")
 
 
-def shown(text):
+def shown(text: str) -> Iterator[tuple[str, str]]:
     """Characters as a terminal shows them, each with the blanks that take its place in the line of the caret."""
     for letter in text:
         if letter == "\t":
@@ -20,14 +28,14 @@ def shown(text):
             yield letter, "  " if unicodedata.east_asian_width(letter) in "WF" else " "
 
 
-def decode(line):
+def decode(line: bytes) -> str:
     try:
         return line.decode("utf-8")
     except UnicodeDecodeError:
         return line.decode("latin-1")
 
 
-def pointer(line, number, byte):
+def pointer(line: bytes, number: int, byte: int | None) -> list[str]:
     """The line with its number, and a caret below the byte; without a byte no caret. Of a long line a piece round the byte is shown."""
     if byte is None:
         before, behind = "", decode(line)[:WIDEST]
@@ -47,37 +55,38 @@ def pointer(line, number, byte):
     return pieces
 
 
-def text_at(name, texts=None):
+def text_at(name: str, texts: Texts | None = None) -> Lines | None:
     """The lines of a file, or nothing where it can't be read. Those that were read before are in `texts`, if that is given."""
     texts = {} if texts is None else texts
     if name not in texts:
         try:
-            texts[name] = source.Lines(source.fetch(name))
+            texts[name] = Lines(source.fetch(name))
         except source.Refused:
             texts[name] = None
     return texts[name]
 
 
-def line_at(name, number, texts=None):
+def line_at(name: str, number: int, texts: Texts | None = None) -> bytes | None:
     """The bytes of a line of a file, from 1, or nothing."""
     text = text_at(name, texts)
-    return text and text.line(number)
+    return None if text is None else text.line(number)
 
 
-def records(content):
+def records(content: bytes) -> list[tuple[int, list[Field]]]:
     """The records of a household: the line and byte where each begins, and its fields with their bytes."""
-    at, found = 3 if content.startswith(b"\xef\xbb\xbf") else 0, []
+    at = 3 if content.startswith(b"\xef\xbb\xbf") else 0
+    found: list[tuple[int, list[Field]]] = []
     while at < len(content):
         if content[at] in b"\r\n":
             at += 1
             continue
-        begin, fields = at, []
+        begin = at
+        fields: list[Field] = []
         while True:
             field = at
             if content[at : at + 1] == b'"':
-                quoted = re.compile(rb'"(?:[^"]|"")*(?:"|$)').match(content, at)
-                at = quoted.end()
-            at = re.compile(rb"[^,\r\n]*").match(content, at).end()
+                at = end_of(QUOTED, content, at)
+            at = end_of(PLAIN, content, at)
             fields.append((field, content[field:at]))
             if content[at : at + 1] != b",":
                 break
@@ -86,7 +95,13 @@ def records(content):
     return found
 
 
-def faulty_field(fields, what, heads):
+def end_of(form: re.Pattern[bytes], content: bytes, at: int) -> int:
+    """The end of what stands at a byte."""
+    found = form.match(content, at)
+    return at if found is None else found.end()
+
+
+def faulty_field(fields: Sequence[Field], what: str, heads: Iterable[Field]) -> int | None:
     """Which field a fault of a record is about, where that can be said; `heads` are the fields of the first record."""
     if what in ("unknown code", "code twice"):
         return fields[0][0] if len(fields) == 2 else None

@@ -1,6 +1,7 @@
 """The program, and the files that are handed to it."""
 from __future__ import annotations
 
+import contextlib
 import csv
 import hashlib
 import io
@@ -11,7 +12,7 @@ import sys
 import tempfile
 import weakref
 from decimal import Decimal
-from typing import Any, Iterable, Mapping, Union
+from typing import Any, BinaryIO, Iterable, Iterator, Mapping, Union
 
 from .errors import Broken, Interrupted, NotFound, Refused
 from .guard import GUARD, Child
@@ -23,17 +24,20 @@ TOP = os.path.dirname(os.path.dirname(os.path.dirname(os.path.realpath(__file__)
 INSIDE = os.path.join(os.path.dirname(os.path.realpath(__file__)), "bin")
 
 
-def program_path(program: str | None = None) -> str:
-    """The program: the one that is named, or the one of the variable M_TAX, which must be there then; else the one inside this package, what `./build` made in
-    the repository round it, or from which it was installed, `m_tax` of the path, or the script of the repository."""
-    named = program or os.environ.get("M_TAX")
+def program_path(program: str | None = None, name: str = "m_tax", beside: str | None = None) -> str:
+    """The program of a name: the one that is named, or the one of the variable M_TAX or M_SURVEY, which must be there then; else the one beside another
+    program, the one inside this package, what `./build` made in the repository round it, or from which it was installed, the one of the path, or the script of
+    the repository."""
+    variable = name.upper()
+    named = program or os.environ.get(variable)
     tops = [TOP, *clone()]
-    built = [os.path.join(INSIDE, "m_tax"), *(os.path.join(top, "out", "m_tax") for top in tops)]
-    others = [*built, shutil.which("m_tax"), *(os.path.join(top, "m_tax") for top in tops)]
+    folders = [] if beside is None else [os.path.dirname(beside), os.path.dirname(os.path.realpath(beside))]
+    built = [*(os.path.join(folder, name) for folder in (*folders, INSIDE)), *(os.path.join(top, "out", name) for top in tops)]
+    others = [*built, shutil.which(name), *(os.path.join(top, name) for top in tops)]
     for candidate in others if not named else (shutil.which(named) or named,):
         if candidate and os.access(candidate, os.X_OK) and os.path.isfile(candidate):
             return os.path.abspath(candidate)
-    raise Broken(f"there is no program {named}" if named else "there is no program m_tax: name it by M_TAX, or run ./build in the repository")
+    raise Broken(f"there is no program {named}" if named else f"there is no program {name}: name it by {variable}, or run ./build in the repository")
 
 
 def inside() -> None:
@@ -60,8 +64,8 @@ class Program:
     Of the repository's script what it runs is part of it: what ./build made, or without it the sources of which the script makes a trial.
     """
 
-    def __init__(self, named: str | None = None):
-        self.path = program_path(named)
+    def __init__(self, named: str | None = None, name: str = "m_tax", beside: str | None = None):
+        self.path, self._name = program_path(named, name, beside), name
         self.digest, self._state = self._looked()
 
     def check(self) -> None:
@@ -74,7 +78,7 @@ class Program:
     def _files(self) -> list[str]:
         """The files that make the program."""
         folder = os.path.dirname(os.path.realpath(self.path))
-        below = [built] if os.path.exists(built := os.path.join(folder, "out", "m_tax")) else []
+        below = [built] if os.path.exists(built := os.path.join(folder, "out", self._name)) else []
         if not below:
             sources = os.walk(os.path.join(folder, "crates"))
             below = sorted(os.path.join(at, name) for at, _, names in sources for name in names if name.endswith(".rt"))
@@ -143,6 +147,16 @@ def started(words: list[str], **options: Any) -> Child:
         raise Broken(f"the program can't be started: {fault.filename or words[0]}: {fault.strerror}") from fault
 
 
+def ended(child: Child, program: Program, timeout: float | None) -> int:
+    """The status of a program at its end. What it printed counts only where the program is the one that it was before."""
+    try:
+        status = child.wait(timeout)
+    except subprocess.TimeoutExpired:
+        raise Interrupted(f"the program gave no answer within {timeout} s") from None
+    program.check()
+    return status
+
+
 def run(program: str, *words: str, folder: str | None = None, timeout: float | None = None) -> tuple[bytes, int]:
     """What the program prints, and its status: 0 or 6. What else it says is an error."""
     with started([program, *words], stdin=subprocess.DEVNULL, stdout=subprocess.PIPE, stderr=subprocess.PIPE, cwd=folder) as child:
@@ -172,6 +186,21 @@ def raise_for(text: bytes, status: int, messages: bytes = b"") -> None:
         raise Interrupted(known.get(status, f"the program ended with status {status}"))
     said = messages.decode("utf-8", "replace").strip()[-500:]
     raise Broken(f"the program ended with status {status} and printed no line of its own{f': {said}' if said else ''}")
+
+
+@contextlib.contextmanager
+def whole_file(path: str, mode: int = 0o600) -> Iterator[BinaryIO]:
+    """A new file, which gets its name when all is written to it, or goes where something fails."""
+    with tempfile.NamedTemporaryFile(dir=os.path.dirname(path), prefix=".vodmejka-", delete=False) as out:
+        try:
+            os.fchmod(out.fileno(), mode)
+            yield out.file  # type: ignore[misc]
+            out.flush()
+            os.fsync(out.fileno())
+            os.replace(out.name, path)
+        except BaseException:
+            os.unlink(out.name)
+            raise
 
 
 def spelled(code: str, amount: Any) -> str:

@@ -1,28 +1,33 @@
 """Reports for people: which formula sets a cell, with its letters, and which cells it reads; what a declaration says of it."""
+from __future__ import annotations
+
 import bisect
 import re
+from typing import Mapping, Sequence
 
 from . import items, source
 from .grammar import RESERVED
-from .loops import instances, reads_of, replaced, whole
+from .loops import Term, instances, reads_of, replaced, whole
 from .places import decode
+from .texts import said
 
 
 class Written:
     """A rule file as it is written: its tokens by their bytes, which of them begin rules, and which end items."""
 
-    def __init__(self, file, tokens):
+    def __init__(self, file: source.RuleFile, tokens: Sequence[source.Token]):
         self.file, self.tokens = file, tokens
         self.bytes = [token.byte for token in tokens]
         self.rules = [k for k, token in enumerate(tokens) if token.text == "regle"]
         self.ends = [k for k, token in enumerate(tokens) if token.text == ";" and token.kind == "sign"]
 
-    def formula(self, byte, letters=(), number=None):
+    def formula(self, byte: int, letters: Mapping[str, str] | None = None, number: int | None = None) -> str:
         """The text of the formula that begins at a byte, with these letters and the number of its cell filled in."""
         first = bisect.bisect_left(self.bytes, byte)
         at = bisect.bisect_left(self.ends, first)
         end = self.ends[at] if at < len(self.ends) else len(self.tokens) - 1
-        pieces, begin = [], byte
+        pieces: list[bytes] = []
+        begin = byte
         for token in self.tokens[first:end]:
             word = str(number) if token.text == "X" and number is not None else token.text
             if letters and token.kind == "word" and token.text not in RESERVED:
@@ -32,36 +37,36 @@ class Written:
                 begin = token.byte + len(token.text)
         return plain(b"".join([*pieces, self.file.bytes[begin : self.tokens[end].byte]]))
 
-    def rule(self, byte):
+    def rule(self, byte: int) -> str:
         """The number of the rule of a formula."""
         first = bisect.bisect_left(self.bytes, byte)
         rule = self.rules[bisect.bisect_left(self.rules, first) - 1]
         return next(self.tokens[k].text for k in range(rule, first) if self.tokens[k].kind == "number")
 
-    def line(self, byte):
+    def line(self, byte: int) -> int:
         return self.file.lines.number(byte)
 
-    def place(self, byte):
+    def place(self, byte: int) -> str:
         """The file, the line and the rule of a formula."""
-        return f"{self.file.name} line {self.line(byte)}, rule {self.rule(byte)}"
+        return said("why.rule", file=self.file.name, line=self.line(byte), number=self.rule(byte))
 
 
 class Formula:
     """The formula of a cell: where it is written, the letters of its instance, the cell's number in a whole table."""
 
-    def __init__(self, written, formula, letters, number):
+    def __init__(self, written: Written, formula: items.Formula, letters: Mapping[str, str], number: int | None):
         self.written, self.formula, self.letters, self.number = written, formula, letters, number
 
     @property
-    def text(self):
+    def text(self) -> str:
         return self.written.formula(self.formula.byte, self.letters, self.number)
 
-    def place(self):
+    def place(self) -> str:
         return self.written.place(self.formula.byte)
 
-    def reads(self, sizes):
+    def reads(self, sizes: Mapping[str, int]) -> list[str]:
         """The cells that the formula reads, each once, in their order. `sizes` has the number of cells of each table."""
-        found = {}
+        found: dict[str, bool] = {}
         own = {letter: [(value, value)] for letter, value in self.letters.items()}
         loops = [list(own.items())] if own else []
         for word, index, _, round_it in reads_of(self.formula.term, []):
@@ -70,24 +75,24 @@ class Formula:
                     found[cell] = True
         return list(found)
 
-    def cells(self, word, index, letters, sizes):
+    def cells(self, word: str, index: Term | None, letters: Mapping[str, str], sizes: Mapping[str, int]) -> list[str]:
         if index is None:
             return [] if word.isdigit() else [word]
         number = self.number if index == ("X",) else number_of(index, letters)
         return [f"{word}[{k}]" for k in (range(sizes.get(word, 0)) if number is None else [number])]
 
 
-def plain(content):
+def plain(content: bytes) -> str:
     """A piece of a file in one line, without comments."""
     return " ".join(re.sub(r"#[^\n]*", " ", content.decode("latin-1")).split())
 
 
-def words_in(term):
+def words_in(term: Term | None) -> list[str]:
     """The words of an index that is a number with letters, as `i`; none of another one."""
     return [term[1]] if term is not None and term[0] == "name" else []
 
 
-def number_of(index, letters):
+def number_of(index: Term, letters: Mapping[str, str]) -> int | None:
     """The number of an index that is one, cut to its whole part; None of another one."""
     text = replaced(index[1], letters) if index[0] in ("name", "number") else ""
     return whole(text.split(".")[0]) if re.fullmatch(r"[0-9]+(\.[0-9]+)?", text) else None
@@ -96,12 +101,15 @@ def number_of(index, letters):
 class Rules:
     """The formulas of a list's application by their cells, and the variables with their descriptions. `base` is the rule base, where it was read before."""
 
-    def __init__(self, list_name, base=None):
+    def __init__(self, list_name: str, base: source.RuleBase | None = None):
         base = base or source.RuleBase(list_name)
         self.application, self.contents = base.application, [(file.name, file.bytes) for file in base.files]
         self.variables = {variable.name: variable for variable in base.variables}
         self.sizes = {name: variable.size for name, variable in self.variables.items() if variable.size is not None}
-        self.descriptions, self.formulas, self.checks, self.comments = {}, {}, [], {}
+        self.descriptions: dict[str, str] = {}
+        self.formulas: dict[str, Formula] = {}
+        self.checks: list[tuple[source.RuleFile, items.Check, Written]] = []
+        self.comments: dict[str, str] = {}
         for file in base.files:
             self.describe(file)
             reader, _ = items.read(file.bytes, file.tokens)
@@ -111,11 +119,11 @@ class Rules:
                 if base.application in formula.applications and not formula.is_chained:
                     self.add(written, formula)
 
-    def describe(self, file):
+    def describe(self, file: source.RuleFile) -> None:
         """Takes the last text of each declaration of a file."""
         places = {int(variable.place.rsplit(" ", 1)[1]): variable.name for variable in file.variables}
         for variable in (variable for variable in file.variables if variable.kind == "const"):
-            line = file.lines.line(file.lines.number(int(variable.place.rsplit(" ", 1)[1])))
+            line = file.lines.line(file.lines.number(int(variable.place.rsplit(" ", 1)[1]))) or b""
             self.comments[variable.name] = decode(line.partition(b"#")[2]).strip()
         name = None
         for token in file.tokens:
@@ -125,7 +133,7 @@ class Rules:
             if token.text == ";" and token.kind == "sign":
                 name = None
 
-    def add(self, written, formula):
+    def add(self, written: Written, formula: items.Formula) -> None:
         letters_of_target = [letter for header in formula.loops for letter, _ in header]
         for letters in instances(formula.loops, ["".join(letters_of_target)]):
             word = replaced(formula.target, letters)
@@ -134,15 +142,15 @@ class Rules:
                 cell = word if number is None else f"{word}[{number}]"
                 self.formulas.setdefault(cell, Formula(written, formula, letters, number))
 
-    def description(self, cell):
+    def description(self, cell: str) -> str:
         return self.descriptions.get(cell.split("[")[0], "")
 
-    def role(self, cell):
+    def role(self, cell: str) -> str:
         """What sets a cell without a formula."""
         variable = self.variables.get(cell.split("[")[0])
         if variable is None or variable.kind == "calculee":
-            return "no rule sets it"
+            return said("why.no_rule")
         if variable.kind == "saisie":
-            return f"declared, {variable.code}"
+            return said("why.declared", code=variable.code)
         comment = self.comments.get(variable.name)
-        return f"a constant: {comment}" if comment else "a constant"
+        return said("why.constant_told", comment=comment) if comment else said("why.constant")

@@ -1,12 +1,19 @@
 """What the tools know of tables of households and of the answers to them: the records of a table, as the program reads them, and the lines of `batch`."""
+from __future__ import annotations
+
 import csv
 import io
 import mmap
 import os
 import re
 import stat
+from typing import IO, Iterable, Iterator, Sequence, Union
 
 PIECE = 1_048_576
+Text = Union[bytes, mmap.mmap]
+Pair = tuple[bytes, bytes]
+Told = tuple[bytes, list[Pair], list[Pair], "Pair | None"]
+"""A label, notes, values, and a stop or nothing."""
 MARK = b"\xef\xbb\xbf"
 
 # A field is bytes without a comma and a line end; one that begins with a quote goes on to the next quote that isn't doubled, and then as others do.
@@ -33,19 +40,19 @@ class Strange(Exception):
     """A line of an answer that `batch` doesn't print there, as where a piece of an answer is lost, or a table without whole records."""
 
 
-def state(file):
+def state(file: IO[bytes]) -> tuple[int, int] | None:
     """What tells whether a file was changed while it was read; nothing of a pipe, which has no other state than what is read of it."""
     told = os.fstat(file.fileno())
     return (told.st_size, told.st_mtime_ns) if stat.S_ISREG(told.st_mode) else None
 
 
-def unquoted(field):
+def unquoted(field: bytes) -> bytes:
     """What a field of a record says."""
     match = QUOTED.match(field)
     return match[1].replace(b'""', b'"') + field[match.end() :] if match else field
 
 
-def spelled(rows):
+def spelled(rows: Iterable[Iterable[object]]) -> str:
     """Rows as csv. A carriage return in a field is quoted by every version of Python where lines end with one too."""
     for end in ("\n", "\r\n"):
         out = io.StringIO(newline="")
@@ -55,7 +62,12 @@ def spelled(rows):
     return out.getvalue()
 
 
-def records(source, longest, is_whole=True):
+def unlike_a_formula(text: bytes) -> bytes:
+    """A text with a sign before it that keeps a spreadsheet from computing it."""
+    return b"'" + text if text[:1] in (b"=", b"+", b"-", b"@", b"\t", b"\r") else text
+
+
+def records(source: IO[bytes], longest: int, is_whole: bool = True) -> Iterator[tuple[bytes, bytes]]:
     """The records of a table, each without its end and with what its first field says; blank lines are none. A record has at most so many bytes. A whole table
     may begin with a byte order mark."""
     buffer, at, count, is_first, ended = b"", 0, 0, is_whole, False
@@ -92,11 +104,14 @@ def records(source, longest, is_whole=True):
             at = end
 
 
-def households_of(lines):
+def households_of(lines: Iterable[bytes]) -> Iterator[Told]:
     """What `answers` tells, without a look at the names."""
-    label, notes, pairs, numbered = None, [], [], enumerate(lines, 1)
+    label: bytes | None = None
+    notes: list[Pair] = []
+    pairs: list[Pair] = []
+    numbered = enumerate(lines, 1)
 
-    def text():
+    def text() -> bytes:
         at, told = next(numbered, (number + 1, b""))
         if not told.endswith(b"\n"):
             raise Strange(f"line {at} is cut off")
@@ -105,7 +120,7 @@ def households_of(lines):
     for number, line in numbered:
         value = TOLD.match(line)
         if value and label is not None:
-            pairs.append(value.groups())
+            pairs.append((value[1], value[2]))
         elif not line.endswith(b"\n"):
             raise Strange(f"line {number} is cut off")
         elif line.startswith(b"household "):
@@ -123,7 +138,7 @@ def households_of(lines):
         yield label, notes, pairs, None
 
 
-def answers(lines, names=None):
+def answers(lines: Iterable[bytes], names: list[bytes] | None = None) -> Iterator[Told]:
     """Each household of the lines of a batch: its label, its notes, its values as pairs of a name and an amount, `undefined` or `over`, and its stop, which is
     a line and a text, or None. All that aren't stopped have values of the same names, those that are given or else the first's."""
     others = "the first" if names is None else "those asked for"
@@ -136,40 +151,44 @@ def answers(lines, names=None):
         yield label, notes, pairs, stop
 
 
-def values_of(names):
+def values_of(names: Sequence[bytes]) -> list[re.Pattern[bytes]]:
     """The forms that the lines of these values have, a few hundred lines to a form."""
     lines = [re.escape(name) + VALUE for name in names]
     return [re.compile(b"".join(lines[k : k + AT_ONCE])) for k in range(0, len(lines), AT_ONCE)]
 
 
-def whole_form(names):
-    """The form of a household's lines where all is as it must be: its label, and its stop or its notes and values."""
+def whole_form(names: Sequence[bytes]) -> re.Pattern[bytes]:
+    """The form of a household's lines where all is as it must be: its label, and its stop, which is the second group, or its notes and values."""
     lines = b"".join(re.escape(name) + VALUE for name in names)
-    return re.compile(HEAD.pattern + b"(?:" + STOP.pattern + b"|" + NOTES.pattern + lines + b")")
+    return re.compile(HEAD.pattern + b"(?:(" + STOP.pattern + b")|" + NOTES.pattern + lines + b")")
 
 
-def strange(text, at):
+def strange(text: Text, at: int) -> Strange:
     """Says at which line an answer is none: the first one at or behind this byte."""
     number = text[:at].count(b"\n") + 1
     line = text[at : at + 80].split(b"\n")[0].decode("utf-8", "replace")
     return Strange(f"line {number} or one of the same household isn't what batch prints there: {line}")
 
 
-def read_answer(path, names=None):
-    """The labels of an answer of `batch`, and the names of its values, where they aren't given. Each household has its notes and then a line for each
-    name, in one order, or a stop and nothing else."""
-    labels = []
+def read_answer(path: str, names: list[bytes] | None = None) -> tuple[list[bytes], list[bytes] | None, int]:
+    """The labels of an answer of `batch`, the names of its values, where they aren't given, and how many households stopped. Each household has its notes
+    and then a line for each name, in one order, or a stop and nothing else."""
+    labels: list[bytes] = []
+    stops = 0
     with open(path, "rb") as file:
         if os.fstat(file.fileno()).st_size == 0:
-            return labels, names
+            return labels, names, stops
         with mmap.mmap(file.fileno(), 0, access=mmap.ACCESS_READ) as text:
-            at, forms, whole = 0, None, None
+            at = 0
+            forms: list[re.Pattern[bytes]] | None = None
+            whole: re.Pattern[bytes] | None = None
             while at < len(text):
                 if whole is None and names is not None:
                     forms, whole = values_of(names), whole_form(names if len(names) <= AT_ONCE else [])
-                found = whole and len(names) <= AT_ONCE and whole.match(text, at)
+                found = whole.match(text, at) if whole is not None and names is not None and len(names) <= AT_ONCE else None
                 if found:
                     labels.append(found[1])
+                    stops += found[2] is not None
                     at = found.end()
                     continue
                 head = HEAD.match(text, at)
@@ -179,9 +198,11 @@ def read_answer(path, names=None):
                 at = head.end()
                 stop = STOP.match(text, at)
                 if stop:
+                    stops += 1
                     at = stop.end()
                     continue
-                at = NOTES.match(text, at).end()
+                notes = NOTES.match(text, at)
+                at = at if notes is None else notes.end()
                 if forms is None:
                     names = names_at(text, at)
                     forms, whole = values_of(names), whole_form(names if len(names) <= AT_ONCE else [])
@@ -190,10 +211,10 @@ def read_answer(path, names=None):
                     if found is None:
                         raise strange(text, at)
                     at = found.end()
-    return labels, names
+    return labels, names, stops
 
 
-def names_at(text, at):
+def names_at(text: Text, at: int) -> list[bytes]:
     """The names of the lines of values that stand here."""
     names = []
     while found := NAMED.match(text, at):

@@ -5,19 +5,22 @@ import contextlib
 import hashlib
 import os
 import re
-import tempfile
-from typing import TYPE_CHECKING, Any, Generator, Iterable, Mapping, overload
+from typing import TYPE_CHECKING, Any, Generator, Iterable, Mapping, Sequence, overload
 
 from .answers import Answer, Form, answer_of
+from .batch_files import batch_file
 from .batches import Answers, Batch
 from .cases import Mismatch, mismatches_of
+from .dask import mapped
 from .errors import Broken, NotFound, Refused
-from .frames import Households, Table
+from .facts import Facts, Within, facts_of, ranges_text, without_facts
+from .frames import Households, frame_of
 from .limits import CODE_FILE_BYTES, ROWS
-from .program import ENCODING, Folder, Program, digest_of, household_bytes, is_trial, run
+from .program import ENCODING, Folder, Program, digest_of, household_bytes, is_trial, run, whole_file
 from .session import Session
 from .shown import section, short, table
 from .sources import Sources, fetched, fetched_rules, named
+from .surveys import Survey
 from .tables import Household
 from .variables import TYPES, Variable, Variables
 from .variants import Number, Text, varied
@@ -39,6 +42,8 @@ class Rules:
 
     _sources: Sources | None
     _read: Variables | None = None
+    _surveyor: Program | None = None
+    _survey_digest: str | None = None
 
     def __init__(
         self, list: str | os.PathLike[str], driver: str | os.PathLike[str] | None = None, requests: str | os.PathLike[str] | None = None, *,
@@ -87,7 +92,10 @@ class Rules:
         if self._sources is None:
             with open(self._code, "rb") as file:
                 code = file.read()
-        return unpickled, (self._sources, code, self.program, self._program.digest, self._cache, self.timeout)
+        survey = None
+        with contextlib.suppress(Broken):  # (an older installation has no m_survey)
+            survey = self.survey_digest
+        return unpickled, (self._sources, code, self.program, self._program.digest, survey, self._cache, self.timeout)
 
     def variant(
         self, values: Mapping[str, Number] | None = None, *, replace: Mapping[str, Text] | None = None, driver: Text | None = None,
@@ -101,6 +109,15 @@ class Rules:
         made._begin(varied(self._sources, values, replace, driver, outputs), self._program, self._cache, self.timeout)
         return made
 
+    def with_list(self, list: str | os.PathLike[str]) -> Rules:
+        """Rules of another list, with the same driver and requests."""
+        if self._sources is None:
+            raise Broken("a variant needs rules: a code file has no sources")
+        content = fetched(os.fspath(list))
+        made = Rules.__new__(Rules)
+        made._begin(self._sources._replace(listing=content, rules=fetched_rules(named(content))), self._program, self._cache, self.timeout)
+        return made
+
     # ---- what is computed
 
     def run(self, household: Household) -> Answer:
@@ -111,6 +128,14 @@ class Rules:
         finally:
             os.unlink(self._path(name))
         return answer_of(iter(lines_of(text).split("\n")[:-1]))
+
+    def map(
+        self, frame: Any, *, numbers: str = "float64", stops: str = "raise", keep: Iterable[str] = (), meta: pandas.DataFrame | None = None
+    ) -> Any:
+        """What the households of a frame of Dask are told: a frame of Dask with its partitions, each of which is what `batch` makes of it where it is
+        computed. Its columns and types are those of `meta`, an empty frame, or what `batch` makes of no households. A household that is stopped is an
+        error, when the partition is computed, unless stops="keep" is given."""
+        return mapped(self, frame, {"numbers": numbers, "stops": stops, "keep": [*keep]}, meta)
 
     @overload
     def batch(self, rows: Iterable[Household], rows_at_once: int = ROWS_AT_ONCE) -> Answers: ...
@@ -129,13 +154,27 @@ class Rules:
         its index, with the columns that `keep` names, a column for each value, `over` with the names of the values that overflow and `notes` with the errors
         that were noted. With numbers="float64" values are floats, and one that isn't exact in a float is an error; "micros" gives whole millionths, "decimal"
         decimals. Undefined is NaN, NA or None; what overflows is infinite, NA or OVER. A household that is stopped is an error, `Stopped`; with
-        stops="keep" its values are undefined, and a column `stop` has the line.
+        stops="keep" its values are undefined, and a column `stop` has the line. Frames are computed by the program m_survey.
         """
         if hasattr(rows, "columns") and hasattr(rows, "itertuples"):
             return self._frame(rows, rows_at_once, numbers, stops, keep)
         if (numbers, stops, tuple(keep)) != ("float64", "raise", ()):
             raise TypeError("numbers, stops and keep are for frames: an answer of another batch has decimals and its stop")
         return self._answers(rows, rows_at_once)
+
+    def batch_file(
+        self, path: str | os.PathLike[str], out: str | os.PathLike[str], format: str = "csv", *, numbers: str = "float64", stops: str = "raise",
+        keep: Iterable[str] = (), rows_at_once: int = ROWS_AT_ONCE,
+    ) -> int:
+        """Writes what the households of a table of any length are told, whole or not at all, and answers how many they are.
+
+        The table is csv: `name` and codes in the first line, and the columns that `keep` names. With format="csv" the file has `name`, these columns, `stop`,
+        `notes`, and a column for each value with its amount; with format="parquet", by pyarrow, it has the columns that a frame has, after `name`. A household
+        that is stopped is an error, unless stops="keep" is given.
+        """
+        names = self._outputs()
+        rows = part_size(rows_at_once, len(names))
+        return batch_file(self._survey(), self.types(), names, path, out, format=format, numbers=numbers, stops=stops, keep=[*keep], rows=rows)
 
     def session(self, household: Household | None = None) -> Session:
         """A session that begins with a household; it is ended by `close`, or at the end of a `with`."""
@@ -157,6 +196,22 @@ class Rules:
         finally:
             os.unlink(self._path(name))
         return mismatches_of(lines_of(text).split("\n")[:-1])
+
+    def facts(self, ranges: Mapping[str, Within] | None = None) -> Facts:
+        """What holds of the requested values for all households whose amounts lie within ranges: `{"1AJ": (0, 10**6)}` are households that have no 1AJ, or one
+        of 0 to 1,000,000, and anything elsewhere. An input may also be "yes", "no" or "maybe" given, or a `Range`."""
+        if not self._words:
+            raise Broken("facts need rules: a code file has no sources")
+        program = self._survey().program
+        name = self._room.put(ranges_text(ranges)) if ranges else "-"
+        try:
+            text, _ = self._run("facts", *self._words, name, program=program)
+        except Refused as refused:
+            raise without_facts(refused) from None
+        finally:
+            if ranges:
+                os.unlink(self._path(name))
+        return facts_of(lines_of(text), (self.digest, program.digest))
 
     # ---- what the rules are
 
@@ -184,8 +239,13 @@ class Rules:
 
     @property
     def program_digest(self) -> str:
-        """The digest of the program; `digest` is that of the source."""
+        """The digest of the program m_tax; `digest` is that of the source."""
         return self._program.digest
+
+    @property
+    def survey_digest(self) -> str:
+        """The digest of the program m_survey, which computes frames and files of households."""
+        return self._survey().program.digest
 
     def __repr__(self) -> str:
         counts = f"{len(self.types())} inputs, {len(self._outputs())} outputs, digest {short(self.digest)}"
@@ -241,10 +301,11 @@ class Rules:
             out.write(content)
         return name
 
-    def _run(self, *words: str) -> tuple[bytes, int]:
+    def _run(self, *words: str, program: Program | None = None) -> tuple[bytes, int]:
+        program = program or self._program
         try:
-            told = run(self.program, *words, folder=self._room.name, timeout=self.timeout)
-            self._program.check()
+            told = run(program.path, *words, folder=self._room.name, timeout=self.timeout)
+            program.check()
             return told
         except Refused as refused:
             raise Refused(self._told(refused.line)) from None
@@ -275,7 +336,7 @@ class Rules:
             return Answers(self._alone(rows))
         form = Form(self._outputs())
         notes = sum(line.startswith("note ") for line in self._lines)
-        size = max(1, min(at_once, ROWS, VALUES // (len(form.names) + notes + 1)))
+        size = part_size(at_once, len(form.names) + notes)
         # (an iterator may hand out one mapping again and again, changed each time: a part is read before it is written)
         taken: Iterable[Household] = rows if isinstance(rows, (list, tuple)) else (dict(row) for row in rows)
         batch = Batch(self._program, ["batch", *self._words], self._room.name, form, size, self.types(), self._told, self.timeout)
@@ -294,13 +355,32 @@ class Rules:
 
     def _frame(self, frame: pandas.DataFrame, at_once: int, numbers: str, stops: str, keep: Iterable[str]) -> pandas.DataFrame:
         """The answers to the rows of a frame, as a frame."""
-        households = Households(frame, self.types(), [*keep])
-        told = Table(households, self._outputs(), numbers, stops)
-        for answer in households.answers(lambda rows: self._answers(rows, at_once)):
-            told.add(answer)
-        made = told.frame()
-        made.attrs.update(source=self.digest, program=self.program_digest)
+        names = self._outputs()
+        made = frame_of(self._survey(), Households(frame, self.types(), [*keep]), names, numbers, stops, part_size(at_once, len(names)))
+        made.attrs.update(source=self.digest, program=self.survey_digest)
         return made
+
+    def _survey(self) -> Survey:
+        """The program of tables, m_survey, over the source or the code file."""
+        if self._surveyor is None:
+            self._surveyor = Program(None, "m_survey", self.program)
+        if self._survey_digest not in (None, self._surveyor.digest):
+            raise Broken(f"{self._surveyor.path} is another program than the one that these rules were made with")
+        return Survey(self._surveyor, self._words or [self._code], self._room.name, self._told, self.timeout)
+
+    def survey_of(self, names: Sequence[str]) -> tuple[Survey, list[str]]:
+        """The program of tables, and what it is asked for: some values alone, or by a code file all. It may be handed to another process for as long as these
+        rules are there."""
+        whole = self._survey()
+        if not self._words:
+            return Survey(whole.program, whole.words, whole.folder, str, self.timeout), self._outputs()
+        requests = self._room.put("".join(f"{name}\n" for name in names).encode(ENCODING))
+        return Survey(whole.program, [*self._words[:-1], requests], whole.folder, str, self.timeout), list(names)
+
+
+def part_size(at_once: int, values: int) -> int:
+    """How many households with so many values are computed at once."""
+    return max(1, min(at_once, ROWS, VALUES // (values + 1)))
 
 
 def kept_code(path: str) -> bytes | None:
@@ -312,7 +392,7 @@ def kept_code(path: str) -> bytes | None:
 
 
 def unpickled(
-    sources: Sources | None, code: bytes | None, path: str, digest: str, cache: str | None, timeout: float | None
+    sources: Sources | None, code: bytes | None, path: str, digest: str, survey: str | None, cache: str | None, timeout: float | None
 ) -> Rules:
     """Rules as they were pickled, by the program of the same path, or else the one that is found here, which has to be the same."""
     program = Program(path if os.access(path, os.X_OK) else None)
@@ -320,23 +400,18 @@ def unpickled(
         raise Broken(f"{program.path} is another program than the one that these rules were made with")
     if sources is None:
         assert code is not None
-        return Rules._by_code(code, program, timeout)
-    made = Rules.__new__(Rules)
-    made._begin(sources, program, cache, timeout)
+        made = Rules._by_code(code, program, timeout)
+    else:
+        made = Rules.__new__(Rules)
+        made._begin(sources, program, cache, timeout)
+    made._survey_digest = survey
     return made
 
 
 def put_whole(path: str, content: bytes) -> None:
     """Writes a file whole, or not at all."""
-    with tempfile.NamedTemporaryFile(dir=os.path.dirname(path), delete=False) as out:
-        try:
-            out.write(content)
-            out.flush()
-            os.fsync(out.fileno())
-            os.replace(out.name, path)
-        except BaseException:
-            os.unlink(out.name)
-            raise
+    with whole_file(path) as out:
+        out.write(content)
 
 
 def lines_of(output: bytes) -> str:

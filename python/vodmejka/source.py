@@ -3,9 +3,13 @@
 These tools read files that the program accepts, and look at the heads of items alone: what a formula says is passed over. A byte order mark is passed over
 too; `slips` and `explain` tell it. grammar.py reads formulas.
 """
+from __future__ import annotations
+
+import bisect
 import contextlib
 import dataclasses
 import io
+import itertools
 import os
 import re
 import signal
@@ -13,6 +17,7 @@ import stat
 import sys
 import threading
 import traceback
+from typing import IO, Any, Callable, Iterable, Iterator
 
 from .limits import CELLS, FILE_BYTES, FILE_NAME_BYTES, LIST_FILES, RULE_BYTES, TABLE_CELLS
 from .lines import Lines  # noqa: F401
@@ -27,8 +32,9 @@ GAP_OR_TOKEN = re.compile(
 # (a comment ends at its line's end alone, so that a match that fails is no long search)
 AFTER_GAPS = re.compile(rb"(?:[ \t\r\n]|#[^\n]*(?=\n|\Z))*(?:" + GAP_OR_TOKEN.pattern.partition(rb"|#[^\n]*)|")[2] + rb")")
 MARK = b"\xef\xbb\xbf"
-PIPED = {}
-WAITING = []
+PIPED: dict[str, bytes] = {}
+WAITING: list[int] = []
+BEGIN = 0  # stands before the signals that wait
 MASK = os.umask(0o077)  # what the user keeps from others in new files
 os.umask(MASK)
 # Signals that end a tool, beside SIGINT.
@@ -55,17 +61,17 @@ class Pipes:
 class Input(io.RawIOBase):
     """The standard input, of which a read that fails is told as that, and not as a fault of the output."""
 
-    def readable(self):
+    def readable(self) -> bool:
         return True
 
-    def readinto(self, room):
+    def readinto(self, room: Any) -> int:
         try:
             return os.readv(0, [room])
         except OSError as fault:
             raise Refused("unreadable input") from fault
 
 
-def standard_input():
+def standard_input() -> io.BufferedReader:
     """The bytes of the standard input."""
     return io.BufferedReader(Input(), 1_048_576)
 
@@ -86,11 +92,11 @@ class Variable:
     name: str
     kind: str
     size: int | None
-    words: list
-    numbered: list
+    words: list[str]
+    numbered: list[tuple[str, str]]
     code: str | None
     place: str
-    numbers: dict
+    numbers: dict[str, str]
     told: str = ""
     type: str | None = None
 
@@ -100,13 +106,13 @@ class Rule:
     """A rule or a verification, by the word it begins with, with its applications: pairs of a word and its place."""
 
     kind: str
-    applications: list
+    applications: list[tuple[str, str]]
     is_chained: bool
     place: str
     number: str = ""
 
 
-def fetch(name, longest=FILE_BYTES):
+def fetch(name: str, longest: int = FILE_BYTES) -> bytes:
     """The bytes of a file, which has at most so many. Those of a pipe, which can be read but once, are kept for the next time."""
     if name in PIPED:
         return taken(io.BytesIO(PIPED[name]), name, longest)
@@ -122,9 +128,10 @@ def fetch(name, longest=FILE_BYTES):
         raise Refused(f"unreadable {name}") from fault
 
 
-def taken(file, name, longest=FILE_BYTES):
+def taken(file: IO[bytes], name: str, longest: int = FILE_BYTES) -> bytes:
     """What is left of an open file, which is at most so many bytes."""
-    pieces, size = [], 0
+    pieces: list[bytes] = []
+    size = 0
     try:
         while size <= longest and (piece := file.read(1_048_576)):
             pieces.append(piece)
@@ -136,7 +143,7 @@ def taken(file, name, longest=FILE_BYTES):
     return b"".join(pieces)
 
 
-def fetch_rules(names):
+def fetch_rules(names: Iterable[str]) -> Iterator[bytes]:
     """The bytes of rule files, one after the other. All together they have at most RULE_BYTES."""
     left = RULE_BYTES
     for name in names:
@@ -145,17 +152,17 @@ def fetch_rules(names):
         yield content
 
 
-def lines_of(content):
+def lines_of(content: bytes) -> list[bytes]:
     """The lines of a list, a driver or requests: a carriage return right before a line feed is dropped."""
     return content.replace(b"\r\n", b"\n").split(b"\n")
 
 
-def read_list(name):
+def read_list(name: str) -> tuple[str, list[str]]:
     """The application of a list, and the names of its rule files. What the program refuses is refused."""
     return read_list_text(name, fetch(name))
 
 
-def read_list_text(name, content):
+def read_list_text(name: str, content: bytes) -> tuple[str, list[str]]:
     lines = lines_of(content)
     application = lines[0].decode("latin-1")
     if not re.fullmatch("[A-Za-z0-9_]+", application) or application.isdigit():
@@ -173,33 +180,35 @@ def read_list_text(name, content):
     return application, names
 
 
-def quick_tokens(content, byte, tokens, most=sys.maxsize):
+def quick_tokens(content: bytes, byte: int, tokens: list[Token], most: int = sys.maxsize) -> int:
     """Adds tokens up to the first byte that begins none, until there are so many; the byte behind the last one comes back."""
-    match = AFTER_GAPS.match(content, byte)
-    while match is not None and len(tokens) < most:
-        kind = match.lastgroup
-        tokens.append(Token(kind, match[kind].decode("latin-1"), match.start(kind)))
+    for match in itertools.islice(AFTER_GAPS.finditer(content, byte), most - len(tokens)):
+        if match.start() != byte:
+            break
+        at = match.lastindex or 0
+        tokens.append(Token(match.lastgroup or "", match[at].decode("latin-1"), match.start(at)))
         byte = match.end()
-        match = AFTER_GAPS.match(content, byte)
     return byte
 
 
 class RuleFile:
     """The items of one rule file. The tokens may be there already."""
 
-    def __init__(self, name, content, tokens=None):
+    def __init__(self, name: str, content: bytes, tokens: list[Token] | None = None):
         self.name = name
         self.bytes = content
         self.lines = Lines(self.bytes)
         self.tokens = self.read_tokens() if tokens is None else tokens
-        self.variables, self.rules = [], []
+        self.ends = [at for at, token in enumerate(self.tokens) if token.text == ";"]
+        self.variables: list[Variable] = []
+        self.rules: list[Rule] = []
         self.read_items()
 
-    def place(self, byte):
+    def place(self, byte: int) -> str:
         return f"{self.name} line {self.lines.number(byte)} byte {byte}"
 
-    def read_tokens(self):
-        tokens = []
+    def read_tokens(self) -> list[Token]:
+        tokens: list[Token] = []
         byte = quick_tokens(self.bytes, len(MARK) if self.bytes.startswith(MARK) else 0, tokens)
         while byte < len(self.bytes):
             piece = GAP_OR_TOKEN.match(self.bytes, byte)
@@ -207,11 +216,11 @@ class RuleFile:
                 what = "open string" if self.bytes[byte : byte + 1] == b'"' else "bad byte"
                 raise Refused(f"{self.place(byte)}: {what}")
             if piece.lastgroup != "gap":
-                tokens.append(Token(piece.lastgroup, piece[0].decode("latin-1"), byte))
+                tokens.append(Token(piece.lastgroup or "", piece[0].decode("latin-1"), byte))
             byte = piece.end()
         return tokens
 
-    def read_items(self):
+    def read_items(self) -> None:
         at = 0
         while at < len(self.tokens):
             token = self.tokens[at]
@@ -222,17 +231,16 @@ class RuleFile:
             else:
                 at = self.behind(at)
 
-    def text(self, at):
+    def text(self, at: int) -> str:
         """The text of a token, and nothing behind the last one."""
         return self.tokens[at].text if at < len(self.tokens) else ""
 
-    def behind(self, at):
+    def behind(self, at: int) -> int:
         """The token behind the next `;`."""
-        while at < len(self.tokens) and self.tokens[at].text != ";":
-            at += 1
-        return at + 1
+        found = bisect.bisect_left(self.ends, at)
+        return self.ends[found] + 1 if found < len(self.ends) else len(self.tokens) + 1
 
-    def read_rule(self, at):
+    def read_rule(self, at: int) -> int:
         begin = self.tokens[at]
         end = self.behind(at)
         applications, named = [], False
@@ -246,9 +254,10 @@ class RuleFile:
         self.rules.append(Rule(begin.text, applications, is_chained, self.place(begin.byte), number if number.isdigit() else ""))
         return end
 
-    def read_declaration(self, at):
+    def read_declaration(self, at: int) -> int:
         name, end = self.tokens[at], self.behind(at)
-        at, size = at + 2, None
+        at += 2
+        size: int | None = None
         if self.text(at) == "tableau":
             # (nine digits are more than a table may have, however many stand behind them)
             digits = self.text(at + 2).lstrip("0")[:9]
@@ -256,7 +265,11 @@ class RuleFile:
         kind = self.text(at)
         if kind not in ("saisie", "calculee", "const"):
             return end
-        words, numbered, numbers, code, at = [], [], {}, None, at + 1
+        words: list[str] = []
+        numbered: list[tuple[str, str]] = []
+        numbers: dict[str, str] = {}
+        code: str | None = None
+        at += 1
         while kind != "const" and at < end and self.text(at) != ":":
             if self.text(at) == "alias":
                 code, at = self.text(at + 1), at + 2
@@ -279,19 +292,19 @@ class RuleFile:
 class RuleBase:
     """A list with all its rule files, whose names count from a folder. Tables and cells may be `bounded`, as the program's are."""
 
-    def __init__(self, list_name, folder="", bounded=True):
+    def __init__(self, list_name: str, folder: str = "", bounded: bool = True):
         application, names = read_list_text(list_name, fetch(list_name).removeprefix(MARK))
         names = [os.path.join(folder, name) for name in names]
         self.take(application, zip(names, fetch_rules(names)), bounded)
 
     @classmethod
-    def of(cls, application, contents):
+    def of(cls, application: str, contents: Iterable[tuple[str, bytes]]) -> RuleBase:
         """The rule base of files that were read: each by its name with its bytes."""
         made = cls.__new__(cls)
         made.take(application, contents, True)
         return made
 
-    def take(self, application, contents, bounded):
+    def take(self, application: str, contents: Iterable[tuple[str, bytes]], bounded: bool) -> None:
         """Reads the files."""
         self.application = application
         self.files = [RuleFile(name, content) for name, content in contents]
@@ -300,7 +313,7 @@ class RuleBase:
         if bounded:
             self.look_at_sizes()
 
-    def look_at_sizes(self):
+    def look_at_sizes(self) -> None:
         """Refuses a table, or a number of cells, that the program refuses."""
         cells = 0
         for variable in self.variables:
@@ -311,7 +324,7 @@ class RuleBase:
                 raise Refused(f"{variable.place}: too many cells")
 
 
-def begin():
+def begin() -> None:
     """Names and lines are written as the bytes that they are, whatever the machine's language is. A signal that ends the tool lets it remove what it began."""
     if sys.getfilesystemencoding() != "utf-8":
         # (a language with an alphabet of its own: names would be other letters where they are written than where they are read)
@@ -321,19 +334,24 @@ def begin():
             # (a closed input stays one that can't be read)
             os.dup2(os.open(os.devnull, os.O_WRONLY), number)
             setattr(sys, name, open(number, "r" if number == 0 else "w", closefd=False))
-    sys.stderr.reconfigure(encoding="utf-8", errors="surrogateescape")
-    sys.stderr = Messages(sys.stderr)
+    in_bytes(sys.stderr)
+    sys.stderr = Messages(sys.stderr)  # type: ignore[assignment]
     if sys.stdout is None:
         say("the output is closed")
         sys.exit(4)
     for stream in (sys.stdin, sys.stdout):
-        stream.reconfigure(encoding="utf-8", errors="surrogateescape")
+        in_bytes(stream)
     for number in (signal.SIGINT, *ENDING):
         if signal.getsignal(number) in (signal.SIG_DFL, signal.default_int_handler):
             signal.signal(number, stopped)
 
 
-def stopped(number, _frame=None):
+def in_bytes(stream: Any) -> None:
+    """Has a stream write and read texts as the bytes that they were read from."""
+    stream.reconfigure(encoding="utf-8", errors="surrogateescape")
+
+
+def stopped(number: int, _frame: object = None) -> None:
     """Ends the tool, or notes the signal where it has to wait."""
     if WAITING:
         WAITING.append(number)
@@ -344,11 +362,11 @@ def stopped(number, _frame=None):
 
 
 @contextlib.contextmanager
-def unbroken():
+def unbroken() -> Iterator[None]:
     """What a signal doesn't break off: it ends the tool behind it. (Signals are the main thread's.)"""
     is_main = threading.current_thread() is threading.main_thread()
     if is_main:
-        WAITING.append(None)
+        WAITING.append(BEGIN)
     try:
         yield
     finally:
@@ -358,12 +376,12 @@ def unbroken():
                 stopped(came[0])
 
 
-def say(what):
+def say(what: str) -> None:
     """A line on standard error, after the name of the command."""
     print(f"{Command.name}: {what}", file=sys.stderr)
 
 
-def put(path, content):
+def put(path: str, content: bytes) -> None:
     """Writes a file. Where that fails, as on a full disk, the fault names it."""
     try:
         with open(path, "wb") as out:
@@ -373,7 +391,7 @@ def put(path, content):
         raise
 
 
-def end(name, main):
+def end(name: str, main: Callable[[], int]) -> None:
     """Begins and runs the command of that name, and ends with its status: 4 where the output was closed or is full, 130 where it was interrupted, and 70
     where it has a fault of its own or no memory."""
     Command.name = name

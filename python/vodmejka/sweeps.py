@@ -1,17 +1,21 @@
 """What rules give along one amount of a household: every amount of a range, by one or several rule bases."""
 from __future__ import annotations
 
+import re
 from decimal import Decimal
 from fractions import Fraction
-from typing import Iterable, Mapping, NamedTuple, Sequence, Union
+from typing import Iterable, Iterator, Mapping, NamedTuple, Sequence, Union
 
-from .answers import Over, Stop, Value
+from .answers import Answer, Over, Stop, Value
+from .bar_pictures import Picture
 from .errors import Refused, Stopped
 from .expressions import UNIT, Amount, Expression, millionths
 from .program import Amount as Given
+from .rate_pictures import Curve, picture
 from .rules import Rules
 from .shown import section, short, table
 
+PLACE = re.compile("refused household line ([0-9]+): (.*)")
 Number = Union[int, str, Decimal]
 Along = Sequence[Union[Mapping[str, Amount], Stop]]
 """For each amount the values by their names, or the stop."""
@@ -27,14 +31,14 @@ class Drop(NamedTuple):
 class Sweep:
     """The answers along an amount.
 
-    `amounts` has the amounts in order, `values[k]` the values of `of` by the rule base number k, `digests` those of the rule bases. A household that is stopped
-    at some amount is an error, `Stopped`, unless it is made with `stops="keep"`: then its value is the `Stop`.
+    `amounts` has the amounts in order, `values[k]` the values of `of` by the rule base number k, `digests` and `programs` the digests of the rule bases and of
+    their programs. A household that is stopped at some amount is an error, `Stopped`, unless it is made with `stops="keep"`: then its value is the `Stop`.
     """
 
-    def __init__(self, code: str, of: str, amounts: Sequence[Decimal], answers: Sequence[Along], digests: Sequence[str]):
-        self.code, self.of, self.amounts, self.digests = code, of, list(amounts), list(digests)
+    def __init__(self, code: str, of: str, amounts: Sequence[Decimal], answers: Sequence[Along], digests: Sequence[str], programs: Sequence[str]):
+        self.code, self.of, self.amounts, self.digests, self.programs = code, of, list(amounts), list(digests), list(programs)
         self._answers = answers
-        self.values = [[told if isinstance(told, Stop) else decimal_of(told[of]) for told in column] for column in answers]
+        self.values = [self.values_of(of, base) for base in range(len(answers))]
 
     def __repr__(self) -> str:
         bases = f"{len(self.values)} rule base{'' if len(self.values) == 1 else 's'}"
@@ -44,6 +48,15 @@ class Sweep:
         rows = [[amount, *("stopped" if isinstance(told, Stop) else told for told in column)] for amount, *column in zip(self.amounts, *self.values)]
         heads = [self.code, *(f"{self.of} by {short(digest)}" for digest in self.digests)]
         return section([f"{self.of} along {self.code}: {len(self.amounts)} amounts"], table(heads, rows))
+
+    def plot(self) -> Picture:
+        """The marginal and the mean rates by each of the rule bases, as a picture, which notebooks show."""
+        curves = []
+        for base, digest in enumerate(self.digests):
+            name = self.of if len(self.digests) == 1 else f"{self.of} by rules {base} ({short(digest)})"
+            rates = self.rates(base)
+            curves.append(Curve(name, self.of, [marginal for _, marginal, _ in rates], [mean for _, _, mean in rates]))
+        return Picture(picture(self.amounts, curves, self.code))
 
     def net(self, net: str, base: int = -1) -> list[Value]:
         """What is kept at each amount by a rule base, as `1AJ - TOTAL`; undefined where the household is stopped."""
@@ -59,9 +72,13 @@ class Sweep:
                 found.append(Drop(amount, exact(now - before)))
         return found
 
-    def rates(self, base: int = -1) -> list[tuple[Decimal, Fraction | None, Fraction | None]]:
+    def values_of(self, name: str, base: int = -1) -> list[Value | Stop]:
+        """The values of another requested value than `of`, or the stops."""
+        return [told if isinstance(told, Stop) else decimal_of(told[name]) for told in self._answers[base]]
+
+    def rates(self, base: int = -1, of: str | None = None) -> list[tuple[Decimal, Fraction | None, Fraction | None]]:
         """For each amount what one more unit up to it adds to `of` (the marginal rate), and `of` over the amount (the mean rate); None where there is none."""
-        values = [None if isinstance(told, Stop) else told[self.of] for told in self._answers[base]]
+        values = [None if isinstance(told, Stop) else told[of or self.of] for told in self._answers[base]]
         rows = []
         for at, amount in enumerate(self.amounts):
             now, marginal, mean = values[at], None, None
@@ -101,7 +118,7 @@ def sweep(
         raise ValueError('stops: "raise" or "keep"')
     others = {name: Fraction(str(amount)) * UNIT for name, amount in household.items() if name != code and amount not in (None, "")}
     columns = [answers_along(base, household, code, along, of, others, stops) for base in bases]
-    return Sweep(code, of, along, columns, [base.digest for base in bases])
+    return Sweep(code, of, along, columns, [base.digest for base in bases], [base.program_digest for base in bases])
 
 
 def answers_along(
@@ -111,7 +128,7 @@ def answers_along(
     if of not in rules.outputs():
         raise Refused(f"{of} is no requested value of the rules; there are {', '.join(rules.outputs())}")
     told: list[Mapping[str, Amount] | Stop] = []
-    for amount, answer in zip(amounts, rules.batch([with_amount(household, code, amount) for amount in amounts])):
+    for amount, answer in zip(amounts, answers_of(rules, household, code, amounts)):
         if answer.stop is None:
             told.append({**others, **{name: millionths(value) for name, value in answer.items()}})
         elif stops == "raise":
@@ -119,6 +136,18 @@ def answers_along(
         else:
             told.append(answer.stop)
     return told
+
+
+def answers_of(rules: Rules, household: Mapping[str, Given], code: str, amounts: Sequence[Decimal]) -> Iterator[Answer]:
+    """The answers with each amount. What is refused is told with the amount in the place of its line."""
+    try:
+        yield from rules.batch(with_amount(household, code, amount) for amount in amounts)
+    except Refused as refused:
+        place = PLACE.fullmatch(refused.line)
+        if place is None:
+            raise
+        number = int(place[1]) - 2
+        raise Refused(f"{code} = {amounts[number]:f}: {place[2]}" if number >= 0 else f"{code}: {place[2]}") from None
 
 
 def with_amount(household: Mapping[str, Given], code: str, amount: Decimal) -> dict[str, Given]:

@@ -16,7 +16,11 @@ M
 printf 'name,1AJ,poids,age\ndupont,2500,2,40\nmartin,500,1,30\ndurand,1500,0.5,50\nleroy,-1,1,20\n' > table.csv
 "$ROOT/tools/variant" before.list SEUIL=2000 after
 "$ROOT/tools/reform" before.list after/rules.list - - table.csv --of IRN --weight poids --by age --step 1AJ=1000 --into report; echo "status $?"
-cat report/households.csv report/summary.csv
+cat report/households.csv
+cut -d, -f 1-15 report/summary.csv
+# Each line of the summary and the page name the rules before and after and the program by their digests.
+cut -d, -f 16- report/summary.csv | sort -u | sed -E 's/[0-9a-f]{64}/DIGEST/g'
+sed 1d report/summary.csv | cut -d, -f 16- | sort -u | tr , '\n' | while read -r digest; do grep -c "<code>$digest</code>" report/report.html; done
 python3 - <<'P'
 import html.parser
 class Page(html.parser.HTMLParser):
@@ -42,4 +46,19 @@ printf 'name,1AJ\n' > bad.csv
 "$ROOT/tools/reform" before.list after/rules.list - - bad.csv --of IRN --into other; echo "status $?"
 printf 'name;1AJ\na;1\n' > bad.csv
 "$ROOT/tools/reform" before.list after/rules.list - - bad.csv --of IRN --into other; echo "status $?"
+printf '"\n' >open.m
+printf 'iliad\nopen.m\n' >open.list
+"$ROOT/tools/reform" before.list open.list - - table.csv --of IRN --into other; echo "status $?"
+# Groups by a column; a sum with half of a value; the inputs; texts that a spreadsheet would compute. With the threshold of 2,000 3,000 pay 1,000, 4,000 pay 2,000
+# and 2,500 pay 500, and by the driver after half of that. What is kept of 1AJ with half of it off: 2,500, 3,000 and 2,250, then 2,750, 3,500 and 2,375.
+printf 'name,1AJ,dep\n=a,3000,+x\nb,4000,y\nc,2500,y\n' >groups.csv
+cat >half.mpp <<'D'
+main():
+  IRN <- call_m()
+  IRN = IRN * 0.5
+D
+"$ROOT/tools/reform" after/rules.list after/rules.list - - groups.csv --of '1AJ - 0.5 * IRN' --groups dep --inputs --driver-after half.mpp --more-is-gain --into groups
+echo "status $?"
+cat groups/households.csv
+cut -d, -f 1-15 groups/summary.csv
 ls -A

@@ -16,6 +16,7 @@ from fractions import Fraction
 
 BROWSERS = ["chromium-headless-shell", "chromium", "google-chrome"]
 GAINS = [50, 100, 200, 500, 1000]
+COLUMNS = 12  # of summary.csv that are in the page's table
 RATES = [0, 5, 10, 15, 20, 25, 30, 35, 40, 45, 50, 60, 80, 100]
 
 
@@ -24,7 +25,7 @@ class Page(html.parser.HTMLParser):
 
     def __init__(self, text):
         super().__init__()
-        self.named, self.rows, self.pictures, self.inside, self.links = {}, [], [], None, []
+        self.named, self.rows, self.pictures, self.inside, self.links, self.codes = {}, [], [], None, [], []
         self.feed(text)
 
     def handle_starttag(self, tag, attributes):
@@ -45,6 +46,8 @@ class Page(html.parser.HTMLParser):
             self.named[name] = data
         elif kind in ("td", "th"):
             self.rows[-1].append(data)
+        elif kind == "code":
+            self.codes.append(data)
         elif kind == "title" and self.pictures:
             self.pictures[-1].append(data)
 
@@ -107,8 +110,10 @@ def differences(page, folder):
         pictures.append(rate_bars(households, whole))
     if page.named != {name: every[name] for name in ("before", "after", "difference")}:
         yield f"the sums in the text: {page.named}"
-    if page.rows != summary:
+    if page.rows != [line[:COLUMNS] for line in summary]:
         yield "the table"
+    if not set(summary[1][-3:]) <= set(page.codes) or any(line[-3:] != summary[1][-3:] for line in summary[1:]):
+        yield "the digests of the rules and the program"
     if len(page.pictures) != len(pictures):
         yield f"{len(page.pictures)} pictures and not {len(pictures)}"
     for number, (shown, wanted) in enumerate(zip(page.pictures, pictures), 1):

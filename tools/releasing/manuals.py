@@ -110,8 +110,9 @@ def term_lines(entry: Entry) -> list[str]:
 
 
 def environment() -> list[str]:
-    """What every command takes of the environment."""
-    return [".SH ENVIRONMENT", ".TP", ".B M_TAX", "The program that computes, in place of m_tax of the path."]
+    """What the commands take of the environment."""
+    return [".SH ENVIRONMENT", ".TP", ".B M_TAX", "The program that computes, in place of m_tax of the path.",
+            ".TP", ".B M_SURVEY", "The program that computes tables as csv, in place of m_survey beside m_tax."]
 
 
 def head(title: str, day: str) -> str:

@@ -1,42 +1,51 @@
 """Draws the marginal and the mean rate of what rules give along one amount, for any household.
 
-    marginal LIST DRIVER HOUSEHOLD CODE FROM TO STEP --of NAME.. [--csv] > FILE
+    marginal LIST DRIVER HOUSEHOLD CODE FROM TO STEP --of NAME.. [--rules LIST DRIVER] [--household HOUSEHOLD] [--csv] [--lang en|fr] > FILE
+    marginal LIST DRIVER HOUSEHOLD CODE FROM TO STEP --drops NET [--rules LIST DRIVER] [--household HOUSEHOLD]
 
 The household is computed with the amounts FROM, FROM + STEP and so on up to TO for CODE, and all its other amounts as they stand. At each amount the
 marginal rate of NAME is what one STEP more adds to it, over STEP, and the mean rate is NAME over the amount. The picture is an SVG of its own, without
 scripts: marginal rates as lines, mean rates as dashes, both in per cent. --csv prints the figures instead: the amount, and for each NAME its value, its
-mean rate and its marginal rate; a field is empty where there is no number.
+mean rate and its marginal rate; a field is empty where there is no number. --rules adds other rules and --household other households, each as often as
+wanted: the picture and the figures have all of them by each other. DRIVER is - for none.
 
-Where a run stops, or NAME is undefined or over, the line has a gap; how many amounts that are is told on standard error. At most 99,999
-steps are computed at once. The household is run as it stands before, so that its own faults are told with their places. List, rule files, driver and
-household are read once. The status is 0, 1 where the
-program refuses or no amount has a number, 2 for wrong words, 3 where a file can't be read, and 4 where the output is closed or full. The program is
-./m_tax of this repository, or the one that M_TAX names.
+--drops prints the amounts at which what is kept falls though the amount rises, as csv: the rules, the household, the amount, and how much less than one STEP
+before is kept. NET says what is kept, as `1AJ - TOTAL`: codes, names of values and numbers.
+
+Where a run stops, or NAME is undefined or over, the line has a gap; how many amounts that are is told on standard error. Any number of steps may be. The
+households are run as they stand before, so that their own faults are told with their places. Lists, rule files, drivers and households are read once. The
+status is 0, 1 where the program refuses or no amount has a number, 2 for wrong words, 3 where a file can't be read, and 4 where the output is closed or full.
+The program is ./m_tax of this repository, or the one that M_TAX names.
 """
+import argparse
 import collections
 import csv
 import io
 import os
-import re
 import sys
 import tempfile
 from decimal import Decimal, InvalidOperation
-from xml.sax.saxutils import escape
+from typing import NamedTuple
 
-from .. import records, runs, source
-from ..limits import AMOUNT, ROWS
+from .. import source
+from ..endings import Wrong
+from ..errors import NotFound, Refused, VodmejkaError
+from ..expressions import UNIT, Expression
+from ..limits import AMOUNT
+from ..rate_pictures import Curve, picture, plain
+from ..rules import Rules
+from ..sweeps import exact, sweep
+from ..texts import TEXTS, language_of, said
 
-MILLIONTH = Decimal("0.000001")
-WIDTH, HEIGHT, LEFT, RIGHT, TOP, BOTTOM = 860, 420, 60, 20, 40, 50
-COLOURS = ["#1b5e9b", "#b3421e", "#2e7d32", "#7b3fa0", "#8a6d00", "#00707a"]
 
+class Told(NamedTuple):
+    """A value by one of the rules of one of the households: what it is called, its name, and at each amount its value, its mean rate and its marginal rate."""
 
-class Wrong(Exception):
-    """What ends the run, with its status."""
-
-    def __init__(self, text, status=1):
-        super().__init__(text)
-        self.status = status
+    name: str
+    of: str
+    values: list
+    mean: list
+    marginal: list
 
 
 def amount(text, what):
@@ -44,209 +53,142 @@ def amount(text, what):
     try:
         value = Decimal(text)
     except InvalidOperation as fault:
-        raise Wrong(f"{what} is no amount: {text}", 2) from fault
+        raise Wrong(said("marginal.no_amount", what=what, text=text), 2) from fault
     if not value.is_finite() or abs(value) > AMOUNT or value != round(value, 6):
-        raise Wrong(f"{what} is no amount: {text}", 2)
+        raise Wrong(said("marginal.no_amount", what=what, text=text), 2)
     return value
 
 
-def plain(value):
-    """An amount as the program reads it, and no zero with a sign."""
-    return format(value.normalize() + 0, "f")
-
-
-def pairs_of(content, path):
+def pairs_of(path):
     """The codes and amounts of a household, as they are spelled."""
     try:
-        text = content.removeprefix(source.MARK).decode("latin-1")
+        text = source.fetch(path).removeprefix(source.MARK).decode("latin-1")
         entries = [record for record in csv.reader(io.StringIO(text, newline=""), strict=True) if record]
     except csv.Error as fault:
         raise Wrong(f"{path}: {fault}") from fault
     if not entries or entries[0] != ["code", "amount"] or any(len(record) != 2 for record in entries):
-        raise Wrong(f"{path} is no household: its first line is code,amount, and each other has two fields")
+        raise Wrong(said("marginal.no_household", path=path))
     counts = collections.Counter(code for code, _ in entries[1:])
     twice = next((code for code, count in counts.items() if count > 1), None)
     if twice is not None:
-        raise Wrong(f"{path}: the code {twice} stands twice")
-    return entries[1:]
+        raise Wrong(said("marginal.twice", path=path, code=twice))
+    return dict(entries[1:])
 
 
-def table_of(pairs, code, amounts):
-    """The table of the household with each of the amounts."""
-    code = os.fsencode(code).decode("latin-1")
-    others = [pair for pair in pairs if pair[0] != code]
-    rows = [[f"r{number}", plain(value), *(spelled for _, spelled in others)] for number, value in enumerate(amounts)]
-    return records.spelled([["name", code, *(name for name, _ in others)], *rows]).encode("latin-1")
-
-
-def said(compiled, command, *more):
-    """What the program prints to a command over a source, and its status."""
-    out = io.BytesIO()
-    status = compiled.said(out, command, *more)
-    return out.getvalue(), status
-
-
-def computed(words, names, household, code, amounts):
-    """The answers to the household of a file, with each of the amounts. It is run as it stands first, so that its own faults are told with their places."""
-    content = source.fetch(household)
-    pairs = pairs_of(content, household)
+def bases(words, names, households, code):
+    """The rules that the words name, which are asked for some names, and have run each household as it stands."""
+    found = []
     with tempfile.TemporaryDirectory() as room:
-        requests, own, table = (os.path.join(room, name) for name in ("names", "household.csv", "table.csv"))
-        lines = "".join(name + "\n" for name in names).encode("utf-8", "surrogateescape")
-        for path, text in ((requests, lines), (own, content), (table, table_of(pairs, code, amounts))):
-            source.put(path, text)
-        compiled = runs.Source([*words, requests], room)
-        text, status = said(compiled, "run", own)
-        if status not in (0, 6):
-            raise Wrong(compiled.told(runs.fault_of(text, status)))
-        text, status = said(compiled, "batch", table)
-    if status != 0:
-        raise Wrong(of_amounts(compiled.told(runs.fault_of(text, status)), code, amounts))
-    return io.BytesIO(text)
+        requests = os.path.join(room, "names")
+        source.put(requests, "".join(name + "\n" for name in names).encode("utf-8", "surrogateescape"))
+        for listed, driver in words:
+            rules = Rules(listed, None if driver == "-" else driver, requests)
+            for pairs in households:
+                rules.run(pairs)
+            if code not in rules.types():
+                raise Wrong(said("marginal.code", code=code))
+            found.append(rules)
+    return found
 
 
-def of_amounts(line, code, amounts):
-    """A line of the program on the table, whose first record has the code, and each other one an amount."""
-    place = re.fullmatch("refused household line ([0-9]{1,6}): (.*)", line)
-    if place is None:
-        return line
-    number = int(place[1]) - 2
-    return f"{code} = {plain(amounts[number])}: {place[2]}" if 0 <= number < len(amounts) else f"{code}: {place[2]}"
+def called_of(value, rules, path, is_csv):
+    """What a value is called by its rules and its household, where there are several; in csv in English."""
+    tell = (lambda key, **values: TEXTS[key][0].format(**values)) if is_csv else said
+    by = value if rules is None else tell("marginal.by", name=value, rules=rules)
+    return by if path is None else tell("marginal.of", name=by, household=path)
 
 
-def values_of(lines, names, count):
-    """A list of values for each of so many rows."""
-    rows = []
-    try:
-        for label, _, pairs, stop in records.answers(lines, [name.encode("latin-1", "replace") for name in names]):
-            if label != b"r%d" % len(rows):
-                raise Wrong("the program's answer isn't one for each amount")
-            values = [None if value in (b"undefined", b"over") else Decimal(value.decode("ascii")) for _, value in pairs]
-            rows.append([None] * len(names) if stop else values)
-    except records.Strange as fault:
-        raise Wrong(f"the program's answer: {fault}") from fault
-    if len(rows) != count:
-        raise Wrong("the program's answer isn't one for each amount")
-    return rows
+def curves(along, of, names, step):
+    """What is told of each name by each of the rules, which are called as `names` say."""
+    for base, called in enumerate(names):
+        for value in of:
+            rates = along.rates(base, value)
+            found = [told if isinstance(told, Decimal) else None for told in along.values_of(value, base)]
+            yield Told(called(value), value, found[:-1], [mean for _, _, mean in rates[:-1]], [marginal for _, marginal, _ in rates[1:]])
 
 
-def rates(amounts, values, step):
-    """For each amount and name the value, the mean rate and the marginal rate."""
-    for at, row in enumerate(values[:-1]):
-        told = []
-        for now, then in zip(row, values[at + 1]):
-            mean = now / amounts[at] if now is not None and amounts[at] != 0 else None
-            told.append((now, mean, (then - now) / step if now is not None and then is not None else None))
-        yield amounts[at], told
-
-
-# ---- the picture
-
-
-def ticks(low, high, most):
-    """Round numbers that cut a range into at most so many parts."""
-    span = max(high - low, Decimal(1) / 1000)
-    part = Decimal(10) ** (span.adjusted() - 1)
-    for factor in (1, 2, Decimal("2.5"), 5, 10, 20, 25, 50, 100):
-        if span / (part * factor) <= most:
-            part *= factor
-            break
-    first = (low / part).to_integral_value(rounding="ROUND_CEILING") * part
-    while first <= high:
-        yield first
-        first += part
-
-
-def polyline(points, style):
-    """A line through points, with a gap where one has no number."""
-    run, pieces = [], []
-    for point in [*points, None]:
-        if point is not None:
-            run.append("%.1f,%.1f" % point)
-        elif run:
-            pieces.append(f'<polyline points="{" ".join(run)}" fill="none" {style}/>')
-            run = []
-    return pieces
-
-
-def picture(table, names, code):
-    """The rates as an SVG."""
-    shown = [rate for _, told in table for _, mean, margin in told for rate in (mean, margin) if rate is not None]
-    low, high = min([Decimal(0), *shown]) * 100, max([Decimal("0.1"), *shown]) * 100
-    first, last = table[0][0], table[-1][0]
-
-    def x(value):
-        return LEFT + float((value - first) / ((last - first) or 1)) * (WIDTH - LEFT - RIGHT)
-
-    def y(value):
-        return HEIGHT - BOTTOM - float((value - low) / (high - low)) * (HEIGHT - TOP - BOTTOM)
-
-    out = [f'<svg xmlns="http://www.w3.org/2000/svg" viewBox="0 0 {WIDTH} {HEIGHT}" font-family="sans-serif" font-size="13">']
-    out.append(f'<rect width="{WIDTH}" height="{HEIGHT}" fill="white"/>')
-    for tick in ticks(low, high, 8):
-        out.append(f'<line x1="{LEFT}" y1="{y(tick):.1f}" x2="{WIDTH - RIGHT}" y2="{y(tick):.1f}" stroke="#dddddd"/>')
-        out.append(f'<text x="{LEFT - 8}" y="{y(tick) + 4:.1f}" text-anchor="end">{plain(tick)} %</text>')
-    for tick in ticks(first, last, 9):
-        out.append(f'<text x="{x(tick):.1f}" y="{HEIGHT - BOTTOM + 20}" text-anchor="middle">{tick.normalize():,f}</text>')
-    out.append(f'<text x="{WIDTH - RIGHT}" y="{HEIGHT - 12}" text-anchor="end">{escape(code)}</text>')
-    for number, name in enumerate(names):
-        colour = COLOURS[number % len(COLOURS)]
-        for which, style in ((2, f'stroke="{colour}" stroke-width="1.5"'), (1, f'stroke="{colour}" stroke-dasharray="5 4"')):
-            points = [(x(at), y(told[number][which] * 100)) if told[number][which] is not None else None for at, told in table]
-            out += polyline(points, style)
-        left = LEFT + 10 + number * 220
-        out.append(f'<text x="{left}" y="{TOP - 16}" fill="{colour}">{escape(name)}: marginal rate, and (dashes) mean rate</text>')
-    return "\n".join([*out, "</svg>\n"])
-
-
-def figures(table, names, code):
+def figures(amounts, told, code):
     """The rates as csv."""
     out = io.StringIO()
     writer = csv.writer(out, lineterminator="\n")
-    writer.writerow([code, *(f"{name}{kind}" for name in names for kind in ("", " mean", " marginal"))])
-    for at, told in table:
-        shown = [plain(number.quantize(MILLIONTH, "ROUND_HALF_UP")) if number is not None else "" for three in told for number in three]
-        writer.writerow([plain(at), *shown])
+    writer.writerow([code, *(f"{one.name}{kind}" for one in told for kind in ("", " mean", " marginal"))])
+    for at, number in enumerate(amounts):
+        shown = []
+        for one in told:
+            rates = (rate[at] for rate in (one.mean, one.marginal))
+            shown += ["" if one.values[at] is None else plain(one.values[at]), *("" if rate is None else plain(exact(rate * UNIT)) for rate in rates)]
+        writer.writerow([plain(number), *shown])
     return out.getvalue()
+
+
+def drawn(words, amounts, sweeps, labels):
+    """Prints the picture or the figures; a status."""
+    told = [one for along, names in zip(sweeps, labels) for one in curves(along, words.of, names, amounts[1] - amounts[0])]
+    gaps = sum(any(one.values[at] is None for one in told) for at in range(len(amounts) - 1))
+    if gaps:
+        print(f"marginal: {said('marginal.gaps', gaps=gaps, count=len(amounts) - 1)}", file=sys.stderr)
+    if not any(rate is not None for one in told for rate in one.marginal):
+        raise Wrong(said("marginal.no_rate"))
+    if words.csv:
+        sys.stdout.write(figures(amounts[:-1], told, words.code))
+    else:
+        sys.stdout.write(picture(amounts[:-1], [Curve(one.name, one.of, one.marginal, one.mean) for one in told], words.code))
+    return 0
+
+
+def dropped(words, sweeps, listed, households):
+    """Prints where what is kept falls; a status."""
+    writer = csv.writer(sys.stdout, lineterminator="\n")
+    writer.writerow(["rules", "household", words.code, "change"])
+    for along, household in zip(sweeps, households):
+        for base, (name, _) in enumerate(listed):
+            writer.writerows([name, household, plain(drop.amount), plain(drop.change)] for drop in along.drops(words.drops, base))
+    return 0
 
 
 def draw(words):
     """Does what the words say."""
-    if "--help" in words:
-        print(__doc__, end="")
-        return 0
-    is_csv = "--csv" in words
-    words = [word for word in words if word != "--csv"]
-    if len(words) < 9 or words[7] != "--of" or any(word.startswith("--") for word in words[8:]):
-        raise Wrong("words: marginal LIST DRIVER HOUSEHOLD CODE FROM TO STEP --of NAME.. [--csv]; see --help", 2)
-    listed, driver, household, code = words[:4]
-    first, last, step = (amount(word, what) for word, what in zip(words[4:7], ("FROM", "TO", "STEP")))
-    names = words[8:]
+    first, last, step = (amount(word, what) for word, what in zip((words.first, words.last, words.step), ("FROM", "TO", "STEP")))
     if step <= 0 or last <= first:
-        raise Wrong("STEP is above 0, and TO is above FROM", 2)
-    count = int((last - first) / step) + 2
-    if count > ROWS:
-        raise Wrong(f"{count - 1} steps, and at most {ROWS - 1} may be", 2)
-    amounts = [first + step * number for number in range(count)]
-    lines = computed([listed, driver], names, household, code, amounts)
-    table = list(rates(amounts, values_of(lines, names, count), step))
-    gaps = sum(any(three[0] is None for three in told) for _, told in table)
-    if gaps:
-        print(f"marginal: {gaps} of {len(table)} amounts have no number", file=sys.stderr)
-    if not any(three[2] is not None for _, told in table for three in told):
-        raise Wrong("no amount has a rate")
-    sys.stdout.write(figures(table, names, code) if is_csv else picture(table, names, code))
-    return 0
+        raise Wrong(said("marginal.step"), 2)
+    listed, files = [(words.list, words.driver), *words.rules], [words.household_file, *words.household]
+    households = [pairs_of(path) for path in files]
+    codes = {words.code, *(code for pairs in households for code in pairs)}
+    kept = [name for name in Expression(words.drops).names if name not in codes] if words.drops is not None else []
+    of = words.of or kept
+    if not of:
+        raise Wrong(said("marginal.net"), 2)
+    names = list(dict.fromkeys([*of, *kept]))
+    found = bases(listed, names, households, words.code)
+    amounts = [first + step * number for number in range(int((last - first) / step) + (1 if words.drops is not None else 2))]
+    sweeps = [sweep(found, pairs, words.code, amounts, of[0], stops="keep") for pairs in households]
+    if words.drops is not None:
+        return dropped(words, sweeps, listed, files)
+    calling = lambda rules, path: lambda value: called_of(value, rules if len(listed) > 1 else None, path if len(files) > 1 else None, words.csv)
+    labels = [[calling(name, path) for name, _ in listed] for path in files]
+    return drawn(words, amounts, sweeps, labels)
 
 
 def main(words):
+    reader = argparse.ArgumentParser(prog="marginal", description=__doc__, formatter_class=argparse.RawDescriptionHelpFormatter)
+    for name, shown in (("list", "LIST"), ("driver", "DRIVER"), ("household_file", "HOUSEHOLD"), ("code", "CODE"), ("first", "FROM"), ("last", "TO"), ("step", "STEP")):
+        reader.add_argument(name, metavar=shown)
+    what = reader.add_mutually_exclusive_group(required=True)
+    what.add_argument("--of", metavar="NAME", nargs="+")
+    what.add_argument("--drops", metavar="NET")
+    reader.add_argument("--rules", metavar=("LIST", "DRIVER"), nargs=2, action="append", default=[])
+    reader.add_argument("--household", metavar="HOUSEHOLD", action="append", default=[])
+    reader.add_argument("--csv", action="store_true")
     try:
-        return draw(words)
+        return draw(reader.parse_args(language_of(words)))
     except Wrong as wrong:
         print(f"marginal: {wrong}", file=sys.stderr)
         return wrong.status
-    except runs.Failed as fault:
+    except NotFound as fault:
         print(f"marginal: {fault}", file=sys.stderr)
+        return 3
+    except VodmejkaError as fault:
+        print(f"marginal: {fault.line if isinstance(fault, Refused) else fault}", file=sys.stderr)
         return 1
     except source.Refused as fault:
         print(f"marginal: {fault}", file=sys.stderr)

@@ -83,11 +83,6 @@ def held_to(found, path):
         raise Strange(f"the output is cut off: it has {number} households, and {path} goes on with {shown(wanted)}")
 
 
-def unlike_a_formula(text):
-    """A text with a sign before it that keeps a spreadsheet from computing it."""
-    return b"'" + text if text[:1] in (b"=", b"+", b"-", b"@", b"\t", b"\r") else text
-
-
 def names_of(words):
     """The columns that the words tell, if any."""
     if "--requests" in words:
@@ -134,7 +129,7 @@ def main(words):
         return 2
     french, out = "--french" in options, sys.stdout.buffer
     delimiter, end = (b";", b"\r\n") if french else (b",", b"\n")
-    guarded = (lambda text: text) if "--bare" in options else unlike_a_formula
+    guarded = (lambda text: text) if "--bare" in options else records.unlike_a_formula
     try:
         names = names_of(options)
         found = records.answers(iter(source.standard_input()), names)

@@ -1,0 +1,82 @@
+"""Tables of households by the command `table` of the program m_survey, which prints csv. A table and what is printed of it are in memory."""
+from __future__ import annotations
+
+import mmap
+import os
+import subprocess
+from typing import Callable, Sequence
+
+from .answers import Printed
+from .batches import TABLE_NAME, printed_in
+from .errors import Broken, NotFound, Refused
+from .guard import Child, memory_file
+from .program import ENCODING, Program, ended, raise_for, started
+
+FIRST = ("name", "stop", "notes")
+
+
+class Survey:
+    """The program m_survey over a source or a code file, by the words that name it in a folder. `told` gives a line of the program the names of the files as
+    they are."""
+
+    def __init__(self, program: Program, words: Sequence[str], folder: str, told: Callable[[str], str], timeout: float | None = None):
+        self.program, self.words, self.folder, self.told, self.timeout = program, list(words), folder, told, timeout
+
+    def begun(self, table: bytes) -> Run:
+        """The program on a table, from now on."""
+        return Run(self, table)
+
+    def printed(self, table: bytes) -> Printed:
+        """What it prints of a table."""
+        run = self.begun(table)
+        try:
+            return run.printed()
+        finally:
+            run.end()
+
+
+class Run:
+    """The program on a table."""
+
+    def __init__(self, survey: Survey, table: bytes):
+        self._survey = survey
+        self._files: list[int] = []
+        self._child: Child | None = None
+        try:
+            self._files += [memory_file(name) for name in ("table", "printed", "messages")]
+            with open(self._files[0], "wb", closefd=False) as file:
+                file.write(table)
+            words = [survey.program.path, "table", *survey.words, f"/proc/self/fd/{self._files[0]}"]
+            given, printed, messages = self._files
+            self._child = started(words, cwd=survey.folder, pass_fds=[given], stdin=subprocess.DEVNULL, stdout=printed, stderr=messages)
+        except BaseException:
+            self.end()
+            raise
+
+    def printed(self) -> Printed:
+        """All that it prints, when it has ended; an error where it refuses the table."""
+        assert self._child is not None
+        status = ended(self._child, self._survey.program, self._survey.timeout)
+        try:
+            raise_for(b"" if status == 0 else printed_in(self._files[1])[:], status, printed_in(self._files[2])[:])
+        except NotFound as missing:
+            raise NotFound(self._survey.told(str(missing))) from None
+        except Refused as refused:
+            raise Refused(self._survey.told(refused.line).replace(f"/proc/self/fd/{self._files[0]}", TABLE_NAME)) from None
+        return printed_in(self._files[1])
+
+    def end(self) -> None:
+        """Ends it, and drops its files."""
+        if self._child is not None and self._child.poll() is None:
+            self._child.kill()
+            self._child.wait()
+        while self._files:
+            os.close(self._files.pop())
+
+
+def body_of(printed: Printed, names: Sequence[str]) -> bytes | mmap.mmap:
+    """What was printed, where its first line has these names; else an error."""
+    line = ",".join([*FIRST, *names]).encode(ENCODING) + b"\n"
+    if printed[: len(line)] != line or printed[-1:] != b"\n":
+        raise Broken(f"m_survey printed something else than the csv of {', '.join(names)}")
+    return printed
