@@ -39,7 +39,7 @@ def main():
             out.write(content)
     tools = os.path.join(os.environ["ROOT"], "tools")
     for words in (["explain", "--all", "base.list"], ["explain", "run", "base.list", "-", "-", "h.csv"], ["slips", "base.list"],
-                  ["why", "base.list", "h.csv", "V19999"]):
+                  ["why", "base.list", "h.csv", "V19999", "--depth", "3"]):
         for _ in range(3):
             fixed = seconds([sys.executable, "-c", WORK])
             rate = seconds([os.path.join(tools, words[0]), *words[1:]]) / fixed
