@@ -10,3 +10,5 @@ apt-get install -y --no-install-recommends neovim
 apt-get install -y --no-install-recommends python3-pandas mypy
 # tests/release.sh: a look at packages, a root of Debian's packages alone, services in it, shells and their completions, environments of Python
 apt-get install -y --no-install-recommends lintian debootstrap systemd-container zsh fish groff python3-venv
+# tests/engines: what spreads parts over machines; python/tests/test_dask.py. Debian starts daemons of its own with these packages, which the tests don't use
+apt-get install -y --no-install-recommends parallel slurmctld slurmd slurm-client munge python3-dask python3-distributed iproute2

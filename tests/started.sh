@@ -16,48 +16,51 @@ trial="m_tax: this is a trial of the same sources, which are not proved yet; ./b
 dir=$(mktemp -d) || exit 1
 trap 'rm -rf "$dir"' EXIT
 trap 'exit 1' HUP INT TERM
-mkdir "$dir/cases"
+mkdir "$dir/m_tax" "$dir/m_survey"
+called=m_tax
 passed=0
 failed=0
 
 is_built() {
-    [ -x out/m_tax ] && [ -e out/built ] && [ -z "$(find crates.txt crates/*/src crates/*/specs crates/*/proofs -newer out/built -print | head -n 1)" ]
+    [ -x out/m_tax ] && [ -e out/built ] && [ -z "$(find crates.txt crates/*/src crates/*/specs -newer out/built -print | head -n 1)" ]
 }
 if is_built; then way=built; else way=trial; fi
 
-# row STATUS LINE WORD..: the program with these words prints this line and ends with this status. In a trial it becomes a
+# row STATUS LINE WORD..: the program that `called` names, with these words, prints this line and ends with this status. In a trial it becomes a
 # case, which is tried with all others at the end.
 row() {
     status=$1 line=$2
     shift 2
     if [ $way = built ]; then
-        "$program" "$@" </dev/null >"$dir/out" 2>"$dir/err"
+        "$root/$called" "$@" </dev/null >"$dir/out" 2>"$dir/err"
         judge "$?" "$status" "$line" "$*"
         return
     fi
     cases=$((${cases-0} + 1))
-    : >"$dir/cases/$cases"
-    for word in "$@"; do printf '%s\n' "$word"; done >"$dir/cases/$cases.args"
-    if [ -n "$line" ]; then printf '%s\n' "$line"; fi >"$dir/cases/$cases.stdout"
-    printf '%s %s\n' "$cases" "$status" >>"$dir/statuses"
+    case=$dir/$called/$cases
+    : >"$case"
+    for word in "$@"; do printf '%s\n' "$word"; done >"$case.args"
+    if [ -n "$line" ]; then printf '%s\n' "$line"; fi >"$case.stdout"
+    printf '%s %s\n' "$cases" "$status" >>"$dir/$called.statuses"
 }
 
-# try_cases: compiles the sources once, and tries each case. The files of the examples go along under their names.
+# try_cases PROGRAM: compiles the sources once, and tries each case. The files of the examples go along under their names.
 try_cases() {
+    called=$1
     set --
     for file in examples/first/* examples/chain/* examples/loops/* examples/impots/*; do
         [ ! -f "$file" ] || set -- "$@" --data "$file=$root/$file"
     done
-    (cd crates/m_tax && rt try --cases "$dir/cases" "$@") >"$dir/tried" 2>&1 </dev/null
+    (cd "crates/$called" && rt try --cases "$dir/$called" "$@") >"$dir/tried" 2>&1 </dev/null
     while read -r case status; do
         if grep -q "^case=$case run=ended status=$status .*output=expected" "$dir/tried"; then
             passed=$((passed + 1))
         else
             failed=$((failed + 1))
-            echo "started: m_tax $(tr '\n' ' ' <"$dir/cases/$case.args"): not status $status and \"$(cat "$dir/cases/$case.stdout")\", but: $(
+            echo "started: $called $(tr '\n' ' ' <"$dir/$called/$case.args"): not status $status and \"$(cat "$dir/$called/$case.stdout")\", but: $(
                 grep "^case=$case " "$dir/tried")"
         fi
-    done <"$dir/statuses"
+    done <"$dir/$called.statuses"
     [ "$failed" -eq 0 ] || tail -n 5 "$dir/tried"
 }
 
@@ -68,7 +71,7 @@ judge() {
         passed=$((passed + 1))
     else
         failed=$((failed + 1))
-        echo "started: m_tax $4: status $1 and \"$(head -c 200 "$dir/out")\", not status $2 and \"$3\"; $(head -c 300 "$dir/err")"
+        echo "started: $called $4: status $1 and \"$(head -c 200 "$dir/out")\", not status $2 and \"$3\"; $(head -c 300 "$dir/err")"
     fi
 }
 
@@ -195,6 +198,41 @@ row 1 "refused household line 2: unknown code" run "$dir/empty.list" - - $househ
 row 1 "refused file too long /dev/zero" run /dev/zero - - $household
 row 1 "refused file too long /dev/zero" run $list - - /dev/zero
 
+# The other program: its csv by a source and by a code file, a stop and a note, and its own words; what m_tax rejects it rejects by the same lines.
+called=m_survey
+row 0 "name,stop,notes,IRN
+dupont,,,1500.5
+martin,,,-1000" table $list - - examples/first/table.csv
+row 0 "name,stop,notes,IRN
+dupont,,,1500.5
+martin,,,-1000" table "$dir/code" examples/first/table.csv
+printf 'name,1AJ\n"a, b",2500.5\nc,9000\n' >"$dir/stops.csv"
+row 0 "name,stop,notes,IRN
+\"a, b\",failed 20 A20,,
+c,,,8000" table "$dir/failing.list" - - "$dir/stops.csv"
+sed 's/anomalie/informative/' "$dir/failing.m" >"$dir/noting.m"
+listing noting.list "$dir/noting.m"
+row 0 "name,stop,notes,IRN
+\"a, b\",,20 A20,1500.5
+c,,,8000" table "$dir/noting.list" - - "$dir/stops.csv"
+row 0 "name,stop,notes,SEUIL,REV
+dupont,,,1000,2500.5
+martin,,,1000," table $list - "$dir/requests.txt" examples/first/table.csv
+row 0 "vodmejka $(sed -n 's/^VERSION = "\(.*\)"$/\1/p' python/vodmejka/version.py)" version
+row 3 "unreadable nowhere.list" table nowhere.list - - examples/first/table.csv
+row 3 "unreadable nowhere.csv" table $list - - nowhere.csv
+row 3 "unreadable nowhere.code" table nowhere.code examples/first/table.csv
+row 1 "refused cycle AIDE SOLDE" table examples/loops/cycle.list - - examples/first/table.csv
+row 1 "refused household: bad header" table $list - - $household
+row 1 "refused code line 10: bad line" table "$dir/cut.code" examples/first/table.csv
+row 1 "refused file too long /dev/zero" table $list - - /dev/zero
+survey_usage="usage: m_survey table LIST DRIVER REQUESTS TABLE, table CODEFILE TABLE, version"
+row 2 "$survey_usage"
+row 2 "$survey_usage" run $list - - $household
+row 2 "$survey_usage" table $list - -
+row 2 "$survey_usage" version more
+called=m_tax
+
 # A session replies to a line before it takes the next: each reply is read here before another line is typed.
 if [ $way = built ]; then
     printf 'show\n' | "$program" serve $impots/rules.list $impots/driver.mpp - $impots/household.csv >"$dir/out" 2>"$dir/err"
@@ -249,26 +287,30 @@ fi
 # there are. Threads are begun, and no other process. Each thread's calls come in a file of its own, so that none stands in the middle of another.
 opened() {
     rm -f "$dir"/calls.*
-    strace -ff -e trace=file,network,process -o "$dir/calls" out/m_tax "$@" >/dev/null 2>&1 </dev/null
+    strace -ff -e trace=file,network,process -o "$dir/calls" "$@" >/dev/null 2>&1 </dev/null
     cat $(printf '%s\n' "$dir"/calls.* | sort -V) | grep -v -e '^execve(' -e '^+++' -e '^exit' -e '"/etc/ld\.so\.' -e '"/lib' \
         -e '"/usr/lib' -e '^newfstatat([0-9]*, "",' -e '^access("/etc/ld' -e '^wait4(' -e '^arch_prctl' \
         -e '^openat(AT_FDCWD, "/sys/devices/system/cpu/online", O_RDONLY' -e '^openat(AT_FDCWD, "/sys/fs/cgroup/cpu\.max", O_RDONLY' \
         -e '^clone3\?(.*CLONE_THREAD' | sed 's/^openat(AT_FDCWD, "\(.*\)", O_RDONLY[A-Z_|]*) = [0-9]*$/reads \1/'
 }
 if [ $way = built ] && command -v strace >/dev/null 2>&1 && strace -o "$dir/calls.0" true 2>/dev/null; then
-    opened run $impots/rules.list $impots/driver.mpp - $impots/household.csv >"$dir/out" 2>"$dir/err"
+    opened out/m_tax run $impots/rules.list $impots/driver.mpp - $impots/household.csv >"$dir/out" 2>"$dir/err"
     judge 0 0 "reads $impots/rules.list
 reads $impots/impots.m
 reads $impots/driver.mpp
 reads $impots/household.csv" "files of run"
-    opened exec "$dir/code" $household >"$dir/out" 2>"$dir/err"
+    opened out/m_tax exec "$dir/code" $household >"$dir/out" 2>"$dir/err"
     judge 0 0 "reads $dir/code
 reads $household" "files of exec"
-    opened compile $list - - >"$dir/out" 2>"$dir/err"
+    opened out/m_tax compile $list - - >"$dir/out" 2>"$dir/err"
     judge 0 0 "reads $list
 reads examples/first/base.m" "files of compile"
+    opened out/m_survey table $list - - examples/first/table.csv >"$dir/out" 2>"$dir/err"
+    judge 0 0 "reads $list
+reads examples/first/base.m
+reads examples/first/table.csv" "files of table"
 fi
-[ $way = built ] || try_cases
+[ $way = built ] || { try_cases m_survey && try_cases m_tax; }
 
 # The script: through a symbolic link and from another folder, two at once, and words that a trial can't take.
 ln -s "$program" "$dir/linked"
@@ -292,7 +334,7 @@ cp "$dir/second" "$dir/out" && : >"$dir/err"
 judge "$status" 3 "unreadable nowhere.list" "a second run at once"
 
 # The script beside sources that are newer than the program: it says so, and runs the program that was proved.
-mkdir -p "$dir/old/out" "$dir/old/crates/any/src" "$dir/old/crates/any/specs" "$dir/old/crates/any/proofs"
+mkdir -p "$dir/old/out" "$dir/old/crates/any/src" "$dir/old/crates/any/specs"
 cp m_tax "$dir/old/m_tax"
 printf '#!/bin/sh\necho "program: $*"\nexit 6\n' >"$dir/old/out/m_tax"
 chmod +x "$dir/old/out/m_tax"
@@ -300,6 +342,37 @@ touch -d '2000-01-01' "$dir/old/out/built"
 : >"$dir/old/crates.txt"
 "$dir/old/m_tax" run "a b" >"$dir/out" 2>"$dir/err"
 judge "$?" 6 "program: run a b" "sources that are newer" "m_tax: the sources are newer than the program; this is the program as ./build proved it last"
+# Each kind of source is looked at, wherever it lies, and a proof alone is no newer program: a file that is written where it lies, one that is new, one that goes.
+for part in src src/below specs specs/below; do
+    mkdir -p "$dir/old/crates/any/$part" && : >"$dir/old/crates/any/$part/file"
+done
+mkdir -p "$dir/old/crates/any/proofs"
+aged() { find "$dir/old/crates" "$dir/old/crates.txt" -exec touch -d '2000-01-01' {} + && touch -d '2000-01-02' "$dir/old/out/built"; }
+for change in 'echo >>src/file' 'echo >>src/below/file' 'echo >>specs/file' 'echo >>specs/below/file' ': >src/other' 'rm src/other' 'echo >>../../crates.txt'; do
+    aged
+    (cd "$dir/old/crates/any" && eval "$change")
+    "$dir/old/m_tax" run >"$dir/out" 2>"$dir/err"
+    judge "$?" 6 "program: run" "newer by $change" "m_tax: the sources are newer than the program; this is the program as ./build proved it last"
+done
+aged
+: >"$dir/old/crates/any/proofs/file"
+"$dir/old/m_tax" run >"$dir/out" 2>"$dir/err"
+judge "$?" 6 "program: run" "a proof that is newer"
+# The other name runs the other program, also through a link of its own name; a link of any name runs the one that it points to.
+printf '#!/bin/sh\necho "survey: $*"\nexit 5\n' >"$dir/old/out/m_survey"
+chmod +x "$dir/old/out/m_survey"
+ln -s m_tax "$dir/old/m_survey"
+mkdir "$dir/other"
+ln -s "$dir/old/m_survey" "$dir/other/anything"
+ln -s "$dir/old/m_tax" "$dir/other/m_survey"
+for name in "$dir/old/m_survey" "$dir/other/anything" "$dir/other/m_survey"; do
+    "$name" table "a b" >"$dir/out" 2>"$dir/err"
+    judge "$?" 5 "survey: table a b" "m_survey as ${name#"$dir"/}"
+done
+echo >>"$dir/old/crates/any/src/file"
+"$dir/old/m_survey" table >"$dir/out" 2>"$dir/err"
+judge "$?" 5 "survey: table" "sources that are newer than m_survey" \
+    "m_survey: the sources are newer than the program; this is the program as ./build proved it last"
 rm "$dir/old/out/built"
 "$dir/old/m_tax" run "a b" >"$dir/out" 2>"$dir/err"
 judge "$?" 6 "program: run a b" "a build that was ended" \

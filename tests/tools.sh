@@ -1,7 +1,7 @@
 #!/bin/sh
 # Runs the tests of tools/: each tests/tools/NAME.sh, in an empty folder of its own with ROOT for the repository, prints what NAME.out
-# has. Those with a line "# needs the program" are left out where ./build has not built it and M_TAX doesn't name it, and those with a line
-# "# needs COMMAND" where that isn't installed. Prints
+# has. Those with a line "# needs the program" are left out where ./build has not built m_tax and M_TAX doesn't name it, those with a line
+# "# needs both programs" where the same is so of m_survey and M_SURVEY, and those with a line "# needs COMMAND" where that isn't installed. Prints
 # the differences of each test that fails, or takes over 15 minutes, and a count. The status is 0 where none fails.
 here=$PWD
 cd "$(dirname "$0")/.." || exit 1
@@ -10,13 +10,20 @@ if ! command -v python3 >/dev/null 2>&1; then
     exit 0
 fi
 ROOT=$PWD
-if [ -z "${M_TAX-}" ] && [ -x out/m_tax ]; then M_TAX=$ROOT/out/m_tax; fi
-case ${M_TAX-} in
-    "" | /*) ;;
-    */*) M_TAX=$here/$M_TAX ;;
-esac
+# named PROGRAM FILE: the file that PROGRAM is to be, or what ./build made; nothing where neither is there.
+named() {
+    case $2 in
+        "") [ ! -x "out/$1" ] || echo "$ROOT/out/$1" ;;
+        /*) echo "$2" ;;
+        */*) echo "$here/$2" ;;
+        *) echo "$2" ;;
+    esac
+}
+M_TAX=$(named m_tax "${M_TAX-}")
+M_SURVEY=$(named m_survey "${M_SURVEY-}")
 export ROOT
-[ -z "${M_TAX-}" ] || export M_TAX
+if [ -n "$M_TAX" ]; then export M_TAX; else unset M_TAX; fi
+if [ -n "$M_SURVEY" ]; then export M_SURVEY; else unset M_SURVEY; fi
 PYTHONDONTWRITEBYTECODE=1
 export PYTHONDONTWRITEBYTECODE
 unset LC_ALL LC_MESSAGES LANG
@@ -28,7 +35,8 @@ failed=0
 left=0
 for test in tests/tools/*.sh; do
     name=$(basename "$test" .sh)
-    if [ -z "${M_TAX-}" ] && grep -q '^# needs the program' "$test"; then
+    if [ -z "${M_TAX-}" ] && grep -q -e '^# needs the program' -e '^# needs both programs' "$test" ||
+        [ -z "${M_SURVEY-}" ] && grep -q '^# needs both programs' "$test"; then
         left=$((left + 1))
         continue
     fi
@@ -47,6 +55,6 @@ for test in tests/tools/*.sh; do
         diff "tests/tools/$name.out" "$room/out" | head -n 20
     fi
 done
-[ "$left" -eq 0 ] || echo "tools: $left left out, which need the program that ./build makes"
+[ "$left" -eq 0 ] || echo "tools: $left left out, which need the programs that ./build makes"
 echo "tools: $passed passed, $failed failed"
 [ "$failed" -eq 0 ]

@@ -1,11 +1,13 @@
 #!/usr/bin/env python3
-"""Computes a table of so many made-up households over examples/impot2023 with tools/scale, each step timed.
+"""Computes a table of so many made-up households over examples/impot2023 with tools/scale, each step timed, to csv.
 
     measure.py PROGRAM FOLDER [HOUSEHOLDS [STEP..]]
 
+PROGRAM is m_survey.
+
 The steps are make, cut, run, join, in this order (all of them, where none is named), each of which needs those before it in the same FOLDER. HOUSEHOLDS is
 38,000,000 where it isn't said, for which FOLDER needs 12 GB. The table is made by households.c; `cut` looks that no label stands twice,
-`run` checks each line of the answers, and `join` looks through all of them again and prints them into a file. For each step:
+`run` looks at each record of the answers, and `join` looks through all of them again and prints one csv into a file. For each step:
 seconds by the clock, seconds of all processors, and bytes.
 """
 import os
@@ -42,22 +44,18 @@ def done(name, words, out, households):
 
 
 def counted(path):
-    """How many households an answer has, and how many of them stopped."""
-    count = stopped = 0
+    """How many households a csv has. (Labels have no line ends.)"""
     with open(path, "rb") as text:
-        for line in text:
-            count += line.startswith(b"household ")
-            stopped += line.startswith((b"failed ", b"over "))
-    return count, stopped
+        return sum(1 for _ in text) - 1
 
 
 def main():
     program, room = os.path.abspath(sys.argv[1]), os.path.abspath(sys.argv[2])
     households = int(sys.argv[3]) if len(sys.argv) > 3 else NATION
     steps = sys.argv[4:] or STEPS
-    os.environ["M_TAX"] = program
+    os.environ["M_SURVEY"] = program
     os.makedirs(room, exist_ok=True)
-    table, parts, answers = (os.path.join(room, name) for name in ("table.csv", "parts", "answers.txt"))
+    table, parts, answers = (os.path.join(room, name) for name in ("table.csv", "parts", "answers.csv"))
     total = 0
     print("| step | seconds by the clock | seconds of the processors | households a second |\n|---|---:|---:|---:|")
     if "make" in steps:
@@ -68,14 +66,14 @@ def main():
     if "cut" in steps:
         total += done("`scale cut --once`", ["tools/scale", "cut", table, parts, "--once"], subprocess.DEVNULL, households)
     if "run" in steps:
-        total += done("`scale run`", ["tools/scale", "run", parts, *WORDS], subprocess.DEVNULL, households)
+        total += done("`scale run`", ["tools/scale", "run", parts, *WORDS, "--csv"], subprocess.DEVNULL, households)
     if "join" in steps:
         with open(answers, "wb") as out:
-            total += done("`scale join`", ["tools/scale", "join", parts], out, households)
+            total += done("`scale join`", ["tools/scale", "join", parts, "--csv"], out, households)
         sizes_now = [os.path.getsize(table), sizes(parts, ".csv"), sizes(parts, ".out"), os.path.getsize(answers)]
         print("\nThe table, the parts, their answers and the joined answers have " + ", ".join(f"{size / 1e9:.2f}" for size in sizes_now) + " GB.")
     if steps == STEPS:
-        if households == counted(answers)[0]:
+        if households == counted(answers):
             figure(f"scale.{households}_households_s", total, f"<={LIMIT * households / NATION:.4g}")
         else:
             sys.exit("other households")

@@ -8,4 +8,4 @@ root=$(cd "$here/../.." && pwd)
 work=$(mktemp -d "${TMPDIR:-/tmp}/bench_scale.XXXXXX")
 trap 'rm -rf "$work"' EXIT
 trap 'exit 1' HUP INT TERM
-python3 "$here/measure.py" "$root/out/m_tax" "$work" "${1-3800000}"
+python3 "$here/measure.py" "$root/out/m_survey" "$work" "${1-3800000}"

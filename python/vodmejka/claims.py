@@ -6,7 +6,8 @@ from decimal import Decimal
 from typing import NamedTuple
 
 from . import drivers, runs
-from .copies import Copies, Stopped, Wrong
+from .copies import Copies, Stopped
+from .endings import Wrong
 from .reasons import Rules
 
 CLAIM = re.compile(r"\s*([A-Z0-9_]+(?:\[[0-9]{1,4}\])?)\s*(?:=\s*(-?[0-9]+(?:\.[0-9]+)?)|\s(undefined|over))\s*")

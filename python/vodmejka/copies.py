@@ -8,15 +8,9 @@ import subprocess
 import tempfile
 
 from . import runs, source
+from .endings import Wrong
 from .reasons import Rules
-
-
-class Wrong(Exception):
-    """What ends a tool, with its status."""
-
-    def __init__(self, text: str, status: int = 1):
-        super().__init__(text)
-        self.status = status
+from .texts import said
 
 
 class Stopped(Exception):
@@ -66,10 +60,10 @@ class Copies:
             raise Stopped(lines[0], text_of_error(lines))
         if status != 0:
             line = self.told(runs.fault_of(text, status))
-            raise Wrong(line.replace("refused requests line", "no variable of this name: refused requests line"), 3 if status == 3 else 1)
+            raise Wrong(said("why.no_name", line=line) if line.startswith("refused requests line") else line, 3 if status == 3 else 1)
         told = lines[:-1][-len(cells) :] if cells else []
         if [line.split(" ")[0] for line in told] != cells:
-            raise Wrong("the program's answer isn't a line for each cell")
+            raise Wrong(said("why.no_lines"))
         return dict(line.split(" ", 1) for line in told)
 
     def reported(self, cell: str) -> dict[str, str]:

@@ -10,8 +10,10 @@ from decimal import Decimal
 from typing import NamedTuple
 
 from . import drivers, source
-from .copies import Copies, Wrong
+from .copies import Copies
+from .endings import Wrong
 from .reasons import Rules
+from .texts import said
 
 CELL = re.compile(r"[A-Z0-9_]*[A-Z_][A-Z0-9_]*(?:\[[0-9]+\])?")
 
@@ -45,13 +47,13 @@ class Driver:
         if read.faults:
             raise Wrong(f"refused driver line {read.faults[0].line}: {read.faults[0].what}")
         lines, self.functions, opened = source.lines_of(content), {}, []
-        for line, said in read.said:
+        for line, parts in read.said:
             text = lines[line.number - 1].partition(b"#")[0].strip().decode("latin-1")
-            command = Command(line.number, line.indent, said, text)
+            command = Command(line.number, line.indent, parts, text)
             while opened and opened[-1].indent >= line.indent:
                 opened.pop()
-            if said[0] == "function":
-                self.functions[said[1]] = command
+            if parts[0] == "function":
+                self.functions[parts[1]] = command
             else:
                 opened[-1].block.append(command)
             opened.append(command)
@@ -106,9 +108,9 @@ class Trace:
             elif kind == "if":
                 branch = (command, self.holds(command, before))
                 if branch[1]:
-                    before, head = self.follow(command.block, before, head, f"{where}, where the if of line {command.number} holds")
+                    before, head = self.follow(command.block, before, head, where + said("why.if_holds", line=command.number))
             elif branch is not None and not branch[1]:
-                before, head = self.follow(command.block, before, head, f"{where}, where the if of line {branch[0].number} doesn't hold")
+                before, head = self.follow(command.block, before, head, where + said("why.if_not", line=branch[0].number))
         return before, head
 
     def holds(self, command: Command, before: list[str]) -> bool:
@@ -120,7 +122,7 @@ class Trace:
         """Follows a partition: its inputs are undefined there, and have their values again behind it."""
         inputs = self.inputs_of(command.text)
         inner = [*before, *(f"  del {name}" for name in inputs)]
-        _, found = self.follow(command.block, inner, head, f"{where}, in the partition of line {command.number}")
+        _, found = self.follow(command.block, inner, head, where + said("why.in_partition", line=command.number))
         return without(found, head, inputs)
 
     def inputs_of(self, text: str) -> list[str]:
@@ -134,7 +136,7 @@ class Trace:
     def inside(self, event: Event) -> Event | None:
         """The event in the body of a function that gave a received cell its value; the body works on a copy of all cells."""
         name = event.command.said[2]
-        _, head = self.follow(self.driver.functions[name].block, event.before, event.history, f", in {name}")
+        _, head = self.follow(self.driver.functions[name].block, event.before, event.history, said("why.in_function", name=name))
         return last(event.cell, head)
 
     def after(self, event: Event) -> list[str]:

@@ -10,6 +10,7 @@ from typing import NamedTuple
 from . import grammar, source
 from .limits import AMOUNT, BRACKET_DEPTH, DRIVER_LEVEL
 from .reserved import reserved
+from .texts import said as told
 
 RESERVED = reserved("mpp")
 TOKEN = re.compile(rb"(?P<word>[0-9]*[A-Za-z_][A-Za-z0-9_]*)|(?P<number>[0-9]+\.[0-9]+|[0-9]+)|(?P<sign>==|!=|<=|>=|<-|[-()\[\],:=<>+*/])")
@@ -74,7 +75,7 @@ class LineReader(grammar.Reader):
             self.brackets()
             if self.at == len(self.tokens):
                 self.want(":")
-                self.stuck(f"the first line of a function ends with a :, and a call stands after names and <-: A <- {name}()")
+                self.stuck(told("help.function", name=name))
             self.take(":")
             return ("function", name)
         cells = [self.cell("a command (A = .., A <- f(), if, partition, del)")]
@@ -166,7 +167,7 @@ class LineReader(grammar.Reader):
                 self.cell()
             self.take(")")
         else:
-            self.stuck(f"{self.peek().text} is a reserved word, and no value" if self.peek().kind == "word" else "")
+            self.stuck(told("help.no_value", word=self.peek().text) if self.peek().kind == "word" else "")
 
 
 class Driver:
@@ -204,7 +205,7 @@ class Driver:
                 self.fault("bad token", number, at, shown.decode("utf-8", "replace"), (), hints.get(shown, other))
                 return Line(number, len(content) - len(content.lstrip(b" ")), [])
             if piece.lastgroup == "number" and float(piece[0]) > AMOUNT:
-                self.fault("bad token", number, at, piece[0].decode(), (), f"numbers end at {AMOUNT}")
+                self.fault("bad token", number, at, piece[0].decode(), (), told("help.greatest", number=AMOUNT))
             tokens.append(source.Token(piece.lastgroup, piece[0].decode("latin-1"), at))
             at = piece.end()
         return Line(number, len(content) - len(content.lstrip(b" ")), tokens) if tokens else None
@@ -235,7 +236,7 @@ class Driver:
             if not hint and ")" in reader.wanted:
                 hint = "a ) may be missing"
             if not hint and token.text == "," and reader.at and reader.peek(-1).kind == "number" and reader.peek(1).kind == "number":
-                hint = f"a decimal sign is a point: {reader.peek(-1).text}.{reader.peek(1).text}"
+                hint = told("help.decimal", number=f"{reader.peek(-1).text}.{reader.peek(1).text}")
             self.fault("syntax", line.number, token.byte, token.text or "the end of the line", reader.wants(), hint)
             return None
         self.kinds += [(attribute, values, line.number, byte) for attribute, values, byte in reader.kinds]

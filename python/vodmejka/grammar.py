@@ -8,11 +8,13 @@ from typing import Callable, NoReturn, TypeVar
 from . import source
 from .loops import Header, Pair, Term
 from .reserved import reserved
+from .texts import said
 
 Read = TypeVar("Read")
 RESERVED = reserved("m")
 OF_ONE = ("present", "abs", "positif", "positif_ou_nul", "null", "arr", "inf")
 OF_TWO = ("max", "min")
+CALLED = frozenset(("somme", *OF_ONE, *OF_TWO))
 COMPARISONS = ("=", "!=", "<", "<=", ">", ">=")
 LOOSEST, NEGATION, COMPARISON, SUM, TIGHTEST = 1, 3, 4, 5, 6
 LEVELS = {"ou": LOOSEST, "et": 2, **dict.fromkeys((*COMPARISONS, "non", "dans"), COMPARISON), "+": SUM, "-": SUM, "*": TIGHTEST, "/": TIGHTEST}
@@ -45,10 +47,10 @@ def meant(word: str) -> str | None:
 def no_function(word: str) -> str:
     """What to write for a call of what is no function."""
     if meant(word) in (*OF_ONE, *OF_TWO, "somme"):
-        return f"M writes {meant(word)} for {word}, in small letters"
+        return said("help.writes_small", right=meant(word), wrong=word)
     if is_name(word):
-        return f"{word} is no function; a cell of a table is written {word}[..]"
-    return f"{word} is no function of this M: docs/LANGUAGE.md says what to write in its place"
+        return said("help.cell", word=word)
+    return said("help.no_function", word=word)
 
 
 class Reader:
@@ -74,7 +76,10 @@ class Reader:
         return tuple(dict.fromkeys(self.wanted))
 
     def step(self) -> source.Token:
-        token = self.peek()
+        try:
+            token = self.tokens[self.at]
+        except IndexError:
+            token = self.end
         self.at += 1
         self.wanted.clear()
         self.hint = ""
@@ -85,12 +90,18 @@ class Reader:
         raise Stuck
 
     def next_is(self, *texts: str) -> bool:
-        token = self.peek()
+        try:
+            token = self.tokens[self.at]
+        except IndexError:
+            return False
         return token.text in texts and token.kind in ("sign", "word")
 
     def take_if(self, *texts: str) -> str | None:
         self.wanted += texts
-        token = self.peek()
+        try:
+            token = self.tokens[self.at]
+        except IndexError:
+            return None
         return self.step().text if token.text in texts and token.kind in ("sign", "word") else None
 
     def take(self, *texts: str) -> str:
@@ -106,14 +117,14 @@ class Reader:
             return self.step()
         token = self.peek()
         if token.kind == "word":
-            self.stuck(f"{token.text} is a reserved word, and no name")
+            self.stuck(said("help.no_name", word=token.text))
         self.stuck(ahead_hint)
 
     def name(self, what: str) -> str:
         token = self.peek()
         if self.is_word() and not is_name(token.text):
             self.want(what)
-            self.stuck(f"{token.text} has small letters, and no name of a variable has; they stand for loops")
+            self.stuck(said("help.small", word=token.text))
         return self.word(what).text
 
     def kind(self, kind: str, what: str) -> source.Token:
@@ -184,20 +195,20 @@ class Terms(Reader):
         """A term whose operators bind at least so tightly. Operators of one level are taken from left to right; of comparisons there is one, and none on what
         `non` made."""
         if least <= NEGATION:
-            self.want("non")
+            self.wanted.append("non")
         if least <= NEGATION and self.next_is("non"):
             found: Term = ("op", self.step().text, [self.operation(COMPARISON)])
             most = NEGATION
         else:
             found, most = self.factor(), TIGHTEST
         while True:
-            self.want(OPERATORS)
-            token = self.peek()
-            level = LEVELS.get(token.text, 0)
+            self.wanted.append(OPERATORS)
+            sign = self.peek().text
+            level = LEVELS.get(sign, 0)
             if not least <= level <= most:
                 return found
             if level == COMPARISON:
-                found, most = self.compared(found) if token.text in COMPARISONS else self.listed(found), NEGATION
+                found, most = self.compared(found) if sign in COMPARISONS else self.listed(found), NEGATION
             else:
                 found = ("op", self.step().text, [found, self.operation(level + 1)])
 
@@ -206,10 +217,10 @@ class Terms(Reader):
         turned = TURNED.get(sign + self.peek().text) if self.peek().kind == "sign" else None
         if turned:
             self.want(VALUE)
-            self.stuck(f"M writes {turned} for {sign}{self.peek().text}")
+            self.stuck(said("help.writes", right=turned, wrong=sign + self.peek().text))
         if self.next_is("="):
             self.want(VALUE)
-            self.stuck(f"M writes {'=' if sign == '=' else sign} for a comparison, and no second =")
+            self.stuck(said("help.one_equals", sign=sign))
         return ("op", sign, [left, self.operation(SUM)])
 
     def listed(self, left: Term) -> Term:
@@ -233,33 +244,34 @@ class Terms(Reader):
         return ("number", sign + self.kind("number", "a number").text)
 
     def factor(self) -> Term:
-        self.want("-")
+        self.wanted.append("-")
         return ("op", "neg", [(self.step(), self.primary())[1]]) if self.next_is("-") else self.primary()
 
     def primary(self) -> Term:
-        self.want(VALUE)
+        self.wanted.append(VALUE)
         token = self.peek()
         if token.kind == "word" and token.text not in RESERVED:
             return self.read()
         if token.kind == "number":
             return ("number", self.step().text)
-        if self.next_is("("):
+        sign = token.text if token.kind in ("sign", "word") else ""
+        if sign == "(":
             self.step()
             inner = self.term()
             self.take(")")
             return inner
-        if self.next_is("X"):
+        if sign == "X":
             self.step()
             return ("X",)
-        if self.next_is("si"):
+        if sign == "si":
             return self.conditional()
-        if self.next_is("somme", *OF_ONE, *OF_TWO):
+        if sign in CALLED:
             return self.called(self.step().text)
-        self.stuck(f"{token.text} is a reserved word, and no value" if token.kind == "word" else "")
+        self.stuck(said("help.no_value", word=token.text) if token.kind == "word" else "")
 
     def read(self) -> Term:
         token = self.step()
-        self.want("[")
+        self.wanted.append("[")
         if not self.next_is("(", "["):
             return ("name", token.text, token.byte)
         if self.next_is("("):
@@ -290,12 +302,11 @@ class Terms(Reader):
             if word in OF_TWO:
                 if self.next_is(")"):
                     self.want(",")
-                    self.stuck(f"{word} has two arguments")
+                    self.stuck(said("help.two", word=word))
                 self.take(",")
                 found[2].append(self.term())
         if self.next_is(","):
             self.want(")")
-            has = "two arguments" if word in OF_TWO else "one argument"
-            self.stuck(f"{word} has {has}: {word}(a, {word}(b, c)) for three" if word in OF_TWO else f"{word} has {has}")
+            self.stuck(said("help.three" if word in OF_TWO else "help.one", word=word))
         self.take(")")
         return found

@@ -15,6 +15,7 @@ from .grammar import RESERVED, VALUE, Stuck, Terms, meant
 from .limits import AMOUNT, BRACKET_DEPTH
 from .loops import Header, whole
 from .places import decode
+from .texts import said
 
 CUT_TEXT = re.compile(rb"(?P<text>\"[^\"\n]*)")
 LETTERS_BEFORE, LETTERS = re.compile(rb"[A-Za-z0-9_\x80-\xff]*\Z"), re.compile(rb"[A-Za-z0-9_\x80-\xff]*")
@@ -108,13 +109,13 @@ class RuleReader(Terms):
         """What may help, by what stands round the place."""
         token, before, behind = self.peek(), self.peek(-1) if self.at else self.end, self.peek(1)
         if token.text == "," and before.kind == "number" and behind.kind == "number":
-            return f"a decimal sign is a point: {before.text}.{behind.text}"
+            return said("help.decimal", number=f"{before.text}.{behind.text}")
         if token.text == "/" and behind.text in ("/", "*"):
             return "a comment begins with #"
         for one in (token, before):
             word = meant(one.text) if one.kind == "word" and one.text not in RESERVED else None
             if word and (one is token or word in ("si", "non", "somme")):
-                return f"M writes {word} for {one.text}"
+                return said("help.writes", right=word, wrong=one.text)
         begins = token.kind == "end" or token.text in ("regle", "verif", "si", "pour") or self.is_word() and behind.text in ("=", ":", "[")
         if ":" in self.wanted and begins:
             return "a : is missing before it"
@@ -192,7 +193,7 @@ class RuleReader(Terms):
             self.take("]")
             if self.next_is(":"):
                 self.want("=")
-                self.stuck(f"the size of a table stands after tableau: {target} : tableau[{slot}] calculee")
+                self.stuck(said("help.tableau", name=target, size=slot))
         self.take("=")
         if self.next_is("="):
             self.want(VALUE)
@@ -217,7 +218,7 @@ class RuleReader(Terms):
         byte, name = self.peek().byte, self.name("a declaration (NAME :)")
         if self.next_is("[") and self.peek(2).text == "]" and self.peek(3).text == ":":
             self.want(":")
-            self.stuck(f"the size of a table stands after tableau: {name} : tableau[{self.peek(1).text}] calculee")
+            self.stuck(said("help.tableau", name=name, size=self.peek(1).text))
         if self.next_is("=", "["):
             self.want(":")
             self.stuck("a formula stands in a rule: regle 10 : application : iliad ; before it")
@@ -281,7 +282,7 @@ class RuleReader(Terms):
 def of_byte(content: bytes, byte: int, shown: str) -> str:
     """What may help with characters that begin no token."""
     if shown[0] in SIGNS:
-        return f"M writes {SIGNS[shown[0]]} for {shown[0]}"
+        return said("help.writes", right=SIGNS[shown[0]], wrong=shown[0])
     if shown[0] in BLANKS:
         return "a hard blank or another that isn't plain: write a plain one"
     if shown[0] in "'\u2018\u2019\u201c\u201d\u00ab\u00bb`":
@@ -295,7 +296,7 @@ def of_byte(content: bytes, byte: int, shown: str) -> str:
     begun, rest = LETTERS_BEFORE.search(content[max(0, byte - 60) : byte]), LETTERS.match(content, byte)
     word = (begun[0] if begun else b"") + (rest[0] if rest else b"")
     bare = "".join(letter for letter in unicodedata.normalize("NFD", decode(word)) if letter.isascii())
-    return f"reserved words have no accents: {bare}" if bare in RESERVED else "accented letters stand in texts and comments only"
+    return said("help.no_accents", word=bare) if bare in RESERVED else "accented letters stand in texts and comments only"
 
 
 def tokens_of(content: bytes) -> tuple[list[source.Token], list[Fault]]:
@@ -314,7 +315,7 @@ def tokens_of(content: bytes) -> tuple[list[source.Token], list[Fault]]:
 
 def too_great(tokens: Iterable[source.Token]) -> list[Fault]:
     """The faults of numbers above the greatest amount."""
-    return [Fault("number too great", token.byte, token.text, (), f"numbers end at {AMOUNT}")
+    return [Fault("number too great", token.byte, token.text, (), said("help.greatest", number=AMOUNT))
             for token in tokens if token.kind == "number" and len(token.text) > 13 and float(token.text) > AMOUNT]
 
 
@@ -354,11 +355,10 @@ def take_tokens(
 def too_deep(tokens: Iterable[source.Token]) -> list[Fault]:
     """The first token at which brackets and conditionals stand too deep."""
     depth = 0
-    for token in tokens:
-        if (change := DEEPER.get(token.text)) is not None:
-            depth = max(0, depth + change)
-            if depth > BRACKET_DEPTH:
-                return [deep_fault(token)]
+    for token in [token for token in tokens if token.text in DEEPER]:
+        depth = max(0, depth + DEEPER[token.text])
+        if depth > BRACKET_DEPTH:
+            return [deep_fault(token)]
     return []
 
 

@@ -8,16 +8,13 @@ import re
 import tempfile
 
 from . import origins, passages, reasons, runs, source, trees
+from .endings import Wrong
 
 REQUESTS = 100_000
 
 
-class Refusal(Exception):
+class Refusal(Wrong):
     """What the program refuses, in its line, with the status that it has."""
-
-    def __init__(self, line, status):
-        super().__init__(line)
-        self.status = status
 
 
 class Files:

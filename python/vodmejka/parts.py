@@ -6,8 +6,8 @@ import os
 import re
 import tempfile
 
-from . import records, runs, source
-from .runs import Failed, file_digest
+from . import csv_answers, records, runs, source
+from .runs import Failed, digest, file_digest
 
 
 def remove_dead(path):
@@ -84,24 +84,30 @@ def look_at(table, wanted, what):
         raise Failed(f"{table} {what}: cut the table again", False)
 
 
+READERS = {"lines": records.read_answer, "csv": csv_answers.read_csv}  # what looks through an answer of this form
+
+
 class Made:
-    """What is noted of an answer: the digest of its source, that of the names of its values (`-` where all households stopped), and its own."""
+    """What is noted of an answer: the digest of its source, that of the names of its values (`-` where nothing tells them), its own, its form, and how many
+    households it has and how many of them stopped."""
 
     def __init__(self, path):
         words = source.fetch(path).decode("latin-1").split() if os.path.exists(path) else []
-        self.source, self.names, self.answer = words if len(words) == 3 else ("", "", "")
+        is_whole = len(words) == 6 and words[3] in READERS and words[4].isdigit() and words[5].isdigit()
+        self.source, self.names, self.answer, self.form = words[:4] if is_whole else ("", "", "", "")
+        self.households, self.stops = (int(word) for word in words[4:]) if is_whole else (0, 0)
 
 
 def missing(folder, plan):
     return [number for number in range(1, plan.parts + 1) if not os.path.exists(part_path(folder, number, "out"))]
 
 
-def looked_through(path, noted):
+def looked_through(path, noted, form):
     """The labels of an answer, which is as it was when it was checked, each with a line end."""
     if file_digest(path) != noted:
         raise Failed(f"{path} was changed since it was checked: remove it, and compute it again")
     try:
-        return b"".join(label + b"\n" for label in records.read_answer(path)[0])
+        return b"".join([label + b"\n" for label in READERS[form](path)[0]])
     except records.Strange as fault:
         raise Failed(f"{path}: {fault}") from fault
 
@@ -113,12 +119,13 @@ def whole(folder, plan):
         raise Failed(f"{len(absent)} of {plan.parts} parts have no answer, the first is {absent[0]}")
     numbers = range(1, plan.parts + 1)
     notes = [Made(part_path(folder, number, "of")) for number in numbers]
-    if len({note.source for note in notes}) > 1 or len({note.names for note in notes} - {"-"}) > 1:
+    sources = {(note.source, note.form) for note in notes}
+    if len(sources) > 1 or ("", "") in sources or len({note.names for note in notes} - {"-"}) > 1:
         raise Failed(f"the parts were made of several sources: scale drop {folder} removes all answers", False)
     seen, count = hashlib.sha256(), 0
     with runs.workers() as pool:
         paths = [part_path(folder, number, "out") for number in numbers]
-        for labels in pool.map(looked_through, paths, [note.answer for note in notes]):
+        for labels in pool.map(looked_through, paths, [note.answer for note in notes], [note.form for note in notes]):
             seen.update(labels)
             count += labels.count(b"\n")
     if (count, seen.hexdigest()) != (plan.total, plan.labels):
@@ -132,3 +139,12 @@ def digest_there(path):
         return file_digest(path)
     except FileNotFoundError:
         return None
+
+
+def summary(folder, plan, notes):
+    """What people keep of all answers: their number, the households and those that stopped, and digests of the table, of the source and of the answers."""
+    stops = sum(note.stops for note in notes)
+    yield f"{plan.parts} parts, {plan.total} households, {stops} of them stopped"
+    yield f"table {file_digest(os.path.join(folder, 'table'))}"
+    yield f"source {notes[0].source}"
+    yield f"answers {digest(*(note.answer.encode() for note in notes))}"

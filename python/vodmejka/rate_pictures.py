@@ -7,6 +7,8 @@ from fractions import Fraction
 from typing import Callable, Iterator, NamedTuple, Sequence
 from xml.sax.saxutils import escape
 
+from .texts import numeral, said
+
 WIDTH, PLOT, LEFT, RIGHT, TOP, BOTTOM, LINE = 860, 380, 60, 20, 20, 50, 20
 LETTERS = 105  # of a line of the legend
 COLOURS = ("#1b5e9b", "#b3421e", "#2e7d32", "#7b3fa0", "#8a6d00", "#00707a")
@@ -100,7 +102,7 @@ def picture(amounts: Sequence[Decimal], curves: Sequence[Curve], code: str) -> s
 
 def said_of(curve: Curve, code: str) -> str:
     """What the legend says of a curve."""
-    return f"{curve.name}: marginal rate, and (dashes) mean rate, which is {curve.of} divided by {code}"
+    return said("marginal.legend", name=curve.name, of=curve.of, code=code)
 
 
 def grid(rates: Sequence[Decimal], amounts: Sequence[Decimal], x: Callable[[Decimal], float], y: Callable[[Decimal], float]) -> list[str]:
@@ -108,10 +110,10 @@ def grid(rates: Sequence[Decimal], amounts: Sequence[Decimal], x: Callable[[Deci
     out = []
     for tick in rates:
         out.append(f'<line x1="{LEFT}" y1="{y(tick):.1f}" x2="{WIDTH - RIGHT}" y2="{y(tick):.1f}" stroke="#dddddd"/>')
-        out.append(f'<text x="{LEFT - 8}" y="{y(tick) + 4:.1f}" text-anchor="end">{plain(tick)} %</text>')
+        out.append(f'<text x="{LEFT - 8}" y="{y(tick) + 4:.1f}" text-anchor="end">{numeral(plain(tick))} %</text>')
     for tick in amounts:
         anchor = "end" if x(tick) > WIDTH - RIGHT - LEFT else "middle"
-        out.append(f'<text x="{x(tick):.1f}" y="{PLOT - BOTTOM + 20}" text-anchor="{anchor}">{tick.normalize():,f}</text>')
+        out.append(f'<text x="{x(tick):.1f}" y="{PLOT - BOTTOM + 20}" text-anchor="{anchor}">{numeral(f"{tick.normalize():,f}")}</text>')
     return out
 
 

@@ -9,6 +9,7 @@ from . import items, source
 from .grammar import RESERVED
 from .loops import Term, instances, reads_of, replaced, whole
 from .places import decode
+from .texts import said
 
 
 class Written:
@@ -47,7 +48,7 @@ class Written:
 
     def place(self, byte: int) -> str:
         """The file, the line and the rule of a formula."""
-        return f"{self.file.name} line {self.line(byte)}, rule {self.rule(byte)}"
+        return said("why.rule", file=self.file.name, line=self.line(byte), number=self.rule(byte))
 
 
 class Formula:
@@ -148,8 +149,8 @@ class Rules:
         """What sets a cell without a formula."""
         variable = self.variables.get(cell.split("[")[0])
         if variable is None or variable.kind == "calculee":
-            return "no rule sets it"
+            return said("why.no_rule")
         if variable.kind == "saisie":
-            return f"declared, {variable.code}"
+            return said("why.declared", code=variable.code)
         comment = self.comments.get(variable.name)
-        return f"a constant: {comment}" if comment else "a constant"
+        return said("why.constant_told", comment=comment) if comment else said("why.constant")

@@ -158,9 +158,9 @@ def values_of(names: Sequence[bytes]) -> list[re.Pattern[bytes]]:
 
 
 def whole_form(names: Sequence[bytes]) -> re.Pattern[bytes]:
-    """The form of a household's lines where all is as it must be: its label, and its stop or its notes and values."""
+    """The form of a household's lines where all is as it must be: its label, and its stop, which is the second group, or its notes and values."""
     lines = b"".join(re.escape(name) + VALUE for name in names)
-    return re.compile(HEAD.pattern + b"(?:" + STOP.pattern + b"|" + NOTES.pattern + lines + b")")
+    return re.compile(HEAD.pattern + b"(?:(" + STOP.pattern + b")|" + NOTES.pattern + lines + b")")
 
 
 def strange(text: Text, at: int) -> Strange:
@@ -170,13 +170,14 @@ def strange(text: Text, at: int) -> Strange:
     return Strange(f"line {number} or one of the same household isn't what batch prints there: {line}")
 
 
-def read_answer(path: str, names: list[bytes] | None = None) -> tuple[list[bytes], list[bytes] | None]:
-    """The labels of an answer of `batch`, and the names of its values, where they aren't given. Each household has its notes and then a line for each
-    name, in one order, or a stop and nothing else."""
+def read_answer(path: str, names: list[bytes] | None = None) -> tuple[list[bytes], list[bytes] | None, int]:
+    """The labels of an answer of `batch`, the names of its values, where they aren't given, and how many households stopped. Each household has its notes
+    and then a line for each name, in one order, or a stop and nothing else."""
     labels: list[bytes] = []
+    stops = 0
     with open(path, "rb") as file:
         if os.fstat(file.fileno()).st_size == 0:
-            return labels, names
+            return labels, names, stops
         with mmap.mmap(file.fileno(), 0, access=mmap.ACCESS_READ) as text:
             at = 0
             forms: list[re.Pattern[bytes]] | None = None
@@ -187,6 +188,7 @@ def read_answer(path: str, names: list[bytes] | None = None) -> tuple[list[bytes
                 found = whole.match(text, at) if whole is not None and names is not None and len(names) <= AT_ONCE else None
                 if found:
                     labels.append(found[1])
+                    stops += found[2] is not None
                     at = found.end()
                     continue
                 head = HEAD.match(text, at)
@@ -196,6 +198,7 @@ def read_answer(path: str, names: list[bytes] | None = None) -> tuple[list[bytes
                 at = head.end()
                 stop = STOP.match(text, at)
                 if stop:
+                    stops += 1
                     at = stop.end()
                     continue
                 notes = NOTES.match(text, at)
@@ -208,7 +211,7 @@ def read_answer(path: str, names: list[bytes] | None = None) -> tuple[list[bytes
                     if found is None:
                         raise strange(text, at)
                     at = found.end()
-    return labels, names
+    return labels, names, stops
 
 
 def names_at(text: Text, at: int) -> list[bytes]:

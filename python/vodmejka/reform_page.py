@@ -1,10 +1,12 @@
 """What a reform does, as a page with pictures: tools/reform."""
 import html
+import re
 from fractions import Fraction
 
 from .amounts import plain
 from .bar_pictures import bars
 from .file_comparisons import RATES
+from .texts import Language, said
 
 
 def shares(counts, total):
@@ -24,39 +26,50 @@ def marginal_picture(counts, total):
     return bars([(label, pair) for label, *pair in zip(labels, *(shares(count, total) for count in counts))], " %")
 
 
+def shown(line, by):
+    """A line of summary.csv as the page's table has it: the name of its group, and what a gain is, in the language of the page."""
+    name, *fields, gain = line
+    number = re.fullmatch("tenth ([0-9]+)", name)
+    if name == "all":
+        name = said("reform.all")
+    elif by is not None and number:
+        name = said("reform.tenth", number=number[1])
+    elif by is not None and name == f"no {by}":
+        name = said("reform.no_value", name=by)
+    return [name, *fields, said("reform." + gain)]
+
+
 def page(words, found, step, heads, lines):
     """The report: of a comparison of the words' file, with the lines of its groups, whose table has these heads."""
     groups, sign = found.made.groups, found.made.all.sign
     whole = groups[0]
     total = whole.weight + whole.apart_weight
-    cells = "\n".join("<tr>" + "".join(f"<td>{html.escape(str(field))}</td>" for field in line) + "</tr>" for line in lines)
+    cells = "\n".join("<tr>" + "".join(f"<td>{html.escape(str(field))}</td>" for field in shown(line, words.by)) + "</tr>" for line in lines)
     of, is_told = html.escape(words.of), words.more_is_gain or words.less_is_gain
-    said = f"{'More' if sign > 0 else 'Less'} of it is a gain" + ("." if is_told else ": neither --less-is-gain nor --more-is-gain was given.")
-    digests = zip(("Rules before", "rules after", "program m_survey"), (*found.made.digests, found.made.program))
+    gain = said("reform.more_gain" if sign > 0 else "reform.less_gain" if is_told else "reform.less_taken")
+    code = lambda text: f"<code>{html.escape(text)}</code>"
+    sums = {key: f"<b id={key}>{plain(sum_)}</b>" for key, sum_ in (("before", whole.before), ("after", whole.after), ("difference", whole.after - whole.before))}
     parts = [
-        "<!doctype html><html lang=en><meta charset=utf-8><title>What the reform does</title>",
+        f"<!doctype html><html lang={Language.name}><meta charset=utf-8><title>{said('reform.title')}</title>",
         "<style>body{font:15px/1.5 sans-serif;max-width:60em;margin:2em auto;padding:0 1em}table{border-collapse:collapse;font-size:13px}",
         "td,th{border:1px solid #ccc;padding:.2em .5em;text-align:right}td:first-child{text-align:left}svg{width:100%;height:auto}",
         ".wide{overflow-x:auto}code{overflow-wrap:anywhere}</style>",
-        f"<h1>What the reform does to {of}</h1>",
-        f"<p>Before: <code>{html.escape(words.before)}</code>. After: <code>{html.escape(words.after)}</code>. Table: <code>{html.escape(words.table)}</code>,"
-        f" {whole.households} households of the weight {plain(total)}; {whole.apart} of them stop.</p>",
-        f"<p>{of} is <b id=before>{plain(whole.before)}</b> before"
-        f" and <b id=after>{plain(whole.after)}</b> after,"
-        f" a difference of <b id=difference>{plain(whole.after - whole.before)}</b>. {said}</p>",
-        "<h2>Who gains and who loses</h2><p>The share of households, by the gain of each. "
-        f"Above 0 a household gains: it has so much {'more' if sign > 0 else 'less'} of {of} after the reform. "
-        f"Below 0 it loses. The gain is the difference{'' if sign > 0 else ' with the other sign'}, which is after less before.</p>",
+        f"<h1>{said('reform.title_of', name=of)}</h1>",
+        "<p>" + said("reform.before_after", before=code(words.before), after=code(words.after), table=code(words.table), count=whole.households,
+                     weight=plain(total), stopped=whole.apart) + "</p>",
+        f"<p>{said('reform.sums', name=of, gain=gain, **sums)}</p>",
+        f"<h2>{said('reform.who')}</h2><p>{said('reform.who_more' if sign > 0 else 'reform.who_less', name=of)}</p>",
         changes_picture(found.gains, total),
     ]
     tenths = [group for group in groups[1:] if words.by is not None and group.name.startswith("tenth ")]
     if tenths:
         gains = [(group.name.split()[1], [group.mean_gain]) for group in tenths]
-        parts += [f"<h2>The gain by tenth of {html.escape(words.by)}</h2><p>The mean gain of a household of each tenth.</p>", bars(gains, "")]
+        parts += [f"<h2>{said('reform.tenths', name=html.escape(words.by))}</h2><p>{said('reform.mean_gain')}</p>", bars(gains, "")]
     if step:
-        parts += [f"<h2>Marginal rates</h2><p>The share of households by what {html.escape(step[1])} more of {html.escape(step[0])} adds, "
-                  "before (blue) and after.</p>", marginal_picture(found.rates, total)]
-    head = "".join(f"<th>{html.escape(name)}</th>" for name in heads)
-    parts.append(f"<h2>The figures</h2><div class=wide><table><tr>{head}</tr>{cells}</table></div>")
-    parts.append("<p>" + "; ".join(f"{name} <code>{digest}</code>" for name, digest in digests) + ".</p></html>\n")
+        told = said("reform.rates_told", amount=html.escape(step[1]), code=html.escape(step[0]))
+        parts += [f"<h2>{said('reform.rates')}</h2><p>{told}</p>", marginal_picture(found.rates, total)]
+    head = "".join(f"<th>{html.escape(said('reform.head.' + name))}</th>" for name in heads)
+    parts.append(f"<h2>{said('reform.figures')}</h2><div class=wide><table><tr>{head}</tr>{cells}</table></div>")
+    before, after = map(code, found.made.digests)
+    parts.append(f"<p>{said('reform.digests', before=before, after=after, program=code(found.made.program))}</p></html>\n")
     return "\n".join(parts)

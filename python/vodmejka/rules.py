@@ -11,6 +11,7 @@ from .answers import Answer, Form, answer_of
 from .batch_files import batch_file
 from .batches import Answers, Batch
 from .cases import Mismatch, mismatches_of
+from .dask import mapped
 from .errors import Broken, NotFound, Refused
 from .facts import Facts, Within, facts_of, ranges_text, without_facts
 from .frames import Households, frame_of
@@ -127,6 +128,14 @@ class Rules:
         finally:
             os.unlink(self._path(name))
         return answer_of(iter(lines_of(text).split("\n")[:-1]))
+
+    def map(
+        self, frame: Any, *, numbers: str = "float64", stops: str = "raise", keep: Iterable[str] = (), meta: pandas.DataFrame | None = None
+    ) -> Any:
+        """What the households of a frame of Dask are told: a frame of Dask with its partitions, each of which is what `batch` makes of it where it is
+        computed. Its columns and types are those of `meta`, an empty frame, or what `batch` makes of no households. A household that is stopped is an
+        error, when the partition is computed, unless stops="keep" is given."""
+        return mapped(self, frame, {"numbers": numbers, "stops": stops, "keep": [*keep]}, meta)
 
     @overload
     def batch(self, rows: Iterable[Household], rows_at_once: int = ROWS_AT_ONCE) -> Answers: ...

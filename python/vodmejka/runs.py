@@ -15,6 +15,7 @@ import time
 
 from . import source
 from .errors import Broken
+from .limits import CODE_FILE_BYTES
 from .program import TOP
 from .program import program_path as installed_program_path
 
@@ -36,10 +37,12 @@ def digest(*pieces):
     return made.hexdigest()
 
 
-def file_digest(path, out=None):
-    """The digest of a file's bytes, which also go to an output."""
+def file_digest(path, out=None, below_head=False):
+    """The digest of a file's bytes, which also go to an output, perhaps without the first line."""
     made = hashlib.sha256()
     with open(path, "rb") as file:
+        if below_head:
+            made.update(file.readline())
         while piece := file.read(PIECE):
             made.update(piece)
             if out is not None:
@@ -71,19 +74,22 @@ def free_memory():
 # ---- the program
 
 
-def program_path():
-    """The program that M_TAX names, or else the script of this repository; where the package is installed, the one that the package finds."""
-    program = os.environ.get("M_TAX") or os.path.join(TOP, "m_tax")
-    if not os.environ.get("M_TAX") and not os.path.exists(program):
+def program_path(name="m_tax"):
+    """The program of this name, m_tax or m_survey: the one that M_TAX or M_SURVEY names, or else the script of this repository; where the package is
+    installed, the one that the package finds."""
+    told = os.environ.get(name.upper())
+    program = told or os.path.join(TOP, name)
+    if not told and not os.path.exists(program):
         with contextlib.suppress(Broken):
-            return installed_program_path()
+            return installed_program_path(name=name)
     return os.path.abspath(shutil.which(program) or program)
 
 
-def digest_of_program(program):
-    """The digest of the program: of the repository's script also what ./build made, or without it the sources of which the script makes a trial."""
+def digest_of_program(program, name="m_tax"):
+    """The digest of the program of this name: of the repository's script also what ./build made, or without it the sources of which the script makes a
+    trial."""
     folder = os.path.dirname(os.path.realpath(program))
-    below = [name for name in [os.path.join(folder, "out", "m_tax")] if os.path.exists(name)]
+    below = [made for made in [os.path.join(folder, "out", name)] if os.path.exists(made)]
     if not below:
         sources = os.walk(os.path.join(folder, "crates"))
         below = sorted(os.path.join(at, name) for at, _, names in sources for name in names if name.endswith(".rt"))
@@ -226,13 +232,49 @@ def workers():
 # ---- the source
 
 
-class Source:
-    """A source that was read once: a copy of its files in a folder, in which every batch runs, and the digest of all that an answer depends on. A batch that
-    takes longer than `timeout` seconds is ended."""
+class Batches:
+    """Batches of a program over one source, in a folder that has a copy of it. `form` is what they print: `lines`, as `m_tax batch`, or `csv`, as `m_survey
+    table`. A batch that takes longer than `timeout` seconds is ended. `digest` is that of all that an answer depends on."""
 
-    def __init__(self, words, room, timeout=None):
-        self.program, self.timeout = program_path(), timeout
-        self.room = room
+    def __init__(self, room, form="lines", timeout=None):
+        self.room, self.form, self.timeout = room, form, timeout
+        self.name, self.command = ("m_survey", "table") if form == "csv" else ("m_tax", "batch")
+        self.program = program_path(self.name)
+        self.program_digest = digest_of_program(self.program, self.name)
+        self.words, self.names, self.original = [], None, {}
+
+    def put(self, name, content):
+        if content is None:
+            return "-"
+        source.put(os.path.join(self.room, name), content)
+        return name
+
+    def told(self, line):
+        """A line of the program, with the names of the files as they are."""
+        return re.sub(r"\b(?:rules-[0-9]{6}\.m|source\.mcode)\b", lambda match: self.original.get(match[0], match[0]), line)
+
+    def batch(self, table, out):
+        """The answer of one batch."""
+        return self.said(out, self.command, os.path.abspath(table))
+
+    def said(self, out, command, *more):
+        """What a command says over the source, through a pipe, so that a program whose parent was killed can't go on writing. The status comes back."""
+        words = [self.program, command, *self.words, *more]
+        with CHILDREN.started(words, cwd=self.room, stdin=subprocess.DEVNULL, stdout=subprocess.PIPE) as child:
+            with ended_after(child, self.timeout):
+                shutil.copyfileobj(child.stdout, out, PIECE)
+                child.wait()
+        out.flush()
+        if digest_of_program(self.program, self.name) != self.program_digest:
+            raise Failed(f"{self.program} was changed meanwhile: the same words begin with the new one")
+        return child.returncode
+
+
+class Source(Batches):
+    """A source that was read once: a copy of its files, a list with its rule files, a driver and requests."""
+
+    def __init__(self, words, room, timeout=None, form="lines"):
+        super().__init__(room, form, timeout)
         first, again = self.read(words), self.read(words)
         if first != again:
             raise Failed("the rules were changed while they were read: the same words read them again")
@@ -244,7 +286,6 @@ class Source:
         self.put("list", "\n".join([application, *names, ""]).encode("latin-1"))
         self.words = ["list", self.put("driver", driver), self.put("requests", requests)]
         self.names = None if requests is None else [line for line in re.split(rb"\r?\n", requests) if line]
-        self.program_digest = digest_of_program(self.program)
         pieces = [application.encode("latin-1")]
         for name, content in rules:
             pieces += [os.fsencode(name), content]
@@ -258,31 +299,16 @@ class Source:
         rules = list(zip(names, source.fetch_rules(names)))
         return application, rules, *(None if word == "-" else source.fetch(word) for word in words[1:])
 
-    def put(self, name, content):
-        if content is None:
-            return "-"
-        source.put(os.path.join(self.room, name), content)
-        return name
 
-    def told(self, line):
-        """A line of the program, with the names of the files as they are."""
-        return re.sub(r"\brules-[0-9]{6}\.m\b", lambda match: self.original.get(match[0], match[0]), line)
+class CodeFile(Batches):
+    """A code file that was read once, which is a source of its own: no list, no rules. Its batches print csv."""
 
-    def batch(self, table, out):
-        """The answer of one batch."""
-        return self.said(out, "batch", os.path.abspath(table))
-
-    def said(self, out, command, *more):
-        """What a command says over the source, through a pipe, so that a program whose parent was killed can't go on writing. The status comes back."""
-        words = [self.program, command, *self.words, *more]
-        with CHILDREN.started(words, cwd=self.room, stdin=subprocess.DEVNULL, stdout=subprocess.PIPE) as child:
-            with ended_after(child, self.timeout):
-                shutil.copyfileobj(child.stdout, out, PIECE)
-                child.wait()
-        out.flush()
-        if digest_of_program(self.program) != self.program_digest:
-            raise Failed(f"{self.program} was changed meanwhile: the same words begin with the new one")
-        return child.returncode
+    def __init__(self, path, room, timeout=None):
+        super().__init__(room, "csv", timeout)
+        content = source.fetch(path, CODE_FILE_BYTES)
+        self.original = {"source.mcode": path}
+        self.words = [self.put("source.mcode", content)]
+        self.digest = digest(self.program_digest.encode(), b"code", content)
 
 
 def two_sources(lists, drivers, requests, room):

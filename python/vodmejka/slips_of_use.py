@@ -5,6 +5,7 @@ from __future__ import annotations
 from fractions import Fraction
 
 from .hints import distance
+from .texts import said
 
 TYPES = ("BOOLEEN", "DATE", "DATE_AAAA", "DATE_JJMMAAAA", "DATE_MM", "ENTIER", "REEL")
 MOST_NAMED = 5
@@ -16,10 +17,10 @@ def slips_of_words(files):
     for file in files:
         for variable in file.variables:
             if variable.type is not None and variable.type not in TYPES:
-                yield f"{variable.place}: the type {variable.type} of {variable.name} is none of {', '.join(TYPES)}, and says nothing"
+                yield f"{variable.place}: {said('slips.type', type=variable.type, name=variable.name, types=', '.join(TYPES))}"
             for word in variable.words:
                 if word != "restituee" and distance(word, "restituee", 1) <= 1:
-                    yield f"{variable.place}: the attribute {word} of {variable.name} isn't restituee, and returns nothing"
+                    yield f"{variable.place}: {said('slips.attribute', word=word, name=variable.name)}"
 
 
 def slips_of_numbers(files, applications):
@@ -30,8 +31,7 @@ def slips_of_numbers(files, applications):
             for application in dict(rule.applications):
                 key = (rule.kind, int(rule.number or 0), application)
                 if application in applications and rule.number and key in first:
-                    what = "rule" if rule.kind == "regle" else "verification"
-                    yield f"{rule.place}: the {what} {rule.number} stands twice; the first is {first[key]}"
+                    yield f"{rule.place}: {said(f'slips.{rule.kind}', number=rule.number, place=first[key])}"
                     break
                 first.setdefault(key, rule.place)
 
@@ -63,11 +63,11 @@ def slips_of_letters(file, reader):
             letters |= own
         again = again or bound_again(formula.term, letters)
         if again:
-            yield f"{file.place(formula.byte)}: the letter {again} is bound again within its own loop, and means the inner one there"
+            yield f"{file.place(formula.byte)}: {said('slips.letter', letter=again)}"
     for check in reader.checks:
         again = bound_again(check.condition, set())
         if again:
-            yield f"{file.place(check.byte)}: the letter {again} is bound again within its own loop, and means the inner one there"
+            yield f"{file.place(check.byte)}: {said('slips.letter', letter=again)}"
 
 
 # ---- verifications that always stop
@@ -99,7 +99,7 @@ def slips_of_checks(file, reader, application, constants, kinds):
     """Verifications whose condition holds for every household."""
     for check in reader.checks:
         if application in check.applications and kinds.get(check.error) == "anomalie" and constant_value(check.condition, constants):
-            yield f"{file.place(check.byte)}: the condition holds for every household, so {check.error} always stops"
+            yield f"{file.place(check.byte)}: {said('slips.always', error=check.error)}"
 
 
 # ---- what is declared and not used
@@ -118,10 +118,9 @@ def slips_of_idle(files, read, used_errors, driver_names):
     idle = [(name, variable.place) for name, variable in variables.items()
             if variable.kind == "calculee" and name not in read and "restituee" not in variable.words]
     errors = [(name, file.place(byte)) for file in files for name, byte in file.errors if name not in used_errors]
-    for what, found in (("constants that nothing reads", constants), ("computed variables that nothing reads or returns", idle),
-                        ("errors that no verification has", errors)):
+    for key, found in (("slips.constants", constants), ("slips.computed", idle), ("slips.errors", errors)):
         if found:
-            yield f"{what}: {len(found)}, {named(found)}"
+            yield said(key, count=len(found), names=named(found))
 
 
 def slips_of_outputs(files, done, driver, received):
@@ -131,6 +130,6 @@ def slips_of_outputs(files, done, driver, received):
         if "restituee" not in variable.words or variable.kind != "calculee":
             continue
         if variable.name not in names:
-            yield f"{variable.place}: {variable.name} is returned, and nothing sets it"
+            yield f"{variable.place}: {said('slips.returned', name=variable.name)}"
         elif driver is not None and variable.name not in received:
-            yield f"{variable.place}: {variable.name} is returned, and {driver} never receives or sets it, so it stays undefined"
+            yield f"{variable.place}: {said('slips.received', name=variable.name, driver=driver)}"

@@ -5,9 +5,11 @@ too; `slips` and `explain` tell it. grammar.py reads formulas.
 """
 from __future__ import annotations
 
+import bisect
 import contextlib
 import dataclasses
 import io
+import itertools
 import os
 import re
 import signal
@@ -180,12 +182,12 @@ def read_list_text(name: str, content: bytes) -> tuple[str, list[str]]:
 
 def quick_tokens(content: bytes, byte: int, tokens: list[Token], most: int = sys.maxsize) -> int:
     """Adds tokens up to the first byte that begins none, until there are so many; the byte behind the last one comes back."""
-    match = AFTER_GAPS.match(content, byte)
-    while match is not None and len(tokens) < most:
-        kind = match.lastgroup or ""
-        tokens.append(Token(kind, match[kind].decode("latin-1"), match.start(kind)))
+    for match in itertools.islice(AFTER_GAPS.finditer(content, byte), most - len(tokens)):
+        if match.start() != byte:
+            break
+        at = match.lastindex or 0
+        tokens.append(Token(match.lastgroup or "", match[at].decode("latin-1"), match.start(at)))
         byte = match.end()
-        match = AFTER_GAPS.match(content, byte)
     return byte
 
 
@@ -197,6 +199,7 @@ class RuleFile:
         self.bytes = content
         self.lines = Lines(self.bytes)
         self.tokens = self.read_tokens() if tokens is None else tokens
+        self.ends = [at for at, token in enumerate(self.tokens) if token.text == ";"]
         self.variables: list[Variable] = []
         self.rules: list[Rule] = []
         self.read_items()
@@ -234,9 +237,8 @@ class RuleFile:
 
     def behind(self, at: int) -> int:
         """The token behind the next `;`."""
-        while at < len(self.tokens) and self.tokens[at].text != ";":
-            at += 1
-        return at + 1
+        found = bisect.bisect_left(self.ends, at)
+        return self.ends[found] + 1 if found < len(self.ends) else len(self.tokens) + 1
 
     def read_rule(self, at: int) -> int:
         begin = self.tokens[at]

@@ -4,9 +4,12 @@ from __future__ import annotations
 
 import itertools
 import math
+from collections.abc import Mapping
 from fractions import Fraction
+from typing import Any, Callable
 
-from .loops import instances, replaced, values_of
+from .loops import replaced, values_of
+from .texts import said
 
 MILLION = 1_000_000
 MOST = 10_000_000_000_000
@@ -38,11 +41,11 @@ def literal(text: str) -> Fraction:
 class Taken:
     """Evaluates a term over the values of cells, and notes the cells that indexes came to and the branches that were taken."""
 
-    def __init__(self, values: dict[str, str], sizes: dict[str, int], letters: dict[str, str], own: int | None):
+    def __init__(self, values: Mapping[str, str], sizes: Mapping[str, int], letters: dict[str, str], own: int | None):
         self.values, self.sizes, self.letters, self.own = values, sizes, letters, own
         self.notes: list[str] = []
 
-    def value(self, term) -> Fraction | None:
+    def value(self, term: Any) -> Fraction | None:
         kind, *parts = term
         if kind == "number":
             return literal(parts[0])
@@ -62,7 +65,7 @@ class Taken:
             raise Unknown
         return number(self.values[cell])
 
-    def read(self, table: str, index) -> Fraction | None:
+    def read(self, table: str, index: Any) -> Fraction | None:
         at = self.value(index)
         if at is None:
             return None
@@ -74,8 +77,9 @@ class Taken:
             return Fraction(0)
         return self.cell(f"{table}[{whole}]") if whole < self.sizes.get(table, 0) else None
 
-    def summed(self, header, term) -> Fraction | None:
-        total, kept = None, self.letters
+    def summed(self, header: Any, term: Any) -> Fraction | None:
+        total: Fraction | None = None
+        kept = self.letters
         names = [letter for letter, _ in header]
         for chosen in itertools.product(*(values_of(values) for _, values in header)):
             self.letters = {**kept, **dict(zip(names, chosen))}
@@ -84,7 +88,7 @@ class Taken:
         self.letters = kept
         return total
 
-    def operator(self, sign: str, parts) -> Fraction | None:
+    def operator(self, sign: str, parts: Any) -> Fraction | None:
         if sign == "si":
             return self.chosen(parts)
         values = [self.value(part) for part in parts]
@@ -103,10 +107,10 @@ class Taken:
             raise Unknown
         return found
 
-    def chosen(self, parts) -> Fraction | None:
+    def chosen(self, parts: Any) -> Fraction | None:
         condition = self.value(parts[0])
         if condition is None:
-            self.notes.append("no branch")
+            self.notes.append(said("why.no_branch"))
             return None
         self.notes.append("alors" if condition else "sinon")
         if condition:
@@ -114,7 +118,7 @@ class Taken:
         return self.value(parts[2]) if len(parts) > 2 else None
 
 
-OPERATORS = {
+OPERATORS: dict[str, Callable[..., Any]] = {
     "+": lambda a, b: a + b, "-": lambda a, b: a - b, "*": lambda a, b: a * b, "/": lambda a, b: a / b if b else 0, "neg": lambda a: -a,
     "=": lambda a, b: a == b, "!=": lambda a, b: a != b, "<": lambda a, b: a < b, "<=": lambda a, b: a <= b, ">": lambda a, b: a > b, ">=": lambda a, b: a >= b,
     "et": lambda a, b: bool(a and b), "ou": lambda a, b: bool(a or b), "non": lambda a: not a, "abs": abs, "positif": lambda a: a > 0,
@@ -123,7 +127,7 @@ OPERATORS = {
 }
 
 
-def told(formula, values: dict[str, str], sizes: dict[str, int], cell: str) -> list[str]:
+def told(formula: Any, values: Mapping[str, str], sizes: Mapping[str, int], cell: str) -> list[str]:
     """The cells and the branches that the formula of a cell took, in the order in which it is read; nothing where this comes to another value."""
     taken = Taken(values, sizes, formula.letters, formula.number)
     try:

@@ -6,12 +6,15 @@ from __future__ import annotations
 
 import os
 
-from . import texts_mend
+from . import texts_help, texts_mend, texts_reform, texts_tools
 
 ENGLISH, FRENCH = "en", "fr"
 
 TEXTS = {
     **texts_mend.TEXTS,
+    **texts_tools.TEXTS,
+    **texts_help.TEXTS,
+    **texts_reform.TEXTS,
     "rule.bad byte": (
         "No token begins here: accented letters stand in texts and comments only, and a point between digits.",
         "Aucun mot ne commence ici : les lettres accentuées ne se trouvent que dans les textes et les commentaires, et un point entre des chiffres."),
@@ -268,6 +271,16 @@ def said(key: str, **values: object) -> str:
     """The sentence with this key, in the language that was chosen."""
     english, french = TEXTS[key]
     return (french if Language.name == FRENCH else english).format(**values)
+
+
+def phrase(english: str) -> str:
+    """A phrase in the language that was chosen; what is none, as a sign, as it is."""
+    return said("phrase." + english) if "phrase." + english in TEXTS else english
+
+
+def numeral(text: str) -> str:
+    """A number with commas between thousands and a point before decimals, as it is written in the language that was chosen."""
+    return text.replace(",", "\u202f").replace(".", ",") if Language.name == FRENCH else text
 
 
 def decimal_sign() -> str:

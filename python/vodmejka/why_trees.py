@@ -4,6 +4,9 @@ from __future__ import annotations
 import html
 from typing import TYPE_CHECKING, Iterator, Mapping
 
+from .taken import told
+from .texts import said
+
 if TYPE_CHECKING:
     from . import reasons
 
@@ -12,10 +15,13 @@ NOTHING = ("undefined", "= 0")
 
 class Tree:
     """What is shown: each value, and what its formula reads. `lines` has the values of the report as they are printed; of those that were shown above nothing
-    stands below the second time."""
+    stands below the second time. `others` are the values of another household: then what differs is shown, with both. With `is_told_taken` a formula says
+    which cells and branches it took."""
 
-    def __init__(self, rules: reasons.Rules, root: str, lines: Mapping[str, str], depth: int | None = None, nonzero: bool = False):
+    def __init__(self, rules: reasons.Rules, root: str, lines: Mapping[str, str], depth: int | None = None, nonzero: bool = False,
+                 others: Mapping[str, str] | None = None, is_told_taken: bool = False):
         self.rules, self.root, self.lines, self.depth, self.nonzero = rules, root, lines, depth, nonzero
+        self.others, self.is_told_taken = others, is_told_taken
 
     def __str__(self) -> str:
         return "\n".join(self.text())
@@ -30,6 +36,7 @@ class Tree:
         """The cells that a value was computed from, as far as they are shown."""
         formula = self.rules.formulas.get(cell)
         read = [] if formula is None else [other for other in formula.reads(self.rules.sizes) if other in self.lines]
+        read = [other for other in read if self.others is None or self.others.get(other) != self.lines[other]]
         return [other for other in read if not self.nonzero or self.lines[other] not in NOTHING]
 
     def walk(self) -> Iterator[tuple[str, int, bool, int]]:
@@ -47,11 +54,19 @@ class Tree:
         """The parts of a line: the value, the description, the formula, the place."""
         formula, what = self.rules.formulas.get(cell), self.rules.description(cell)
         value = f"{cell} {self.lines[cell]}"
+        if self.others is not None:
+            value += " " + said("why.there", value=self.others[cell].removeprefix("= ") if cell in self.others else said("why.nothing"))
         if again:
-            return value, "as above", "", ""
+            return value, said("why.above"), "", ""
         if formula is None:
             return value, what, "", self.rules.role(cell)
-        return value, what, formula.text, formula.place()
+        return value, what, formula.text, self.place(cell, formula)
+
+    def place(self, cell: str, formula: reasons.Formula) -> str:
+        """Where a formula stands, and what it took."""
+        taken = told(formula, self.lines, self.rules.sizes, cell) if self.is_told_taken else []
+        place = str(formula.place())
+        return said("why.taken", place=place, what=", ".join(taken)) if taken else place
 
     def text(self) -> Iterator[str]:
         """The tree as lines."""
@@ -61,8 +76,8 @@ class Tree:
             if formula or place:
                 yield "  " * level + "    " + "   ".join(part for part in (formula, f"({place})") if part)
 
-    def html(self) -> Iterator[str]:
-        """The tree as pieces of a page, which fold and unfold."""
+    def html(self, is_open: bool = False) -> Iterator[str]:
+        """The tree as pieces of a page, which fold and unfold; all are unfolded where it `is_open`, and else the uppermost."""
         open_levels: list[int] = []
         for cell, level, again, under in self.walk():
             while len(open_levels) > level:
@@ -73,7 +88,7 @@ class Tree:
             line += f" <code>{formula}</code>" if formula else ""
             line += f' <span class="place">{place}</span>' if place else ""
             if under:
-                yield f'<details{" open" if level < 2 else ""}><summary>{line}</summary>'
+                yield f'<details{" open" if is_open or level < 2 else ""}><summary>{line}</summary>'
                 open_levels.append(level)
             else:
                 yield f'<div class="leaf">{line}</div>'

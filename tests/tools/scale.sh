@@ -21,24 +21,24 @@ printf 'name,1AJ\r\na,1\r\n"b",2\r\n\r\nc,3\r\nd,4\r\ne,5' >table.csv
 "$scale" cut table.csv parts --rows 2
 head -n 3 parts/part-000002.csv | tr '\r' '|'
 : >stop
-"$scale" run parts a.list - - --jobs 1
+"$scale" run parts a.list - - --jobs 1 >/dev/null
 echo "status $?"
 "$scale" join parts
 "$scale" list parts | tr '\n' ' '
 rm stop
 "$scale" one parts 2 a.list - -
 "$scale" list parts | tr '\n' ' '
-"$scale" run parts a.list - -
+"$scale" run parts a.list - - >/dev/null
 "$scale" join parts | tr '\n' ' '
 echo
 # A household that is lost or doubled; an answer that is changed later; another source.
 for fault in lose twice; do
     rm -r parts && "$scale" cut table.csv parts --rows 2
     echo c >$fault
-    "$scale" run parts a.list - - --jobs 1
+    "$scale" run parts a.list - - --jobs 1 >/dev/null
     rm $fault
 done
-"$scale" run parts a.list - - && cp parts/part-000001.out parts/part-000003.out
+"$scale" run parts a.list - - >/dev/null && cp parts/part-000001.out parts/part-000003.out
 "$scale" join parts
 echo '# others' >>a.m
 "$scale" one parts 1 a.list - -

@@ -44,14 +44,14 @@ echo "-- a terminal that is closed: nohup keeps a run, and without it the run en
 rm -r parts
 "$scale" cut table.csv parts
 : >slow
-(trap '' HUP; exec "$scale" run parts a.list - -) &
+(trap '' HUP; exec "$scale" run parts a.list - - >/dev/null) &
 while [ ! -e began ]; do sleep 0.05; done
 kill -HUP $!
 wait $!
 echo "status $?"
 "$scale" drop parts
 rm began
-env --default-signal=HUP "$scale" run parts a.list - - &
+env --default-signal=HUP "$scale" run parts a.list - - >/dev/null &
 while [ ! -e began ]; do sleep 0.05; done
 kill -HUP $!
 wait $!
@@ -70,12 +70,12 @@ sys.argv, sys.path[0] = sys.argv[1:], os.path.dirname(sys.argv[1])
 runpy.run_path(sys.argv[0], run_name="__main__")
 END2
 "$scale" drop parts
-python3 -B otherwise.py "$scale" run parts a.list - - && python3 -B otherwise.py "$scale" join parts | tr '\n' ' '
+python3 -B otherwise.py "$scale" run parts a.list - - >/dev/null && python3 -B otherwise.py "$scale" join parts | tr '\n' ' '
 echo
 echo "-- what the user keeps from others stays so"
 umask 077
 rm -r parts
-"$scale" cut table.csv parts && "$scale" run parts a.list - -
+"$scale" cut table.csv parts && "$scale" run parts a.list - - >/dev/null
 ls -l parts | tail -n +2 | cut -c 1-10 | sort -u
 umask 022
 echo "-- a cut that is ended removes what its sort wrote"

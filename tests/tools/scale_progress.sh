@@ -11,6 +11,7 @@ M_TAX=$PWD/stand_in
 export M_TAX
 printf 'iliad\na.m\n' >a.list
 echo '# rules' >a.m
+digests() { sed 's/ [0-9a-f]\{64\}$/ DIGEST/'; }
 awk 'BEGIN {print "name,1AJ"; for (k = 0; k < 1000; k++) print "h" k "," k}' >table.csv
 "$scale" cut table.csv parts --rows 250
 echo "-- a terminal shows parts, households a second and the time that is left; a pipe nothing"
@@ -19,14 +20,17 @@ printf 'import pty, sys\npty.spawn(sys.argv[1:])\n' >terminal.py
 python3 terminal.py "$scale" run parts a.list - - --jobs 1 </dev/null | tr '\r' '\n' | grep scale |
     sed 's/[0-9,]* households a second, [0-9]* s left.*/N households a second, N s left/'
 "$scale" drop parts
-"$scale" run parts a.list - - 2>&1; echo "status $?"
+"$scale" run parts a.list - - 2>&1 >/dev/null; echo "status $?"
 echo "-- verify: all is as it was checked; of this source, of another one; a part, an answer and a note that are changed, one that is missing"
-"$scale" verify parts | sed 's/source .*/source/'
-"$scale" verify parts a.list - - | sed 's/source .*/source/'
+"$scale" verify parts >verified; digests <verified
+"$scale" verify parts a.list - - | cmp - verified && echo "the same"
+"$scale" run parts a.list - - >ran && tail -n +2 verified | cmp - ran && echo "the same at the end of run"
+sha256sum <parts/table | cut -c 1-64 | grep -c -f - ran
+"$scale" source a.list - - | grep -c -f - ran
 printf 'iliad\nb.m\n' >b.list
 echo '# others' >b.m
 "$scale" verify parts b.list - - 2>&1 | sed 's/: [0-9a-f]*$//'
-"$scale" verify parts b.list; echo "status $?"
+"$scale" verify parts b.list -; echo "status $?"
 cp -r parts kept
 for change in 's/h1,1/h1,2/:part-000001.csv' 's/IRN = 260/IRN = 261/:part-000002.out' 's/^./x/:part-000003.of'; do
     sed -i "${change%:*}" "parts/${change#*:}"
@@ -59,4 +63,4 @@ ls parts | grep -c new
 kill $other
 wait $other
 ls parts | grep -c new
-"$scale" verify parts | sed 's/source .*/source/'
+"$scale" verify parts | digests

@@ -18,15 +18,12 @@ import re
 import tempfile
 from typing import NamedTuple
 
-from .. import case_tables, here, laws, operators, records, runs, source
+from .. import case_tables, here, laws, operators, records, runs
+from ..endings import Wrong, ended
 
 WORDS = "words: cases LIST DRIVER TABLE.. [--tolerance COLUMN=AMOUNT].. [--here]; see --help"
 CALL = "call_m:"
 TOLERANCE = re.compile(r"(\*|(?:call_m:)?[A-Za-z0-9_]+(?:\[[0-9]+\])?)=([0-9]+(?:\.[0-9]{1,6})?)")
-
-
-class Wrong(Exception):
-    """Words that are none of this command."""
 
 
 class Words(NamedTuple):
@@ -44,17 +41,17 @@ def words_of(words: list[str]) -> Words:
             at += 1
             match = TOLERANCE.fullmatch(words[at])
             if match is None or match[1] in tolerances:
-                raise Wrong(f"--tolerance takes COLUMN=AMOUNT, a column once, and not {words[at]}")
+                raise Wrong(f"--tolerance takes COLUMN=AMOUNT, a column once, and not {words[at]}", 2)
             tolerances[match[1]] = operators.read_amount(match[2])
         elif words[at] == "--here":
             is_here = True
         elif words[at].startswith("--"):
-            raise Wrong(WORDS)
+            raise Wrong(WORDS, 2)
         else:
             said.append(words[at])
         at += 1
     if len(said) < 3:
-        raise Wrong(WORDS)
+        raise Wrong(WORDS, 2)
     return Words(said, tolerances, is_here)
 
 
@@ -123,9 +120,9 @@ def compared(told: Words) -> int:
     tables = [case_tables.CaseTable(name) for name in told.said[2:]]
     heads = {output for table in tables for output in table.outputs}
     if not heads:
-        raise Wrong("no table has a head that begins with =, so nothing is expected")
+        raise Wrong("no table has a head that begins with =, so nothing is expected", 2)
     if unknown := [column for column in told.tolerances if column != "*" and column not in heads]:
-        raise Wrong(f"--tolerance {unknown[0]}: no table has the head ={unknown[0]}")
+        raise Wrong(f"--tolerance {unknown[0]}: no table has the head ={unknown[0]}", 2)
     with tempfile.TemporaryDirectory(prefix="cases-") as room:
         cases = Cases(told, room)
         for table in tables:
@@ -134,22 +131,14 @@ def compared(told: Words) -> int:
     return 6 if cases.mismatches else 0
 
 
-def main(words: list[str]) -> int:
-    """The command: see above."""
-    if "--help" in words:
-        print(__doc__, end="")
-        return 0
+def work(words: list[str]) -> int:
+    """Does what the words say."""
     try:
         return compared(words_of(words))
-    except Wrong as wrong:
-        source.say(str(wrong))
-        return 2
     except records.Strange as strange:
-        source.say(f"the program's answer is none: {strange}")
-        return 1
-    except laws.Refusal as refusal:
-        source.say(str(refusal))
-        return refusal.status
-    except source.Refused as refused:
-        source.say(str(refused))
-        return 3
+        raise Wrong(f"the program's answer is none: {strange}") from strange
+
+
+def main(words: list[str]) -> int:
+    """The command: see above."""
+    return ended(words, __doc__, work)

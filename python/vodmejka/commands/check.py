@@ -23,7 +23,8 @@ from __future__ import annotations
 
 from .. import source
 from ..claims import judged, read_claim
-from ..copies import Wrong, copied
+from ..copies import copied
+from ..endings import Wrong, ended
 
 WORDS = 'words: check LIST HOUSEHOLD REPORT --claims "NAME = AMOUNT" [--driver DRIVER]; see --help'
 
@@ -46,21 +47,17 @@ def read_words(words: list[str]) -> tuple[list[str], list[str], str | None]:
     return files, claims, driver
 
 
-def main(words: list[str]) -> int:
-    if "--help" in words:
-        print(__doc__, end="")
-        return 0
-    try:
-        (list_name, household, report), claims, driver = read_words(words)
-        told = [read_claim(claim) for claim in claims]
-        with copied(list_name, household, driver) as (rules, copies):
-            content = None if copies.driver == "-" else source.fetch(copies.driver)
-            verdict = judged(rules, copies, source.fetch(report, 1 << 30), report, told, driver, content)
-    except Wrong as wrong:
-        source.say(str(wrong))
-        return wrong.status
-    except source.Refused as refused:
-        source.say(str(refused))
-        return 3
+def work(words: list[str]) -> int:
+    """Does what the words say."""
+    (list_name, household, report), claims, driver = read_words(words)
+    told = [read_claim(claim) for claim in claims]
+    with copied(list_name, household, driver) as (rules, copies):
+        content = None if copies.driver == "-" else source.fetch(copies.driver)
+        verdict = judged(rules, copies, source.fetch(report, 1 << 30), report, told, driver, content)
     print("\n".join(verdict.lines))
     return 0 if verdict.holds else 1
+
+
+def main(words: list[str]) -> int:
+    """The command: see above."""
+    return ended(words, __doc__, work)

@@ -29,18 +29,11 @@ from __future__ import annotations
 import re
 import tempfile
 
-from .. import case_tables, coverage, coverage_page, here, laws, lcov, records, source, texts
+from .. import case_tables, coverage, coverage_page, here, lcov, records, source, texts
+from ..endings import Wrong, ended
 from ..points import Point
 
 OPTIONS = ("--least", "--except", "--page", "--lcov")
-
-
-class Wrong(Exception):
-    """What ends the command, with its status."""
-
-    def __init__(self, text: str, status: int = 1):
-        super().__init__(text)
-        self.status = status
 
 
 def options(words: list[str]) -> tuple[list[str], dict[str, str]]:
@@ -118,27 +111,16 @@ def follow(said: list[str], found: dict[str, str], room: str) -> int:
     return 0 if is_enough(reached, of, found.get("--least")) else 1
 
 
-def main(words: list[str]) -> int:
-    """The command: see above."""
-    if "--help" in words:
-        print(__doc__, end="")
-        return 0
-    words = texts.language_of(words)
+def work(words: list[str]) -> int:
+    """Does what the words say."""
+    said, found = options(texts.language_of(words))
     try:
-        said, found = options(words)
         with tempfile.TemporaryDirectory(prefix="coverage-") as room:
             return follow(said, found, room)
-    except Wrong as wrong:
-        source.say(str(wrong))
-        return wrong.status
     except (coverage.Differs, records.Strange) as differs:
-        source.say(texts.said("coverage.differs", what=differs))
-        return 1
-    except laws.Refusal as refusal:
-        source.say(str(refusal))
-        return refusal.status
-    except source.Refused as refused:
-        source.say(str(refused))
-        return 3
+        raise Wrong(texts.said("coverage.differs", what=differs)) from differs
 
 
+def main(words: list[str]) -> int:
+    """The command: see above."""
+    return ended(words, __doc__, work)

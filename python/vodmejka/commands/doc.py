@@ -22,17 +22,10 @@ import tempfile
 from typing import Iterator
 
 from .. import articles, here, laws, reference, reference_pages, source, texts
+from ..endings import Wrong, ended
 
 VALUED = ("--into", "--title", "--lang", "--articles")
 MARK = "reference.txt"
-
-
-class Wrong(Exception):
-    """What ends the command, with its status."""
-
-    def __init__(self, text: str, status: int = 1):
-        super().__init__(text)
-        self.status = status
 
 
 def options(words: list[str]) -> tuple[list[str], dict[str, str], list[articles.Article]]:
@@ -99,24 +92,15 @@ def make(words: list[str]) -> None:
     print(texts.said("doc.made", count=count, folder=found["--into"]))
 
 
+def work(words: list[str]) -> int:
+    """Does what the words say."""
+    try:
+        make(texts.language_of(words))
+    except articles.BadPattern as bad:
+        raise Wrong(texts.said("doc.pattern", text=bad), 2) from bad
+    return 0
+
+
 def main(words: list[str]) -> int:
     """The command: see above."""
-    if "--help" in words:
-        print(__doc__, end="")
-        return 0
-    words = texts.language_of(words)
-    try:
-        make(words)
-        return 0
-    except Wrong as wrong:
-        source.say(str(wrong))
-        return wrong.status
-    except articles.BadPattern as bad:
-        source.say(texts.said("doc.pattern", text=bad))
-        return 2
-    except laws.Refusal as refusal:
-        source.say(str(refusal))
-        return refusal.status
-    except source.Refused as refused:
-        source.say(str(refused))
-        return 3
+    return ended(words, __doc__, work)

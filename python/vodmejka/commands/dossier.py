@@ -25,7 +25,8 @@ import tempfile
 
 from .. import runs, source
 from ..claims import Claim, lines_of, of_line
-from ..copies import Wrong, text_of_error
+from ..copies import text_of_error
+from ..endings import Wrong, ended
 from ..program import TOP
 from ..reasons import Rules
 
@@ -220,24 +221,20 @@ def read_words(words: list[str]) -> tuple[list[str], dict[str, str]]:
     return files, options
 
 
-def main(words: list[str]) -> int:
-    if "--help" in words:
-        print(__doc__, end="")
-        return 0
+def work(words: list[str]) -> int:
+    """Does what the words say."""
+    files, options = read_words(words)
     try:
-        files, options = read_words(words)
         if "--verify" in options:
             return verify(options["--verify"])
         make(files, options["--of"], options["--into"])
-        return 0
-    except Wrong as wrong:
-        source.say(str(wrong))
-        return wrong.status
-    except source.Refused as refused:
-        source.say(str(refused))
-        return 3
     except OSError as fault:
         if fault.filename is None:
             raise
-        source.say(f"{fault.filename}: {fault.strerror}")
-        return 3
+        raise Wrong(f"{fault.filename}: {fault.strerror}", 3) from fault
+    return 0
+
+
+def main(words: list[str]) -> int:
+    """The command: see above."""
+    return ended(words, __doc__, work)

@@ -11,7 +11,7 @@ stands the token at which it can't go on, and what could stand there.
     --list FILE, --driver FILE, --requests FILE, --household FILE, --code FILE, --report FILE
                   the files, for errors that don't name theirs; where the words are given they are known
     --all         after the first error also the other faults of tokens, grammar, declarations and names, each at its place
-    --lang fr     says in French what to mend of rules, drivers and households, as LC_MESSAGES=fr_FR does; --lang en in English
+    --lang fr     says in French what to mend, as LC_MESSAGES=fr_FR does; --lang en in English
     --places      prints FILE:LINE:COLUMN: error: WHAT in place of all this, for editors; columns count bytes from 1
 
 The status is the program's where it is run, 128 and the number of the signal where one ended it, and 3 where it can't be started.
@@ -28,7 +28,7 @@ import sys
 from .. import drivers, faults, items, runs, source
 from ..hints import Hints
 from ..places import faulty_field, line_at, pointer, records, text_at
-from ..texts import language_of
+from ..texts import language_of, phrase, said
 from ..sentences import DRIVER, HOUSEHOLD, OTHERS, RULES, code, marked
 
 ROLES = ("list", "driver", "requests", "household")
@@ -38,17 +38,17 @@ COMMANDS = ("run", "serve", "batch", "cases", "compile", "lint", "exec", "check"
 
 
 def quoted(what):
-    """A token in quotes; a description as it is."""
-    return what if re.match("(an?|the) ", what) else f"`{what}`"
+    """A token in quotes; a description in the language that was chosen."""
+    return phrase(what) if re.match("(an?|the) ", what) else f"`{what}`"
 
 
 def could_stand(fault):
     """Says what stands at the farthest token, what could, and what may help."""
-    hint = f": {fault.hint}." if fault.hint else "."
-    if not fault.wanted:
-        return f"  Here stands {quoted(fault.found)}{hint}"
     wanted = [quoted(what) for what in fault.wanted]
-    return f"  Here stands {quoted(fault.found)}, and could stand {' or '.join([', '.join(wanted[:-1]), wanted[-1]] if len(wanted) > 1 else wanted)}{hint}"
+    if len(wanted) > 1:
+        wanted = [said("help.or", others=", ".join(wanted[:-1]), last=wanted[-1])]
+    told = said("help.could", found=quoted(fault.found), wanted=wanted[0]) if wanted else said("help.stands", found=quoted(fault.found))
+    return said("help.why", told=told, hint=phrase(fault.hint)) if fault.hint else told + "."
 
 
 def joined(*sentences):
@@ -73,9 +73,9 @@ class Explainer:
     def rule_place(self, name, number, byte, texts=None):
         text = text_at(name, texts)
         if text is None:
-            return None, [f"  {name} can't be read now"]
+            return None, ["  " + said("help.gone", name=name)]
         if byte > len(text.content) or text.number(byte) != number:
-            return None, [f"  {name} was changed since"]
+            return None, ["  " + said("help.changed", name=name)]
         column = byte - text.begin(number)
         return (name, number, column + 1), pointer(text.line(number), number, column)
 
@@ -91,15 +91,15 @@ class Explainer:
         if what == "bad byte":
             bad = next((other for other in items.tokens_of(content)[1] if other.byte == byte and other.hint), None)
             is_marked = byte == 0 and content.startswith(source.MARK)
-            return place, lines, marked() if is_marked else could_stand(bad).strip() if bad else RULES[fault]
+            return place, lines, marked() if is_marked else could_stand(bad) if bad else RULES[fault]
         farthest = next((other for other in items.read(content)[1] if other.byte >= byte and other.what == "syntax"), None)
         if farthest is None:
             return place, lines, RULES[fault]
         self.told.add((name, farthest.byte))
         told, more = self.rule_place(name, texts[name].number(farthest.byte), farthest.byte, texts)
         if farthest.byte != byte:
-            lines = [*lines, "  What begins here can be read as far as this:", *more]
-        return told, lines, could_stand(farthest).strip()
+            lines = [*lines, "  " + said("help.as_far"), *more]
+        return told, lines, could_stand(farthest)
 
     def line_place(self, role, number, texts=None):
         name = self.files.get(role)
@@ -122,8 +122,8 @@ class Explainer:
         self.told.add((place[0], farthest.line))
         more = pointer(texts[place[0]].line(farthest.line) or b"", farthest.line, farthest.byte)
         if farthest.line != number:
-            more = [*lines, "  What begins here can be read as far as this:", *more]
-        return (place[0], farthest.line, (farthest.byte or 0) + 1), more, could_stand(farthest).strip()
+            more = [*lines, "  " + said("help.as_far"), *more]
+        return (place[0], farthest.line, (farthest.byte or 0) + 1), more, could_stand(farthest)
 
     def record_place(self, number, what):
         name = self.files.get("household")
@@ -141,13 +141,13 @@ class Explainer:
         if number == 1 and self.is_marked(role):
             mend = marked()
         elif role == "requests":
-            mend = "No variable has this name, or a cell's number is missing or past its table; look for blanks, too."
+            mend = said("help.request")
         elif number == 1:
-            mend = "The first line is the application, a word of letters, digits and _; look for a blank at its end."
+            mend = said("help.application")
         else:
-            mend = "The name of a file is UTF-8 and has at most 4,096 bytes: rename the file."
+            mend = said("help.file_name")
         if b"\r" in (line_at(self.files[role], number) or b"" if role in self.files else b""):
-            mend = "A carriage return stands in this line, and alone it ends no line: end lines with line feeds."
+            mend = said("help.return")
         return (*self.line_place(role, number), mend)
 
     def explain(self, line):
@@ -176,7 +176,7 @@ class Explainer:
             return (*self.line_place("report", int(match[1])), self.other(line))
         match = re.fullmatch(r"over driver line ([1-9][0-9]{0,14})", line)
         if match:
-            return (*self.line_place("driver", int(match[1])), "The condition passes 10000000000000: look for an amount that is too great.")
+            return (*self.line_place("driver", int(match[1])), said("help.over"))
         return None, [], self.other(line)
 
     def code_meant(self, number, what):
@@ -236,7 +236,7 @@ def explain_all(explainer, places, names):
         sentences = DRIVER if is_driver else RULES
         mend = next((sentence for name, sentence in sentences.items() if fault.what == name or fault.what.startswith(name + " ")), "")
         if fault.fault is not None:
-            mend = could_stand(fault.fault).strip()
+            mend = could_stand(fault.fault)
         elif not (is_driver and fault.what.startswith("bad target")):
             mend = joined(mend, explainer.hints.more(fault.what, fault.name, fault.byte)) or ""
         if is_driver:
@@ -258,8 +258,8 @@ def explain_files(explainer, places):
     found = explain_all(explainer, places, [])
     sys.stdout.flush()
     if any(fault.what in faults.UNREADABLE for fault in found):
-        source.say("not looked at, since items can't be read: declarations, names, and the driver beyond its lines")
-    source.say("not looked at, m_tax compile tells these: ranges and sizes of loops, cycles, numbers of cells and parts, costs, requests")
+        source.say(said("help.unread"))
+    source.say(said("help.others"))
     return 1 if found else NONE_FOUND
 
 
@@ -273,7 +273,7 @@ def read_words(words):
         elif word[2:] in (*ROLES, "code", "report") and words:
             files[word[2:]] = words.pop(0)
         else:
-            print(f"explain: {word} is no option; see --help", file=sys.stderr)
+            print(f"explain: {said('help.no_option', word=word)}", file=sys.stderr)
             return None
     return files, options, words
 
@@ -295,7 +295,7 @@ def main(words):
             return 3
     if is_all and words[0] not in COMMANDS:
         if len(words) > 2:
-            print("explain: words: explain --all LIST [DRIVER]; see --help", file=sys.stderr)
+            print(f"explain: {said('help.words')}", file=sys.stderr)
             return 2
         try:
             return explain_files(Explainer({**dict(zip(("list", "driver"), words)), **files}), places)

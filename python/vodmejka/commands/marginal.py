@@ -1,6 +1,6 @@
 """Draws the marginal and the mean rate of what rules give along one amount, for any household.
 
-    marginal LIST DRIVER HOUSEHOLD CODE FROM TO STEP --of NAME.. [--rules LIST DRIVER] [--household HOUSEHOLD] [--csv] > FILE
+    marginal LIST DRIVER HOUSEHOLD CODE FROM TO STEP --of NAME.. [--rules LIST DRIVER] [--household HOUSEHOLD] [--csv] [--lang en|fr] > FILE
     marginal LIST DRIVER HOUSEHOLD CODE FROM TO STEP --drops NET [--rules LIST DRIVER] [--household HOUSEHOLD]
 
 The household is computed with the amounts FROM, FROM + STEP and so on up to TO for CODE, and all its other amounts as they stand. At each amount the
@@ -28,20 +28,14 @@ from decimal import Decimal, InvalidOperation
 from typing import NamedTuple
 
 from .. import source
+from ..endings import Wrong
 from ..errors import NotFound, Refused, VodmejkaError
 from ..expressions import UNIT, Expression
 from ..limits import AMOUNT
 from ..rate_pictures import Curve, picture, plain
 from ..rules import Rules
 from ..sweeps import exact, sweep
-
-
-class Wrong(Exception):
-    """What ends the run, with its status."""
-
-    def __init__(self, text, status=1):
-        super().__init__(text)
-        self.status = status
+from ..texts import TEXTS, language_of, said
 
 
 class Told(NamedTuple):
@@ -59,9 +53,9 @@ def amount(text, what):
     try:
         value = Decimal(text)
     except InvalidOperation as fault:
-        raise Wrong(f"{what} is no amount: {text}", 2) from fault
+        raise Wrong(said("marginal.no_amount", what=what, text=text), 2) from fault
     if not value.is_finite() or abs(value) > AMOUNT or value != round(value, 6):
-        raise Wrong(f"{what} is no amount: {text}", 2)
+        raise Wrong(said("marginal.no_amount", what=what, text=text), 2)
     return value
 
 
@@ -73,11 +67,11 @@ def pairs_of(path):
     except csv.Error as fault:
         raise Wrong(f"{path}: {fault}") from fault
     if not entries or entries[0] != ["code", "amount"] or any(len(record) != 2 for record in entries):
-        raise Wrong(f"{path} is no household: its first line is code,amount, and each other has two fields")
+        raise Wrong(said("marginal.no_household", path=path))
     counts = collections.Counter(code for code, _ in entries[1:])
     twice = next((code for code, count in counts.items() if count > 1), None)
     if twice is not None:
-        raise Wrong(f"{path}: the code {twice} stands twice")
+        raise Wrong(said("marginal.twice", path=path, code=twice))
     return dict(entries[1:])
 
 
@@ -92,18 +86,25 @@ def bases(words, names, households, code):
             for pairs in households:
                 rules.run(pairs)
             if code not in rules.types():
-                raise Wrong(f"{code}: unknown code")
+                raise Wrong(said("marginal.code", code=code))
             found.append(rules)
     return found
 
 
+def called_of(value, rules, path, is_csv):
+    """What a value is called by its rules and its household, where there are several; in csv in English."""
+    tell = (lambda key, **values: TEXTS[key][0].format(**values)) if is_csv else said
+    by = value if rules is None else tell("marginal.by", name=value, rules=rules)
+    return by if path is None else tell("marginal.of", name=by, household=path)
+
+
 def curves(along, of, names, step):
-    """What is told of each name by each of the rules, whose names are given."""
-    for base, name in enumerate(names):
+    """What is told of each name by each of the rules, which are called as `names` say."""
+    for base, called in enumerate(names):
         for value in of:
             rates = along.rates(base, value)
             found = [told if isinstance(told, Decimal) else None for told in along.values_of(value, base)]
-            yield Told(f"{value}{name}", value, found[:-1], [mean for _, _, mean in rates[:-1]], [marginal for _, marginal, _ in rates[1:]])
+            yield Told(called(value), value, found[:-1], [mean for _, _, mean in rates[:-1]], [marginal for _, marginal, _ in rates[1:]])
 
 
 def figures(amounts, told, code):
@@ -125,9 +126,9 @@ def drawn(words, amounts, sweeps, labels):
     told = [one for along, names in zip(sweeps, labels) for one in curves(along, words.of, names, amounts[1] - amounts[0])]
     gaps = sum(any(one.values[at] is None for one in told) for at in range(len(amounts) - 1))
     if gaps:
-        print(f"marginal: {gaps} of {len(amounts) - 1} amounts have no number", file=sys.stderr)
+        print(f"marginal: {said('marginal.gaps', gaps=gaps, count=len(amounts) - 1)}", file=sys.stderr)
     if not any(rate is not None for one in told for rate in one.marginal):
-        raise Wrong("no amount has a rate")
+        raise Wrong(said("marginal.no_rate"))
     if words.csv:
         sys.stdout.write(figures(amounts[:-1], told, words.code))
     else:
@@ -149,22 +150,22 @@ def draw(words):
     """Does what the words say."""
     first, last, step = (amount(word, what) for word, what in zip((words.first, words.last, words.step), ("FROM", "TO", "STEP")))
     if step <= 0 or last <= first:
-        raise Wrong("STEP is above 0, and TO is above FROM", 2)
+        raise Wrong(said("marginal.step"), 2)
     listed, files = [(words.list, words.driver), *words.rules], [words.household_file, *words.household]
     households = [pairs_of(path) for path in files]
     codes = {words.code, *(code for pairs in households for code in pairs)}
     kept = [name for name in Expression(words.drops).names if name not in codes] if words.drops is not None else []
     of = words.of or kept
     if not of:
-        raise Wrong("NET has no value of the rules", 2)
+        raise Wrong(said("marginal.net"), 2)
     names = list(dict.fromkeys([*of, *kept]))
     found = bases(listed, names, households, words.code)
     amounts = [first + step * number for number in range(int((last - first) / step) + (1 if words.drops is not None else 2))]
     sweeps = [sweep(found, pairs, words.code, amounts, of[0], stops="keep") for pairs in households]
     if words.drops is not None:
         return dropped(words, sweeps, listed, files)
-    by = [f" by {name}" if len(listed) > 1 else "" for name, _ in listed]
-    labels = [[f"{name}{f' of {path}' if len(files) > 1 else ''}" for name in by] for path in files]
+    calling = lambda rules, path: lambda value: called_of(value, rules if len(listed) > 1 else None, path if len(files) > 1 else None, words.csv)
+    labels = [[calling(name, path) for name, _ in listed] for path in files]
     return drawn(words, amounts, sweeps, labels)
 
 
@@ -179,7 +180,7 @@ def main(words):
     reader.add_argument("--household", metavar="HOUSEHOLD", action="append", default=[])
     reader.add_argument("--csv", action="store_true")
     try:
-        return draw(reader.parse_args(words))
+        return draw(reader.parse_args(language_of(words)))
     except Wrong as wrong:
         print(f"marginal: {wrong}", file=sys.stderr)
         return wrong.status

@@ -25,18 +25,11 @@ import re
 import sys
 
 from .. import laws, pages, source
+from ..endings import Wrong, ended
 
 OPTIONS = {"--reform": 2, "--title": 1, "--lang": 1, "--groups": 1}
 WORDS = "words: page LIST DRIVER [REQUESTS] [--reform LIST2 DRIVER2] [--title T] [--lang fr|en] [--groups FILE]; see --help"
 OTHER = {"fr": "Autres cases", "en": "Other boxes"}
-
-
-class Wrong(Exception):
-    """What ends the command, with its status."""
-
-    def __init__(self, text, status=1):
-        super().__init__(text)
-        self.status = status
 
 
 def options(words):
@@ -153,21 +146,12 @@ def written(words, found):
     return pages.page({**layout.data(), **shown, "laws": [each.data() for each in all_laws]}, title, language)
 
 
+def work(words):
+    """Does what the words say."""
+    sys.stdout.write(written(*options(words)))
+    return 0
+
+
 def main(words):
     """The command: see above."""
-    if "--help" in words:
-        print(__doc__, end="")
-        return 0
-    try:
-        text = written(*options(words))
-    except Wrong as wrong:
-        source.say(str(wrong))
-        return wrong.status
-    except laws.Refusal as refusal:
-        source.say(str(refusal))
-        return refusal.status
-    except source.Refused as refused:
-        source.say(str(refused))
-        return 3
-    sys.stdout.write(text)
-    return 0
+    return ended(words, __doc__, work)

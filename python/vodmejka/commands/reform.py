@@ -1,7 +1,7 @@
 """Tells what a change of rules does to the households of a table: who gains, who loses, how much.
 
     reform BEFORE AFTER DRIVER REQUESTS TABLE --of NAME [--weight COLUMN] [--by COLUMN] [--groups COLUMN]
-           [--step CODE=AMOUNT] [--driver-after DRIVER] [--inputs] [--less-is-gain | --more-is-gain] --into FOLDER
+           [--step CODE=AMOUNT] [--driver-after DRIVER] [--inputs] [--less-is-gain | --more-is-gain] [--lang en|fr] --into FOLDER
 
 BEFORE and AFTER are lists of rule files (tools/variant makes one of the other), DRIVER and REQUESTS as the program takes them, and TABLE a table of
 households of any length, which may have columns that are no codes: a weight for each household, and what they are ordered or grouped by. NAME is one of the
@@ -39,6 +39,7 @@ from ..file_comparisons import compare_file
 from ..long_tables import column_named
 from ..reform_page import page
 from ..rules import Rules
+from ..texts import language_of, said
 
 SUMMARY = ["group", "households", "weight", "before", "after", "difference", "mean difference", "winners", "losers", "unchanged", "stopped", "a gain is"]
 MORE = ["relative difference", "gained", "lost", "rules before", "rules after", "program"]
@@ -78,9 +79,9 @@ def written(words, room):
         )
     whole = found.made.all
     if not whole.households:
-        raise Refused(f"{words.table} has no household")
+        raise Refused(said("reform.none", table=words.table))
     if whole.apart == whole.households:
-        raise Refused(f"no household has a number for {words.of}")
+        raise Refused(said("reform.no_number", name=words.of))
     by = None if words.by is None else column_named(words.by)
     lines = [line_of(group, by, (*found.made.digests, found.made.program)) for group in found.made.groups]
     with open(os.path.join(room, "summary.csv"), "w", encoding="latin-1", newline="") as out:
@@ -94,9 +95,9 @@ def work(words):
     """Writes the folder under its name once all stands, and gives the sums of all."""
     parent = os.path.dirname(os.path.abspath(words.into))
     if os.path.lexists(words.into):
-        raise Refused(f"{words.into} is there already")
+        raise Refused(said("reform.there", folder=words.into))
     if not os.access(parent, os.W_OK):
-        raise source.Refused(f"unwritable {parent}")
+        raise source.Refused(said("reform.unwritable", folder=parent))
     room = tempfile.mkdtemp(prefix=".reform-", dir=parent)
     try:
         made = written(words, room)
@@ -123,7 +124,7 @@ def main(words):
     signs = reader.add_mutually_exclusive_group()
     signs.add_argument("--less-is-gain", action="store_true")
     signs.add_argument("--more-is-gain", action="store_true")
-    words = reader.parse_args(words)
+    words = reader.parse_args(language_of(words))
     try:
         whole = work(words)
     except NotFound as fault:
@@ -138,8 +139,8 @@ def main(words):
     except OSError as fault:
         print(f"reform: {fault.filename or words.into}: {fault.strerror}", file=sys.stderr)
         return 3
-    print(f"{whole.households} households, {whole.apart} stopped; {words.of}: {plain(whole.before)} before, {plain(whole.after)} after")
-    print(f"winners {plain(whole.winners)}, losers {plain(whole.losers)}, unchanged {plain(whole.unchanged)}; see {words.into}/report.html")
+    print(said("reform.households", count=whole.households, stopped=whole.apart, name=words.of, before=plain(whole.before), after=plain(whole.after)))
+    print(said("reform.winners", winners=plain(whole.winners), losers=plain(whole.losers), unchanged=plain(whole.unchanged), folder=words.into))
     if not words.more_is_gain and not words.less_is_gain:
-        print(f"less of {words.of} is taken for a gain, since neither --less-is-gain nor --more-is-gain is given")
+        print(said("reform.taken", name=words.of))
     return 0

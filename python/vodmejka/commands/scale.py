@@ -1,14 +1,19 @@
 """Computes a table of households of any size, on many processors or machines, part by part.
 
-    scale cut TABLE FOLDER [--rows N] [--once]      cuts the table into parts of at most N rows (100,000), FOLDER/part-000001.csv and so on
-    scale list FOLDER                               names the parts that have no answer yet, a number in each line
-    scale one FOLDER NUMBER LIST DRIVER REQUESTS    one batch: computes a part, unless it has its answer
-    scale run FOLDER LIST DRIVER REQUESTS [--memory MB] [--jobs N]  computes all parts on this machine; on a terminal it shows how far it is
-    scale join FOLDER > ANSWERS                     the answers of all parts, as one batch of the whole table would print them
-    scale verify FOLDER [LIST DRIVER REQUESTS]      looks, as join does, that all is as it was checked, also the parts, and that it was made of this source
-    scale drop FOLDER                               removes the answers, also those that were begun, and leaves the parts, as for other rules
-    scale pipe HEADER LIST DRIVER REQUESTS [--of DIGEST]  rows on the standard input, without the table's first line, which is HEADER; for Spark's pipe
-    scale source LIST DRIVER REQUESTS               the digest of a source, for --of, which refuses another one
+    scale cut TABLE FOLDER [--rows N] [--once]  cuts the table into parts of at most N rows (100,000), FOLDER/part-000001.csv and so on
+    scale list FOLDER                           names the parts that have no answer yet, a number in each line
+    scale one FOLDER NUMBER SOURCE              one batch: computes a part, unless it has its answer
+    scale run FOLDER SOURCE [--memory MB] [--jobs N]  computes all parts on this machine; on a terminal it shows how far it is
+    scale join FOLDER > ANSWERS                 the answers of all parts, as one batch of the whole table would print them
+    scale join FOLDER --csv [--only NAMES] > CSV  the same of csv; NAMES, with commas between, are the values that are kept, in their order
+    scale verify FOLDER [SOURCE]                looks, as join does, that all is as it was checked, also the parts, and that it was made of this source
+    scale drop FOLDER                           removes the answers, also those that were begun, and leaves the parts, as for other rules
+    scale pipe HEADER SOURCE                    rows on the standard input, without the table's first line, which is HEADER; answers without one too
+    scale source SOURCE                         the digest of a source
+    scale source LIST DRIVER REQUESTS --code FILE  writes the code file of a source, which is a source of its own, and tells its digest
+
+SOURCE is LIST DRIVER REQUESTS, computed by `m_tax batch`, or with --csv by `m_survey table`, which prints csv; or a code file, computed by `m_survey
+table`. One of a code file needs no other file, and no folder from where names count. --of DIGEST refuses another source than the one with this digest.
 
 A batch computes its part on all processors, so `run` doesn't count these: it starts as many batches at once as have 256 MB each in the memory that is free
 (or in MB megabytes), four at the most, so that one computes while others are read, written and looked at. N says how many itself.
@@ -26,10 +31,11 @@ on; what it had begun of a part is removed then.
 made of one source (program, list, rule files, driver, requests). So no household is lost or doubled. `cut --once` also refuses a label that stands twice.
 
 A table is cut between its records, as the program reads them: at line feeds, carriage returns or both, outside of quotes. The status is 0, 1 where a
-check fails or a batch refuses its part, 2 for wrong words, 3 where a file can't be read or written, and 4 where the output was closed. The program is
-./m_tax of this repository, or the one that M_TAX names.
+check fails or a batch refuses its part, 2 for wrong words, 3 where a file can't be read or written, and 4 where the output was closed. The programs are
+./m_tax and ./m_survey of this repository, or those that M_TAX and M_SURVEY name.
 """
 import argparse
+import collections
 import concurrent.futures
 import contextlib
 import hashlib
@@ -38,9 +44,9 @@ import re
 import sys
 import tempfile
 
-from .. import records, runs, source
+from .. import csv_answers, records, runs, source
 from ..limits import FILE_BYTES, ROWS
-from ..parts import Made, Plan, digest_there, look_at, missing, part_path, remove_dead, unfinished, whole, write_whole
+from ..parts import READERS, Made, Plan, digest_there, look_at, missing, part_path, remove_dead, summary, unfinished, whole, write_whole
 from ..progress import Progress
 from ..runs import Failed, digest, file_digest
 
@@ -113,24 +119,32 @@ def cut(arguments):
 
 @contextlib.contextmanager
 def source_of(arguments):
+    """The source that the words name, a list, a driver and requests or a code file, read once. Its digest is the one of --of."""
+    words, timeout = arguments.source, getattr(arguments, "timeout", None)
     with tempfile.TemporaryDirectory(prefix="scale-") as room:
-        yield runs.Source([arguments.list, arguments.driver, arguments.requests], room, getattr(arguments, "timeout", None))
+        if len(words) == 1:
+            compiled = runs.CodeFile(words[0], room, timeout)
+        else:
+            compiled = runs.Source(words, room, timeout, "csv" if getattr(arguments, "csv", False) else "lines")
+        if getattr(arguments, "of", None) not in (None, compiled.digest):
+            raise Failed("the source is another one than --of says", False)
+        yield compiled
 
 
 # ---- computing
 
 
-def seen_in(table, answer, names):
-    """The names of the values of an answer, which has the households of the table, and how many these are."""
+def seen_in(table, answer, names, form):
+    """The names of the values of an answer, which has the households of the table, how many these are, and how many of them stopped."""
     with open(table, "rb") as file:
         labels = [label for _, label in records.records(file, FILE_BYTES)][1:]
     try:
-        seen, names = records.read_answer(answer, names)
+        seen, names, stops = READERS[form](answer, names)
     except records.Strange as fault:
         raise Failed(f"the answer to {table}: {fault}") from fault
     if seen != labels:
         raise Failed(f"the answer to {table} has not its households: {len(seen)} of {len(labels)}, or others")
-    return names, len(labels)
+    return names, len(labels), stops
 
 
 def here(work, *arguments):
@@ -142,13 +156,13 @@ class Rejected(Failed):
 
 
 def answered(compiled, table, out, made, elsewhere=here):
-    """Computes a table into a file, and looks at each line, perhaps in another process. The names of the values and the number of households come back."""
+    """Computes a table into a file, and looks at each line, perhaps in another process. What `seen_in` finds comes back."""
     status = compiled.batch(table, out)
     if status != 0:
         with open(made, "rb") as told:
             line = compiled.told(runs.fault_of(told.read(8192), status))
         raise Rejected(line, not line.startswith("refused household"))
-    return elsewhere(seen_in, table, made, compiled.names)
+    return elsewhere(seen_in, table, made, compiled.names, compiled.form)
 
 
 def compute(folder, number, plan, compiled, elsewhere=here):
@@ -158,18 +172,18 @@ def compute(folder, number, plan, compiled, elsewhere=here):
     done, table = part_path(folder, number, "out"), part_path(folder, number, "csv")
     if os.path.exists(done):
         if Made(part_path(folder, number, "of")).source != compiled.digest:
-            raise Failed(f"{done} was made of another source (program, list, rule files, driver or requests): scale drop {folder} removes all answers", False)
+            raise Failed(f"{done} was made of another source (program, list, rule files, driver, requests or code file): scale drop {folder} removes all answers", False)
         remove_dead(done)
         return 0
     look_at(table, plan.digests[number - 1], "isn't what cut wrote")
     with unfinished(done) as (out, made):
         try:
-            names, households = answered(compiled, table, out, made, elsewhere)
+            names, households, stops = answered(compiled, table, out, made, elsewhere)
         except Rejected as fault:
             raise Failed(f"{table}: {fault}" + ("" if fault.goes_on else "; mend the table and cut it again"), fault.goes_on) from fault
         os.fsync(out.fileno())
         look_at(table, plan.digests[number - 1], "was changed meanwhile")
-        noted = [compiled.digest, "-" if names is None else digest(*names), file_digest(made)]
+        noted = [compiled.digest, "-" if names is None else digest(*names), file_digest(made), compiled.form, str(households), str(stops)]
         write_whole(part_path(folder, number, "of"), " ".join(noted).encode() + b"\n")
         os.replace(made, done)
     return households
@@ -213,6 +227,12 @@ def run(arguments):
         goes_on = all(getattr(fault, "goes_on", True) for fault in failed)
         what_helps = "the same words go on" if goes_on else "what helps stands above"
         raise Failed(f"{len(failed)} of {plan.parts} parts have no answer of this source; {what_helps}")
+    tell(arguments.folder, plan, [Made(part_path(arguments.folder, number, "of")) for number in range(1, plan.parts + 1)])
+
+
+def tell(folder, plan, notes):
+    for line in summary(folder, plan, notes):
+        print(line)
 
 
 def drop(arguments):
@@ -230,10 +250,45 @@ def drop(arguments):
 
 
 def join(arguments):
-    folder, plan = arguments.folder, Plan(arguments.folder)
-    for number, note in enumerate(whole(folder, plan), 1):
-        if file_digest(part_path(folder, number, "out"), sys.stdout.buffer) != note.answer:
-            raise Failed(f"part {number} was changed while it was printed: don't use what was printed", False)
+    folder, plan, out = arguments.folder, Plan(arguments.folder), sys.stdout.buffer
+    notes, form = whole(folder, plan), "csv" if arguments.csv else "lines"
+    if notes[0].form != form:
+        raise Failed("the answers are the lines of batch: scale run --csv computes csv, once scale drop has removed them" if arguments.csv
+                     else "the answers are csv: scale join --csv joins them", False)
+    paths = [part_path(folder, number, "out") for number in range(1, plan.parts + 1)]
+    if arguments.only is not None:
+        join_only(paths, notes, os.fsencode(arguments.only).split(b","), out)
+        return
+    for number, (path, note) in enumerate(zip(paths, notes), 1):
+        if file_digest(path, out, form == "csv" and number > 1) != note.answer:
+            raise changed(path)
+
+
+def changed(path):
+    return Failed(f"{path} was changed while it was printed: don't use what was printed", False)
+
+
+def join_only(paths, notes, only, out):
+    """Prints some columns of csv, which other processes take out of the parts, some parts ahead of what is printed."""
+    waiting = collections.deque()
+    with runs.workers() as pool:
+        for number, (path, note) in enumerate(zip(paths, notes)):
+            waiting.append(pool.submit(part_only, path, note.answer, only, number == 0))
+            if len(waiting) > 2 * os.cpu_count():
+                out.write(waiting.popleft().result())
+        for piece in waiting:
+            out.write(piece.result())
+
+
+def part_only(path, noted, only, with_head):
+    """The columns of a part that are asked for."""
+    with open(path, "rb") as file:
+        text = file.read()
+    if hashlib.sha256(text).hexdigest() != noted:
+        raise changed(path)
+    head, _, households = text.partition(b"\n")
+    places = csv_answers.columns(head, only)
+    return csv_answers.chosen(text if with_head else households, places, len(head.split(b",")))
 
 
 def verify(arguments):
@@ -244,18 +299,18 @@ def verify(arguments):
             if digest != wanted:
                 raise Failed(f"{table} isn't what cut wrote: cut the table again", False)
     notes = whole(folder, plan)
-    if arguments.list is not None:
+    if arguments.source:
+        arguments.csv = notes[0].form == "csv"
         with source_of(arguments) as compiled:
             if compiled.digest != notes[0].source:
-                raise Failed(f"the answers were made of another source (program, list, rule files, driver or requests): {notes[0].source}", False)
-    print(f"{plan.parts} parts and their answers are as they were checked, {plan.total} households, of the source {notes[0].source}")
+                raise Failed(f"the answers were made of another source (program, list, rule files, driver, requests or code file): {notes[0].source}", False)
+    print("all parts and their answers are as they were checked")
+    tell(folder, plan, notes)
 
 
 def pipe(arguments):
     header = looked_at(arguments.header.encode("utf-8", "surrogateescape"))
     with source_of(arguments) as compiled:
-        if arguments.of not in (None, compiled.digest):
-            raise Failed("the source is another one than --of says", False)
         passed = 0
         for part, _ in parts_of(header, records.records(source.standard_input(), FILE_BYTES, False), ROWS):
             with tempfile.NamedTemporaryFile(suffix=".csv") as table, tempfile.NamedTemporaryFile() as out:
@@ -266,13 +321,24 @@ def pipe(arguments):
                 except Failed as fault:
                     place = f"records {passed + 1} to {passed + len(part)} of the input, below the header as line 1"
                     raise Failed(f"{place}: {str(fault).replace(table.name, 'them')}") from fault
-                file_digest(out.name, sys.stdout.buffer)
+                file_digest(out.name, sys.stdout.buffer, compiled.form == "csv")
                 passed += len(part)
 
 
 def tell_source(arguments):
+    """The digest of a source; with --code that of the code file, which is written."""
     with source_of(arguments) as compiled:
-        print(compiled.digest)
+        if arguments.code is None:
+            print(compiled.digest)
+            return
+        with tempfile.TemporaryDirectory(prefix="scale-") as room, unfinished(arguments.code) as (out, made):
+            status = runs.Source.said(compiled, out, "compile")
+            if status != 0:
+                with open(made, "rb") as told:
+                    raise Failed(compiled.told(runs.fault_of(told.read(8192), status)), False)
+            os.fsync(out.fileno())
+            print(runs.CodeFile(made, room).digest)
+            os.replace(made, arguments.code)
 
 
 # ---- words
@@ -296,17 +362,29 @@ def reading():
     form["cut"].add_argument("--once", action="store_true")
     form["one"].add_argument("number", type=number)
     form["pipe"].add_argument("header")
-    form["pipe"].add_argument("--of")
+    for name in ("one", "run", "pipe", "source", "verify"):
+        form[name].add_argument("source", nargs="*" if name == "verify" else "+")
+    form["source"].add_argument("--code", metavar="FILE")
     for name in ("one", "run", "pipe", "source"):
-        for word in ("list", "driver", "requests"):
-            form[name].add_argument(word)
-    for word in ("list", "driver", "requests"):
-        form["verify"].add_argument(word, nargs="?")
+        form[name].add_argument("--csv", action="store_true")
     for name in ("one", "run", "pipe"):
+        form[name].add_argument("--of", metavar="DIGEST")
         form[name].add_argument("--timeout", type=number, choices=range(1, 1 << 30), metavar="SECONDS")
+    form["join"].add_argument("--csv", action="store_true")
+    form["join"].add_argument("--only", metavar="NAMES")
     form["run"].add_argument("--jobs", type=number, choices=range(1, 1025), metavar="N")
     form["run"].add_argument("--memory", type=number, choices=range(1, 1 << 30), metavar="MB")
     return parser
+
+
+def are_right(arguments):
+    """Whether the words go together: a source is a code file or a list, a driver and requests; a code file is made of these, and columns are those of csv."""
+    words = getattr(arguments, "source", None)
+    if words is not None and len(words) not in ((0, 1, 3) if arguments.command == "verify" else (1, 3)):
+        return False
+    if arguments.command == "source" and arguments.code is not None:
+        return len(words) == 3 and not arguments.csv
+    return arguments.command != "join" or arguments.only is None or arguments.csv
 
 
 COMMANDS = {"cut": cut, "list": list_parts, "one": one, "run": run, "join": join, "verify": verify, "drop": drop, "pipe": pipe, "source": tell_source}
@@ -317,8 +395,8 @@ def main(words):
         print(__doc__, end="")
         return 0
     arguments = reading().parse_args(words)
-    if arguments.command == "verify" and arguments.list is not None and arguments.requests is None:
-        print("scale: verify has FOLDER alone, or FOLDER LIST DRIVER REQUESTS; see --help", file=sys.stderr)
+    if not are_right(arguments):
+        print(f"scale: these words don't go together after {arguments.command}; see --help", file=sys.stderr)
         return 2
     try:
         COMMANDS[arguments.command](arguments)

@@ -1,6 +1,6 @@
 """Tells what the language permits and an analyst never means.
 
-    slips [--driver FILE] LIST..
+    slips [--driver FILE] [--lang en|fr] LIST..
 
 A line for each slip, with its place:
 
@@ -40,6 +40,7 @@ from .. import drivers, items, slips_of_use, source
 from ..limits import AMOUNT
 from ..loops import instances, reads_of, replaced, whole
 from ..source import Refused
+from ..texts import language_of, said
 
 
 
@@ -97,7 +98,7 @@ class Base:
             reader, faults = items.read(file.bytes, file.tokens)
             self.readers.append((file, reader))
             if faults:
-                raise Refused(f"{file.place(faults[0].byte)}: {faults[0].what}; tools/explain --all says more")
+                raise Refused(said("slips.more", fault=f"{file.place(faults[0].byte)}: {faults[0].what}"))
             for formula in reader.formulas:
                 if self.source.application in formula.applications and not formula.is_chained:
                     self.look_at_target(formula)
@@ -114,7 +115,6 @@ class Base:
 
     def look_at(self, file, term, headers):
         for word, index, byte, round_it in reads_of(term, headers):
-            place = file.place(byte)
             words = None if index is None else words_of(index)
             for letters in instances(round_it, [word, *(words or [])]):
                 name = replaced(word, letters)
@@ -122,8 +122,8 @@ class Base:
                 size = self.sizes.get(name)
                 self.read.update(cells_read(name, size, index, letters))
                 if number is not None and size is not None and not -1 < number < size:
-                    what = "is undefined" if number > 0 else "is 0"
-                    self.past.append(f"{place}: {name}[{int(number)}] is past the table, which has {size} cells, and {what}")
+                    told = said("slips.past" if number > 0 else "slips.below", cell=f"{name}[{int(number)}]", size=size)
+                    self.past.append(f"{file.place(byte)}: {told}")
                     break
 
 
@@ -139,10 +139,10 @@ def slips_of_names(base, set_by_driver, driver):
         undefined += sum(cell in base.read for cell in bare)
         idle = [k for name, k in bare if k is not None and (name, k) not in base.read]
         if idle and (len(bare) < len(cells) or len(idle) < len(bare)):
-            shown = ", ".join(f"{variable.name}[{k}]" for k in idle[:5])
-            yield f"{variable.place}: nothing sets {shown}{' ..' if len(idle) > 5 else ''}, {len(idle)} of {variable.size} cells"
+            shown = ", ".join(f"{variable.name}[{k}]" for k in idle[:5]) + (" .." if len(idle) > 5 else "")
+            yield f"{variable.place}: {said('slips.cells', cells=shown, count=len(idle), size=variable.size)}"
     if undefined:
-        yield f"{base.list_name}: variables or cells that are read and never set: {undefined}; m_tax lint {base.list_name} {driver} - names them"
+        yield f"{base.list_name}: {said('slips.unset', count=undefined, list=base.list_name, driver=driver)}"
 
 
 def slips_of_driver(name, driver, bases):
@@ -151,17 +151,17 @@ def slips_of_driver(name, driver, bases):
     for attribute, values, line, _ in driver.kinds:
         numbers = {decimal.Decimal(value) for value in values}
         if not any(attribute in variable.numbers and decimal.Decimal(variable.numbers[attribute]) in numbers for variable in inputs):
-            yield f"{name} line {line}: no input has {attribute} = {', '.join(values)}"
+            yield f"{name} line {line}: {said('slips.kind', attribute=attribute, values=', '.join(values))}"
 
 
 def slips_of_bytes(name, content):
     """A mark at the front, and carriage returns that end no line."""
     if content.startswith(source.MARK):
-        yield f"{name} line 1 byte 0: a byte order mark, which the program refuses here: save the file as UTF-8 without one"
+        yield f"{name} line 1 byte 0: {said('slips.mark')}"
     alone = re.search(rb"\r(?!\n)", content)
     if alone:
         number = content.count(b"\n", 0, alone.start()) + 1
-        yield f"{name} line {number} byte {alone.start()}: a carriage return alone, which ends no line: a comment or a name goes on after it"
+        yield f"{name} line {number} byte {alone.start()}: {said('slips.return')}"
 
 
 def slips_of_folder(list_name, names):
@@ -173,14 +173,14 @@ def slips_of_folder(list_name, names):
         beside = os.path.dirname(folder) == os.path.dirname(own) or os.path.exists(os.path.join(own, base))
         if folder != own and beside and folder not in told and not folder.startswith(own + os.sep):
             told.add(folder)
-            yield f"{list_name}: its files are those of {os.path.dirname(name) or '.'}, as {name}, and not those beside the list"
+            yield f"{list_name}: {said('slips.folder', folder=os.path.dirname(name) or '.', name=name)}"
 
 
 def read_driver(name, content):
     """A driver without faults."""
     driver = drivers.Driver(content.removeprefix(source.MARK))
     if driver.faults:
-        raise Refused(f"{name} line {driver.faults[0].line}: {driver.faults[0].what}; tools/explain --all says more")
+        raise Refused(said("slips.more", fault=f"{name} line {driver.faults[0].line}: {driver.faults[0].what}"))
     return driver
 
 
@@ -196,10 +196,10 @@ def slips(lists, names):
     for base in bases:
         yield from slips_of_folder(base.list_name, [file.name for file in base.source.files])
         if not any("restituee" in variable.words for variable in base.source.variables):
-            yield f"{base.list_name}: no variable has restituee"
+            yield f"{base.list_name}: {said('slips.none_returned')}"
         application = base.source.application
         if not any(rule.kind == "regle" and not rule.is_chained and application in dict(rule.applications) for rule in base.source.rules):
-            yield f"{base.list_name}: no rule is of the application {application}"
+            yield f"{base.list_name}: {said('slips.no_rule', application=application)}"
     yield from slips_of_files(bases)
     for base in bases:
         yield from slips_of_names(base, set_by_driver, names[0] if len(names) == 1 else "-")
@@ -227,8 +227,8 @@ def slips_of_uses(bases, named_drivers):
         file.errors = reader.errors
     read = {name for base in bases for name, _ in base.read}
     used = {check.error for _, reader in readers for check in reader.checks}
-    received = {name for driver in named_drivers.values() for _, said in driver.said if said and said[0] in ("call", "set")
-                for name, _ in (said[1] if said[0] == "call" else [said[1]])}
+    received = {name for driver in named_drivers.values() for _, command in driver.said if command and command[0] in ("call", "set")
+                for name, _ in (command[1] if command[0] == "call" else [command[1]])}
     in_drivers = {name for driver in named_drivers.values() for name, _, _ in driver.cells}
     yield from slips_of_use.slips_of_idle(files, read, used, in_drivers)
     done = {cell for base in bases for cell in base.set} | {cell for driver in named_drivers.values() for cell in driver.set}
@@ -245,17 +245,17 @@ def slips_of_files(bases):
         for variable in file.variables:
             for word, place in variable.numbered:
                 if word == "restituee":
-                    yield f"{place}: restituee = .. returns nothing, of {variable.name}"
+                    yield f"{place}: {said('slips.numbered', name=variable.name)}"
         for rule in file.rules:
             for application, place in rule.applications:
                 if application not in known:
                     strange.setdefault(application, []).append(place)
     for application, places in strange.items():
-        yield f"{places[0]}: application {application} is of no list that is given; rules and verifications: {len(places)}"
+        yield f"{places[0]}: {said('slips.application', application=application, count=len(places))}"
 
 
 def main(words):
-    lists, named_drivers = [], []
+    words, lists, named_drivers = language_of(words), [], []
     if "--help" in words:
         print(__doc__, end="")
         return 0
@@ -269,7 +269,7 @@ def main(words):
         else:
             lists.append(word)
     if not lists:
-        print("slips: words: slips [--driver FILE] LIST..; see --help", file=sys.stderr)
+        print(f"slips: {said('slips.words')}", file=sys.stderr)
         return 2
     try:
         found = list(dict.fromkeys(slips(lists, named_drivers)))

@@ -3,6 +3,8 @@
     why LIST HOUSEHOLD NAME [--depth N] [--only-nonzero] [--against OTHER] [--html FILE [--open]] [--report]
     why LIST HOUSEHOLD NAME --driver DRIVER [--depth N] [--only-nonzero]
 
+both with [--lang en|fr].
+
 NAME is a variable, or a cell of a table as T[3]. The values are what the program computes at one call of the rules, without a driver, and `check` looks at
 the report of them before anything is shown. For each value it shows what the declaration says of it, the formula as the rule file has it, and
 its file, line and rule. A value that was shown above is named again without what stands below it. --depth shows so many levels, --only-nonzero leaves
@@ -27,18 +29,17 @@ import tempfile
 
 sys.dont_write_bytecode = True
 from .. import reasons, runs, source
-from ..copies import Copies, Stopped, Wrong
+from ..copies import Copies, Stopped
 from ..driver_trace import Driver, Trace, cells_of, last
+from ..endings import Wrong, ended
 from ..loops import reads_of
-from ..taken import told
+from ..texts import FRENCH, Language, language_of, said
+from ..why_trees import Tree
 
 STYLE = """body{font:15px/1.5 sans-serif;max-width:62em;margin:2em auto;padding:0 1em;color:#222}details,.leaf{margin:.15em 0 .15em 1.2em}
 summary{cursor:pointer}.leaf{padding-left:1em}b{font-family:monospace}.said{color:#555}code{background:#f2f2f2;padding:0 .3em}\
 .place{color:#777;font-size:90%}
 @media print{details::details-content{content-visibility:visible;block-size:auto}details:not([open])>*{display:block}}"""
-
-
-WORDS = "words: why LIST HOUSEHOLD NAME [--depth N] [--only-nonzero] [--against OTHER] [--html FILE [--open]] [--report], or --driver DRIVER; see --help"
 
 
 def options(words):
@@ -51,15 +52,15 @@ def options(words):
         elif word in found and words:
             found[word] = words.pop(0)
         elif word.startswith("--"):
-            raise Wrong(WORDS, 2)
+            raise Wrong(said("why.words"), 2)
         else:
             told_words.append(word)
     if len(told_words) != 3 or re.search(r"\s", told_words[2]):
-        raise Wrong(WORDS, 2)
+        raise Wrong(said("why.words"), 2)
     if found["--depth"] is not None and not re.fullmatch("[1-9][0-9]{0,5}", found["--depth"]):
-        raise Wrong(f"--depth wants a number from 1 on, and not {found['--depth']}", 2)
+        raise Wrong(said("why.depth", text=found["--depth"]), 2)
     if found["--driver"] is not None and (found["--html"] or found["--against"] or found["--report"]):
-        raise Wrong("--driver shows a tree alone, and neither a page, a report nor what differs", 2)
+        raise Wrong(said("why.tree_alone"), 2)
     return told_words, found
 
 
@@ -92,21 +93,22 @@ def report(rules, household, name):
         except Stopped as stopped:
             stop, lines = stopped, copies.reported(name)
         path = copies.put("report.txt", "".join(f"{cell} {value}\n" for cell, value in lines.items()).encode("latin-1"))
-        said, status = copies.ask("check", copies.list, copies.household, path)
-        if (said, status) != (b"sound\n", 0):
-            raise Wrong(f"check of the report says {runs.fault_of(said, status)}")
+        answer, status = copies.ask("check", copies.list, copies.household, path)
+        if (answer, status) != (b"sound\n", 0):
+            raise Wrong(said("why.unsound", what=runs.fault_of(answer, status)))
         return lines, stop and told_stop(rules, copies, stop)
 
 
 def told_stop(rules, copies, stop):
     """The lines that say which verification stops the call, with its condition and the values that it reads."""
-    lines = [f"stopped, so a run has no values: {stop}"]
+    lines = [said("why.stopped", stop=stop)]
     words = stop.line.split(" ")
     number, error = (words[1], words[2]) if words[0] == "failed" else (words[2], words[3])
     for file, check, written in rules.checks:
         if check.error != error or rule_number(written, check.byte) != number:
             continue
-        lines.append(f"    {written.formula(check.byte)}   ({file.name} line {file.lines.number(check.byte)}, verif {number})")
+        place = said("why.verif", file=file.name, line=file.lines.number(check.byte), number=number)
+        lines.append(f"    {written.formula(check.byte)}   ({place})")
         for word, index, _, _ in reads_of(check.condition, []):
             cells = [word] if index is None else [f"{word}[{k}]" for k in range(rules.sizes.get(word, 0))]
             lines += [f"  {cell} {value}" for cell in cells if not cell.isdigit() and (value := copies.value_unstopped(cell)) is not None]
@@ -120,53 +122,10 @@ def rule_number(written, byte):
     return next((token.text for token in before[at:] if token.kind == "number"), "")
 
 
-class Tree:
-    """What is shown: each value, and what its formula reads."""
-
-    def __init__(self, rules, lines, found, others=None):
-        self.rules, self.lines, self.nonzero, self.others = rules, lines, found["--only-nonzero"], others
-        self.depth = None if found["--depth"] is None else int(found["--depth"])
-        self.shown = set()
-
-    def below(self, cell):
-        """The cells that a value was computed from, as far as they are shown."""
-        formula = self.rules.formulas.get(cell)
-        read = [] if formula is None else [other for other in formula.reads(self.rules.sizes) if other in self.lines]
-        read = [other for other in read if self.others is None or self.others.get(other) != self.lines[other]]
-        return [other for other in read if not self.nonzero or self.lines[other] not in ("undefined", "= 0")]
-
-    def walk(self, root):
-        """The values in their order, each with its level: how deep it stands, whether it was shown above, and how many stand right below it."""
-        left = [(root, 0)]
-        while left:
-            cell, level = left.pop()
-            again = cell in self.shown
-            self.shown.add(cell)
-            under = [] if again or self.depth is not None and level + 1 >= self.depth else self.below(cell)
-            yield cell, level, again, len(under)
-            left += [(other, level + 1) for other in reversed(under)]
-
-    def said(self, cell, again):
-        """The parts of a line: the value, the description, the formula, the place."""
-        formula, what = self.rules.formulas.get(cell), self.rules.description(cell)
-        value = f"{cell} {self.lines[cell]}"
-        if self.others is not None:
-            value += f" (there {self.others.get(cell, 'nothing').removeprefix('= ')})"
-        if again:
-            return value, "as above", "", ""
-        if formula is None:
-            return value, what, "", self.rules.role(cell)
-        taken = told(formula, self.lines, self.rules.sizes, cell)
-        return value, what, formula.text, formula.place() + (f"; taken: {', '.join(taken)}" if taken else "")
-
-
-def as_text(tree, root):
-    """The tree as lines."""
-    for cell, level, again, _ in tree.walk(root):
-        value, what, formula, place = tree.said(cell, again)
-        yield "  " * level + "   ".join(part for part in (value, what) if part)
-        if formula or place:
-            yield "  " * level + "    " + "   ".join(part for part in (formula, f"({place})") if part)
+def tree_of(rules, root, lines, found, others=None):
+    """The tree of a value, as the options ask for it."""
+    depth = None if found["--depth"] is None else int(found["--depth"])
+    return Tree(rules, root, lines, depth, found["--only-nonzero"], others, is_told_taken=True)
 
 
 class Steps:
@@ -180,7 +139,7 @@ class Steps:
         body, head = self.trace.follow(main.block, [], None, "")
         real = self.trace.copies.values([self.name])[self.name]
         if self.trace.values(body, [self.name])[self.name] != real:
-            raise Wrong(f"the commands that were followed come to another value of {self.name} than the driver's run, {real}")
+            raise Wrong(said("why.other_value", name=self.name, value=real))
         yield from self.of(self.name, last(self.name, head), body, 0)
 
     def of(self, cell, event, body, level):
@@ -193,11 +152,12 @@ class Steps:
             yield f"{indent}{head}"
             yield f"{indent}    ({self.trace.rules.role(cell)})"
             return
-        yield f"{indent}{head}" if key not in self.shown else f"{indent}{cell} {value}   as above"
+        yield f"{indent}{head}" if key not in self.shown else f"{indent}{cell} {value}   {said('why.above')}"
         if key in self.shown:
             return
         self.shown.add(key)
-        yield f"{indent}    {event.command.text}   ({self.driver} line {event.command.number}{event.where})"
+        place = said("why.command", driver=self.driver, line=event.command.number, where=event.where)
+        yield f"{indent}    {event.command.text}   ({place})"
         kind = event.command.said[0]
         if kind == "set":
             for other in cells_of(event.command):
@@ -216,7 +176,7 @@ class Steps:
         body = [*event.before, f"  {', '.join(received)} <- call_m()"] if received else event.before
         lines = self.trace.values(body, cells)
         self.look_at(cells, lines, event)
-        yield from as_text(Tree(rules, lines, self.found), cell)
+        yield from tree_of(rules, cell, lines, self.found).text()
 
     def look_at(self, cells, lines, event):
         """Has `check` look at the values, where those that no rule sets are of inputs and constants alone."""
@@ -225,38 +185,26 @@ class Steps:
         other = [cell for cell in cells if cell not in rules.formulas and last(cell, event.history) is not None
                  and rules.variables[cell.split("[")[0]].kind == "calculee"]
         if other or any(value == "over" for _, value in given):
-            source.say(f"the values at line {event.command.number} are not looked at by check: the driver sets {', '.join(other) or 'an input'} before")
+            source.say(said("why.unseen", line=event.command.number, what=", ".join(other) or said("why.an_input")))
             return
         household = "code,amount\n" + "".join(f"{code},{value[2:]}\n" for code, value in given if value.startswith("= "))
         path = copies.put("there.csv", household.encode("latin-1"))
         report_path = copies.put("report.txt", "".join(f"{cell} {value}\n" for cell, value in lines.items()).encode("latin-1"))
-        said, status = copies.ask("check", copies.list, path, report_path)
-        if (said, status) != (b"sound\n", 0):
-            raise Wrong(f"check of the report at line {event.command.number} says {runs.fault_of(said, status)}")
+        answer, status = copies.ask("check", copies.list, path, report_path)
+        if (answer, status) != (b"sound\n", 0):
+            raise Wrong(said("why.unsound_there", line=event.command.number, what=runs.fault_of(answer, status)))
 
 
-def as_page(tree, root, words, is_open, stop):
+def as_page(tree, words, is_open, stop):
     """The tree as a page."""
-    title = html.escape(f"{root} {tree.lines[root]}")
-    yield f'<!doctype html><html><head><meta charset="utf-8"><title>{title}</title><style>{STYLE}</style></head><body><h1>{title}</h1>'
-    yield f"<p>Why, by the rules of {html.escape(words[0])} for the household {html.escape(words[1])}. The report was checked line by line.</p>"
+    title, language = html.escape(f"{tree.root} {tree.lines[tree.root]}"), ' lang="fr"' if Language.name == FRENCH else ""
+    yield f'<!doctype html><html{language}><head><meta charset="utf-8"><title>{title}</title><style>{STYLE}</style></head><body><h1>{title}</h1>'
+    yield f"<p>{html.escape(said('why.page', list=words[0], household=words[1]))}</p>"
     if stop:
         yield f"<pre>{html.escape(chr(10).join(stop))}</pre>"
-    open_levels = []
-    for cell, level, again, under in tree.walk(root):
-        while len(open_levels) > level:
-            open_levels.pop()
-            yield "</details>"
-        value, what, formula, place = (html.escape(part) for part in tree.said(cell, again))
-        line = f'<b>{value}</b> <span class="said">{what}</span>'
-        line += f" <code>{formula}</code>" if formula else ""
-        line += f' <span class="place">{place}</span>' if place else ""
-        if under:
-            yield f'<details{" open" if is_open or level < 2 else ""}><summary>{line}</summary>'
-            open_levels.append(level)
-        else:
-            yield f'<div class="leaf">{line}</div>'
-    yield "</details>" * len(open_levels) + "</body></html>"
+    *pieces, end = tree.html(is_open)
+    yield from pieces
+    yield end + "</body></html>"
 
 
 def write_page(path, lines):
@@ -279,9 +227,9 @@ def write_page(path, lines):
 def look_at_page(page, read):
     """Refuses a page that is no plain file, or one of those that are read."""
     if os.path.exists(page) and not os.path.isfile(page) and not os.path.isdir(page):
-        raise Wrong(f"{page} is no plain file", 4)
+        raise Wrong(said("why.no_plain", page=page), 4)
     if any(os.path.exists(page) and os.path.exists(name) and os.path.samefile(page, name) for name in read):
-        raise Wrong(f"{page} is read, and would be lost", 2)
+        raise Wrong(said("why.is_read", page=page), 2)
 
 
 def show_driver(rules, words, found):
@@ -308,29 +256,19 @@ def show(words, found):
         look_at_page(page, [*words[:2], *([against] if against else []), *(name for name, _ in rules.contents)])
     lines, stop = report(rules, *words[1:])
     others = report(rules, against, words[2])[0] if against else None
-    tree = Tree(rules, lines, found, others)
+    tree = tree_of(rules, words[2], lines, found, others)
     if found["--report"]:
         for cell, value in lines.items():
             print(cell, value)
         return 0
     if page is not None:
-        write_page(page, as_page(tree, words[2], words, found["--open"], stop))
+        write_page(page, as_page(tree, words, found["--open"], stop))
         return 1 if stop else 0
-    for line in [*(stop or []), *as_text(tree, words[2])]:
+    for line in [*(stop or []), *tree.text()]:
         print(line)
     return 1 if stop else 0
 
 
 def main(words):
-    if "--help" in words:
-        print(__doc__, end="")
-        return 0
-    try:
-        words, found = options(words)
-        return show(words, found)
-    except Wrong as wrong:
-        print(f"why: {wrong}", file=sys.stderr)
-        return wrong.status
-    except source.Refused as refused:
-        print(f"why: {refused}", file=sys.stderr)
-        return 3
+    """The command: see above."""
+    return ended(words, __doc__, lambda words: show(*options(language_of(words))))
