@@ -49,6 +49,7 @@ class Compared(Changed):
         self.assertEqual((made.cost, made.winners, made.losers), (Decimal(625), Decimal("4.5"), 0))
         whole = made.all
         self.assertEqual((whole.households, whole.stopped, whole.undefined, whole.over, whole.apart), (5, 1, 0, 0, 1))
+        self.assertEqual((whole.weight, whole.apart_weight), (6_500_000, 4_000_000))
         self.assertEqual((whole.before, whole.after, whole.unchanged), (2275_000_000, 1650_000_000, 2_000_000))
 
     def test_groups(self):
