@@ -1,9 +1,9 @@
 #!/usr/bin/env python3
 """Computes those parts of a table that have no answer yet on a cluster of Dask: dask_parts.py SCHEDULER FOLDER CODE DIGEST
 
-SCHEDULER is the address of a scheduler, as tcp://10.0.0.1:8786. FOLDER is what `tools/scale cut` made; CODE is the file that `tools/scale source .. --code CODE`
-wrote, and DIGEST what it told. They stand on a disk that all machines see, as this repository does, or the file that the variable SCALE names in place of its
-tools/scale. What a lost worker had begun is computed by another one. After a failure the same words compute what is left.
+SCHEDULER is the address of a scheduler, as tcp://10.0.0.1:8786. FOLDER is what `tools/scale cut` made; CODE is the file that `tools/scale source .. --code
+CODE` wrote, and DIGEST what it told. They stand on a disk that all machines see, as this repository does, or the file that the variable SCALE names in place of
+its tools/scale. What a lost worker had begun is computed by another one. After a failure the same words compute what is left.
 """
 import os
 import subprocess

@@ -78,7 +78,9 @@ class Frames(Room):
         self.same(kept, self.rules.batch(self.whole, keep=["weight"], stops="keep"))
 
     def test_what_is_refused(self):
-        """A column at once, and a cell where it is computed."""
+        """A frame of pandas and a column at once, and a cell where it is computed."""
+        with self.assertRaisesRegex(TypeError, "batch takes one of pandas"):
+            self.rules.map(self.whole)
         with self.assertRaisesRegex(Refused, 'column "weight" is no code of the rules'):
             self.rules.map(self.frame)
         self.whole.loc["h57", "1BB"] = 2

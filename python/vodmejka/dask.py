@@ -14,6 +14,8 @@ if TYPE_CHECKING:
 
 def mapped(rules: Rules, frame: Any, words: dict[str, Any], meta: Any) -> Any:
     """A frame of Dask with what the households of another one are told. The rules are one task of its own, which each worker gets once."""
+    if not hasattr(frame, "map_partitions"):
+        raise TypeError(f"map takes a frame of Dask, and not {type(frame).__name__}: batch takes one of pandas")
     from dask.delayed import delayed
 
     empty = rules.batch(frame._meta.iloc[:0], **words)

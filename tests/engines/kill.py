@@ -1,9 +1,10 @@
-"""Kills a worker in the middle of its work by SIGKILL: kill.py FOLDER [above WORD | within NAMESPACE]
+"""Kills a worker in the middle of its work by SIGKILL: kill.py FOLDER [above WORD | from WORD | within NAMESPACE]
 
 It waits until a part of FOLDER has its answer and another one is begun. The worker is the process of `scale one` of that part; with `above` the nearest process
-above it that has WORD among its words, instead; with `within` all processes of a network namespace, of which that worker is one. The file `killed` in the
-working folder has the number of the part.
+above it that has WORD among its words, instead; with `from` that one and all below it; with `within` all processes of a network
+namespace, if that worker is one. The file `killed` in the working folder has the number of the part.
 """
+import contextlib
 import os
 import re
 import signal
@@ -49,11 +50,20 @@ def above(pid, word):
     return None
 
 
+def below(pid):
+    """All processes below one."""
+    parents = {int(one): parent_of(one) for one in filter(str.isdigit, os.listdir("/proc"))}
+    found = [pid]
+    for one in found:
+        found += [child for child, parent in parents.items() if parent == one]
+    return found[1:]
+
+
 def victims(worker, way):
     """The processes that are killed, if there are any."""
-    if way[:1] == ["above"]:
+    if way[:1] in (["above"], ["from"]):
         found = above(worker, way[1])
-        return [] if found is None else [found]
+        return [] if found is None else [found, *(below(found) if way[0] == "from" else [])]
     if way[:1] == ["within"]:
         told = subprocess.run(["ip", "netns", "pids", way[1]], stdout=subprocess.PIPE, check=True, text=True).stdout
         found = [int(pid) for pid in told.split()]
@@ -71,11 +81,12 @@ def main():
             worker = worker_of(folder, str(int(number)))
             killed = victims(worker, way) if worker else []
             for pid in killed:
-                os.kill(pid, signal.SIGKILL)
+                with contextlib.suppress(ProcessLookupError):
+                    os.kill(pid, signal.SIGKILL)
             if killed and not os.path.exists(os.path.join(folder, f"part-{number}.out")):
                 with open("killed", "w", encoding="ascii") as out:
                     out.write(number)
-                print(f"engines: killed in part {int(number)}: {len(killed)} of its processes" if len(killed) > 1 else f"engines: killed in part {int(number)}", flush=True)
+                print(f"engines: killed in part {int(number)}, {len(killed)} process{'' if len(killed) == 1 else 'es'}", flush=True)
                 return 0
         time.sleep(0.01)
     print("engines: no worker was met in the middle", flush=True)

@@ -7,7 +7,8 @@ mkdir state spool munge
 chmod 755 . munge
 export SLURM_CONF="$here/slurm.conf"
 node=$(hostname -s)
-set -- $(python3 -c 'import socket; two = [socket.socket() for _ in range(2)]; [one.bind(("127.0.0.1", 0)) for one in two]; print(*(one.getsockname()[1] for one in two))')
+ports='import socket; two = [socket.socket() for _ in range(2)]; [one.bind(("127.0.0.1", 0)) for one in two]; print(*(one.getsockname()[1] for one in two))'
+set -- $(python3 -c "$ports")
 cat >slurm.conf <<C
 ClusterName=engines
 SlurmctldHost=$node(127.0.0.1)
@@ -58,7 +59,7 @@ refuses submit
 rm away/*
 : >begun
 submit "$DIGEST" >log &
-killed above slurm_script
+killed from slurm_script
 if wait $!; then says "joined without a part"; exit 1; fi
 grep -q 'parts have no answer, the first is' away/slurm-*.out || { says "the join doesn't say which part is left"; cat log away/*; exit 1; }
 submit "$DIGEST" >log || { says "not joined"; cat log away/*; exit 1; }

@@ -12,8 +12,9 @@ def rows(count):
     for k in range(count):
         label = ODD[k // 7] if k % 7 == 3 and k // 7 < len(ODD) else b"h%d" % k
         couple, alone = k % 2, k % 31 == 8 or k % 37 == 9
-        wages = (k * 7919) % 60000 if k % 97 else -5
-        yield b"%s,%d,%d,%d,%d,%d,%s,,%d,%s\n" % (label, couple, alone, k % 4, wages, couple * (k * 104729 % 50000), b"" if k % 8 else b"%d.5" % (k % 3000), k % 500, b"" if k % 5 else b"%d" % (k % 900))
+        wages, others = (k * 7919) % 60000 if k % 97 else -5, couple * (k * 104729 % 50000)
+        pension, gifts = b"" if k % 8 else b"%d.5" % (k % 3000), b"" if k % 5 else b"%d" % (k % 900)
+        yield b"%s,%d,%d,%d,%d,%d,%s,,%d,%s\n" % (label, couple, alone, k % 4, wages, others, pension, k % 500, gifts)
 
 
 def main():
