@@ -23,7 +23,7 @@ from household import Household
 from verifications import answer
 
 HERE = "examples/impot2023"
-PROGRAM = os.environ.get("M_TAX", "out/m_tax")
+PROGRAMS = {"M_TAX": os.environ.get("M_TAX", "out/m_tax"), "M_SURVEY": os.environ.get("M_SURVEY", "out/m_survey")}
 PART = 50_000  # households of one batch: a table has at most 100,000 rows and 16,777,216 bytes
 
 
@@ -32,12 +32,14 @@ def fields(household):
     return ["" if household[code] == 0 else spelled(household[code]) for code in CODES]
 
 
-def started(*words):
+def started(*words, named_by="M_TAX"):
+    """What a program prints, and its status."""
+    program = PROGRAMS[named_by]
     try:
-        run = subprocess.run([PROGRAM, *words], capture_output=True, check=False)
+        run = subprocess.run([program, *words], capture_output=True, check=False)
     except OSError as fault:
-        why = f"{PROGRAM} can't be started ({fault.strerror})"
-        print(f"check: {why}: ./build makes it, at the top of the repository; or name a program by M_TAX", file=sys.stderr)
+        why = f"{program} can't be started ({fault.strerror})"
+        print(f"check: {why}: ./build makes it, at the top of the repository; or name a program by {named_by}", file=sys.stderr)
         sys.exit(2)
     return run.stdout.decode("latin-1"), run.returncode
 

@@ -408,9 +408,10 @@ class Facts:
         return words[2:] if in_order else None
 
     def may_be_silent(self, lines):
-        """Whether these lines may be those of verifications that never stop: all that are due, in order."""
+        """Whether these lines may be those of verifications that never stop: all that are due, in order. Due are those of which no condition may hold."""
         checks = [b"never stops " + label.verification + b" " + label.error for _, label in self.compiled.base.checks]
-        due = [line for line, silent in zip(checks, self.runs.silent) if silent and self.runs.plain]
+        may_stop = {line for line, silent in zip(checks, self.runs.silent) if not silent}
+        due = [line for line in checks if line not in may_stop and self.runs.plain]
         return stands_in_order(lines, checks) and stands_in_order(due, lines)
 
     def household(self, draw):
