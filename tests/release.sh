@@ -172,7 +172,7 @@ else
         passed=$((passed + 1))
         says "README's household" "$answer" within "$household"
         says "man m_tax" "m_tax - computes the French income tax from rules written in M" within "man m_tax | sed -n '/^NAME/{n; s/^ *//p}'"
-        says "man m_survey" "m_survey - computes tables of households from tax rules written in M, as csv" within "man m_survey | sed -n '/^NAME/{n; s/^ *//p}'"
+        says "man m_survey" "m_survey - computes tables of households from tax rules written in M, and says what holds for all of them" within "MANWIDTH=200 man m_survey | sed -n '/^NAME/{n; s/^ *//p}' | tr -s ' '"
         says "man in French" "m_tax - calcule l'impôt sur le revenu à partir de règles écrites en M" within "
             man -L fr m_tax | sed -n '/^NOM/{n; s/^ *//p}'"
         says "a page of rules" "<!doctype html>" within "

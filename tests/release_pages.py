@@ -49,7 +49,8 @@ def lacks(folder: str) -> list[str]:
             continue
         start = f"import sys; sys.path.insert(0, {os.path.join(TOP, 'python')!r}); from vodmejka.commands import run; run({name!r})"
         told = subprocess.run([sys.executable, "-B", "-c", start, "--help"], capture_output=True, text=True, env=environment, check=True).stdout
-        told = told.partition("\npositional arguments:")[0].partition("]\n              BEFORE AFTER")[2] or told
+        if told.startswith("usage: "):
+            told = told.partition("\n\n")[2].partition("\npositional arguments:")[0]
         missing = words_of(told) - words_of(printed(source_of(folder, f"man1/vodmejka-{name}.1.gz")))
         made += [f"vodmejka-{name}.1: {' '.join(sorted(missing))}"] if missing else []
     return made

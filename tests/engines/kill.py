@@ -86,7 +86,7 @@ def main():
             if killed and not os.path.exists(os.path.join(folder, f"part-{number}.out")):
                 with open("killed", "w", encoding="ascii") as out:
                     out.write(number)
-                print(f"engines: killed in part {int(number)}, {len(killed)} processes", flush=True)
+                print(f"engines: killed in part {int(number)}, {len(killed)} process{'' if len(killed) == 1 else 'es'}", flush=True)
                 return 0
         time.sleep(0.01)
     print("engines: no worker was met in the middle", flush=True)
