@@ -226,7 +226,14 @@ row 1 "refused cycle AIDE SOLDE" table examples/loops/cycle.list - - examples/fi
 row 1 "refused household: bad header" table $list - - $household
 row 1 "refused code line 10: bad line" table "$dir/cut.code" examples/first/table.csv
 row 1 "refused file too long /dev/zero" table $list - - /dev/zero
-survey_usage="usage: m_survey table LIST DRIVER REQUESTS TABLE, table CODEFILE TABLE, version"
+survey_usage=$(sed -n 's/^ *b"\(usage: m_survey .*\)";$/\1/p' crates/survey_commands/src/program.rt)
+case $survey_usage in
+    *facts*)
+        row 3 "unreadable nowhere.list" facts nowhere.list - - $household
+        row 3 "unreadable nowhere.csv" facts $list - - nowhere.csv
+        row 1 "refused ranges: bad header" facts $list - - $household
+        ;;
+esac
 row 2 "$survey_usage"
 row 2 "$survey_usage" run $list - - $household
 row 2 "$survey_usage" table $list - -

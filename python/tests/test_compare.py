@@ -49,6 +49,7 @@ class Compared(Changed):
         self.assertEqual((made.cost, made.winners, made.losers), (Decimal(625), Decimal("4.5"), 0))
         whole = made.all
         self.assertEqual((whole.households, whole.stopped, whole.undefined, whole.over, whole.apart), (5, 1, 0, 0, 1))
+        self.assertEqual((whole.weight, whole.apart_weight), (6_500_000, 4_000_000))
         self.assertEqual((whole.before, whole.after, whole.unchanged), (2275_000_000, 1650_000_000, 2_000_000))
 
     def test_groups(self):
@@ -67,6 +68,18 @@ class Compared(Changed):
         self.assertEqual([group.name for group in made.groups if group.households], ["all", *(f"tenth {k} of 1AJ" for k in (1, 4, 6, 7, 8))])
         made = self.compared(by=["tenth:TAX"], keep=["region"])
         self.assertEqual([group.name for group in made.groups if group.households], ["all", *(f"tenth {k} of TAX" for k in (1, 4, 5, 6)), "no TAX"])
+
+    def test_frames(self):
+        """Cells without a number, parts and short floats are taken as `batch` takes them: 2000.5 pays 100.05 before and 0.05 after, 16777.1 1577.71 and 50 before."""
+        try:
+            import pandas
+        except ImportError:
+            self.skipTest("no pandas")
+        frame = pandas.DataFrame({"1AJ": [2000.5, float("nan"), 16777.1], "w": [1.5, 2, 1], "region": ["n", None, "n"]}).astype({"1AJ": "float32"})
+        made = compare(self.before, self.after, frame, of="TAX", weight="w", by=["region", "tenth:1AJ"])
+        self.assertEqual((made.all.before, made.all.after), (150_075_000 + 1_627_710_000, 75_000 + 1_477_710_000))
+        self.assertEqual([(group.name, group.households) for group in made.groups[1:3]], [("region n", 2), ("region None", 1)])
+        self.assertEqual(compare(self.before, self.after, pandas.DataFrame(index=[1, 2]), of="TAX").all.households, 2)
 
     def test_more_is_gain(self):
         made = self.compared(gain="more")

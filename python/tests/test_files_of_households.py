@@ -231,10 +231,10 @@ class Order(unittest.TestCase):
     def test_rows_in_order(self):
         """Equal ones stand as they came, within a part and from part to part."""
         order = Ordered()
-        parts = [[(3, "a"), (1, "b"), (3, "c")], [], [(2, "d"), (3, "e"), (1, "f")], [(10**20, "g"), (-10**20, "h")]]
+        parts = [[(3, "c"), (1, "b"), (3, "a")], [], [(2, "d"), (3, "e"), (1, "f")], [(10**20, "g"), (-10**20, "h")]]
         for part in parts:
             order.add(packed(part))
-        self.assertEqual("".join(name for _, name in order.rows()), "hbfdaceg")
+        self.assertEqual("".join(name for _, name in order.rows()), "hbfdcaeg")
         order.close()
         many = [(k * 7919 % 1000, k) for k in range(2000)]
         order = Ordered()

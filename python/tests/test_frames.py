@@ -47,7 +47,7 @@ class Floats(unittest.TestCase):
         draw = random.Random(7)
         plain = [0, -0.0, 0.1, -0.1, 0.000001, -2.5e-05, 123456.654321, 999_999_999.999999, 1e13, -1e13, 0.3, 1e9 + 0.5, float("nan"), 1e-7, 4.35, -7]
         drawn = [draw.choice((1, -1)) * draw.randrange(10**12) / 10 ** draw.randrange(8) for _ in range(300)]
-        for values, dtype in ((plain + drawn, "float64"), ([16777.1, 0.1, -3, 2.5, float("nan")], "float32"), ([5, -17, 10**13], "int64"), ([3, 200], "uint8")):
+        for values, dtype in ((plain + drawn, "float64"), ([16777.1, 1048576.1, 0.1, -3, 2.5, float("nan")], "float32"), ([5, -17, 10**13], "int64"), ([3, 200], "uint8")):
             column = pandas.Series(values, dtype=dtype)
             rows = rows_of(b"~", [column], ["1AJ"]).decode("ascii").split("\n")
             wanted = ["" if value != value else f"{decimal.Decimal(str(numpy.dtype(dtype).type(value))):f}" for value in column]
@@ -55,12 +55,17 @@ class Floats(unittest.TestCase):
             for row, text in zip(rows, wanted):
                 self.assertRegex(row, "^~,(-?[0-9]+([.][0-9]+)?)?$")
                 self.assertEqual(row[2:] and decimal.Decimal(row[2:]), text and decimal.Decimal(text))
+        for values, text in (([5, -17, 100, 0], b"~,5\n~,-17\n~,100\n~,0\n"), ([3.0, float("nan"), -2000.0], b"~,3\n~,\n~,-2000\n")):
+            self.assertEqual(rows_of(b"~", [pandas.Series(values)], ["1AJ"]), text)
         two = [pandas.Series(["1.50", None, "-3"]), pandas.Series([True, False, True])]
         self.assertEqual(rows_of(b"a", two, ["1AJ", "1BB"]), b"a,1.50,1\na,,0\na,-3,1\n")
         for values, row, why in (([1, 1e14, 1e14], 1, "100000000000000.0 is beyond"), ([1.0, 2, float("-inf")], 2, "-inf is no amount"), (["1", "1\x00"], 1, "is no amount")):
             with self.assertRaisesRegex(NoAmount, why) as caught:
                 rows_of(b"~", [pandas.Series([0] * len(values)), pandas.Series(values)], ["1BB", "1AJ"])
             self.assertEqual((caught.exception.row, str(caught.exception).partition(":")[0]), (row, "code 1AJ"))
+        with self.assertRaisesRegex(NoAmount, "code 1BB: y is no amount") as caught:
+            rows_of(b"~", [pandas.Series(["1", "1", "x"]), pandas.Series(["1", "y", "1"])], ["1AJ", "1BB"])
+        self.assertEqual(caught.exception.row, 1)
 
     def test_faults_of_amounts(self):
         for text, type_, fault in (

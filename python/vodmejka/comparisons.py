@@ -5,16 +5,21 @@ import itertools
 import operator
 from decimal import Decimal
 from fractions import Fraction
-from typing import Any, Iterable, Iterator, Mapping, NamedTuple, Sequence
+from typing import TYPE_CHECKING, Any, Iterable, Iterator, Mapping, NamedTuple, Sequence
 
 from .answers import Answer, Over
 from .bar_pictures import Picture, bars
-from .errors import Broken, Refused
+from .cells import exact as exact_amount
+from .cells import narrow
+from .errors import Broken, Refused, Stopped
 from .expressions import UNIT, Amount, Expression, millionths
 from .groups import Group, Row, gini_of, group_line, tenths, whole_parts
 from .rules import Rules
 from .shown import section, short, table
 from .sweeps import exact
+
+if TYPE_CHECKING:
+    import pandas
 
 TENTH = "tenth:"
 GAINS = ("less", "more")
@@ -33,9 +38,9 @@ class Compared(NamedTuple):
     kept: tuple[Fraction | None, Fraction | None]
     why: str
 
-    def row(self, key: Any, scale: int) -> Row:
-        """What it adds to sums, where something orders it."""
-        return key, self.weight, whole_parts(self.before, scale), whole_parts(self.after, scale), self.why
+    def row(self, scale: int) -> Row:
+        """What it adds to sums."""
+        return None, self.weight, whole_parts(self.before, scale), whole_parts(self.after, scale), self.why
 
 
 class Comparison:
@@ -132,9 +137,8 @@ def compare(
     columns = [name for name in ([weight] if weight is not None else []) + list(by) if not name.startswith(TENTH)]
     made = list(compared(before, after, codes, rows_of(households, columns, keep, codes), sums, weight, by))
     sign, scale = sign_of(gain), sums[0].scale
-    whole = Group("all", sign, scale)
-    whole.add(one.row(None, scale) for one in made)
-    groups = [whole, *itertools.chain.from_iterable(grouped(made, by, sign, scale))]
+    entries = [one.row(scale) for one in made]
+    groups = [group_of_rows("all", entries, sign, scale), *itertools.chain.from_iterable(grouped(made, entries, by, sign, scale))]
     return Comparison(of, gain, net, by, groups, (before.digest, after.digest), before.program_digest, made)
 
 
@@ -154,16 +158,28 @@ def rows_of(households: Any, columns: Sequence[str], keep: Sequence[str], codes:
     """The households as mappings, of which each name is a code or a column that is asked for."""
     known = codes[0] | codes[1] | set(columns) | set(keep)
     if hasattr(households, "columns") and hasattr(households, "itertuples"):
-        names = [str(name) for name in households.columns]
-        households = (dict(zip(names, row)) for row in households.itertuples(index=False, name=None))
+        households = rows_in(households, codes[0] | codes[1])
     for number, household in enumerate(households):
-        unknown = [name for name in household if name not in known]
-        if unknown:
-            raise Refused(f"household {number}: column {unknown[0]!r} is no code of the rules: keep=[{unknown[0]!r}]?")
+        if not known.issuperset(household):
+            unknown = next(name for name in household if name not in known)
+            raise Refused(f"household {number}: column {unknown!r} is no code of the rules: keep=[{unknown!r}]?")
         missing = [name for name in columns if name not in household]
         if missing:
             raise Refused(f"household {number}: there is no column {missing[0]!r}")
         yield household
+
+
+def rows_in(frame: pandas.DataFrame, codes: set[str]) -> Iterator[dict[str, Any]]:
+    """The rows of a frame, in which the amounts of codes are as `Rules.batch` takes them."""
+    names = [str(name) for name in frame.columns]
+    columns: list[Iterable[Any]] = []
+    for at, name in enumerate(names):
+        column = frame.iloc[:, at]
+        missing, shown = column.isna().tolist(), narrow(column.dtype)
+        columns.append([None if is_missing else exact_amount(name, value, shown) for value, is_missing in zip(column, missing)] if name in codes else column)
+    if not names:
+        return iter([dict[str, Any]() for _ in range(len(frame))])
+    return (dict(zip(names, row)) for row in zip(*columns))
 
 
 def compared(
@@ -171,15 +187,19 @@ def compared(
 ) -> Iterator[Compared]:
     """The households with what they are told by both rules; they are read once, and in step."""
     own, first, second = itertools.tee(rows, 3)
+    outputs = [set(base.outputs()) for base in (before, after)]
     told = zip(before.batch(with_codes(first, codes[0])), after.batch(with_codes(second, codes[1])))
     for number, (household, answers) in enumerate(zip(own, told)):
-        groups = tuple(group_of(name, household, answers[0], number) for name in by)
+        groups = tuple(group_of(name, household, answers[0], outputs[0]) for name in by)
         weighed = UNIT if weight is None else weight_of(number, weight, household[weight])
-        why = next((reason for reason in (reason_of(sums, household, answer) for answer in answers) if reason), "")
-        none: list[Fraction | None] = [None, None]
-        values = [none if why else [value_of(sum_, household, answer) for answer in answers] for sum_ in sums]
-        kept = values[1] if len(values) > 1 else none
-        yield Compared(number, weighed, groups, values[0][0], values[0][1], (kept[0], kept[1]), why)
+        values = [values_of(sums, household, answer, names) for answer, names in zip(answers, outputs)]
+        why = reason_of(values[0]) or reason_of(values[1])
+        if why:
+            yield Compared(number, weighed, groups, None, None, (None, None), why)
+        else:
+            (of_before, *kept_before), (of_after, *kept_after) = values  # type: ignore[misc]
+            kept: Any = (kept_before[0], kept_after[0]) if kept_before else (None, None)
+            yield Compared(number, weighed, groups, of_before, of_after, kept, "")  # type: ignore[arg-type]
 
 
 def with_codes(rows: Iterable[Mapping[str, Any]], codes: set[str]) -> Iterator[dict[str, Any]]:
@@ -187,36 +207,39 @@ def with_codes(rows: Iterable[Mapping[str, Any]], codes: set[str]) -> Iterator[d
     return ({name: amount for name, amount in row.items() if name in codes} for row in rows)
 
 
-def amount_in(name: str, household: Mapping[str, Any], answer: Answer) -> Amount:
-    """The amount of a requested value, or of a code: a box that isn't filled is 0."""
-    if name in answer:
+def amount_in(name: str, household: Mapping[str, Any], answer: Answer, outputs: set[str]) -> Amount:
+    """The amount of a requested value, or of a code: a box that isn't filled is 0. Stopped is raised where there is no value."""
+    if name in outputs:
         return millionths(answer[name])
     given = household.get(name)
     return Fraction(0) if given is None or given == "" or given != given else Fraction(str(given)) * UNIT
 
 
-def reason_of(sums: Sequence[Expression], household: Mapping[str, Any], answer: Answer) -> str:
-    """Why an answer has no number for one of the sums; nothing where it has."""
-    if answer.stop is not None:
+def values_of(sums: Sequence[Expression], household: Mapping[str, Any], answer: Answer, outputs: set[str]) -> list[Amount] | None:
+    """The values of sums; None where the household is stopped."""
+    if outputs.isdisjoint(itertools.chain.from_iterable(sum_.names for sum_ in sums)) and answer.stop is not None:
+        return None
+    try:
+        return [sum_.value(lambda name: amount_in(name, household, answer, outputs)) for sum_ in sums]
+    except Stopped:
+        return None
+
+
+def reason_of(values: Sequence[Amount] | None) -> str:
+    """Why one of these is no number; nothing where they are."""
+    if values is None:
         return "stopped"
-    values = [sum_.value(lambda name: amount_in(name, household, answer)) for sum_ in sums]
     return "undefined" if None in values else "over" if any(isinstance(value, Over) for value in values) else ""
 
 
-def value_of(sum_: Expression, household: Mapping[str, Any], answer: Answer) -> Fraction:
-    value = sum_.value(lambda name: amount_in(name, household, answer))
-    assert isinstance(value, Fraction)
-    return value
-
-
-def group_of(name: str, household: Mapping[str, Any], answer: Answer, number: int) -> Any:
+def group_of(name: str, household: Mapping[str, Any], answer: Answer, outputs: set[str]) -> Any:
     """What a household is grouped by: the text of a column, or the number by which it is put into tenths; None where that is none."""
     if not name.startswith(TENTH):
         return household[name]
-    name = name.removeprefix(TENTH)
-    if answer.stop is not None and name not in household:
+    try:
+        value = amount_in(name.removeprefix(TENTH), household, answer, outputs)
+    except Stopped:
         return None
-    value = amount_in(name, household, answer)
     return value if isinstance(value, Fraction) else None
 
 
@@ -231,16 +254,17 @@ def weight_of(number: int, name: str, given: Any) -> int:
     return int(weight)
 
 
-def grouped(households: Sequence[Compared], by: Sequence[str], sign: int, scale: int) -> Iterator[list[Group]]:
+def grouped(households: Sequence[Compared], entries: Sequence[Row], by: Sequence[str], sign: int, scale: int) -> Iterator[list[Group]]:
     """The groups of each grouping: those of a column in the order in which they are met, those of tenths from the least to the greatest, and those that have
     no value for these."""
     for at, name in enumerate(by):
         if name.startswith(TENTH):
-            yield in_tenths([one.row(one.groups[at], scale) for one in households], name.removeprefix(TENTH), sign, scale)
+            rows = [(one.groups[at], *entry[1:]) for one, entry in zip(households, entries)]
+            yield in_tenths(rows, name.removeprefix(TENTH), sign, scale)
             continue
         found: dict[str, list[Row]] = {}
-        for one in households:
-            found.setdefault(f"{name} {one.groups[at]}", []).append(one.row(None, scale))
+        for one, entry in zip(households, entries):
+            found.setdefault(f"{name} {one.groups[at]}", []).append(entry)
         yield [group_of_rows(label, members, sign, scale) for label, members in found.items()]
 
 

@@ -35,6 +35,7 @@ class Expression:
         if not self.terms:
             raise Refused(f"expression {text!r}: it has no code and no value")
         self.names = list(self.terms)
+        self._only = self.names[0] if not self.constant and list(self.terms.values()) == [1] else None
         self.scale = math.lcm(*(number.denominator for number in (self.constant, *self.terms.values())))
 
     def __repr__(self) -> str:
@@ -42,6 +43,8 @@ class Expression:
 
     def value(self, amount_of: Callable[[str], Amount]) -> Amount:
         """Its value where each name has this amount: undefined where one is undefined, else over where one is over."""
+        if self._only is not None:
+            return amount_of(self._only)
         sum_, is_over = self.constant, False
         for name, factor in self.terms.items():
             amount = amount_of(name)

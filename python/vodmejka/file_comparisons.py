@@ -11,10 +11,10 @@ import concurrent.futures
 import contextlib
 import itertools
 import multiprocessing
+import operator
 import os
 from concurrent.futures.process import BrokenProcessPool
 from dataclasses import dataclass, field
-from fractions import Fraction
 from typing import Any, BinaryIO, Callable, Iterable, Iterator, NamedTuple, Sequence
 
 from . import amounts, records, runs
@@ -72,12 +72,12 @@ class Side:
 
     def table(self, rows: Iterable[Sequence[str]], step: Step | None, codes: Sequence[str]) -> bytes:
         """Households as a table, perhaps with so much more of one code."""
-        more = None if step is None else codes.index(step.code)
-        if step is None or more not in self.columns:
-            entries: Iterable[list[str]] = ([LABEL, *(row[at] for at in self.columns)] for row in rows)
-        else:
-            plus, at_step = step.amount, more
-            entries = ([LABEL, *(amounts.plain(MICROS[row[at] or "0"] + plus) if at == at_step else row[at] for at in self.columns)] for row in rows)
+        pick = operator.itemgetter(0, 0, *self.columns)
+        entries = [[LABEL, *pick(row)[2:]] for row in rows]
+        if step is not None and codes.index(step.code) in self.columns:
+            place = self.columns.index(codes.index(step.code)) + 1
+            for entry in entries:
+                entry[place] = SHOWN[MICROS[entry[place] or "0"] + step.amount]
         return (self.head + csv_text(entries)).encode(ENCODING)
 
 
@@ -282,13 +282,18 @@ class Comparer:
 
     def shown(self, amount: int) -> str:
         """An amount in parts as a text."""
-        text: str = amounts.plain(Fraction(amount, self.asked.of.scale))
-        return text
+        return SHOWN[rounded(amount, self.asked.of.scale)]
 
     def rate(self, change: int) -> str:
+        """What a change comes to for each unit of the step."""
         assert self.asked.step is not None
-        text: str = amounts.plain(Fraction(change * amounts.UNIT, self.asked.step.amount * self.asked.of.scale))
-        return text
+        return SHOWN[rounded(change * amounts.UNIT, self.asked.step.amount * self.asked.of.scale)]
+
+
+def rounded(number: int, parts: int) -> int:
+    """The whole number that is nearest to a number of parts, halves away from zero."""
+    size = (2 * abs(number) + parts) // (2 * parts)
+    return size if number >= 0 else -size
 
 
 def added(constant: int, terms: Sequence[tuple[int, Any]]) -> int | str:

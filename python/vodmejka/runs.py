@@ -75,9 +75,12 @@ def free_memory():
 
 
 def program_path(name="m_tax"):
-    """The program of this name, m_tax or m_survey: the one that M_TAX or M_SURVEY names, or else the script of this repository; where the package is
-    installed, the one that the package finds."""
+    """The program of this name, m_tax or m_survey: the one that M_TAX or M_SURVEY names, the m_survey beside the one that M_TAX names, or else the script of
+    this repository; where the package is installed, the one that the package finds."""
     told = os.environ.get(name.upper())
+    if not told and name != "m_tax" and os.environ.get("M_TAX"):
+        beside = os.path.join(os.path.dirname(program_path()), name)
+        told = beside if os.access(beside, os.X_OK) else None
     program = told or os.path.join(TOP, name)
     if not told and not os.path.exists(program):
         with contextlib.suppress(Broken):

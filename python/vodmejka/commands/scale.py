@@ -32,7 +32,7 @@ made of one source (program, list, rule files, driver, requests). So no househol
 
 A table is cut between its records, as the program reads them: at line feeds, carriage returns or both, outside of quotes. The status is 0, 1 where a
 check fails or a batch refuses its part, 2 for wrong words, 3 where a file can't be read or written, and 4 where the output was closed. The programs are
-./m_tax and ./m_survey of this repository, or those that M_TAX and M_SURVEY name.
+./m_tax and ./m_survey of this repository, or those that M_TAX and M_SURVEY name; without the latter it is the m_survey beside the former.
 """
 import argparse
 import collections
