@@ -130,8 +130,8 @@ echo "$sizes" | xargs -n 2 | while read -r page most; do
     if [ "$(wc -c <"$page")" -le $((most * 1024)) ]; then echo "$page at most $most KB"; else echo "$page has $(wc -c <"$page") bytes"; fi
 done >"$room/sizes"
 all=$(git ls-files 'docs/*.md' | xargs cat | wc -c)
-if [ "$all" -le $((240 * 1024)) ]; then echo "docs at most 240 KB"; else echo "docs has $all bytes"; fi >>"$room/sizes"
-{ echo "$sizes" | xargs -n 2 | sed 's/ / at most /; s/$/ KB/'; echo "docs at most 240 KB"; } >"$room/limits"
+if [ "$all" -le $((246 * 1024)) ]; then echo "docs at most 246 KB"; else echo "docs has $all bytes"; fi >>"$room/sizes"
+{ echo "$sizes" | xargs -n 2 | sed 's/ / at most /; s/$/ KB/'; echo "docs at most 246 KB"; } >"$room/limits"
 same "the sizes of pages and their limits" "$room/limits" "$room/sizes"
 
 echo "documents: $((compared - failed)) passed, $failed failed"

@@ -33,8 +33,9 @@ class Saved:
         put("base.m", RULES)
         put("rules.list", "iliad\nbase.m\n")
         put("household.csv", "code,amount\n1AJ,1000\n")
+        put("ranges.csv", "code,given,least,greatest\n1AJ,yes,0,5000\n")
         self.client = Client(ROOT)
-        self.client.initialize(HERE, household="household.csv")
+        self.client.initialize(HERE, household="household.csv", ranges="ranges.csv")
         self.uri = self.client.open(os.path.join(HERE, "base.m"), RULES)
         self.text = RULES
 
@@ -60,7 +61,7 @@ class Saved:
 
     def hover(self, line):
         found = self.client.at("textDocument/hover", self.uri, line, 1)["contents"]["value"]
-        print("hover", [piece for piece in found.split("\n\n") if "household.csv" in piece])
+        print("hover", [piece for piece in found.split("\n\n") if "household.csv" in piece or "ranges.csv" in piece])
 
     def inlays(self):
         where = {"start": {"line": 0, "character": 0}, "end": {"line": 99, "character": 0}}
@@ -86,7 +87,7 @@ class Saved:
 
 def main():
     saved = Saved()
-    saved.wait(lambda: len(saved.told()) >= 3)
+    saved.wait(lambda: len(saved.told()) >= 4)
     saved.show("findings")
     saved.valued(3, "household.csv")
     saved.hover(2)
@@ -100,6 +101,14 @@ def main():
     saved.save(RULES.replace("REV * 0.5", "IRN"))
     saved.wait(lambda: any("cycle" in one["message"] for one in saved.told()))
     saved.show("a cycle")
+    put("ranges.csv", "code,given,least,greatest\n1AJ,yes,0,5000000000\n")
+    saved.save(RULES.replace("REV * 0.5", "REV * REV"))
+    saved.wait(lambda: any("overflow" in one["message"] for one in saved.told()))
+    saved.show("a value that may overflow")
+    put("ranges.csv", "code,given,least,greatest\n2XX,yes,0,1\n")
+    saved.save(RULES)
+    saved.wait(lambda: any("ranges" in one["message"] for one in saved.told()))
+    saved.show("a fault of the ranges")
     put("household.csv", "code,amount\n1AJ,6000\n")
     saved.save(RULES)
     saved.valued(2, "failed")

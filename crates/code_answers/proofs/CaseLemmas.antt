@@ -1,14 +1,14 @@
 -- Cases by code, one after another, are those by its scheme.
-use Rattle.std.proofs.Common.{◌≡◌, ℕ, zero, suc, ◌+◌, ◌-◌, ◌*◌, ◌^◌, ◌<◌, ◌≤◌, length, get_or, drop, List, [], ◌∷◌, ◌++◌, Option, Some, Result, Ok, Err, true, false, Bool, refl, sym, ◌∙◌, ap, subst, arith, inl, inr}
+use Rattle.std.proofs.Common.{◌≡◌, ℕ, zero, suc, ◌+◌, ◌-◌, ◌*◌, ◌^◌, ◌<◌, ◌≤◌, length, get_or, drop, map, List, [], ◌∷◌, ◌++◌, Option, Some, Result, Ok, Err, true, false, Bool, refl, sym, ◌∙◌, ap, subst, arith, inl, inr}
 use Rattle.std.specs.Prelude.{IfOk, if◌then◌else◌}
 use Rattle.std.specs.Io.KnownBytes.{append_known}
 use Rattle.m_ports.proofs.SinkLemmas.{append_known-append}
 use Rattle.std.specs.List.{AllByRecursion}
-use Rattle.std.proofs.lemmas.List.{drop_more, length-drop}
+use Rattle.std.proofs.lemmas.List.{drop_more, length-drop, length-map}
 use Rattle.m_fixed.specs.declared.amount.Value.{Value}
 use Rattle.observables.specs.Answers.{told_of}
 use Rattle.observables.specs.Inputs.{AreValuesOf}
-use Rattle.observables.specs.Outputs.{names_of, notes_of}
+use Rattle.observables.specs.Outputs.{notes_of}
 use Rattle.observables.specs.declared.answer.Answer.{Answer}
 use Rattle.observables.specs.declared.face.Face.{Face}
 use Rattle.household.specs.Household.{AreOfTypes, values_of}
@@ -20,11 +20,12 @@ use Rattle.m_batch.specs.Batch.{answers_of, row_answer}
 use Rattle.m_batch.specs.Printing.{MayPrintEach, WritesRows, counted_to_end, printed_count, printed_text}
 use Rattle.m_batch.specs.declared.fault.PrintFault.{PrintFault}
 use Rattle.m_batch.specs.declared.fault.PrintFault.TheVariants.{Memory, Failed}
-use Rattle.m_cases.specs.Cases.{AreExpected, cases_of}
-use Rattle.m_cases.specs.Mismatches.{answer_values, count_line, got_of, is_met, mismatch_count, mismatch_lines, named_values, told_values}
+use Rattle.m_cases.specs.Cases.{AreExpected, cases_of, numbered, numbered_cases}
+use Rattle.m_cases.specs.Mismatches.{answer_values, count_line, got_of, is_met, mismatch_count, mismatch_lines, named_values, output_names, told_values}
 use Rattle.m_cases.specs.declared.cases.Cases.{Cases}
 use Rattle.m_cases.specs.declared.expected.Expected.{Expected}
 use Rattle.m_cases.specs.declared.fault.CasesFault.{CasesFault}
+use Rattle.m_cases.proofs.Numbered.{count_numbered, lines_numbered}
 use Rattle.m_cases.proofs.ToldLemmas.{told_is}
 use Rattle.command_plans.specs.Views.{OutputView, output_view}
 use Rattle.command_plans.specs.Status.{IsOfEnd}
@@ -65,14 +66,14 @@ pub misses_few : (face : Face) (all : List (List (ℕ × Expected))) (at : ℕ) 
 misses_few face all at [] answers may = omega arith
 misses_few face all at (row ∷ rows) [] may = omega arith
 misses_few face all at (row ∷ rows) (answer ∷ answers) may =
-    let one = mismatches_few (named_values (length (notes_of face.outputs)) (answer_values answer)) (get_or all at []) in
+    let one = mismatches_few (answer_values answer) (get_or all at []) in
     let few = may.0.expected_is.few in
     let more = misses_few face all (at + 1) rows answers may.1 in
     omega (arith, one, few, more)
 
 -- rows by code may be compared
 pub cases_may : (loaded : Loaded) (all : List (List (ℕ × Expected))) (at : ℕ) (rows : List Row) (expected : List (List (ℕ × Expected))) → drop at all ≡ expected
-    → length expected ≡ length rows → AllByRecursion (AreExpected (length (names_of loaded.face.outputs))) expected
+    → length expected ≡ length rows → AllByRecursion (AreExpected (length loaded.face.outputs)) expected
     → MayPrintEach (MayBeCompared loaded.face all) at rows (answers_of loaded.code rows)
 cases_may loaded all at [] expected is many each = tt
 cases_may loaded all at (row ∷ rows) [] is many each = absurd (omega (arith, many))
@@ -80,7 +81,7 @@ cases_may loaded all at (row ∷ rows) (es ∷ expected) is many each =
     let here = at_place all at es expected [] is in (
       record {
         there = here.0;
-        expected_is = subst (AreExpected (length (names_of loaded.face.outputs))) (sym here.1) each.0;
+        expected_is = subst (AreExpected (length loaded.face.outputs)) (sym here.1) each.0;
         values = code_each loaded.code loaded.face (agrees loaded.code loaded.face loaded.agree) (values_of row.household.pairs loaded.code.counts.inputs);
       },
       cases_may loaded all (at + 1) rows expected here.2 (omega (arith, many)) each.1,
@@ -101,27 +102,36 @@ row_named scheme loaded row shown many given =
 abbrev pub AreGiven : Scheme → List Row → Type 0
 AreGiven scheme rows = AllByRecursion (λ row. AreValuesOf scheme.inputs (values_of row.household.pairs (length scheme.inputs))) rows
 
-pub lines_told : (scheme : Scheme) (loaded : Loaded) (all : List (List (ℕ × Expected))) (at : ℕ) (rows : List Row) (expected : List (List (ℕ × Expected))) → Shows scheme loaded.face (machine_run loaded.code)
-    → loaded.code.counts.inputs ≡ length scheme.inputs → AreGiven scheme rows → drop at all ≡ expected → length expected ≡ length rows
+-- what is expected of rows, by the numbers of the face
+abbrev by_face : Loaded → List (List (ℕ × Expected)) → List (List (ℕ × Expected))
+by_face loaded expected = map (numbered (length (notes_of loaded.face.outputs))) expected
+
+lines_told : (scheme : Scheme) (loaded : Loaded) (all : List (List (ℕ × Expected))) (at : ℕ) (rows : List Row) (expected : List (List (ℕ × Expected))) → Shows scheme loaded.face (machine_run loaded.code)
+    → loaded.code.counts.inputs ≡ length scheme.inputs → AreGiven scheme rows → drop at all ≡ by_face loaded expected → length expected ≡ length rows
     → printed_text (mismatches_by loaded.face all) at rows (answers_of loaded.code rows) ≡ cases_lines scheme rows expected
 lines_told scheme loaded all at [] expected shown many given is long = refl
 lines_told scheme loaded all at (row ∷ rows) [] shown many given is long = absurd (omega (arith, long))
 lines_told scheme loaded all at (row ∷ rows) (es ∷ expected) shown many given is long =
-    let here = at_place all at es expected [] is in
-    let first = here.1 in
+    let face = loaded.face in
+    let vs = answer_values (row_answer loaded.code row) in
+    let here = at_place all at (numbered (length (notes_of face.outputs)) es) (by_face loaded expected) [] is in
+    let line = ap (mismatch_lines (output_names face.outputs) row.label vs) here.1 ∙ lines_numbered face.labels face.outputs row.label vs es face.notes
+    ∙ (λ i. mismatch_lines (shown.names i) row.label (row_named scheme loaded row shown many given.0 i) es) in
     let rest = lines_told scheme loaded all (at + 1) rows expected shown many given.1 here.2 (omega (arith, long)) in
-    λ i. mismatch_lines (shown.names i) row.label (row_named scheme loaded row shown many given.0 i) (first i) ++ rest i
+    λ i. line i ++ rest i
 
-pub count_told : (scheme : Scheme) (loaded : Loaded) (all : List (List (ℕ × Expected))) (at : ℕ) (rows : List Row) (expected : List (List (ℕ × Expected))) → Shows scheme loaded.face (machine_run loaded.code)
-    → loaded.code.counts.inputs ≡ length scheme.inputs → AreGiven scheme rows → drop at all ≡ expected → length expected ≡ length rows
+count_told : (scheme : Scheme) (loaded : Loaded) (all : List (List (ℕ × Expected))) (at : ℕ) (rows : List Row) (expected : List (List (ℕ × Expected))) → Shows scheme loaded.face (machine_run loaded.code)
+    → loaded.code.counts.inputs ≡ length scheme.inputs → AreGiven scheme rows → drop at all ≡ by_face loaded expected → length expected ≡ length rows
     → printed_count (misses_by loaded.face all) at rows (answers_of loaded.code rows) ≡ cases_count scheme rows expected
 count_told scheme loaded all at [] expected shown many given is long = refl
 count_told scheme loaded all at (row ∷ rows) [] shown many given is long = absurd (omega (arith, long))
 count_told scheme loaded all at (row ∷ rows) (es ∷ expected) shown many given is long =
-    let here = at_place all at es expected [] is in
-    let first = here.1 in
+    let face = loaded.face in
+    let vs = answer_values (row_answer loaded.code row) in
+    let here = at_place all at (numbered (length (notes_of face.outputs)) es) (by_face loaded expected) [] is in
+    let one = ap (mismatch_count vs) here.1 ∙ count_numbered (length (notes_of face.outputs)) vs es ∙ ap (λ told. mismatch_count told es) (row_named scheme loaded row shown many given.0) in
     let rest = count_told scheme loaded all (at + 1) rows expected shown many given.1 here.2 (omega (arith, long)) in
-    λ i. mismatch_count (row_named scheme loaded row shown many given.0 i) (first i) + rest i
+    λ i. one i + rest i
 
 -- ---- from what was told and written to how the command ended
 
@@ -145,16 +155,42 @@ cases_written written faults old new (Err Failed) text count Replies status repl
     parts.printed text (count_status count) replied (count_ends count) (inr ((wrote.prefix, wrote.counted), is))
 
 -- pairs of the inputs' types give such values
-pub rows_given : (scheme : Scheme) (rows : List Row) → AllByRecursion (λ row. AreOfTypes scheme.inputs row.household.pairs) rows → AreGiven scheme rows
+rows_given : (scheme : Scheme) (rows : List Row) → AllByRecursion (λ row. AreOfTypes scheme.inputs row.household.pairs) rows → AreGiven scheme rows
 rows_given scheme [] all = tt
 rows_given scheme (row ∷ rows) all = (pairs_give scheme.inputs row.household.pairs all.0, rows_given scheme rows all.1)
 
+-- The cases that were read are these by the numbers of the face.
+pub record AreRead (scheme : Scheme) (loaded : Loaded) (cases given : Cases) : Type 0 where
+  pub same : numbered_cases (length (notes_of loaded.face.outputs)) cases ≡ given
+  pub shown : Shows scheme loaded.face (machine_run loaded.code)
+  pub inputs : loaded.code.counts.inputs ≡ length scheme.inputs
+  pub types : AllByRecursion (λ row. AreOfTypes loaded.face.inputs row.household.pairs) given.rows
+  pub many : length given.expected ≡ length given.rows
+
+given_rows : (scheme : Scheme) (loaded : Loaded) (cases given : Cases) → AreRead scheme loaded cases given → AreGiven scheme cases.rows
+given_rows scheme loaded cases given read =
+    rows_given scheme cases.rows
+    (subst (λ rows. AllByRecursion (λ row. AreOfTypes scheme.inputs row.household.pairs) rows) (sym (ap (λ (g : Cases). g.rows) read.same))
+    (subst (λ inputs. AllByRecursion (λ row. AreOfTypes inputs row.household.pairs) given.rows) read.shown.inputs read.types))
+
+as_many : (notes : ℕ) (cases given : Cases) → numbered_cases notes cases ≡ given → length given.expected ≡ length given.rows → length cases.expected ≡ length cases.rows
+as_many notes cases given same many =
+    sym (length-map cases.expected (numbered notes)) ∙ ap (λ (g : Cases). length g.expected) same ∙ many ∙ ap (λ (g : Cases). length g.rows) (sym same)
+
 -- the text by code is that by its scheme
-pub text_told : (scheme : Scheme) (loaded : Loaded) (cases : Cases) → Shows scheme loaded.face (machine_run loaded.code) → loaded.code.counts.inputs ≡ length scheme.inputs → AreGiven scheme cases.rows
-    → length cases.expected ≡ length cases.rows → case_text loaded cases.rows cases.expected ≡ cases_text scheme cases
-text_told scheme loaded cases shown many given long =
-    λ i. lines_told scheme loaded cases.expected 0 cases.rows cases.expected shown many given refl long i
-    ++ count_line (length cases.rows) (count_told scheme loaded cases.expected 0 cases.rows cases.expected shown many given refl long i)
+pub text_told : (scheme : Scheme) (loaded : Loaded) (cases given : Cases) → AreRead scheme loaded cases given → case_text loaded given.rows given.expected ≡ cases_text scheme cases
+text_told scheme loaded cases given read =
+    let rows = given_rows scheme loaded cases given read in
+    let long = as_many _ cases given read.same read.many in
+    ap (λ (g : Cases). case_text loaded g.rows g.expected) (sym read.same)
+    ∙ (λ i. lines_told scheme loaded (by_face loaded cases.expected) 0 cases.rows cases.expected read.shown read.inputs rows refl long i
+    ++ count_line (length cases.rows) (count_told scheme loaded (by_face loaded cases.expected) 0 cases.rows cases.expected read.shown read.inputs rows refl long i))
+
+-- and so is the count
+pub counted_told : (scheme : Scheme) (loaded : Loaded) (cases given : Cases) → AreRead scheme loaded cases given → case_count loaded given.rows given.expected ≡ cases_count scheme cases.rows cases.expected
+counted_told scheme loaded cases given read =
+    ap (λ (g : Cases). case_count loaded g.rows g.expected) (sym read.same)
+    ∙ count_told scheme loaded (by_face loaded cases.expected) 0 cases.rows cases.expected read.shown read.inputs (given_rows scheme loaded cases given read) refl (as_many _ cases given read.same read.many)
 
 -- ---- texts in parts
 

@@ -4,9 +4,8 @@ ghost use Rattle.std.specs.List.{AllByRecursion};
 ghost use Rattle.m_places.specs.Refusals.{Outcome};
 ghost use Rattle.m_places.specs.declared.limits.TheConstants.{ROWS};
 ghost use Rattle.household.specs.Household.{AreInputs, AreOfTypes};
-ghost use Rattle.observables.specs.Outputs.{names_of};
 ghost use Rattle.reg_machine.specs.Machine.{machine_run};
-ghost use Rattle.m_cases.specs.Cases.{AreExpected, cases_of};
+ghost use Rattle.m_cases.specs.Cases.{AreExpected, face_cases};
 ghost use Rattle.m_cases.specs.declared.fault.CasesFault.TheVariants.{Memory as NoMemory};
 ghost use Rattle.command_plans.specs.Views.{output_view};
 ghost use Rattle.code_answers.specs.Parts.{IsWrittenInParts};
@@ -56,13 +55,13 @@ pub fn answer_cases<R: Threads + Sync, K: Sink>(
 fn cases_in(alloc: Global, loaded: &Loaded, table: &[u8]) -> Result<Cases, CasesFault>
     requires runnable { IsRunnableCode loaded.now }
     requires few { length loaded.now.face.outputs < 2 ^ 32 }
-    ensures outcome { Outcome NoMemory result (λ cases. cases_of loaded.now.face.inputs (names_of loaded.now.face.outputs) table.now ≡ Ok cases)
-        (λ fault. cases_of loaded.now.face.inputs (names_of loaded.now.face.outputs) table.now ≡ Err fault) }
+    ensures outcome { Outcome NoMemory result (λ cases. face_cases loaded.now.face.inputs loaded.now.face table.now ≡ Ok cases)
+        (λ fault. face_cases loaded.now.face.inputs loaded.now.face table.now ≡ Err fault) }
     ensures inputs { IfOk result (λ cases. AllByRecursion (λ row. AreInputs (length loaded.now.face.inputs) row.household.pairs) cases.rows) }
     ensures amounts { IfOk result (λ cases. AllByRecursion (λ row. AreOfTypes loaded.now.face.inputs row.household.pairs) cases.rows) }
     ensures many { IfOk result (λ cases. length cases.expected ≡ length cases.rows) }
     ensures few { IfOk result (λ cases. length cases.rows ≤ ROWS) }
-    ensures expected { IfOk result (λ cases. AllByRecursion (AreExpected (length (names_of loaded.now.face.outputs))) cases.expected) }
+    ensures expected { IfOk result (λ cases. AllByRecursion (AreExpected (length loaded.now.face.outputs)) cases.expected) }
 {
     let codes = codes_by(alloc, loaded)?;
     read_cases(alloc, table, &codes, &loaded.face)

@@ -4,7 +4,6 @@ ghost use Rattle.std.specs.List.{AllByRecursion};
 ghost use Rattle.m_places.specs.declared.limits.TheConstants.{ROWS};
 ghost use Rattle.m_batch.specs.Batch.{HasInputsBelow};
 ghost use Rattle.m_batch.specs.Printing.{WritesRows};
-ghost use Rattle.observables.specs.Outputs.{names_of};
 ghost use Rattle.m_cases.specs.Cases.{AreExpected};
 ghost use Rattle.code_answers.specs.inner.Printers.{case_count, case_lines, case_text};
 
@@ -30,7 +29,7 @@ pub(crate) fn print_cases<R: Threads + Sync, K: Sink>(
     requires inputs { AllByRecursion (HasInputsBelow loaded.now.code.counts.inputs) rows.now }
     requires many { length expected.now ≡ length rows.now }
     requires few { length rows.now ≤ ROWS }
-    requires expected { AllByRecursion (AreExpected (length (names_of loaded.now.face.outputs))) expected.now }
+    requires expected { AllByRecursion (AreExpected (length loaded.now.face.outputs)) expected.now }
     ensures text { WritesRows K.written K.faults out.old out.new result (case_text loaded.now rows.now expected.now) }
     ensures count { IfOk result (λ count. count ≡ case_count loaded.now rows.now expected.now) }
 {
@@ -51,7 +50,7 @@ fn print_compared<R: Threads + Sync, K: Sink>(
     requires inputs { AllByRecursion (HasInputsBelow loaded.now.code.counts.inputs) rows.now }
     requires many { length expected.now ≡ length rows.now }
     requires few { length rows.now ≤ ROWS }
-    requires expected { AllByRecursion (AreExpected (length (names_of loaded.now.face.outputs))) expected.now }
+    requires expected { AllByRecursion (AreExpected (length loaded.now.face.outputs)) expected.now }
     ensures text { WritesRows K.written K.faults out.old out.new result (case_lines loaded.now rows.now expected.now) }
     ensures count { IfOk result (λ count. count ≡ case_count loaded.now rows.now expected.now) }
 {

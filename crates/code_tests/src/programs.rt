@@ -33,7 +33,7 @@ fn nodes(alloc: Global) -> Result<Seq<Node>, AllocError>
 }
 
 fn one_check(alloc: Global) -> Result<Seq<Check>, AllocError>
-    ensures { IfOk result (λ checks. AllByRecursion (IsCheck 6) checks × AllByRecursion (λ check. check.label < 1) checks) }
+    ensures { IfOk result (λ checks. AllByRecursion (IsCheck 6) checks × AllByRecursion (λ check. check.label < 1) checks × (length checks ≡ 1)) }
 {
     let checks = vec![in alloc;
         Check {
@@ -55,7 +55,7 @@ fn one_output(alloc: Global) -> Result<Seq<u32>, AllocError>
 
 fn program(alloc: Global) -> Result<Flat, AllocError>
     ensures valid { IfOk result (λ flat. IsFlat flat) }
-    ensures sizes { IfOk result (λ flat. (flat.inputs ≡ 1) × (length flat.nodes ≡ 6) × (length flat.outputs ≡ 1)) }
+    ensures sizes { IfOk result (λ flat. (flat.inputs ≡ 1) × (length flat.nodes ≡ 6) × (length flat.outputs ≡ 1) × (length flat.checks ≡ 1)) }
     ensures labels { IfOk result (λ flat. AllByRecursion (λ check. check.label < 1) flat.checks) }
 {
     let nodes = nodes(alloc)?;

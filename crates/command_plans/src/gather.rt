@@ -78,8 +78,8 @@ pub fn is_none(name: &Name) -> bool
     name.bytes() == NONE
 }
 
-// Fetches a driver or requests, where there are any.
-fn gather_optional<F: Files>(
+/// Fetches the file of this name, where it isn't `-`.
+pub fn gather_optional<F: Files>(
     alloc: Global,
     files: &mut F,
     name: &Name,

@@ -19,7 +19,7 @@ mod status;
 
 pub use ending::Ending;
 pub use files::fetch;
-pub use gather::gather_source;
+pub use gather::{gather_optional, gather_source};
 pub use lines::{print_fault, printed, tell};
 pub use list_laws::{list_says, one_reading};
 pub use refusal::Refusal;

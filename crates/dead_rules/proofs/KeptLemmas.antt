@@ -11,11 +11,12 @@ use Rattle.flat_code.specs.declared.program.Check.{Check}
 use Rattle.flat_code.specs.declared.program.Flat.{Flat}
 use Rattle.flat_code.specs.Runs.{values_for, IsFlat}
 use Rattle.flat_code.specs.Entries.{node_at, entry_at}
-use Rattle.flat_code.specs.Tidy.{Reads, IsRoot, IsReached, root, argument, IsFolded, IsTidy}
+use Rattle.flat_code.specs.Tidy.{Reads, IsRoot, IsReached, root, argument, IsFolded}
 use Rattle.flat_code.specs.Passes.{Becomes}
 use Rattle.flat_code.specs.inner.Renumber.{renamed, moved, IsPart}
 use Rattle.flat_code.proofs.ReadLemmas.{are-valid}
 use Rattle.flat_code.proofs.PartLemmas.{valid-new, part-at, folded-part}
+use Rattle.dead_rules.specs.inner.Firsts.{IsPruned}
 use Rattle.dead_rules.specs.inner.Steps.{ReadsBelow, look, with_nodes, rank, Kept, IsLive}
 use Rattle.dead_rules.proofs.MoveLemmas.{becomes-moved, root-within, check-moved}
 use Rattle.dead_rules.proofs.MarkLemmas.{live-reached}
@@ -186,8 +187,8 @@ reached-moved flat live new numbers program l h {x} (argument {p} before lt r) =
     argument (reached-moved flat live new numbers program l h before) (part.within p lt k)
     (subst (λ n. Reads n (rank live x)) (sym (part.node p lt k)) (reads-renamed (rank live) (node_at flat.nodes p) x r))
 
-pub tidy-kept : (flat : Flat) (live : ℕ → Bool) (new : List Node) (numbers : List ℕ) → IsFlat flat → IsFolded flat.nodes → IsLive flat live → Kept flat.nodes live (length flat.nodes) new numbers → IsTidy (with_nodes flat new (look numbers))
-tidy-kept flat live new numbers program folded l h =
+pub pruned-kept : (flat : Flat) (live : ℕ → Bool) (new : List Node) (numbers : List ℕ) → IsFlat flat → IsFolded flat.nodes → IsLive flat live → Kept flat.nodes live (length flat.nodes) new numbers → IsPruned (with_nodes flat new (look numbers))
+pruned-kept flat live new numbers program folded l h =
     let part = part-of flat live new numbers l h in
     record {
       folded = folded-part flat.inputs flat.nodes new live (rank live) part (are-valid flat.inputs flat.nodes program.nodes) folded;

@@ -61,7 +61,7 @@ run-moved flat nodes m inputs same =
 
 -- ---- what checks and outputs read
 
-all-from : {X : Type 0} (P : X → Type 0) (d : X) (xs : List X) → ((j : ℕ) → j < length xs → P (get_or xs j d)) → AllByRecursion P xs
+pub all-from : {X : Type 0} (P : X → Type 0) (d : X) (xs : List X) → ((j : ℕ) → j < length xs → P (get_or xs j d)) → AllByRecursion P xs
 all-from P d [] h = tt
 all-from P d (x ∷ xs) h = (h 0 (omega arith), all-from P d xs (λ j lt. h (suc j) (omega arith)))
 

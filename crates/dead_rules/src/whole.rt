@@ -3,8 +3,10 @@ ghost use Rattle.std.specs.Prelude.{◌≡◌, ◌≤◌, length, IfOk};
 ghost use Rattle.flat_code.specs.Runs.{IsFlat};
 ghost use Rattle.flat_code.specs.Passes.{Becomes};
 ghost use Rattle.flat_code.specs.Tidy.{IsFolded, IsTidy};
+ghost use Rattle.dead_rules.specs.inner.Firsts.{IsPruned};
 
 use crate::compact::compacted;
+use crate::firsts::firsts;
 use crate::fold::folded;
 use crate::mark::marked;
 use crate::moved::{moved_checks, moved_outputs};
@@ -18,7 +20,7 @@ fn removed(alloc: Global, flat: Flat) -> Result<Flat, AllocError>
     requires few { length flat.nodes ≤ 4_294_967_295 }
     requires folded { IsFolded flat.nodes }
     ensures becomes { IfOk result (Becomes flat) }
-    ensures tidy { IfOk result IsTidy }
+    ensures pruned { IfOk result IsPruned }
 {
     let live = marked(alloc, &flat)?;
     let kept = compacted(alloc, flat.inputs, flat.nodes.into_vec(), &live)?;
@@ -34,19 +36,38 @@ fn removed(alloc: Global, flat: Flat) -> Result<Flat, AllocError>
     })
 }
 
+// The program with the first of equal checks alone.
+fn sifted(alloc: Global, flat: Flat) -> Result<Flat, AllocError>
+    requires valid { IsFlat flat }
+    requires few { length flat.checks ≤ 4_294_967_295 }
+    requires pruned { IsPruned flat }
+    ensures becomes { IfOk result (Becomes flat) }
+    ensures tidy { IfOk result IsTidy }
+{
+    let checks = firsts(alloc, flat.checks.as_slice())?;
+    Ok(Flat {
+        inputs: flat.inputs,
+        nodes: flat.nodes,
+        checks: Seq::from_vec(checks),
+        outputs: flat.outputs,
+    })
+}
+
 /// The program in the tidy form. It answers the same for each list of values that programs are asked for,
 /// has as many inputs and outputs, no more nodes and checks, and no other labels. Its only error is running out of
-/// memory. It takes one step for each node, check and output of the program, which has fewer nodes than a
-/// `u32` counts.
+/// memory. It takes one step for each node, check and output of the program, which has fewer nodes and
+/// fewer checks than a `u32` counts.
 ///
 /// Of the nodes `Input(0)`, `Lit(1 unit)` and `Do(Op::Mul, 0, 1, 0)` with the last as output the first is left.
 pub fn tidy(alloc: Global, flat: &Flat) -> Result<Tidy, AllocError>
     requires valid { IsFlat flat.now }
     requires few { length flat.now.nodes ≤ 4_294_967_295 }
+    requires few_checks { length flat.now.checks ≤ 4_294_967_295 }
     ensures becomes { IfOk result (Becomes flat.now) }
     ensures tidy { IfOk result IsTidy }
 {
     let folded = folded(alloc, flat)?;
-    let flat = removed(alloc, folded)?;
+    let pruned = removed(alloc, folded)?;
+    let flat = sifted(alloc, pruned)?;
     Ok(Tidy::new(flat))
 }

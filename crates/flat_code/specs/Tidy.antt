@@ -135,7 +135,12 @@ pub data IsReached (flat : Flat) : ℕ → Type 0 where
   root : {x : ℕ} → IsRoot flat x → IsReached flat x
   argument : {p x : ℕ} → IsReached flat p → p < length flat.nodes → Reads (node_at flat.nodes p) x → IsReached flat x
 
--- The tidy form: nodes that are folded and shared, and each is read.
+-- no two checks are equal
+abbrev pub AreUnlike : List Check → Type 0
+AreUnlike checks = (i j : ℕ) → i < length checks → j < length checks → check_at checks i ≡ check_at checks j → i ≡ j
+
+-- The tidy form: nodes that are folded and shared, each is read, and no two checks are equal.
 pub record IsTidy (flat : Flat) : Type 0 where
   pub folded : IsFolded flat.nodes
   pub reached : (p : ℕ) → p < length flat.nodes → IsReached flat p
+  pub unlike : AreUnlike flat.checks

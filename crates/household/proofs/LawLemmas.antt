@@ -28,6 +28,18 @@ turns_each read P says before (thing ∷ things) values h =
     let m = turns_each read P says (before ++ r.0 ∷ []) things values r.2 in
     (r.0 ∷ m.0, m.1 ∙ append_assoc before (r.0 ∷ []) m.0, (says before thing r.0 r.1, m.2))
 
+-- things whose values are each of their own thing, after whatever is before them
+pub turns_whole : {A B F : Type 0} (read : List B → A → Result B F) (P : A → B → Type 0) (Q : List B → Type 0)
+    → ((before : List B) (thing : A) (value : B) (more : List B) → P thing value → Q (before ++ value ∷ more) → read before thing ≡ Ok value)
+    → (before : List B) (things : List A) (values : List B) → AllZip P things values → Q (before ++ values) → in_turn read before things ≡ Ok (before ++ values)
+turns_whole read P Q says before [] [] z q = ap Ok (sym (append-nil before))
+turns_whole read P Q says before [] (value ∷ values) z q = absurd z
+turns_whole read P Q says before (thing ∷ things) [] z q = absurd z
+turns_whole read P Q says before (thing ∷ things) (value ∷ values) z q =
+    ap (if_read (λ v. in_turn read (before ++ v ∷ []) things)) (says before thing value values z.0 q)
+    ∙ turns_whole read P Q says (before ++ value ∷ []) things values z.1 (subst Q (sym (append_assoc before (value ∷ []) values)) q)
+    ∙ ap Ok (append_assoc before (value ∷ []) values)
+
 -- the first that has a fault
 stopped : {B C F : Type 0} (next : B → Result C F) (r : Result B F) (fault : F) {P : Type 0} → if_read next r ≡ Err fault → (r ≡ Err fault → P) → ((b : B) → r ≡ Ok b → next b ≡ Err fault → P) → P
 stopped next (Ok b) fault h bad good = good b refl h
@@ -82,11 +94,15 @@ room n m e = grind (arith, nat_tests)
 pub no_room : (n m : ℕ) → m < n → leb n m ≡ false
 no_room n m l = grind (arith, nat_tests)
 
-few_rows : (inputs : List Coded) (rows : List (List (List ℕ))) (pairs : List (ℕ × ℤ)) → in_turn (row_of inputs) [] rows ≡ Ok pairs → length pairs ≤ ROWS
-few_rows inputs rows pairs h =
-    turns_keep (row_of inputs) (λ before. length before ≤ ROWS)
-    (λ before fields pair q e. let free = room ROWS (length before) (row_parts inputs before fields pair e).0 in omega (arith, length_push before pair))
-    [] rows pairs (omega arith) h
+-- where a value is read only after fewer than so many, there are no more than so many
+pub turns_few : {A B F : Type 0} (read : List B → A → Result B F) (most : ℕ) → ((before : List B) (thing : A) (value : B) → read before thing ≡ Ok value → leb most (length before) ≡ false)
+    → (things : List A) (values : List B) → in_turn read [] things ≡ Ok values → length values ≤ most
+turns_few read most free things values h =
+    turns_keep read (λ before. length before ≤ most) (λ before thing value q e. let less = room most (length before) (free before thing value e) in omega (arith, less, length_push before value)) [] things values (omega arith) h
+
+-- where there are no more than so many in all, there is room after the first of them
+pub fewer : {X : Type 0} (most : ℕ) (xs ys : List X) (x : X) → length (xs ++ x ∷ ys) ≤ most → leb most (length xs) ≡ false
+fewer most xs ys x few = no_room most (length xs) (let long = length-append xs (x ∷ ys) in omega (arith, long, few))
 
 -- what is read is a household
 household_sound : (inputs : List Coded) (bytes : List ℕ) (records : List (List (List ℕ))) (pairs : List (ℕ × ℤ)) → records_of bytes ≡ records → household_read inputs records ≡ Ok pairs → IsHousehold inputs bytes pairs
@@ -101,7 +117,7 @@ household_sound inputs bytes (first ∷ rows) pairs e h =
       header = read.0;
       in_order = subst (λ (ps : List (ℕ × ℤ)). AllZip (IsRow inputs) rows ps) (sym each.1) each.2;
       once = (household_inputs inputs rows pairs read.1).once;
-      few = few_rows inputs rows pairs read.1;
+      few = turns_few (row_of inputs) ROWS (λ before fields pair e. (row_parts inputs before fields pair e).0) rows pairs read.1;
     }
 
 pub read_household_is : (inputs : List Coded) (bytes : List ℕ) (pairs : List (ℕ × ℤ)) → household_of inputs bytes ≡ Ok pairs → IsHousehold inputs bytes pairs
@@ -120,29 +136,20 @@ twice (m ∷ ms) ns n e h =
       | inr later ↦ twice ms ns n later h.1
     ]
 
--- rows that say pairs by themselves say them in turn
-row_whole : (inputs : List Coded) (before : List (ℕ × ℤ)) (fields : List (List ℕ)) (pair : ℕ × ℤ) → IsRow inputs fields pair → length before < ROWS → is_input_among pair.0 (inputs_of before) ≡ false → row_of inputs before fields ≡ Ok pair
-row_whole inputs before fields pair is l fresh =
-    let free = no_room ROWS (length before) l in
+-- a row that says a pair by itself says it in its turn
+row_whole : (inputs : List Coded) (before : List (ℕ × ℤ)) (fields : List (List ℕ)) (pair : ℕ × ℤ) (more : List (ℕ × ℤ)) → IsRow inputs fields pair
+    → AreDifferent (inputs_of (before ++ pair ∷ more)) × (length (before ++ pair ∷ more) ≤ ROWS) → row_of inputs before fields ≡ Ok pair
+row_whole inputs before fields pair more is all =
+    let free = fewer ROWS before more pair all.1 in
+    let different = subst AreDifferent (map-append (λ (p : ℕ × ℤ). p.0) before (pair ∷ more)) all.0 in
+    let fresh = false_from_ne_true (is_input_among pair.0 (inputs_of before)) (λ e. twice (inputs_of before) (inputs_of more) pair.0 e different) in
     rw free (ap (if_read (new_pair (line_behind (length before)) before)) (row_pair inputs (line_behind (length before)) fields pair is) ∙ rw fresh refl)
-
-rows_whole : (inputs : List Coded) (before : List (ℕ × ℤ)) (rows : List (List (List ℕ))) (pairs : List (ℕ × ℤ)) → AllZip (IsRow inputs) rows pairs → AreDifferent (inputs_of (before ++ pairs)) → length (before ++ pairs) ≤ ROWS
-    → in_turn (row_of inputs) before rows ≡ Ok (before ++ pairs)
-rows_whole inputs before [] [] z d l = ap Ok (sym (append-nil before))
-rows_whole inputs before [] (pair ∷ pairs) z d l = absurd z
-rows_whole inputs before (fields ∷ rows) [] z d l = absurd z
-rows_whole inputs before (fields ∷ rows) (pair ∷ pairs) z d l =
-    let different = subst AreDifferent (map-append (λ (p : ℕ × ℤ). p.0) before (pair ∷ pairs)) d in
-    let fresh = false_from_ne_true (is_input_among pair.0 (inputs_of before)) (λ e. twice (inputs_of before) (inputs_of pairs) pair.0 e different) in
-    let this = row_whole inputs before fields pair z.0 (omega (arith, length-append before (pair ∷ pairs))) fresh in
-    ap (if_read (λ v. in_turn (row_of inputs) (before ++ v ∷ []) rows)) this
-    ∙ rows_whole inputs (before ++ pair ∷ []) rows pairs z.1 (subst (λ (ps : List (ℕ × ℤ)). AreDifferent (inputs_of ps)) (sym (append_assoc before (pair ∷ []) pairs)) d) (subst (λ (ps : List (ℕ × ℤ)). length ps ≤ ROWS) (sym (append_assoc before (pair ∷ []) pairs)) l)
-    ∙ ap Ok (append_assoc before (pair ∷ []) pairs)
 
 pub household_is_read : (inputs : List Coded) (bytes : List ℕ) (pairs : List (ℕ × ℤ)) → IsHousehold inputs bytes pairs → household_of inputs bytes ≡ Ok pairs
 household_is_read inputs bytes pairs is =
     let header = is.header in
-    ap (household_read inputs) is.records ∙ rw header (rows_whole inputs [] is.rows pairs is.in_order is.once is.few)
+    ap (household_read inputs) is.records
+    ∙ rw header (turns_whole (row_of inputs) (IsRow inputs) (λ ps. AreDifferent (inputs_of ps) × (length ps ≤ ROWS)) (row_whole inputs) [] is.rows pairs is.in_order (is.once, is.few))
 
 -- why a household is refused
 household_refused : (inputs : List Coded) (bytes : List ℕ) (records : List (List (List ℕ))) (fault : HouseholdFault) → records_of bytes ≡ records → household_read inputs records ≡ Err fault → IsRefusedHousehold inputs bytes fault

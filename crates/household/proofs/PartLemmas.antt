@@ -1,11 +1,9 @@
 -- The rows of all parts are those of a table, and the first fault among them is the table's.
-use Rattle.std.proofs.Common.{◌≡◌, ◌≢◌, ℕ, zero, suc, ◌+◌, ◌*◌, ◌/◌, ◌%◌, min, ◌<◌, ◌≤◌, arith, get_or, take, drop, List, [], ◌∷◌, ◌++◌, length, length-append, Result, Ok, Err, Vec, leb, Bool, true, false, refl, sym, ap, ◌∙◌, subst, append_assoc}
+use Rattle.std.proofs.Common.{◌≡◌, ◌≢◌, ℕ, zero, suc, ◌+◌, ◌*◌, ◌/◌, ◌<◌, ◌≤◌, arith, get_or, take, drop, List, [], ◌∷◌, ◌++◌, length, length-append, Result, Ok, Err, Vec, leb, Bool, true, false, refl, sym, ap, ◌∙◌, subst, append_assoc}
 use Rattle.std.specs.declared.alloc.Global.{Global}
-use Rattle.std.proofs.lemmas.List.{append-nil, drop-drop, drop_all, length-drop, length-take}
+use Rattle.std.proofs.lemmas.List.{append-nil, drop-drop, drop_all, get_or-drop, get_or-take, length-drop, length-take}
 use Rattle.std.proofs.lemmas.Bool.{cond-false, cond-true, le-leb}
 use Rattle.std.proofs.lemmas.Bool.Decides.{nat_tests}
-use Rattle.std.proofs.Math.Nat.{mul_comm, mul_assoc, div-add-mod}
-use native.Mathlib.Nat.{suc-mul, zero-mul}
 use Rattle.std.specs.Prelude.{IsErrAnd}
 use Rattle.std.specs.Vec.{vec_len}
 use Rattle.m_places.specs.Refusals.{Outcome}
@@ -20,7 +18,10 @@ use Rattle.household.specs.Household.{line_behind}
 use Rattle.household.specs.Reader.{IsNext, left_of}
 use Rattle.household.specs.InTurn.{if_read, in_turn}
 use Rattle.household.specs.Table.{labelled, row_behind, table_row}
-use Rattle.household.specs.inner.Parts.{SaysPart, behind, joined, table_row_behind}
+use Rattle.household.specs.inner.Parts.{AreCutsFrom, SaysPart, table_row_behind}
+use Rattle.household.specs.inner.Cuts.{IsCutAfter}
+use Rattle.workers.specs.Parts.{IsPart, all_items, behind, joined}
+use Rattle.workers.proofs.PartLemmas.{of_parts, said_of_parts}
 use Rattle.household.proofs.LawLemmas.{no_room}
 
 abbrev pub Record : Type 0
@@ -129,104 +130,55 @@ part_and_behind inputs columns number size rows records e =
 
 -- ---- all parts
 
--- each worker gives what its records say, which are so many after those of the workers before it
-abbrev pub AreGiven : List Coded → List ℕ → ℕ → ℕ → List Record → List Given → Type 0
-AreGiven inputs columns size number records parts =
-    (n at place : ℕ) (d : Given) → n < length parts → at ≡ n * size → place ≡ number + at
-    → Outcome Memory (get_or parts n d) (λ rows. in_turn (table_row_behind inputs columns place) [] (take size (drop at records)) ≡ Ok rows.items)
-    (λ fault. in_turn (table_row_behind inputs columns place) [] (take size (drop at records)) ≡ Err fault)
+-- what the records say after so many cuts
+abbrev pub left_from : List Coded → List ℕ → List Record → ℕ → Result (List Row) HouseholdFault
+left_from inputs columns records at = in_turn (table_row_behind inputs columns (at * BETWEEN)) [] (drop (at * BETWEEN) records)
 
-given_tail : (inputs : List Coded) (columns : List ℕ) (size number : ℕ) (records : List Record) (part : Given) (parts : List Given) → AreGiven inputs columns size number records (part ∷ parts)
-    → AreGiven inputs columns size (number + size) (drop size records) parts
-given_tail inputs columns size number records part parts each n at place d h a p =
-    subst (λ (l : List Record). Outcome Memory (get_or parts n d) (λ rows. in_turn (table_row_behind inputs columns place) [] (take size l) ≡ Ok rows.items)
-    (λ fault. in_turn (table_row_behind inputs columns place) [] (take size l) ≡ Err fault)) (sym (drop-drop at size records))
-    (each (suc n) (size + at) place d (omega (arith, h)) (let more = suc-mul n size in omega (arith, more, a)) (omega (arith, p)))
+-- what is given after so many cuts says that, where the cuts that are left reach to the end
+abbrev pub SaysLeft : List Coded → List ℕ → List Record → ℕ → List ℕ → Result (List Row) HouseholdFault → Type 0
+SaysLeft inputs columns records at cuts all = length records ≤ (at + length cuts) * BETWEEN
+    → Outcome Memory all (λ rows. left_from inputs columns records at ≡ Ok rows) (λ fault. left_from inputs columns records at ≡ Err fault)
 
-behind_ok : (rows : List Row) (r : Result (List Row) HouseholdFault) (all : List Row) → behind rows r ≡ Ok all → (more : List Row) × (r ≡ Ok more) × (behind rows (Ok more) ≡ Ok all)
-behind_ok rows (Ok more) all e = (more, refl, e)
-behind_ok rows (Err fault) all e = absurd (cc)
-
-behind_err : (rows : List Row) (r : Result (List Row) HouseholdFault) (fault : HouseholdFault) → behind rows r ≡ Err fault → r ≡ Err fault
-behind_err rows (Ok more) fault e = absurd (cc)
-behind_err rows (Err other) fault e = e
-
--- all workers had rows
-pub all_rows : (inputs : List Coded) (columns : List ℕ) (size number : ℕ) (records : List Record) (parts : List Given) (rows : List Row) → length records ≤ length parts * size
-    → AreGiven inputs columns size number records parts → joined parts ≡ Ok rows → in_turn (table_row_behind inputs columns number) [] records ≡ Ok rows
-all_rows inputs columns size number [] [] rows far each e = e
-all_rows inputs columns size number (fields ∷ records) [] rows far each e = let none = zero-mul size in absurd (omega (arith, far, none))
-all_rows inputs columns size number records (Err fault ∷ parts) rows far each e = absurd (cc)
-all_rows inputs columns size number records (Ok part ∷ parts) rows far each e =
-    let head = each 0 0 number (Ok part) (omega arith) (sym (zero-mul size)) (omega arith) in
-    let b = behind_ok part.items (joined parts) rows e in
-    let rest : length (drop size records) ≤ length parts * size = let long = length-drop size records in let more = suc-mul (length parts) size in omega (arith, long, more, far) in
-    part_and_behind inputs columns number size part.items records head
-    ∙ ap (behind part.items) (all_rows inputs columns size (number + size) (drop size records) parts b.0 rest (given_tail inputs columns size number records (Ok part) parts each) b.1)
-    ∙ b.2
-
--- a worker had a fault, and those before it had none
-pub first_fault : (inputs : List Coded) (columns : List ℕ) (size number : ℕ) (records : List Record) (parts : List Given) (fault : HouseholdFault) → AreGiven inputs columns size number records parts
-    → joined parts ≡ Err fault → fault ≢ Memory → in_turn (table_row_behind inputs columns number) [] records ≡ Err fault
-first_fault inputs columns size number records [] fault each e n = absurd (cc)
-first_fault inputs columns size number records (Err other ∷ parts) fault each e n =
-    let same : other ≡ fault = cc in
-    let head = each 0 0 number (Err other) (omega arith) (sym (zero-mul size)) (omega arith) in
-    front_fails (table_row_behind inputs columns number) size [] records fault (head (λ m. n (sym same ∙ m)) ∙ ap Err same)
-first_fault inputs columns size number records (Ok part ∷ parts) fault each e n =
-    let head = each 0 0 number (Ok part) (omega arith) (sym (zero-mul size)) (omega arith) in
-    part_and_behind inputs columns number size part.items records head
-    ∙ ap (behind part.items) (first_fault inputs columns size (number + size) (drop size records) parts fault (given_tail inputs columns size number records (Ok part) parts each) (behind_err part.items (joined parts) fault e) n)
+-- a part and then those after it
+goes : (inputs : List Coded) (columns : List ℕ) (records : List Record) (many at : ℕ) (cuts : List ℕ) (part : Vec Row Global) (rest : Result (List Row) HouseholdFault)
+    → in_turn (table_row_behind inputs columns (at * BETWEEN)) [] (take (many * BETWEEN) (drop (at * BETWEEN) records)) ≡ Ok part.items
+    → SaysLeft inputs columns records (at + many) (drop many cuts) rest → SaysLeft inputs columns records at cuts (behind part.items rest)
+goes inputs columns records many at cuts part rest gave is = λ far.
+    let number : at * BETWEEN + many * BETWEEN ≡ (at + many) * BETWEEN = omega arith in
+    let long = length-drop many cuts in
+    let shift : in_turn (table_row_behind inputs columns (at * BETWEEN + many * BETWEEN)) [] (drop (many * BETWEEN) (drop (at * BETWEEN) records)) ≡ left_from inputs columns records (at + many) =
+    λ i. in_turn (table_row_behind inputs columns (number i)) [] ((drop-drop (many * BETWEEN) (at * BETWEEN) records ∙ ap (λ k. drop k records) number) i) in
+    let whole = part_and_behind inputs columns (at * BETWEEN) (many * BETWEEN) part.items (drop (at * BETWEEN) records) gave ∙ ap (behind part.items) shift in
+    by rest whole (is (omega (arith, far, long)))
+  where
+    by : (rest : Result (List Row) HouseholdFault) → left_from inputs columns records at ≡ behind part.items (left_from inputs columns records (at + many))
+        → Outcome Memory rest (λ rows. left_from inputs columns records (at + many) ≡ Ok rows) (λ fault. left_from inputs columns records (at + many) ≡ Err fault)
+        → Outcome Memory (behind part.items rest) (λ rows. left_from inputs columns records at ≡ Ok rows) (λ fault. left_from inputs columns records at ≡ Err fault)
+    by (Ok more) whole h = whole ∙ ap (behind part.items) h
+    by (Err fault) whole h = λ n. whole ∙ ap (behind part.items) (h n)
 
 -- what the workers give, joined, is what the records say
-pub all_given : (inputs : List Coded) (columns : List ℕ) (size : ℕ) (records : List Record) (parts : List Given) (result : Given) → length records ≤ length parts * size
-    → AreGiven inputs columns size 0 records parts → Outcome Memory result (λ rows. joined parts ≡ Ok rows.items) (λ fault. joined parts ≡ Err fault)
-    → Outcome Memory result (λ rows. in_turn (table_row inputs columns) [] records ≡ Ok rows.items) (λ fault. in_turn (table_row inputs columns) [] records ≡ Err fault)
-all_given inputs columns size records parts (Ok rows) far each h = sym (from_first inputs columns [] records) ∙ all_rows inputs columns size 0 records parts rows.items far each h
-all_given inputs columns size records parts (Err fault) far each h = λ n. sym (from_first inputs columns [] records) ∙ first_fault inputs columns size 0 records parts fault each (h n) n
+pub rows_said : (inputs : List Coded) (columns : List ℕ) (records : List Record) (many : ℕ) (cuts : List ℕ) (parts : List Given)
+    → ((n : ℕ) (d : Given) → n < length parts → SaysPart inputs columns (drop (n * many * BETWEEN) records) (n * many * BETWEEN) (many * BETWEEN) (get_or parts n d))
+    → ((n : ℕ) → n < length parts → n * many < length cuts) → length cuts ≤ length parts * many → length records ≤ length cuts * BETWEEN
+    → Outcome Memory (joined parts) (λ rows. in_turn (table_row inputs columns) [] records ≡ Ok rows) (λ fault. in_turn (table_row inputs columns) [] records ≡ Err fault)
+rows_said inputs columns records many cuts parts each inside reach far =
+    let gives : ℕ → List ℕ → Given → Type 0 = λ at part given. SaysPart inputs columns (drop (at * BETWEEN) records) (at * BETWEEN) (many * BETWEEN) given in
+    let said = said_of_parts gives many (SaysLeft inputs columns records)
+    (λ at far. ap (in_turn (table_row_behind inputs columns (at * BETWEEN)) []) (drop_all (at * BETWEEN) records (omega (arith, far))))
+    (λ at cuts fault some gave. λ far n. front_fails (table_row_behind inputs columns (at * BETWEEN)) (many * BETWEEN) [] (drop (at * BETWEEN) records) fault (gave n))
+    (λ at cuts part rest some gave is. goes inputs columns records many at cuts part rest gave is) 0 cuts parts (of_parts gives many cuts parts each inside reach) (omega (arith, far)) in
+    subst (λ told. Outcome Memory (joined parts) (λ rows. told ≡ Ok rows) (λ fault. told ≡ Err fault)) (from_first inputs columns [] records) said
 
--- what a worker's closure gave
-pub given_at : (inputs : List Coded) (columns : List ℕ) (records : List Record) (many n at place : ℕ) (part : Given) → at ≡ n * (many * BETWEEN) → place ≡ 0 + at
-    → SaysPart inputs columns (drop (n * many * BETWEEN) records) (n * many * BETWEEN) (many * BETWEEN) part
-    → Outcome Memory part (λ rows. in_turn (table_row_behind inputs columns place) [] (take (many * BETWEEN) (drop at records)) ≡ Ok rows.items)
-    (λ fault. in_turn (table_row_behind inputs columns place) [] (take (many * BETWEEN) (drop at records)) ≡ Err fault)
-given_at inputs columns records many n at place part a p said =
-    let here : n * many * BETWEEN ≡ at = mul_assoc n many BETWEEN ∙ sym a in
-    let there : at ≡ place = omega (arith, p) in
-    subst (λ k. Outcome Memory part (λ rows. in_turn (table_row_behind inputs columns k) [] (take (many * BETWEEN) (drop at records)) ≡ Ok rows.items)
-    (λ fault. in_turn (table_row_behind inputs columns k) [] (take (many * BETWEEN) (drop at records)) ≡ Err fault)) there
-    (subst (λ k. SaysPart inputs columns (drop k records) k (many * BETWEEN) part) here said)
-
--- so many parts, the last one perhaps short, reach to the end
-reach_by : (len size q r n : ℕ) → size * q + r ≡ len → r < size → n ≡ q + min 1 r → len ≤ n * size
-reach_by len size q zero n e h k = let same : n ≡ q = omega (arith, k) in let both = ap (λ m. m * size) same in let turned = mul_comm size q in omega (arith, e, both, turned)
-reach_by len size q (suc r) n e h k =
-    let same : n ≡ suc q = omega (arith, k) in let both = ap (λ m. m * size) same in let more = suc-mul q size in let turned = mul_comm size q in
-    omega (arith, e, h, both, more, turned)
-
-pub reach : (records cuts many parts : ℕ) → 0 < many → records < cuts * BETWEEN → parts ≡ cuts / many + min 1 (cuts % many) → records ≤ parts * (many * BETWEEN)
-reach records cuts many parts some far e =
-    let below : cuts % many < many = omega (arith, some) in
-    let all = reach_by cuts many (cuts / many) (cuts % many) parts (div-add-mod cuts many) below e in
-    let turned = mul_assoc parts many BETWEEN in
-    omega (arith, all, turned, far)
-
--- ---- joining, where `rest` are the parts that are left
-
--- a part more
-pub joined_next : (parts : List Given) (rows new : List Row) (part : Vec Row Global) (rest : List Given) → new ≡ rows ++ part.items → behind rows (joined (Ok part ∷ rest)) ≡ joined parts
-    → behind new (joined rest) ≡ joined parts
-joined_next parts rows new part rest n e =
-    subst (λ (l : List Row). behind l (joined rest) ≡ joined parts) (sym n) (by (joined rest) e)
-  where
-    by : (r : Result (List Row) HouseholdFault) → behind rows (behind part.items r) ≡ joined parts → behind (rows ++ part.items) r ≡ joined parts
-    by (Ok more) h = ap Ok (append_assoc rows part.items more) ∙ h
-    by (Err fault) h = h
-
--- the part that is next
-pub at_part : (parts : List Given) (rows : List Row) (left rest : List Given) (part said : Given) → left ≡ part ∷ rest → part ≡ said → behind rows (joined left) ≡ joined parts
-    → behind rows (joined (said ∷ rest)) ≡ joined parts
-at_part parts rows left rest part said l p e = subst (λ (q : Given). behind rows (joined (q ∷ rest)) ≡ joined parts) p (subst (λ (ps : List Given). behind rows (joined ps) ≡ joined parts) l e)
+-- cuts in a part of them
+pub cuts_in_part : (bytes : List ℕ) (records : List Record) (cuts : List ℕ) (size at : ℕ) (part : List ℕ) → ((n d : ℕ) → n < length cuts → IsCutAfter bytes records (n * BETWEEN) (get_or cuts n d))
+    → IsPart cuts size at part → AreCutsFrom bytes records at part
+cuts_in_part bytes records cuts size at part each is = λ n d h.
+    let taken = length-take size (drop at cuts) in
+    let same_part = ap length is.value in
+    let same : get_or part n d ≡ get_or cuts (at + n) d =
+    ap (λ (l : List ℕ). get_or l n d) is.value ∙ get_or-take size (drop at cuts) n d (omega (arith, h, taken, same_part)) ∙ get_or-drop at cuts n d in
+    subst (IsCutAfter bytes records ((at + n) * BETWEEN)) (sym same) (each (at + n) d (let within = is.within in omega (arith, within, h)))
 
 -- an error that this fault is
 pub told : {T E : Type 0} (memory : E) (good : T → Type 0) (bad : E → Type 0) (result : Result T E) (fault : E) → IsErrAnd result (λ x. x ≡ fault) → (fault ≢ memory → bad fault)
@@ -295,3 +247,9 @@ row_says inputs columns more line n next rows new left rest fields row e m few l
     ∙ ap (λ (ls : List Record). in_turn (table_row_behind inputs columns more) rows (take (suc next) ls)) e
     ∙ ap (if_read (λ value. in_turn (table_row_behind inputs columns more) (rows ++ value ∷ []) (take next rest))) (here_says inputs columns more line rows fields few l ∙ h)
     ∙ ap (λ b. in_turn (table_row_behind inputs columns more) b (take next rest)) (sym w)
+
+-- what is said of the rows of a list is said of the list
+pub by_rows : (told : Result (List Row) HouseholdFault) (given : Given) → Outcome Memory (all_items given) (λ rows. told ≡ Ok rows) (λ fault. told ≡ Err fault)
+    → Outcome Memory given (λ rows. told ≡ Ok rows.items) (λ fault. told ≡ Err fault)
+by_rows told (Ok rows) h = h
+by_rows told (Err fault) h = h

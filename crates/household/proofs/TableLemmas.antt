@@ -1,9 +1,9 @@
 -- A table reads to the rows that its records are.
-use Rattle.std.proofs.Common.{◌≡◌, ℕ, ℤ, ◌≤◌, List, [], ◌∷◌, ◌++◌, drop, length, Option, Some, None, Result, Ok, Err, true, false, eqb, leb, refl, sym, subst, ap, ◌∙◌, append_assoc, length-append, arith}
+use Rattle.std.proofs.Common.{◌≡◌, ℕ, ℤ, ◌≤◌, List, [], ◌∷◌, ◌++◌, drop, length, Option, Some, None, Result, Ok, Err, true, false, eqb, leb, refl, sym, subst, ap, ◌∙◌, append_assoc, arith}
 use mathlib.Core.Bool.{◌&&◌}
 use Rattle.std.specs.List.{AllZip}
 use Rattle.std.proofs.lemmas.Bool.{and_parts, cond-false, cond-true, false_from_ne_true, ne_eqb, eqb-true, eq-eqb}
-use Rattle.std.proofs.lemmas.List.{append-nil, length_push}
+use Rattle.std.proofs.lemmas.List.{append-nil}
 use Rattle.m_places.specs.declared.limits.TheConstants.{ROWS}
 use Rattle.m_fixed.specs.declared.read.AmountFault.{AmountFault}
 use Rattle.m_fixed.specs.Text.{text_value, amount_read}
@@ -19,8 +19,8 @@ use Rattle.household.specs.Household.{AreDifferent, is_input_among, line_behind}
 use Rattle.household.specs.Table.{amount_said, are_fitting, cells_read, column_of, fitting_pairs, is_label, is_table_header, labelled, new_column, pairs_read, rows_read, table_of, table_read, table_row}
 use Rattle.household.specs.TableRows.{AreCells, IsTable, IsTableRow}
 use Rattle.household.proofs.ColumnLemmas.{columns_known}
-use Rattle.household.proofs.InputLemmas.{if_ok, other_than_error, read_before, turns_keep}
-use Rattle.household.proofs.LawLemmas.{no_room, room, turns_each, twice}
+use Rattle.household.proofs.InputLemmas.{if_ok, other_than_error, read_before}
+use Rattle.household.proofs.LawLemmas.{fewer, turns_each, turns_few, turns_whole, twice}
 
 -- ---- cells
 
@@ -102,25 +102,17 @@ row_whole inputs line columns fields row is =
 
 -- ---- rows
 
-few_rows : (inputs : List Coded) (columns : List ℕ) (records : List (List (List ℕ))) (rows : List Row) → in_turn (table_row inputs columns) [] records ≡ Ok rows → length rows ≤ ROWS
-few_rows inputs columns records rows h =
-    turns_keep (table_row inputs columns) (λ before. length before ≤ ROWS)
-    (λ before fields row q e.
-    let free = room ROWS (length before) (other_than_error (leb ROWS (length before)) TooManyRows (labelled inputs (line_behind (length before)) columns fields) row e).0 in omega (arith, length_push before row))
-    [] records rows (omega arith) h
+-- a row that says what it says by itself says it in its turn
+row_in_turn : (inputs : List Coded) (columns : List ℕ) (before : List Row) (fields : List (List ℕ)) (row : Row) (more : List Row) → IsTableRow inputs columns fields row → length (before ++ row ∷ more) ≤ ROWS
+    → table_row inputs columns before fields ≡ Ok row
+row_in_turn inputs columns before fields row more is few =
+    cond-false (leb ROWS (length before)) (Err TooManyRows) (labelled inputs (line_behind (length before)) columns fields) (fewer ROWS before more row few)
+    ∙ row_whole inputs (line_behind (length before)) columns fields row is
 
-rows_whole : (inputs : List Coded) (columns : List ℕ) (before : List Row) (records : List (List (List ℕ))) (rows : List Row) → AllZip (IsTableRow inputs columns) records rows → length (before ++ rows) ≤ ROWS
-    → in_turn (table_row inputs columns) before records ≡ Ok (before ++ rows)
-rows_whole inputs columns before [] [] z l = ap Ok (sym (append-nil before))
-rows_whole inputs columns before [] (row ∷ rows) z l = absurd z
-rows_whole inputs columns before (fields ∷ records) [] z l = absurd z
-rows_whole inputs columns before (fields ∷ records) (row ∷ rows) z l =
-    let free = no_room ROWS (length before) (let long = length-append before (row ∷ rows) in omega (arith, long, l)) in
-    let this : table_row inputs columns before fields ≡ Ok row =
-    cond-false (leb ROWS (length before)) (Err TooManyRows) (labelled inputs (line_behind (length before)) columns fields) free ∙ row_whole inputs (line_behind (length before)) columns fields row z.0 in
-    ap (if_read (λ v. in_turn (table_row inputs columns) (before ++ v ∷ []) records)) this
-    ∙ rows_whole inputs columns (before ++ row ∷ []) records rows z.1 (subst (λ (rs : List Row). length rs ≤ ROWS) (sym (append_assoc before (row ∷ []) rows)) l)
-    ∙ ap Ok (append_assoc before (row ∷ []) rows)
+-- what a row says in its turn, it says where there is room for one more
+row_parts : (inputs : List Coded) (columns : List ℕ) (before : List Row) (fields : List (List ℕ)) (row : Row) → table_row inputs columns before fields ≡ Ok row
+    → (leb ROWS (length before) ≡ false) × (labelled inputs (line_behind (length before)) columns fields ≡ Ok row)
+row_parts inputs columns before fields row h = other_than_error (leb ROWS (length before)) TooManyRows (labelled inputs (line_behind (length before)) columns fields) row h
 
 -- ---- columns
 
@@ -128,17 +120,10 @@ column_parts : (before : List ℕ) (o : Option ℕ) (input : ℕ) → new_column
 column_parts before None input h = absurd (cc h)
 column_parts before (Some i) input h = let a = other_than_error (is_input_among i before) (CodeTwice 1) (Ok i) input h in let same : i ≡ input = cc a.1 in ap Some same
 
-columns_whole : (inputs : List Coded) (before : List ℕ) (fields : List (List ℕ)) (columns : List ℕ) → AllZip (λ code input. index_of code (codes_of inputs) ≡ Some input) fields columns → AreDifferent (before ++ columns)
-    → in_turn (column_of inputs) before fields ≡ Ok (before ++ columns)
-columns_whole inputs before [] [] z d = ap Ok (sym (append-nil before))
-columns_whole inputs before [] (input ∷ columns) z d = absurd z
-columns_whole inputs before (code ∷ fields) [] z d = absurd z
-columns_whole inputs before (code ∷ fields) (input ∷ columns) z d =
-    let fresh = false_from_ne_true (is_input_among input before) (λ e. twice before columns input e d) in
-    let this : column_of inputs before code ≡ Ok input = ap (new_column before) z.0 ∙ cond-false (is_input_among input before) (Err (CodeTwice 1)) (Ok input) fresh in
-    ap (if_read (λ v. in_turn (column_of inputs) (before ++ v ∷ []) fields)) this
-    ∙ columns_whole inputs (before ++ input ∷ []) fields columns z.1 (subst AreDifferent (sym (append_assoc before (input ∷ []) columns)) d)
-    ∙ ap Ok (append_assoc before (input ∷ []) columns)
+column_whole : (inputs : List Coded) (before : List ℕ) (code : List ℕ) (input : ℕ) (more : List ℕ) → index_of code (codes_of inputs) ≡ Some input → AreDifferent (before ++ input ∷ more)
+    → column_of inputs before code ≡ Ok input
+column_whole inputs before code input more known d =
+    let fresh = false_from_ne_true (is_input_among input before) (λ e. twice before more input e d) in ap (new_column before) known ∙ cond-false (is_input_among input before) (Err (CodeTwice 1)) (Ok input) fresh
 
 -- ---- a table
 
@@ -149,7 +134,7 @@ table_sound inputs bytes (first ∷ others) rows e h =
     let c = read_before (λ columns. in_turn (table_row inputs columns) [] others) (in_turn (column_of inputs) [] (drop 1 first)) rows read.1 in
     let known = turns_each (column_of inputs) (λ code input. index_of code (codes_of inputs) ≡ Some input) (λ before code input f. column_parts before (index_of code (codes_of inputs)) input f) [] (drop 1 first) c.0 c.1 in
     let each = turns_each (table_row inputs c.0) (IsTableRow inputs c.0)
-    (λ before fields row f. row_sound inputs (line_behind (length before)) c.0 fields row (other_than_error (leb ROWS (length before)) TooManyRows (labelled inputs (line_behind (length before)) c.0 fields) row f).1) [] others rows c.2 in
+    (λ before fields row f. row_sound inputs (line_behind (length before)) c.0 fields row (row_parts inputs c.0 before fields row f).1) [] others rows c.2 in
     record {
       first = first;
       others = others;
@@ -159,7 +144,7 @@ table_sound inputs bytes (first ∷ others) rows e h =
       known = subst (λ (cs : List ℕ). AllZip (λ code input. index_of code (codes_of inputs) ≡ Some input) (drop 1 first) cs) (sym known.1) known.2;
       once = (columns_known inputs (drop 1 first) c.0 c.1).once;
       in_order = subst (λ (rs : List Row). AllZip (IsTableRow inputs c.0) others rs) (sym each.1) each.2;
-      few = few_rows inputs c.0 others rows c.2;
+      few = turns_few (table_row inputs c.0) ROWS (λ before fields row f. (row_parts inputs c.0 before fields row f).0) others rows c.2;
     }
 
 pub read_table_is : (inputs : List Coded) (bytes : List ℕ) (rows : List Row) → table_of inputs bytes ≡ Ok rows → IsTable inputs bytes rows
@@ -169,5 +154,5 @@ pub table_is_read : (inputs : List Coded) (bytes : List ℕ) (rows : List Row) �
 table_is_read inputs bytes rows is =
     ap (table_read inputs) is.records
     ∙ cond-true (is_table_header is.first) (rows_read inputs (drop 1 is.first) is.others) (Err BadHeader) is.header
-    ∙ ap (if_read (λ columns. in_turn (table_row inputs columns) [] is.others)) (columns_whole inputs [] (drop 1 is.first) is.columns is.known is.once)
-    ∙ rows_whole inputs is.columns [] is.others rows is.in_order is.few
+    ∙ ap (if_read (λ columns. in_turn (table_row inputs columns) [] is.others)) (turns_whole (column_of inputs) (λ code input. index_of code (codes_of inputs) ≡ Some input) AreDifferent (column_whole inputs) [] (drop 1 is.first) is.columns is.known is.once)
+    ∙ turns_whole (table_row inputs is.columns) (IsTableRow inputs is.columns) (λ rs. length rs ≤ ROWS) (row_in_turn inputs is.columns) [] is.others rows is.in_order is.few

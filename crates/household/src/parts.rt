@@ -9,7 +9,7 @@ ghost use Rattle.household.specs.Table.{table_row};
 ghost use Rattle.household.specs.Reader.{left_of};
 ghost use Rattle.household.specs.Lines.{HasNoQuote};
 ghost use Rattle.household.specs.inner.Cuts.{IsCut, left_at};
-ghost use Rattle.household.specs.inner.Parts.{AreCutsFrom, SaysPart, joined};
+ghost use Rattle.household.specs.inner.Parts.{AreCutsFrom, SaysPart};
 ghost use Rattle.household.specs.declared.cuts.TheConstants.{BETWEEN};
 ghost use Rattle.household.specs.declared.fault.HouseholdFault.TheVariants.{Memory, TooManyRows};
 
@@ -18,10 +18,11 @@ use crate::records::{Records, next_line, next_record, records_of};
 use crate::table::read_row;
 use crate::{Codes, HouseholdFault, Row};
 use csv::ByteRecord;
+use m_places::Open;
 use m_places::limits::ROWS;
 use std::alloc::Global;
-use std::thread;
 use std::thread::Threads;
+use workers::{join_parts, part_size};
 
 /// The rows after the first record of a table, or the fault of the first that has one, whatever the order in time. `records` has read
 /// the first: where a quotation mark stands in the file, it reads the rest, and else several workers read it.
@@ -73,11 +74,12 @@ fn read_parts<R: Threads + Sync>(
 {
     let first = first_cut(bytes);
     let cuts = cuts_of(alloc, bytes, first)?;
-    let many = cuts_at_once(rt, cuts.len());
-    let parts = thread::map_chunks(
+    let many = part_size(rt, cuts.len(), 1);
+    join_parts(
         rt,
         alloc,
-        &cuts,
+        &Open,
+        cuts.as_slice(),
         many,
         &|start: usize, cuts: &[usize]| -> Result<Vec<Row>, HouseholdFault>
             requires { (0 < length cuts.now) × AreCutsFrom bytes.now (left_at bytes.now first) start cuts.now }
@@ -87,18 +89,7 @@ fn read_parts<R: Threads + Sync>(
             let _ = &first;
             read_part(alloc, bytes, cuts[0], start, many, columns, codes)
         },
-    )?;
-    joined(alloc, parts)
-}
-
-// How many cuts a worker gets, the last one perhaps fewer: as many workers as processors, or one where their count isn't told.
-fn cuts_at_once<R: Threads>(rt: &R, cuts: usize) -> usize
-    ensures { 0 < result }
-{
-    match thread::available_parallelism(rt) {
-        Ok(count) => cuts.div_ceil(count.get()).max(1),
-        Err(_) => cuts.max(1),
-    }
+    )?
 }
 
 // The rows of the records of so many cuts, of which the first has this number, or the fault of the first record that has one.
@@ -157,19 +148,4 @@ fn line_of(start: usize, rows: usize) -> Result<u32, HouseholdFault>
         return Err(HouseholdFault::TooManyRows);
     }
     next_line(start * BETWEEN + rows)
-}
-
-// What workers give, in the order of their parts, or the fault of the first that has one.
-fn joined(
-    alloc: Global,
-    parts: Vec<Result<Vec<Row>, HouseholdFault>>,
-) -> Result<Vec<Row>, HouseholdFault>
-    ensures { Says Memory result (λ rows. rows.items) (joined parts.items) }
-{
-    let mut rows = Vec::new(alloc);
-    for part in parts {
-        let mut part = part?;
-        rows.append(&mut part)?;
-    }
-    Ok(rows)
 }

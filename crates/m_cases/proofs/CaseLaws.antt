@@ -1,11 +1,11 @@
 -- A table of cases reads to the cases that its records are.
-use Rattle.std.proofs.Common.{◌≡◌, ◌≢◌, ℕ, ℤ, ◌≤◌, List, [], ◌∷◌, ◌++◌, drop, length, Result, Ok, Err, Bool, true, false, cond, eqb, leb, refl, sym, subst, ap, ◌∙◌, append_assoc, length-append, arith, codes}
+use Rattle.std.proofs.Common.{◌≡◌, ◌≢◌, ℕ, ℤ, ◌≤◌, List, [], ◌∷◌, ◌++◌, drop, length, Result, Ok, Err, Bool, true, false, cond, eqb, leb, refl, sym, subst, ap, ◌∙◌, append_assoc, arith, codes}
 use mathlib.Core.Bool.{◌&&◌}
 use Rattle.std.specs.Prelude.{◌||◌}
 use Rattle.std.specs.Str.{bytes_eq}
 use Rattle.std.specs.List.{AllZip, list_any}
 use Rattle.std.proofs.lemmas.Bool.{and_parts, cond-false, cond-true, false_from_ne_true, eqb-true, eq-eqb, or_parts}
-use Rattle.std.proofs.lemmas.List.{append-nil, length_push}
+use Rattle.std.proofs.lemmas.List.{append-nil}
 use Rattle.m_places.specs.declared.limits.TheConstants.{ROWS}
 use Rattle.m_fixed.specs.declared.read.AmountFault.{AmountFault}
 use Rattle.m_fixed.specs.declared.amount.Value.TheVariants.{Undef, Over}
@@ -18,7 +18,7 @@ use Rattle.household.specs.Records.{records_of}
 use Rattle.household.specs.Household.{line_behind}
 use Rattle.household.specs.Table.{are_fitting, fitting_pairs, is_label, is_table_header, pairs_read}
 use Rattle.household.proofs.InputLemmas.{AllByRecursion-push, if_ok, other_than_error, read_before, turns_keep}
-use Rattle.household.proofs.LawLemmas.{inside, no_room, room, turns_each}
+use Rattle.household.proofs.LawLemmas.{fewer, inside, turns_each, turns_few, turns_whole}
 use Rattle.household.proofs.TableLemmas.{cells_whole, not_empty, pairs_sound}
 use Rattle.m_cases.specs.declared.cases.Case.{Case}
 use Rattle.m_cases.specs.declared.cases.Cases.{Cases}
@@ -76,17 +76,10 @@ field_is inputs names before field column h =
     let same : r.0 ≡ column = cc a.1 in
     r.1 ∙ ap Ok same
 
-columns_whole : (inputs : List Coded) (names : List (List ℕ)) (before : List Column) (fields : List (List ℕ)) (columns : List Column) → AllZip (λ field column. field_said inputs names field ≡ Ok column) fields columns
-    → AreApart (before ++ columns) → in_turn (column_of inputs names) before fields ≡ Ok (before ++ columns)
-columns_whole inputs names before [] [] z d = ap Ok (sym (append-nil before))
-columns_whole inputs names before [] (column ∷ columns) z d = absurd z
-columns_whole inputs names before (field ∷ fields) [] z d = absurd z
-columns_whole inputs names before (field ∷ fields) (column ∷ columns) z d =
-    let fresh = apart_from before columns column d in
-    let this : column_of inputs names before field ≡ Ok column = ap (if_read (new_column before)) z.0 ∙ cond-false (list_any (is_same_column column) before) (Err (CodeTwice 1)) (Ok column) fresh in
-    ap (if_read (λ v. in_turn (column_of inputs names) (before ++ v ∷ []) fields)) this
-    ∙ columns_whole inputs names (before ++ column ∷ []) fields columns z.1 (subst AreApart (sym (append_assoc before (column ∷ []) columns)) d)
-    ∙ ap Ok (append_assoc before (column ∷ []) columns)
+column_whole : (inputs : List Coded) (names : List (List ℕ)) (before : List Column) (field : List ℕ) (column : Column) (more : List Column) → field_said inputs names field ≡ Ok column → AreApart (before ++ column ∷ more)
+    → column_of inputs names before field ≡ Ok column
+column_whole inputs names before field column more said d =
+    ap (if_read (new_column before)) said ∙ cond-false (list_any (is_same_column column) before) (Err (CodeTwice 1)) (Ok column) (apart_from before more column d)
 
 -- ---- what is expected
 
@@ -188,25 +181,17 @@ case_whole inputs line columns fields case is =
 
 -- ---- all cases
 
-few_cases : (inputs : List Coded) (columns : List Column) (records : List (List (List ℕ))) (cases : List Case) → in_turn (case_of inputs columns) [] records ≡ Ok cases → length cases ≤ ROWS
-few_cases inputs columns records cases h =
-    turns_keep (case_of inputs columns) (λ before. length before ≤ ROWS)
-    (λ before fields case q e.
-    let free = room ROWS (length before) (other_than_error (leb ROWS (length before)) TooManyRows (case_said inputs (line_behind (length before)) columns fields) case e).0 in omega (arith, length_push before case))
-    [] records cases (omega arith) h
+-- a case that says what it says by itself says it in its turn
+case_in_turn : (inputs : List Coded) (columns : List Column) (before : List Case) (fields : List (List ℕ)) (case : Case) (more : List Case) → IsCase inputs columns fields case → length (before ++ case ∷ more) ≤ ROWS
+    → case_of inputs columns before fields ≡ Ok case
+case_in_turn inputs columns before fields case more is few =
+    cond-false (leb ROWS (length before)) (Err TooManyRows) (case_said inputs (line_behind (length before)) columns fields) (fewer ROWS before more case few)
+    ∙ case_whole inputs (line_behind (length before)) columns fields case is
 
-all_whole : (inputs : List Coded) (columns : List Column) (before : List Case) (records : List (List (List ℕ))) (cases : List Case) → AllZip (IsCase inputs columns) records cases → length (before ++ cases) ≤ ROWS
-    → in_turn (case_of inputs columns) before records ≡ Ok (before ++ cases)
-all_whole inputs columns before [] [] z l = ap Ok (sym (append-nil before))
-all_whole inputs columns before [] (case ∷ cases) z l = absurd z
-all_whole inputs columns before (fields ∷ records) [] z l = absurd z
-all_whole inputs columns before (fields ∷ records) (case ∷ cases) z l =
-    let free = no_room ROWS (length before) (let long = length-append before (case ∷ cases) in omega (arith, long, l)) in
-    let this : case_of inputs columns before fields ≡ Ok case =
-    cond-false (leb ROWS (length before)) (Err TooManyRows) (case_said inputs (line_behind (length before)) columns fields) free ∙ case_whole inputs (line_behind (length before)) columns fields case z.0 in
-    ap (if_read (λ v. in_turn (case_of inputs columns) (before ++ v ∷ []) records)) this
-    ∙ all_whole inputs columns (before ++ case ∷ []) records cases z.1 (subst (λ (cs : List Case). length cs ≤ ROWS) (sym (append_assoc before (case ∷ []) cases)) l)
-    ∙ ap Ok (append_assoc before (case ∷ []) cases)
+-- what a case says in its turn, it says where there is room for one more
+case_parts : (inputs : List Coded) (columns : List Column) (before : List Case) (fields : List (List ℕ)) (case : Case) → case_of inputs columns before fields ≡ Ok case
+    → (leb ROWS (length before) ≡ false) × (case_said inputs (line_behind (length before)) columns fields ≡ Ok case)
+case_parts inputs columns before fields case h = other_than_error (leb ROWS (length before)) TooManyRows (case_said inputs (line_behind (length before)) columns fields) case h
 
 table_sound : (inputs : List Coded) (names : List (List ℕ)) (bytes : List ℕ) (records : List (List (List ℕ))) (cases : List Case) → records_of bytes ≡ records → cases_read inputs names records ≡ Ok cases
     → IsCaseTable inputs names bytes cases
@@ -216,7 +201,7 @@ table_sound inputs names bytes (first ∷ others) cases e h =
     let c = read_before (λ columns. in_turn (case_of inputs columns) [] others) (in_turn (column_of inputs names) [] (drop 1 first)) cases read.1 in
     let known = turns_each (column_of inputs names) (λ field column. field_said inputs names field ≡ Ok column) (λ before field column f. field_is inputs names before field column f) [] (drop 1 first) c.0 c.1 in
     let each = turns_each (case_of inputs c.0) (IsCase inputs c.0)
-    (λ before fields case f. case_sound inputs (line_behind (length before)) c.0 fields case (other_than_error (leb ROWS (length before)) TooManyRows (case_said inputs (line_behind (length before)) c.0 fields) case f).1) [] others cases c.2 in
+    (λ before fields case f. case_sound inputs (line_behind (length before)) c.0 fields case (case_parts inputs c.0 before fields case f).1) [] others cases c.2 in
     record {
       first = first;
       others = others;
@@ -226,7 +211,7 @@ table_sound inputs names bytes (first ∷ others) cases e h =
       known = subst (λ (cs : List Column). AllZip (λ field column. field_said inputs names field ≡ Ok column) (drop 1 first) cs) (sym known.1) known.2;
       once = columns_apart inputs names (drop 1 first) c.0 c.1;
       in_order = subst (λ (cs : List Case). AllZip (IsCase inputs c.0) others cs) (sym each.1) each.2;
-      few = few_cases inputs c.0 others cases c.2;
+      few = turns_few (case_of inputs c.0) ROWS (λ before fields case f. (case_parts inputs c.0 before fields case f).0) others cases c.2;
     }
 
 abbrev all_made : List Case → Result Cases CasesFault
@@ -242,5 +227,5 @@ pub cases_are_read : (inputs : List Coded) (names : List (List ℕ)) (bytes : Li
 cases_are_read inputs names bytes cases is =
     ap (λ rs. if_read all_made (cases_read inputs names rs)) is.records
     ∙ ap (if_read all_made) (cond-true (is_table_header is.first) (if_read (λ columns. in_turn (case_of inputs columns) [] is.others) (in_turn (column_of inputs names) [] (drop 1 is.first))) (Err BadHeader) is.header
-    ∙ ap (if_read (λ columns. in_turn (case_of inputs columns) [] is.others)) (columns_whole inputs names [] (drop 1 is.first) is.columns is.known is.once)
-    ∙ all_whole inputs is.columns [] is.others cases is.in_order is.few)
+    ∙ ap (if_read (λ columns. in_turn (case_of inputs columns) [] is.others)) (turns_whole (column_of inputs names) (λ field column. field_said inputs names field ≡ Ok column) AreApart (column_whole inputs names) [] (drop 1 is.first) is.columns is.known is.once)
+    ∙ turns_whole (case_of inputs is.columns) (IsCase inputs is.columns) (λ cs. length cs ≤ ROWS) (case_in_turn inputs is.columns) [] is.others cases is.in_order is.few)

@@ -1,5 +1,5 @@
 -- What each case of a table has: known inputs, amounts of their types, and expectations of known outputs.
-use Rattle.std.proofs.Common.{◌≡◌, ◌≢◌, ℕ, ℤ, suc, ◌+◌, ◌<◌, ◌≤◌, ◌^◌, Bool, true, false, cond, eqb, leb, arith, List, [], ◌∷◌, ◌++◌, map, length, length-append, Option, Some, None, Result, Ok, Err, refl, sym, ap, ◌∙◌, subst, append_assoc}
+use Rattle.std.proofs.Common.{◌≡◌, ◌≢◌, ℕ, ℤ, suc, ◌+◌, ◌<◌, ◌≤◌, ◌^◌, Bool, true, false, cond, eqb, leb, arith, List, [], ◌∷◌, ◌++◌, length, length-append, Option, Some, None, Result, Ok, Err, refl, sym, ◌∙◌, subst, append_assoc}
 use mathlib.Core.Bool.{◌&&◌}
 use Rattle.std.specs.List.{AllByRecursion, list_any}
 use Rattle.std.proofs.lemmas.Bool.{and_parts, leb-false}
@@ -13,7 +13,6 @@ use Rattle.m_names.proofs.NameLemmas.{index_of-some}
 use Rattle.observables.specs.declared.inputs.Coded.{Coded}
 use Rattle.observables.specs.Inputs.{codes_of}
 use Rattle.observables.proofs.InputLemmas.{read_amount}
-use Rattle.household.specs.declared.table.Row.{Row}
 use Rattle.household.specs.declared.fault.HouseholdFault.{HouseholdFault}
 use Rattle.household.specs.declared.fault.HouseholdFault.TheVariants as household
 use Rattle.household.specs.InTurn.{if_read, in_turn}
@@ -24,7 +23,6 @@ use Rattle.m_cases.specs.declared.cases.Case.{Case}
 use Rattle.m_cases.specs.declared.columns.Column.{Column}
 use Rattle.m_cases.specs.declared.columns.Column.TheVariants.{Input, Output}
 use Rattle.m_cases.specs.declared.expected.Expected.{Expected}
-use Rattle.m_cases.specs.declared.fault.CasesFault.{CasesFault}
 use Rattle.m_cases.specs.declared.fault.CasesFault.TheVariants.{TooManyRows, BadRow, CodeTwice}
 use Rattle.m_cases.specs.Cases.{AreExpected, case_of, case_said, case_with, cases_made, expected_read, expected_said, of_household}
 use Rattle.m_cases.specs.Columns.{column_inputs, column_of, field_said, input_cells, input_said, is_same_column, new_column, output_said}

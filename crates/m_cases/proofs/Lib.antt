@@ -9,3 +9,4 @@ pub mod CaseLaws
 pub mod CaseLemmas
 pub mod Told
 pub mod Records
+pub mod Numbered

@@ -1,6 +1,5 @@
 -- What a record says, part by part.
-use Rattle.std.proofs.Common.{◌≡◌, ℕ, ℤ, suc, ◌+◌, Bool, true, false, cond, eqb, arith, get_or, drop, List, [], ◌∷◌, length, Result, Ok, Err, refl, sym, ap, ◌∙◌, subst}
-use mathlib.Core.Bool.{◌&&◌}
+use Rattle.std.proofs.Common.{◌≡◌, ℕ, ℤ, ◌+◌, true, cond, eqb, arith, get_or, drop, List, [], ◌∷◌, length, Result, Ok, Err, ap, ◌∙◌}
 use Rattle.std.proofs.lemmas.Bool.{eq-eqb}
 use Rattle.m_names.proofs.NameLemmas.{and-both}
 use Rattle.observables.specs.declared.inputs.Coded.{Coded}

@@ -1,15 +1,10 @@
 -- The lines of expectations that aren't met, and their count, from one of them on.
-use Rattle.std.proofs.Common.{◌≡◌, ℕ, zero, suc, ◌+◌, ◌<◌, ◌≤◌, Bool, true, false, cond, arith, get_or, drop, List, [], ◌∷◌, ◌++◌, length, Option, Some, None, refl, sym, ap, ◌∙◌, subst}
+use Rattle.std.proofs.Common.{◌≡◌, ℕ, zero, suc, ◌+◌, ◌<◌, ◌≤◌, Bool, true, false, cond, arith, get_or, drop, List, [], ◌∷◌, ◌++◌, length, Option, sym, ap, ◌∙◌, subst}
 use Rattle.std.proofs.lemmas.List.{drop_more, drop_all}
 use Rattle.m_fixed.specs.declared.amount.Value.{Value}
-use Rattle.observables.specs.declared.answer.Answer.{Answer}
-use Rattle.observables.specs.declared.answer.Answer.TheVariants.{Values, Stopped}
 use Rattle.m_cases.specs.declared.expected.Expected.{Expected}
 use Rattle.std.specs.List.{AllByRecursion}
-use Rattle.observables.specs.declared.face.Face.{Face}
-use Rattle.observables.specs.Outputs.{names_of, notes_of}
-use Rattle.m_cases.specs.Mismatches.{HasOutput, HasValueEach, got_of, is_met, mismatch_count, mismatch_lines, one_line}
-use Rattle.m_cases.proofs.Named.{counted}
+use Rattle.m_cases.specs.Mismatches.{got_of, is_met, mismatch_count, mismatch_lines, one_line}
 
 pub lines_at : (names : List (List ℕ)) (label : List ℕ) (vs : Option (List Value)) (expected : List (ℕ × Expected)) (k : ℕ) (e : ℕ × Expected) → k < length expected → e ≡ get_or expected k e
     → mismatch_lines names label vs (drop k expected) ≡ one_line names label vs e ++ mismatch_lines names label vs (drop (k + 1) expected)
@@ -41,17 +36,8 @@ count_unmet vs expected k e met h is m f =
 pub count_end : (vs : Option (List Value)) (expected : List (ℕ × Expected)) (k : ℕ) → length expected ≤ k → mismatch_count vs (drop k expected) ≡ 0
 count_end vs expected k h = ap (mismatch_count vs) (drop_all k expected h)
 
--- an answer with a value for each output of the face has one after the notes
-pub has_named : (face : Face) (answer : Answer) (notes place : ℕ) → HasValueEach face answer → notes ≡ length (notes_of face.outputs) → place < length (names_of face.outputs) → HasOutput (notes + place) answer
-has_named face (Values vs) notes place h n l = let all = counted face.outputs in omega (arith, h, n, l, all)
-has_named face (Stopped stop) notes place h n l = tt
-
--- the expectation at a place is of a known name
+-- the expectation at a place is of a known output
 pub known_at : (names : ℕ) (expected : List (ℕ × Expected)) (k : ℕ) (e : ℕ × Expected) → AllByRecursion (λ x. x.0 < names) expected → k < length expected → e ≡ get_or expected k e → e.0 < names
 known_at names [] k e all h is = absurd (omega (arith, h))
 known_at names (x ∷ expected) zero e all h is = subst (λ (y : ℕ × Expected). y.0 < names) (sym is) all.0
 known_at names (x ∷ expected) (suc k) e all h is = known_at names expected k e all.1 (omega (arith, h)) is
-
--- the output after the notes is within
-pub name_within : (face : Face) (notes place : ℕ) → notes ≡ length (notes_of face.outputs) → place < length (names_of face.outputs) → notes + place < length face.outputs
-name_within face notes place n l = let all = counted face.outputs in omega (arith, n, l, all)

@@ -7,6 +7,8 @@ use Rattle.m_fixed.specs.declared.amount.Value.TheVariants.{Undef, Num, Over}
 use Rattle.m_fixed.specs.declared.read.AmountFault.{AmountFault}
 use Rattle.m_fixed.specs.Text.{text_value, amount_read}
 use Rattle.observables.specs.declared.inputs.Coded.{Coded}
+use Rattle.observables.specs.declared.face.Face.{Face}
+use Rattle.observables.specs.Outputs.{names_of, notes_of}
 use Rattle.household.specs.declared.fault.HouseholdFault.{HouseholdFault}
 use Rattle.household.specs.declared.fault.HouseholdFault.TheVariants as household
 use Rattle.household.specs.InTurn.{if_read, in_turn}
@@ -101,6 +103,18 @@ abbrev pub cases_of : List Coded → List (List ℕ) → List ℕ → Result Cas
 cases_of inputs names bytes = if_read (λ cases. Ok (cases_made cases)) (cases_read inputs names (records_of bytes))
 
 -- Each is expected of one of so many outputs, and they can be counted.
-pub record AreExpected (names : ℕ) (expected : List (ℕ × Expected)) : Type 0 where
-  pub known : AllByRecursion (λ e. e.0 < names) expected
+pub record AreExpected (outputs : ℕ) (expected : List (ℕ × Expected)) : Type 0 where
+  pub known : AllByRecursion (λ e. e.0 < outputs) expected
   pub few : length expected < 2 ^ 32
+
+-- What is expected of outputs with names, by their numbers among all outputs, where so many notes stand before the names.
+abbrev pub numbered : ℕ → List (ℕ × Expected) → List (ℕ × Expected)
+numbered notes expected = map (λ e. (notes + e.0, e.1)) expected
+
+abbrev pub numbered_cases : ℕ → Cases → Cases
+numbered_cases notes cases = record { rows = cases.rows; expected = map (numbered notes) cases.expected }
+
+-- What bytes say where this is the face: the number of an output is its number in the face, from 0, notes before names. After one note the
+-- field `=IRN` means the output 1, where `IRN` is the first name.
+abbrev pub face_cases : List Coded → Face → List ℕ → Result Cases CasesFault
+face_cases inputs face bytes = if_read (λ cases. Ok (numbered_cases (length (notes_of face.outputs)) cases)) (cases_of inputs (names_of face.outputs) bytes)

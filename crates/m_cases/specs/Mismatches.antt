@@ -8,6 +8,8 @@ use Rattle.m_fixed.specs.Text.{printed}
 use Rattle.observables.specs.declared.answer.Answer.{Answer}
 use Rattle.observables.specs.declared.answer.Answer.TheVariants.{Values, Stopped}
 use Rattle.observables.specs.declared.face.Face.{Face}
+use Rattle.observables.specs.declared.face.FaceOutput.{FaceOutput}
+use Rattle.observables.specs.declared.face.FaceOutput.TheVariants.{Named, Noted}
 use Rattle.observables.specs.Answers.{Told, values, stopped}
 use Rattle.m_cases.specs.declared.expected.Expected.{Expected}
 use Rattle.m_cases.specs.declared.expected.Expected.TheVariants.{Is, Stop}
@@ -61,6 +63,12 @@ mismatch_line label name expected got =
 -- the line of an expectation, where it isn't met
 abbrev pub one_line : List (List ℕ) → List ℕ → Option (List Value) → ℕ × Expected → List ℕ
 one_line names label vs e = if is_met e.1 (got_of vs e.0) then [] else mismatch_line label (slice_index_or names e.0 []) e.1 (got_of vs e.0)
+
+-- The name of each output, in order; a note has none.
+abbrev pub output_names : List FaceOutput → List (List ℕ)
+output_names [] = []
+output_names (Named name ∷ outputs) = name ∷ output_names outputs
+output_names (Noted number ∷ outputs) = [] ∷ output_names outputs
 
 -- The lines of the expectations that aren't met, in order. `vs` are the values of the outputs with these names, and none where the answer
 -- is a stop.

@@ -5,12 +5,12 @@ ghost use Rattle.csv.specs.Records.{fields_of};
 ghost use Rattle.m_places.specs.Refusals.{Outcome};
 ghost use Rattle.m_places.specs.declared.limits.TheConstants.{ROWS};
 ghost use Rattle.m_fixed.specs.Text.{amount_read, text_value};
-ghost use Rattle.observables.specs.Outputs.{names_of};
+ghost use Rattle.observables.specs.Outputs.{names_of, notes_of};
 ghost use Rattle.household.specs.Household.{AreInputs, AreOfTypes};
 ghost use Rattle.household.specs.InTurn.{if_read, in_turn};
 ghost use Rattle.household.specs.Reader.{left_of};
 ghost use Rattle.household.specs.Table.{cells_read, is_table_header, pairs_read};
-ghost use Rattle.m_cases.specs.Cases.{AreExpected, amount_expected, case_of, case_said, cases_made, cases_of, expected_read, expected_said, of_household};
+ghost use Rattle.m_cases.specs.Cases.{AreExpected, amount_expected, case_of, case_said, cases_made, expected_read, expected_said, face_cases, numbered, numbered_cases, of_household};
 ghost use Rattle.m_cases.specs.Columns.{column_inputs, column_of, input_cells};
 ghost use Rattle.m_cases.specs.inner.Cells.{amounts_behind, expected_behind};
 ghost use Rattle.m_cases.specs.declared.expected.Expected.TheVariants.{Is, Stop};
@@ -24,18 +24,18 @@ use household::records::{Records, field_at, next_line, next_record, records_of};
 use household::{Codes, Household, Pair, Row, is_label, read_cell};
 use m_fixed::{Value, read_amount};
 use m_places::{Name, Seq};
-use observables::Face;
+use observables::{Face, FaceOutput};
 use std::alloc::{AllocError, Global};
 
 /// The cases of a table: its rows in order, and at the same place what is expected of each, in the order of the fields. The number
-/// of an output is its place among the outputs with names, from 0.
+/// of an output is that of the face, from 0, notes before names.
 #[derive(Drop)]
 pub struct Cases {
     pub rows: Seq<Row>,
     pub expected: Seq<Seq<(u32, Expected)>>,
 }
 
-/// A row, and what is expected of it.
+/// A row, and what is expected of it. The number of an output is its place among the outputs with names, from 0.
 #[derive(Drop)]
 pub struct Case {
     pub row: Row,
@@ -52,13 +52,13 @@ pub fn read_cases(
 ) -> Result<Cases, CasesFault>
     requires { length face.now.outputs < 2 ^ 32 }
     ensures outcome { Outcome Memory result
-        (λ cases. cases_of codes.now (names_of face.now.outputs) bytes.now ≡ Ok cases)
-        (λ fault. cases_of codes.now (names_of face.now.outputs) bytes.now ≡ Err fault) }
+        (λ cases. face_cases codes.now face.now bytes.now ≡ Ok cases)
+        (λ fault. face_cases codes.now face.now bytes.now ≡ Err fault) }
     ensures inputs { IfOk result (λ cases. AllByRecursion (λ row. AreInputs (length codes.now) row.household.pairs) cases.rows) }
     ensures amounts { IfOk result (λ cases. AllByRecursion (λ row. AreOfTypes codes.now row.household.pairs) cases.rows) }
     ensures many { IfOk result (λ cases. length cases.expected ≡ length cases.rows) }
     ensures few { IfOk result (λ cases. length cases.rows ≤ ROWS) }
-    ensures expected { IfOk result (λ cases. AllByRecursion (AreExpected (length (names_of face.now.outputs))) cases.expected) }
+    ensures expected { IfOk result (λ cases. AllByRecursion (AreExpected (length face.now.outputs)) cases.expected) }
 {
     let mut records = records_of(alloc, bytes);
     let mut row = ByteRecord::new(alloc);
@@ -70,7 +70,22 @@ pub fn read_cases(
     }
     let columns = columns_of(alloc, &row, codes, face)?;
     let cases = read_rows(alloc, &mut records, &mut row, &columns, codes)?;
-    Ok(apart(alloc, cases)?)
+    let notes = count_notes(face.outputs.as_slice());
+    Ok(apart(alloc, cases, notes)?)
+}
+
+// How many notes stand before the names.
+fn count_notes(outputs: &[FaceOutput]) -> u32
+    requires { length outputs.now < 2 ^ 32 }
+    ensures { result ≡ length (notes_of outputs.now) }
+{
+    let mut count = 0u32;
+    for output in outputs {
+        if let FaceOutput::Noted(_) = output {
+            count += 1;
+        }
+    }
+    count
 }
 
 // Whether a record is the first of a table.
@@ -309,18 +324,32 @@ fn amount_expected(cell: &[u8], line: u32) -> Result<Expected, CasesFault>
     }
 }
 
-// The rows of cases, and what each expects. Its only error is running out of memory.
-fn apart(alloc: Global, cases: Vec<Case>) -> Result<Cases, AllocError>
-    ensures { IfOk result (λ made. made ≡ cases_made cases.items) }
+// The rows of cases, and what each expects, where so many notes stand before the names. Its only error is running out of memory.
+fn apart(alloc: Global, cases: Vec<Case>, notes: u32) -> Result<Cases, AllocError>
+    requires { AllByRecursion (λ c. AllByRecursion (λ e. notes + e.0 < 2 ^ 32) c.expected) cases.items }
+    ensures { IfOk result (λ made. made ≡ numbered_cases notes (cases_made cases.items)) }
 {
     let mut rows = Vec::new(alloc);
     let mut expected = Vec::new(alloc);
     for case in cases {
         rows.push(case.row)?;
-        expected.push(case.expected)?;
+        expected.push(numbered(case.expected, notes))?;
     }
     Ok(Cases {
         rows: Seq::from_vec(rows),
         expected: Seq::from_vec(expected),
     })
+}
+
+// What is expected of outputs with names, by their numbers among all outputs, where so many notes stand before the names.
+fn numbered(expected: Seq<(u32, Expected)>, notes: u32) -> Seq<(u32, Expected)>
+    requires { AllByRecursion (λ e. notes + e.0 < 2 ^ 32) expected }
+    ensures { result ≡ numbered notes expected }
+{
+    let mut all = expected.into_vec();
+    for i in 0..all.len() {
+        let (output, one) = all[i];
+        all[i] = (notes + output, one);
+    }
+    Seq::from_vec(all)
 }

@@ -4,10 +4,9 @@ ghost use Rattle.std.specs.Ordering.{int_eq};
 ghost use Rattle.m_fixed.specs.Text.{printed};
 ghost use Rattle.m_ports.specs.Giving.{Gives};
 ghost use Rattle.m_text.specs.Pieces.{joined, new_line};
-ghost use Rattle.observables.specs.Outputs.{names_of, notes_of};
 ghost use Rattle.m_cases.specs.Cases.{AreExpected};
 ghost use Rattle.m_cases.specs.Mismatches.{HasOutput, HasValueEach, answer_values, count_line, expected_text, got_of, is_met};
-ghost use Rattle.m_cases.specs.Mismatches.{is_same_value, mismatch_count, mismatch_line, mismatch_lines, named_values, one_line};
+ghost use Rattle.m_cases.specs.Mismatches.{is_same_value, mismatch_count, mismatch_line, mismatch_lines, one_line, output_names};
 
 use crate::Expected;
 use itoa::Buffer;
@@ -17,8 +16,7 @@ use m_ports::{Failed, Sink, give_pieces};
 use observables::{Answer, Face, FaceOutput};
 
 /// Whether what is expected of the output with this number is met by an answer: a stop by each answer that stops, and a value by an
-/// answer that has it at that output. The number is that of the face's output, from 0, notes before names: what `read_cases` reads of
-/// the name at a place is of the number of notes and that place. Takes no memory.
+/// answer that has it at that output. Takes no memory.
 pub fn met(expected: &Expected, output: u32, answer: &Answer) -> bool
     requires { HasOutput output answer.now }
     ensures { result ≡ is_met expected.now (got_of (answer_values answer.now) output) }
@@ -33,17 +31,6 @@ fn got_of(answer: &Answer, output: usize) -> Expected
 {
     match answer {
         Answer::Values(values) => Expected::Is(values.as_slice()[output]),
-        Answer::Stopped(_) => Expected::Stop,
-    }
-}
-
-// What one gets of the output at this place after so many notes.
-fn got_behind(answer: &Answer, notes: usize, place: usize) -> Expected
-    requires { HasOutput (notes + place) answer.now }
-    ensures { result ≡ got_of (named_values notes (answer_values answer.now)) place }
-{
-    match answer {
-        Answer::Values(values) => Expected::Is(values.as_slice()[notes..][place]),
         Answer::Stopped(_) => Expected::Stop,
     }
 }
@@ -86,8 +73,7 @@ fn is_same_value(value: Value, other: Value) -> bool
 }
 
 /// Writes a line for each expectation that an answer doesn't meet, in order, as `mismatch martin IRN expected 7 got 0`, and
-/// answers how many they are. The number of an output is its place among the outputs with names. On a failure a prefix of the lines
-/// was appended. It takes no memory.
+/// answers how many they are. On a failure a prefix of the lines was appended. It takes no memory.
 pub fn print_mismatches<K: Sink>(
     face: &Face,
     label: &Name,
@@ -95,70 +81,52 @@ pub fn print_mismatches<K: Sink>(
     answer: &Answer,
     out: &mut K,
 ) -> Result<u32, Failed>
-    requires expected { AreExpected (length (names_of face.now.outputs)) expected.now }
+    requires expected { AreExpected (length face.now.outputs) expected.now }
     requires within { HasValueEach face.now answer.now }
     ensures text { Gives K.written K.faults out.old out.new result
-        (mismatch_lines (names_of face.now.outputs) label.now (named_values (length (notes_of face.now.outputs)) (answer_values answer.now)) expected.now) }
-    ensures count { IfOk result (λ count. count ≡ mismatch_count (named_values (length (notes_of face.now.outputs)) (answer_values answer.now)) expected.now) }
+        (mismatch_lines (output_names face.now.outputs) label.now (answer_values answer.now) expected.now) }
+    ensures count { IfOk result (λ count. count ≡ mismatch_count (answer_values answer.now) expected.now) }
 {
-    let notes = count_notes(face.outputs.as_slice());
     let mut count = 0u32;
     for one in expected {
-        if !print_one(face, notes, label, one, answer, out)? {
+        if !print_one(face, label, one, answer, out)? {
             count += 1;
         }
     }
     Ok(count)
 }
 
-// Writes the line of an expectation, if an answer doesn't meet it, and says whether it does. The names stand after so many notes.
+// Writes the line of an expectation, if an answer doesn't meet it, and says whether it does.
 fn print_one<K: Sink>(
     face: &Face,
-    notes: usize,
     label: &Name,
     expected: &(u32, Expected),
     answer: &Answer,
     out: &mut K,
 ) -> Result<bool, Failed>
-    requires notes { notes ≡ length (notes_of face.now.outputs) }
-    requires place { expected.now.0 < length (names_of face.now.outputs) }
+    requires there { expected.now.0 < length face.now.outputs }
     requires within { HasValueEach face.now answer.now }
     ensures text { Gives K.written K.faults out.old out.new result
-        (one_line (names_of face.now.outputs) label.now (named_values notes (answer_values answer.now)) expected.now) }
-    ensures met { IfOk result (λ met. met ≡ is_met expected.now.1 (got_of (named_values notes (answer_values answer.now)) expected.now.0)) }
+        (one_line (output_names face.now.outputs) label.now (answer_values answer.now) expected.now) }
+    ensures met { IfOk result (λ met. met ≡ is_met expected.now.1 (got_of (answer_values answer.now) expected.now.0)) }
 {
-    let place = expected.0 as usize;
-    let got = got_behind(answer, notes, place);
+    let output = expected.0 as usize;
+    let got = got_of(answer, output);
     if is_met(&expected.1, &got) {
         give_pieces(out, &[])?;
         return Ok(true);
     }
-    let name = name_at(face, notes, place);
+    let name = name_at(face.outputs.as_slice(), output);
     print_mismatch(label, name, &expected.1, &got, out)?;
     Ok(false)
 }
 
-// How many notes stand before the names.
-fn count_notes(outputs: &[FaceOutput]) -> usize
-    ensures { result ≡ length (notes_of outputs.now) }
+// The name of the output with this number; a note has none.
+fn name_at(outputs: &[FaceOutput], output: usize) -> &[u8]
+    requires { output < length outputs.now }
+    ensures { result.now ≡ slice_index_or (output_names outputs.now) output [] }
 {
-    let mut count = 0;
-    for output in outputs {
-        if let FaceOutput::Noted(_) = output {
-            count += 1;
-        }
-    }
-    count
-}
-
-// The name at this place among the names, which stand after so many notes.
-fn name_at(face: &Face, notes: usize, place: usize) -> &[u8]
-    requires notes { notes ≡ length (notes_of face.now.outputs) }
-    requires place { place < length (names_of face.now.outputs) }
-    requires within { notes + place < length face.now.outputs }
-    ensures { result.now ≡ slice_index_or (names_of face.now.outputs) place [] }
-{
-    match &face.outputs.as_slice()[notes..][place] {
+    match &outputs[output] {
         FaceOutput::Named(name) => name.bytes(),
         FaceOutput::Noted(_) => &[],
     }

@@ -15,8 +15,6 @@ use Rattle.observables.specs.declared.face.FaceOutput.{FaceOutput}
 use Rattle.observables.specs.declared.face.FaceOutput.TheVariants.{Named, Noted}
 use Rattle.flat_code.specs.declared.program.Check.{Check}
 use Rattle.flat_code.specs.declared.program.Flat.{Flat}
-use Rattle.flat_code.specs.Facts.{facts}
-use Rattle.flat_code.specs.Runs.{entries_of}
 use Rattle.m_places.specs.declared.place.Place.{Place}
 use Rattle.micro_m.specs.Trees.{Tree}
 use Rattle.micro_m.specs.declared.base.Base.{Base}
@@ -221,18 +219,18 @@ label-unmarked labels marks n this e = ap (λ b. not (get_or marks n false) && n
     by false h = refl
 
 -- the checks that are neither marked nor equal to a marked one are those that never stop
-pub unmarked-never : (base : Base) (flat : Flat) (face : Face) (k : ℕ) → take (length base.labels) face.labels ≡ map Verif base.labels
-    → is_unmarked base (loud_of (entries_of facts flat.nodes) flat face) (with_labels face.labels (loud_of (entries_of facts flat.nodes) flat face) []) k ≡ is_never_stopping base flat face k
-unmarked-never base flat face k first = by (slice_get base.checks k)
+pub unmarked-never : (known : List Possible) (base : Base) (flat : Flat) (face : Face) (k : ℕ) → take (length base.labels) face.labels ≡ map Verif base.labels
+    → is_unmarked base (loud_of known flat face) (with_labels face.labels (loud_of known flat face) []) k ≡ is_never_stopping known base flat face k
+unmarked-never known base flat face k first = by (slice_get base.checks k)
   where
-    label : (n : ℕ) (found : Option Label) → slice_get base.labels n ≡ found → option_map_or (is_label_unmarked (loud_of (entries_of facts flat.nodes) flat face) (with_labels face.labels (loud_of (entries_of facts flat.nodes) flat face) []) n) found false
-        ≡ option_map_or (is_never_told (entries_of facts flat.nodes) flat face) found false
+    label : (n : ℕ) (found : Option Label) → slice_get base.labels n ≡ found → option_map_or (is_label_unmarked (loud_of known flat face) (with_labels face.labels (loud_of known flat face) []) n) found false
+        ≡ option_map_or (is_never_told known flat face) found false
     label n None e = refl
     label n (Some this) e =
-        label-unmarked face.labels (loud_of (entries_of facts flat.nodes) flat face) n this (first-get base.labels face.labels n this first e)
-        ∙ never-marked (entries_of facts flat.nodes) flat face this
+        label-unmarked face.labels (loud_of known flat face) n this (first-get base.labels face.labels n this first e)
+        ∙ never-marked known flat face this
 
-    by : (found : Option (Tree × ℕ × Place)) → option_map_or (λ check. option_map_or (is_label_unmarked (loud_of (entries_of facts flat.nodes) flat face) (with_labels face.labels (loud_of (entries_of facts flat.nodes) flat face) []) check.1) (slice_get base.labels check.1) false) found false
-        ≡ option_map_or (is_never_told (entries_of facts flat.nodes) flat face) (option_and_then (λ check. slice_get base.labels check.1) found) false
+    by : (found : Option (Tree × ℕ × Place)) → option_map_or (λ check. option_map_or (is_label_unmarked (loud_of known flat face) (with_labels face.labels (loud_of known flat face) []) check.1) (slice_get base.labels check.1) false) found false
+        ≡ option_map_or (is_never_told known flat face) (option_and_then (λ check. slice_get base.labels check.1) found) false
     by None = refl
     by (Some check) = label check.1 (slice_get base.labels check.1) refl

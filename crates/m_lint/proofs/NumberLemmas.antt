@@ -1,6 +1,6 @@
 -- The numbers below a count that pass a test, one after another.
 use Rattle.std.proofs.Common.{◌≡◌, ℕ, zero, suc, ◌+◌, ◌<◌, Bool, true, false, cond, List, [], ◌∷◌, ◌++◌, map, Result, refl, ap, sym, subst, ◌∙◌, append_assoc, append-nil, arith}
-use Rattle.std.specs.Prelude.{filter, OnOk}
+use Rattle.std.specs.Prelude.{filter, IfOk, OnOk}
 use Rattle.std.specs.List.{range_with_len}
 use Rattle.m_lint.specs.Findings.{numbers_with}
 use Rattle.m_lint.specs.declared.finding.Finding.{Finding}
@@ -17,6 +17,10 @@ from-more test first (suc n) last e =
 -- one number more
 pub numbers-more : (test : ℕ → Bool) (n : ℕ) → numbers_with test (n + 1) ≡ numbers_with test n ++ cond (test n) (n ∷ []) []
 numbers-more test n = let next : n + 1 ≡ suc n = omega arith in ap (numbers_with test) next ∙ from-more test 0 n n (omega arith)
+
+-- a number that passes is taken, and another isn't
+pub numbers-next : (test : ℕ → Bool) (items more : List ℕ) (n : ℕ) (taken : Bool) → items ≡ numbers_with test n → taken ≡ test n → more ≡ items ++ cond taken (n ∷ []) [] → more ≡ numbers_with test (n + 1)
+numbers-next test items more n taken h same e = e ∙ ap (λ xs. xs ++ cond taken (n ∷ []) []) h ∙ ap (λ b. numbers_with test n ++ cond b (n ∷ []) []) same ∙ sym (numbers-more test n)
 
 map-append : (K : ℕ → Finding) (xs ys : List ℕ) → map K (xs ++ ys) ≡ map K xs ++ map K ys
 map-append K [] ys = refl
@@ -44,6 +48,10 @@ from-same f g first (suc n) h =
 
 pub numbers-same : (f g : ℕ → Bool) (n : ℕ) → ((k : ℕ) → k < n → f k ≡ g k) → numbers_with f n ≡ numbers_with g n
 numbers-same f g n h = from-same f g 0 n (λ k l. h k (omega (arith, l)))
+
+pub numbers-found : {R E : Type 0} (result : Result R E) (items : R → List ℕ) (f g : ℕ → Bool) (n : ℕ) → ((k : ℕ) → k < n → f k ≡ g k)
+    → IfOk result (λ r. items r ≡ numbers_with f n) → IfOk result (λ r. items r ≡ numbers_with g n)
+numbers-found result items f g n same h = subst (λ numbers. IfOk result (λ r. items r ≡ numbers)) (numbers-same f g n same) h
 
 -- and so the same is found
 pub found-same : {R E : Type 0} (result : Result R E) (K : ℕ → Finding) (old new : List Finding) (f g : ℕ → Bool) (n m : ℕ) → n ≡ m → ((k : ℕ) → k < n → f k ≡ g k)

@@ -24,7 +24,7 @@ use Rattle.observables.specs.declared.face.FaceOutput.TheVariants.{Named, Noted}
 use Rattle.observables.specs.declared.inputs.Coded.{Coded}
 use Rattle.observables.specs.declared.inputs.InputType.{InputType}
 use Rattle.observables.specs.Inputs.{IsValueOf, AreValuesOf}
-use Rattle.observables.specs.Answers.{Told, values, stopped, over, label_number, cause_of, is_told, note_told, notes_told, told_of}
+use Rattle.observables.specs.Answers.{Told, values, stopped, label_number, cause_of, is_told, note_told, notes_told, told_of}
 use Rattle.observables.specs.Outputs.{are_named, notes_of, notes_stand_first, verif_at, verif_of}
 use Rattle.flat_code.specs.declared.program.Node.{Node}
 use Rattle.flat_code.specs.declared.program.Node.TheVariants.{Input, Lit, Do}
@@ -40,7 +40,7 @@ use Rattle.micro_m.specs.Bases.{is_among, targets_of}
 use Rattle.m_lint.specs.declared.finding.Finding.{Finding}
 use Rattle.m_lint.specs.declared.finding.Finding.TheVariants.{NeverDefined, NeverStops, Unused}
 use Rattle.m_lint.specs.Readings.{is_read}
-use Rattle.m_lint.specs.Findings.{numbers_with, is_given, is_never_defined, is_same_label, has_label, fact_at, is_quiet, is_silent, is_silent_by, checks_are_silent, notes_are_silent, is_never_told, is_never_stopping, is_input_node, is_unused, findings_of, IsWithinCounts, AreWithinCounts}
+use Rattle.m_lint.specs.Findings.{numbers_with, is_given, is_never_defined, is_same_label, has_label, fact_at, is_quiet, is_silent, is_silent_by, checks_are_silent, notes_are_silent, is_never_told, label_of_check, is_never_stopping, is_input_node, is_unused, findings_of, IsWithinCounts, AreWithinCounts}
 use Rattle.m_lint.specs.Truths.{Tells, IsNeverDefined, IsNeverStopping, AreEqualBut, IsUnused, IsTrueFinding}
 use Rattle.m_lint.proofs.CodeLemmas.{label-itself}
 use Rattle.m_lint.proofs.ReadLemmas.{read-is, no-definition}
@@ -52,7 +52,7 @@ plain-value kind Undef h = record { amount = tt; bounded = λ e. cc }
 plain-value kind (Num z) h = record { amount = h.0; bounded = λ e. cc }
 plain-value kind Over h = absurd h
 
-plain-values : (inputs : List Coded) (given : List Value) → AreValuesOf inputs given → ArePlain given
+pub plain-values : (inputs : List Coded) (given : List Value) → AreValuesOf inputs given → ArePlain given
 plain-values [] [] h = tt
 plain-values [] (v ∷ vs) h = absurd h
 plain-values (input ∷ inputs) [] h = tt
@@ -131,7 +131,7 @@ stop-number over_only number true (Num z) stop e = by (over_only || is_zero z) e
 stop-number over_only number true Over stop e = let is : stop ≡ OverStop number = cc in ap label_number is
 
 -- the facts of so many nodes hold of their values
-abbrev HoldAll : ℕ → List Possible → List Value → Type 0
+abbrev pub HoldAll : ℕ → List Possible → List Value → Type 0
 HoldAll count known vs = (p : ℕ) → p < count → Holds (fact_at known p) (value_at vs p)
 
 no-stop : (labels : List FaceLabel) (this : Label) (known : List Possible) (vs : List Value) (count : ℕ) (checks : List Check) (stop : Stop) → AllByRecursion (IsCheck count) checks → HoldAll count known vs
@@ -160,7 +160,7 @@ told-zero f Undef q h e = cc e
 told-zero f (Num z) q h e = both_ways (is_zero z) (not-true (is_zero z) e) (quiet-zero f z q h)
 told-zero f Over q h e = cc e
 
-named-none : (outputs : List FaceOutput) → are_named outputs ≡ true → notes_of outputs ≡ []
+pub named-none : (outputs : List FaceOutput) → are_named outputs ≡ true → notes_of outputs ≡ []
 named-none [] e = refl
 named-none (Named name ∷ outputs) e = named-none outputs e
 named-none (Noted number ∷ outputs) e = cc e
@@ -213,12 +213,12 @@ cause-label (OverStop n) (Verif label) this labels e (inl h) = cc h
 cause-label (OverStop n) (Verif label) this labels e (inr h) = let is : label ≡ this = cc in ap (λ o. option_map_or (is_same_label this) (option_and_then verif_of o) false) (e ∙ ap (λ (x : Label). Some (Verif x)) is) ∙ label-itself this
 
 -- what is told of a run in which the label is silent doesn't tell it
-never-told : (flat : Flat) (face : Face) (this : Label) (vs : List Value) (told : Told) → IsFlat flat → HoldAll (length flat.nodes) (entries_of facts flat.nodes) vs → is_never_told (entries_of facts flat.nodes) flat face this ≡ true
+pub never-told : (known : List Possible) (flat : Flat) (face : Face) (this : Label) (vs : List Value) (told : Told) → IsFlat flat → HoldAll (length flat.nodes) known vs → is_never_told known flat face this ≡ true
     → told_of face.labels (notes_of face.outputs) (answer_by vs flat) ≡ Some told → Tells told this → ⊥
-never-told flat face this vs told valid holds silent e tells = by (first_stop vs flat.checks) refl e
+never-told known flat face this vs told valid holds silent e tells = by (first_stop vs flat.checks) refl e
   where
-    parts : (checks_are_silent face.labels this (entries_of facts flat.nodes) flat.checks ≡ true) × (notes_are_silent face.labels this (entries_of facts flat.nodes) face.outputs flat.outputs ≡ true)
-    parts = and_parts (checks_are_silent face.labels this (entries_of facts flat.nodes) flat.checks) (notes_are_silent face.labels this (entries_of facts flat.nodes) face.outputs flat.outputs) silent
+    parts : (checks_are_silent face.labels this known flat.checks ≡ true) × (notes_are_silent face.labels this known face.outputs flat.outputs ≡ true)
+    parts = and_parts (checks_are_silent face.labels this known flat.checks) (notes_are_silent face.labels this known face.outputs flat.outputs) silent
 
     label : (stop : Stop) (found : Option FaceLabel) → slice_get face.labels (label_number stop) ≡ found → has_label face.labels this (label_number stop) ≡ false → option_map (λ l. stopped (cause_of stop l)) found ≡ Some told → ⊥
     label stop None is none e = cc e
@@ -227,18 +227,23 @@ never-told flat face this vs told valid holds silent e tells = by (first_stop vs
     by : (found : Option Stop) → first_stop vs flat.checks ≡ found → told_of face.labels (notes_of face.outputs) (option_map_or Stopped found (Values (map (value_at vs) flat.outputs))) ≡ Some told → ⊥
     by None is e =
         let same : told ≡ values (notes_told face.labels (notes_of face.outputs) (map (value_at vs) flat.outputs)) (drop (length (notes_of face.outputs)) (map (value_at vs) flat.outputs)) = cc in
-        no-note face.labels this (entries_of facts flat.nodes) vs (length flat.nodes) face.outputs flat.outputs face.notes valid.outputs holds parts.1 (rw same at tells)
+        no-note face.labels this known vs (length flat.nodes) face.outputs flat.outputs face.notes valid.outputs holds parts.1 (rw same at tells)
     by (Some stop) is e =
         label stop (slice_get face.labels (label_number stop)) refl
-        (no-stop face.labels this (entries_of facts flat.nodes) vs (length flat.nodes) flat.checks stop valid.checks holds parts.0 is) e
+        (no-stop face.labels this known vs (length flat.nodes) flat.checks stop valid.checks holds parts.0 is) e
 
 abbrev TellsAll : Flat → Face → (List Value → Told) → Type 0
 TellsAll flat face tells = (given : List Value) → AreValuesOf face.inputs given → told_of face.labels (notes_of face.outputs) (flat_run flat given) ≡ Some (tells given)
 
-pub stopping-true : (base : Base) (flat : Flat) (face : Face) (tells : List Value → Told) (k : ℕ) → IsFlat flat → TellsAll flat face tells → is_never_stopping base flat face k ≡ true → IsNeverStopping base face.inputs tells k
+-- the label of a check that never stops is never told
+pub label-silent : (known : List Possible) (base : Base) (flat : Flat) (face : Face) (k : ℕ) (this : Label) → label_of_check base k ≡ Some this → is_never_stopping known base flat face k ≡ true → is_never_told known flat face this ≡ true
+label-silent known base flat face k this is e = sym (ap (λ o. option_map_or (is_never_told known flat face) o false) is) ∙ e
+
+pub stopping-true : (base : Base) (flat : Flat) (face : Face) (tells : List Value → Told) (k : ℕ) → IsFlat flat → TellsAll flat face tells → is_never_stopping (entries_of facts flat.nodes) base flat face k ≡ true → IsNeverStopping base face.inputs tells k
 stopping-true base flat face tells k valid all e = λ this is given may told.
-    let silent : is_never_told (entries_of facts flat.nodes) flat face this ≡ true = sym (ap (λ o. option_map_or (is_never_told (entries_of facts flat.nodes) flat face) o false) is) ∙ e in
-    never-told flat face this (node_values given flat.nodes) (tells given) valid (λ p low. flat-holds flat given p valid (plain-values face.inputs given may) low) silent (all given may) told
+    let known = entries_of facts flat.nodes in
+    let silent : is_never_told known flat face this ≡ true = label-silent known base flat face k this is e in
+    never-told known flat face this (node_values given flat.nodes) (tells given) valid (λ p low. flat-holds flat given p valid (plain-values face.inputs given may) low) silent (all given may) told
 
 -- ---- inputs that aren't used
 
@@ -272,7 +277,7 @@ found-all P K test first (suc n) h = by (test first) refl (found-all P K test (f
     by true e rest = (h first (omega arith) e, rest)
     by false e rest = rest
 
-numbers-all : (P : Finding → Type 0) (K : ℕ → Finding) (test : ℕ → Bool) (n : ℕ) → ((k : ℕ) → k < n → test k ≡ true → P (K k)) → AllByRecursion P (map K (numbers_with test n))
+pub numbers-all : (P : Finding → Type 0) (K : ℕ → Finding) (test : ℕ → Bool) (n : ℕ) → ((k : ℕ) → k < n → test k ≡ true → P (K k)) → AllByRecursion P (map K (numbers_with test n))
 numbers-all P K test n h = found-all P K test 0 n (λ k low e. h k (omega (arith, low)) e)
 
 all-append : (P : Finding → Type 0) (xs ys : List Finding) → AllByRecursion P xs → AllByRecursion P ys → AllByRecursion P (xs ++ ys)
@@ -287,16 +292,16 @@ pub all_true : (declared : Declared) (base : Base) (flat : Flat) (face : Face) (
     → AllByRecursion (IsTrueFinding declared base face.inputs tells) (findings_of declared base flat face)
 all_true declared base flat face tells valid shown all =
     three (IsTrueFinding declared base face.inputs tells)
-    (map NeverDefined (numbers_with (is_never_defined declared base) base.cells)) (map NeverStops (numbers_with (is_never_stopping base flat face) (length base.checks))) (map Unused (numbers_with (is_unused flat) flat.inputs))
+    (map NeverDefined (numbers_with (is_never_defined declared base) base.cells)) (map NeverStops (numbers_with (is_never_stopping (entries_of facts flat.nodes) base flat face) (length base.checks))) (map Unused (numbers_with (is_unused flat) flat.inputs))
     (numbers-all (IsTrueFinding declared base face.inputs tells) NeverDefined (is_never_defined declared base) base.cells (λ k low e. defined-true declared base k e))
-    (numbers-all (IsTrueFinding declared base face.inputs tells) NeverStops (is_never_stopping base flat face) (length base.checks) (λ k low e. stopping-true base flat face tells k valid all e))
+    (numbers-all (IsTrueFinding declared base face.inputs tells) NeverStops (is_never_stopping (entries_of facts flat.nodes) base flat face) (length base.checks) (λ k low e. stopping-true base flat face tells k valid all e))
     (numbers-all (IsTrueFinding declared base face.inputs tells) Unused (is_unused flat) flat.inputs (λ k low e. unused-true flat face tells k all e))
 
 -- and their numbers are below the counts
 pub all_within : (declared : Declared) (base : Base) (flat : Flat) (face : Face) → AreWithinCounts base.cells (length base.checks) flat.inputs (findings_of declared base flat face)
 all_within declared base flat face =
     three (IsWithinCounts base.cells (length base.checks) flat.inputs)
-    (map NeverDefined (numbers_with (is_never_defined declared base) base.cells)) (map NeverStops (numbers_with (is_never_stopping base flat face) (length base.checks))) (map Unused (numbers_with (is_unused flat) flat.inputs))
+    (map NeverDefined (numbers_with (is_never_defined declared base) base.cells)) (map NeverStops (numbers_with (is_never_stopping (entries_of facts flat.nodes) base flat face) (length base.checks))) (map Unused (numbers_with (is_unused flat) flat.inputs))
     (numbers-all (IsWithinCounts base.cells (length base.checks) flat.inputs) NeverDefined (is_never_defined declared base) base.cells (λ k low e. low))
-    (numbers-all (IsWithinCounts base.cells (length base.checks) flat.inputs) NeverStops (is_never_stopping base flat face) (length base.checks) (λ k low e. low))
+    (numbers-all (IsWithinCounts base.cells (length base.checks) flat.inputs) NeverStops (is_never_stopping (entries_of facts flat.nodes) base flat face) (length base.checks) (λ k low e. low))
     (numbers-all (IsWithinCounts base.cells (length base.checks) flat.inputs) Unused (is_unused flat) flat.inputs (λ k low e. low))

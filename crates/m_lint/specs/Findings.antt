@@ -103,9 +103,13 @@ is_never_told known flat face label =
 abbrev pub label_of_check : Base → ℕ → Option Label
 label_of_check base k = option_and_then (λ check. slice_get base.labels check.1) (slice_get base.checks k)
 
--- a check of the base whose label is never told
-abbrev pub is_never_stopping : Base → Flat → Face → ℕ → Bool
-is_never_stopping base flat face k = option_map_or (is_never_told (entries_of facts flat.nodes) flat face) (label_of_check base k) false
+-- a check of the base whose label is never told, where the nodes have these facts
+abbrev pub is_never_stopping : List Possible → Base → Flat → Face → ℕ → Bool
+is_never_stopping known base flat face k = option_map_or (is_never_told known flat face) (label_of_check base k) false
+
+-- the checks of the base that never stop, in order, where the nodes have these facts
+abbrev pub never_stopping : List Possible → Base → Flat → Face → List ℕ
+never_stopping known base flat face = numbers_with (is_never_stopping known base flat face) (length base.checks)
 
 -- ---- inputs that are not used
 
@@ -125,7 +129,7 @@ is_unused flat n = not (list_any (is_input_node n) flat.nodes)
 abbrev pub findings_of : Declared → Base → Flat → Face → List Finding
 findings_of declared base flat face =
     map NeverDefined (numbers_with (is_never_defined declared base) base.cells)
-    ++ map NeverStops (numbers_with (is_never_stopping base flat face) (length base.checks))
+    ++ map NeverStops (never_stopping (entries_of facts flat.nodes) base flat face)
     ++ map Unused (numbers_with (is_unused flat) flat.inputs)
 
 -- the number of a finding is below the count of cells, of checks, or of inputs

@@ -1,7 +1,8 @@
 //! What is known of the nodes of a program, and which of its checks are silent.
 
-ghost use Rattle.std.specs.Prelude.{◌≡◌, IfOk, length};
-ghost use Rattle.flat_code.specs.Facts.{facts};
+ghost use Rattle.std.specs.Prelude.{◌≡◌, IfOk, length, slice_index_or};
+ghost use Rattle.definedness.specs.Facts.{fact_of_input};
+ghost use Rattle.flat_code.specs.Facts.{facts_with};
 ghost use Rattle.flat_code.specs.Runs.{AreNodes, IsNode, IsCheck, entries_of, entry_of};
 ghost use Rattle.m_lint.specs.Findings.{is_quiet, is_silent, is_silent_by};
 
@@ -9,27 +10,33 @@ use definedness::{Fact, fact_of, fact_of_input, fact_of_value};
 use flat_code::{Check, Node};
 use std::alloc::{AllocError, Global};
 
-/// The facts of all nodes, in order, of a program with so many inputs. Its only error is running out of memory.
-pub(crate) fn facts_of(alloc: Global, nodes: &[Node], inputs: u32) -> Result<Vec<Fact>, AllocError>
+/// The facts of all nodes, in order, of a program with so many inputs, of which the first have these facts. An input past their end may
+/// be undefined or any amount. Its only error is running out of memory.
+pub fn facts_of(
+    alloc: Global,
+    nodes: &[Node],
+    inputs: u32,
+    given: &[Fact],
+) -> Result<Vec<Fact>, AllocError>
     requires { AreNodes inputs 0 nodes.now }
-    ensures facts { IfOk result (λ known. known.items ≡ entries_of facts nodes.now) }
+    ensures facts { IfOk result (λ known. known.items ≡ entries_of (facts_with given.now) nodes.now) }
     ensures count { IfOk result (λ known. length known.items ≡ length nodes.now) }
 {
     let mut known = Vec::with_capacity(alloc, nodes.len())?;
     for node in nodes {
-        let fact = fact_of_node(*node, inputs, &known);
+        let fact = fact_of_node(*node, inputs, given, &known);
         known.push(fact)?;
     }
     Ok(known)
 }
 
-// The fact of a node, where the nodes before it have these.
-fn fact_of_node(node: Node, inputs: u32, known: &[Fact]) -> Fact
+// The fact of a node, where the first inputs and the nodes before it have these.
+fn fact_of_node(node: Node, inputs: u32, given: &[Fact], known: &[Fact]) -> Fact
     requires { IsNode inputs (length known.now) node }
-    ensures { result ≡ entry_of facts known.now node }
+    ensures { result ≡ entry_of (facts_with given.now) known.now node }
 {
     match node {
-        Node::Input(_) => fact_of_input(),
+        Node::Input(n) => fact_of_given(n, given),
         Node::Lit(value) => fact_of_value(value),
         Node::Do(op, a, b, c) => fact_of(
             op,
@@ -37,6 +44,17 @@ fn fact_of_node(node: Node, inputs: u32, known: &[Fact]) -> Fact
             known[b as usize],
             known[c as usize],
         ),
+    }
+}
+
+// The fact of an input, where the first have these.
+fn fact_of_given(n: u32, given: &[Fact]) -> Fact
+    ensures { result ≡ slice_index_or given.now n fact_of_input }
+{
+    if (n as usize) < given.len() {
+        given[n as usize]
+    } else {
+        fact_of_input()
     }
 }
 

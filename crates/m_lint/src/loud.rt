@@ -2,29 +2,33 @@
 
 ghost use Rattle.std.specs.Prelude.{◌≡◌, ◌<◌, IfOk, length};
 ghost use Rattle.std.specs.List.{AllByRecursion};
-ghost use Rattle.flat_code.specs.Facts.{facts};
 ghost use Rattle.flat_code.specs.Faces.{IsFaceOf};
-ghost use Rattle.flat_code.specs.Runs.{IsFlat, IsCheck, entries_of};
+ghost use Rattle.flat_code.specs.Runs.{IsFlat, IsCheck};
 ghost use Rattle.m_lint.specs.inner.Loud.{loud_of, with_checks, with_notes, with_output};
 
-use crate::facts::{facts_of, is_quiet, is_silent};
+use crate::facts::{is_quiet, is_silent};
 use definedness::Fact;
 use flat_code::{Check, Flat};
 use observables::{Face, FaceOutput};
 use std::alloc::{AllocError, Global};
 
-/// For each label of a face whether a check or a note of it may be told.
-pub(crate) fn loud_marks(alloc: Global, flat: &Flat, face: &Face) -> Result<Vec<bool>, AllocError>
+/// For each label of a face whether a check or a note of it may be told, where the nodes have these facts.
+pub(crate) fn loud_marks(
+    alloc: Global,
+    known: &[Fact],
+    flat: &Flat,
+    face: &Face,
+) -> Result<Vec<bool>, AllocError>
+    requires known { length known.now ≡ length flat.now.nodes }
     requires valid { IsFlat flat.now }
     requires shown { IsFaceOf face.now flat.now }
     ensures count { IfOk result (λ marks. length marks.items ≡ length face.now.labels) }
-    ensures marks { IfOk result (λ marks. marks.items ≡ loud_of (entries_of facts flat.now.nodes) flat.now face.now) }
+    ensures marks { IfOk result (λ marks. marks.items ≡ loud_of known.now flat.now face.now) }
 {
-    let known = facts_of(alloc, flat.nodes.as_slice(), flat.inputs)?;
     let mut marks = vec![in alloc; false; face.labels.as_slice().len()]?;
-    mark_checks(&known, flat.checks.as_slice(), &mut marks);
+    mark_checks(known, flat.checks.as_slice(), &mut marks);
     mark_notes(
-        &known,
+        known,
         face.outputs.as_slice(),
         flat.outputs.as_slice(),
         &mut marks,

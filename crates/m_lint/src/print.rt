@@ -75,7 +75,9 @@ fn print_index<K: Sink>(name: &[u8], k: u32, out: &mut K) -> Result<(), Failed>
     give_pieces(out, &[b"never defined ", name, b"[", digits, b"]\n"])
 }
 
-fn print_check<K: Sink>(base: &Base, k: u32, out: &mut K) -> Result<(), Failed>
+/// Writes the line of the check of a base with this number, as `never stops 2000 A20`, with its line feed. On a failure a prefix of the
+/// line was appended. It takes no memory.
+pub fn print_check<K: Sink>(base: &Base, k: u32, out: &mut K) -> Result<(), Failed>
     ensures { Gives K.written K.faults out.old out.new result (stops_line base.now k) }
 {
     match label_of_check(base, k) {

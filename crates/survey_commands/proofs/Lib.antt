@@ -1,5 +1,7 @@
 pub mod Clauses
 pub mod EachLemmas
+pub mod FactsLemmas
+pub mod FactsTrue
 pub mod Faults
 pub mod OneOutput
 pub mod OutputLemmas

@@ -1,5 +1,5 @@
 -- The same words and files have one output.
-use Rattle.std.proofs.Common.{◌≡◌, ℕ, length, List, [], ◌∷◌, ◌++◌, Some, Ok, Err, refl, sym, ap, ◌∙◌, subst}
+use Rattle.std.proofs.Common.{◌≡◌, ℕ, length, List, [], ◌∷◌, ◌++◌, Option, Some, Result, Ok, Err, refl, sym, ap, ◌∙◌, subst}
 use Rattle.std.specs.List.{AllByRecursion}
 use Rattle.m_fixed.specs.declared.amount.Value.{Value}
 use Rattle.m_places.specs.declared.source.Source.{Source}
@@ -20,11 +20,19 @@ use Rattle.m_compile.specs.Faults.{AreOneSourceFault}
 use Rattle.m_compile.specs.Faults as laws
 use Rattle.m_compile.specs.Lines.{source_line}
 use Rattle.m_compile.specs.declared.fault.SourceFault.{SourceFault}
-use Rattle.m_compile.proofs.OneLaws.{one_fault}
+use Rattle.m_compile.specs.Compiled.{IsCompiled}
+use Rattle.m_compile.specs.Faults.{IsSourceFault}
+use Rattle.m_compile.specs.declared.compiling.Compiled.{Compiled}
+use Rattle.m_compile.proofs.OneLaws.{no_valid_and_fault, one_fault, one_rules}
+use Rattle.definedness.specs.Facts.{Possible}
+use Rattle.m_facts.specs.Lines.{facts_text}
+use Rattle.survey_commands.specs.Facts.{FactsReplies, facts_are_found, given_by, ranges_are_refused, ranges_fault_line}
+use Rattle.survey_commands.specs.Facts as facts
+use Rattle.survey_commands.proofs.FactsLemmas.{same_inputs}
 use Rattle.command_plans.specs.Plan.{end_of, gathered, refused}
 use Rattle.command_plans.specs.Views.{Disk}
 use Rattle.command_plans.specs.declared.status.Status.{Status}
-use Rattle.command_plans.specs.declared.status.Status.TheVariants.{Refused}
+use Rattle.command_plans.specs.declared.status.Status.TheVariants.{Done, Refused}
 use Rattle.code_answers.specs.Execs.{code_fault_line}
 use Rattle.code_answers.specs.Households.{household_fault_line}
 use Rattle.code_answers.specs.Schemes.{Scheme, told_to}
@@ -32,12 +40,12 @@ use Rattle.code_answers.specs.Shown.{Shows}
 use Rattle.survey_commands.specs.Answer.{Replies}
 use Rattle.survey_commands.specs.Command.{plan_of}
 use Rattle.survey_commands.specs.Csv.{field_text}
-use Rattle.survey_commands.specs.Output.{Output, usage, refuses, answers, AreOneOutput, both_cycles, both_recursions, the_same}
+use Rattle.survey_commands.specs.Output.{Output, usage, refuses, answers, AreOneOutput, both_cycles, both_found, both_recursions, the_same}
 use Rattle.survey_commands.specs.Records.{header, rows_records, table_text, told_fields}
 use Rattle.survey_commands.specs.Tables.{CodeReplies, SchemeReplies, SourceReplies, code_answers, code_is_refused, rows_are_told, source_answers, source_is_refused, table_is_refused}
 use Rattle.survey_commands.specs.declared.command.Command.{Command}
 use Rattle.survey_commands.specs.declared.work.Work.{Work}
-use Rattle.survey_commands.specs.declared.work.Work.TheVariants.{Table, CodeTable, Version}
+use Rattle.survey_commands.specs.declared.work.Work.TheVariants.{Table, Facts, CodeTable, Version}
 use Rattle.survey_commands.proofs.Schemes.{no_form_and_fault, no_scheme_and_fault, one_inputs, one_loaded, one_scheme, shown_other}
 
 -- ---- two errors
@@ -138,9 +146,45 @@ one_code code table t u s r (code_answers loaded scheme form shown h) (code_is_r
 one_code code table t u s r (code_answers one scheme form shown h) (code_answers other also part seen i) =
     one_answer other.face (machine_run other.code) scheme also table t u s r (shown_other scheme one other (one_loaded code one other form part) shown) seen h i
 
+-- what a source is compiled to has no fault
+no_compiled_and_fault : (source : Source) (compiled : Compiled) (fault : SourceFault) → IsCompiled source compiled → IsSourceFault source fault → ⊥
+no_compiled_and_fault source compiled fault is f = no_valid_and_fault source is.declared is.base is.written is.requests fault is.valid f
+
+same_ranges_line : (fault other : HouseholdFault) (t u : List ℕ) → fault ≡ other → ranges_fault_line fault ≡ Some t → ranges_fault_line other ≡ Some u → t ≡ u
+same_ranges_line fault other t u e a b =
+    let c : ranges_fault_line other ≡ Some t = subst (λ (f : HouseholdFault). ranges_fault_line f ≡ Some t) e a in
+    cc (c, b)
+
+-- the ranges say the same by what a source is compiled to once and again
+given_again : (source : Source) (ranges : Option (List ℕ)) (one other : Compiled) (said : Result (List Possible) HouseholdFault) → IsCompiled source one → IsCompiled source other
+    → given_by one.face.inputs ranges ≡ said → given_by other.face.inputs ranges ≡ said
+given_again source ranges one other said is was h = subst (λ inputs. given_by inputs ranges ≡ said) (same_inputs source one other is was) h
+
+one_facts : (source : Source) (ranges : Option (List ℕ)) (t u : List ℕ) (s r : Status) → FactsReplies source ranges t s → FactsReplies source ranges u r → AreOneOutput t s u r
+one_facts source ranges t u s r (facts.source_is_refused fault f k) (facts.source_is_refused other g l) = one_line source.texts fault other t u (one_fault source fault other f g) k l
+one_facts source ranges t u s r (facts.source_is_refused fault f k) (ranges_are_refused compiled other is g l) = absurd (no_compiled_and_fault source compiled fault is f)
+one_facts source ranges t u s r (facts.source_is_refused fault f k) (facts_are_found declared base compiled given rules is g) = absurd (no_compiled_and_fault source compiled fault is f)
+one_facts source ranges t u s r (ranges_are_refused compiled other is g l) (facts.source_is_refused fault f k) = absurd (no_compiled_and_fault source compiled fault is f)
+one_facts source ranges t u s r (ranges_are_refused one fault is f k) (ranges_are_refused two other was g l) =
+    let e : fault ≡ other = cc (given_again source ranges one two (Err fault) is was f, g) in
+    the_same (same_ranges_line fault other t u e k l) refl
+one_facts source ranges t u s r (ranges_are_refused one fault is f k) (facts_are_found declared base two given rules was g) =
+    let e = given_again source ranges one two (Err fault) is was f in
+    cc (e, g)
+one_facts source ranges t u s r (facts_are_found declared base compiled given rules is g) (facts.source_is_refused fault f k) = absurd (no_compiled_and_fault source compiled fault is f)
+one_facts source ranges t u s r (facts_are_found declared base one given rules is g) (ranges_are_refused two fault was f k) =
+    let e = given_again source ranges one two (Ok given) is was g in
+    cc (e, f)
+one_facts source ranges t u s r (facts_are_found declared base one given rules is g) (facts_are_found others other two possible also was f) =
+    let bases = (one_rules source declared others base other rules also).1 in
+    let e : given ≡ possible = cc (given_again source ranges one two (Ok given) is was g, f) in
+    let q : facts_text base two.tidy two.face given ≡ facts_text other two.tidy two.face possible = λ i. facts_text (bases i) two.tidy two.face (e i) in
+    subst (λ (x : List ℕ). AreOneOutput (facts_text base one.tidy one.face given) Done x Done) q (both_found source declared base one two given rules is was)
+
 -- a command answers what it gathered in one way
 one_reply : (work : Work) (t u : List ℕ) (s r : Status) → Replies work t s → Replies work u r → AreOneOutput t s u r
 one_reply (Table source table) t u s r a b = one_source source table t u s r a b
+one_reply (Facts source ranges) t u s r a b = one_facts source ranges t u s r a b
 one_reply (CodeTable code table) t u s r a b = one_code code table t u s r a b
 one_reply Version t u s r a b = the_same (a.0 ∙ sym b.0) (a.1 ∙ sym b.1)
 

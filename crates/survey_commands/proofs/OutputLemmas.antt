@@ -1,7 +1,7 @@
 -- The outputs of a face are its notes and its values.
 use Rattle.std.proofs.Common.{◌≡◌, ℕ, ◌+◌, ◌<◌, ◌≤◌, length, get_or, drop, List, [], ◌∷◌, ◌++◌, Bool, true, false, Option, None, Some, refl, sym, ◌∙◌, ap}
-use Rattle.std.specs.Prelude.{◌||◌, codes, is_some, option_map, slice_get}
-use Rattle.std.specs.List.{cons_option, flat_map}
+use Rattle.std.specs.Prelude.{◌||◌, codes, is_some, option_map}
+use Rattle.std.specs.List.{cons_option}
 use Rattle.std.specs.Option.{option_map_or}
 use Rattle.std.proofs.Math.Seq.{drop-nil}
 use Rattle.std.proofs.lemmas.Bool.{and_parts, false≢true}
@@ -15,8 +15,8 @@ use Rattle.observables.specs.declared.face.FaceOutput.{FaceOutput}
 use Rattle.observables.specs.declared.face.FaceOutput.TheVariants.{Named, Noted}
 use Rattle.observables.specs.Answers.{cause_of, note_told, notes_told, stopped}
 use Rattle.observables.specs.Outputs.{are_named, names_of, notes_of, notes_stand_first}
-use Rattle.survey_commands.specs.Records.{cause_field, empty_fields, more_notes, name_fields, notes_field, told_fields, value_field, value_fields}
-use Rattle.survey_commands.specs.inner.Outputs.{note_text, output_empties, output_name, output_names, output_note, output_notes, output_value, output_values, stop_field}
+use Rattle.survey_commands.specs.Records.{cause_field, empty_fields, more_notes, name_fields, told_fields, value_field, value_fields}
+use Rattle.survey_commands.specs.inner.Outputs.{note_text, output_empties, output_names, output_note, output_notes, output_value, output_values}
 
 -- ---- from one of them on
 

@@ -1,5 +1,5 @@
 -- A source has one scheme, and a code file one form; neither is refused where it has one.
-use Rattle.std.proofs.Common.{◌≡◌, ℕ, List, sym, ap, ◌∙◌, refl}
+use Rattle.std.proofs.Common.{◌≡◌, ℕ, List, sym, ap, ◌∙◌}
 use Rattle.m_fixed.specs.declared.amount.Value.{Value}
 use Rattle.m_places.specs.declared.source.Source.{Source}
 use Rattle.observables.specs.Answers.{told_of}

@@ -1,5 +1,5 @@
 -- The clause on the bytes that were taken.
-use Rattle.std.proofs.Common.{◌≡◌, ◌≤◌, ◌+◌, ◌*◌, ℕ, List, ◌++◌, length, Some, Ok, Err, sym, ap, ◌∙◌, subst, arith, length-append}
+use Rattle.std.proofs.Common.{◌≡◌, ◌≤◌, ◌+◌, ◌*◌, ℕ, Bool, true, false, cond, List, ◌++◌, length, None, Some, Ok, Err, sym, ap, ◌∙◌, subst, arith, length-append}
 use Rattle.std.specs.Option.{option_map_or}
 use Rattle.m_ports.specs.declared.files.Attempt.{Attempt}
 use Rattle.m_places.specs.declared.limits.TheConstants.{CODE_FILE_BYTES, FILE_BYTES}
@@ -10,19 +10,27 @@ use Rattle.command_plans.specs.declared.status.Status.{Status}
 use Rattle.command_plans.specs.declared.status.Status.TheVariants.{Done, Refused, Usage, ReadFault, WriteFault, Memory, Stopped}
 use Rattle.command_plans.proofs.Walks.{walks_within}
 use Rattle.command_plans.proofs.Within.{KeepsWithin, within_then}
-use Rattle.command_plans.specs.Source.{source_plan}
+use Rattle.command_plans.specs.Plan.{done}
+use Rattle.command_plans.specs.Source.{is_none, optional_plan, source_plan}
+use Rattle.command_plans.proofs.Parts.{present}
 use Rattle.command_plans.proofs.SourceWithin.{source_within}
 use Rattle.survey_commands.specs.Command.{command_of, plan_of, file_limit, limit_of}
 use Rattle.survey_commands.specs.declared.command.Command.{Command}
-use Rattle.survey_commands.specs.declared.command.Command.TheVariants.{Table, CodeTable, Version}
+use Rattle.survey_commands.specs.declared.command.Command.TheVariants.{Table, Facts, CodeTable, Version}
 use Rattle.survey_commands.specs.inner.Courses.{Course, is_no_command, has_no_memory, ended, answered}
 
 file_fits : FILE_BYTES ≤ CODE_FILE_BYTES
 file_fits = omega arith
 
+-- ranges keep the limit of a file, where there are any
+chosen : (test : Bool) (name : List ℕ) → KeepsWithin FILE_BYTES (cond test (done None) (present name))
+chosen true name = tt
+chosen false name = (omega arith, λ bytes. tt)
+
 -- the files of a command keep its limit
 keeps_limit : (command : Command) → KeepsWithin (file_limit command) (plan_of command)
 keeps_limit (Table names table) = within_then FILE_BYTES (source_plan names) _ (source_within names) (λ source. (omega arith, λ bytes. tt))
+keeps_limit (Facts names ranges) = within_then FILE_BYTES (source_plan names) _ (source_within names) (λ source. within_then FILE_BYTES (optional_plan ranges) _ (chosen (is_none ranges) ranges) (λ bytes. tt))
 keeps_limit (CodeTable code table) = (omega arith, λ bytes. (file_fits, λ rows. tt))
 keeps_limit Version = tt
 

@@ -1,7 +1,6 @@
 -- What is valid is answered.
 use Rattle.std.proofs.Common.{◌≡◌, ◌+◌, ℕ, Bool, true, List, [], ◌∷◌, ◌++◌, Some, Ok, Err, refl, sym, ap, ◌∙◌, subst, zero-add, arith, inl, inr}
 use Rattle.std.specs.Prelude.{if◌then◌else◌}
-use Rattle.m_places.specs.declared.source.Source.{Source}
 use Rattle.m_ports.specs.Counts.{Rose}
 use Rattle.m_ports.specs.Files.{failed_count}
 use Rattle.m_ports.specs.declared.files.Attempt.{Attempt}
@@ -25,9 +24,10 @@ use Rattle.survey_commands.specs.Output.{IsValidCommand}
 use Rattle.survey_commands.specs.Tables.{SchemeReplies, code_answers, code_is_refused, rows_are_told, source_answers, source_is_refused, table_is_refused}
 use Rattle.survey_commands.specs.declared.command.Command.{Command}
 use Rattle.survey_commands.specs.declared.work.Work.{Work}
-use Rattle.survey_commands.specs.declared.work.Work.TheVariants.{Table, CodeTable, Version}
+use Rattle.survey_commands.specs.declared.work.Work.TheVariants.{Table, Facts, CodeTable, Version}
 use Rattle.survey_commands.specs.inner.Courses.{Course, is_no_command, has_no_memory, ended, answered}
 use Rattle.survey_commands.proofs.Clauses.{asking, gathers}
+use Rattle.survey_commands.proofs.FactsLemmas.{facts_complete}
 use Rattle.survey_commands.proofs.Schemes.{no_form_and_fault, no_scheme_and_fault, one_loaded, one_scheme}
 use Rattle.survey_commands.proofs.Ways.{Way, way_of, tells, lacks_memory, breaks_off}
 
@@ -41,6 +41,7 @@ replies_complete : (work : Work) (text : List ℕ) (status : Status) → HasAnsw
 replies_complete (Table source table) text status h (source_is_refused fault f k) = absurd (no_scheme_and_fault source h.scheme fault h.valid f)
 replies_complete (Table source table) text status h (source_answers scheme v a) =
     table_complete h.scheme table text status h.rows h.given (subst (λ (x : Scheme). SchemeReplies x table text status) (one_scheme source scheme h.scheme v h.valid) a)
+replies_complete (Facts source ranges) text status h r = facts_complete source ranges text status h r
 replies_complete (CodeTable code table) text status h (code_is_refused fault f k) = absurd (no_form_and_fault code h.loaded fault h.form f)
 replies_complete (CodeTable code table) text status h (code_answers loaded scheme form shown a) =
     table_complete scheme table text status h.rows (subst (λ inputs. table_of inputs table ≡ Ok h.rows) ((one_loaded code h.loaded loaded h.form form).inputs ∙ shown.inputs) h.given) a

@@ -1,6 +1,6 @@
 -- From what was told and written to how a table was answered, and how what was gathered was answered, in one form for all commands.
 use Rattle.std.proofs.Common.{◌≡◌, ℕ, List, Err, refl, subst, ◌∙◌, sym, inl, inr}
-use Rattle.std.specs.Prelude.{Bool, true, false, Some}
+use Rattle.std.specs.Prelude.{true, false, Some}
 use Rattle.std.proofs.Common.{ap}
 use Rattle.std.specs.Option.{option_map_or}
 use Rattle.m_fixed.specs.declared.amount.Value.{Value}
@@ -18,6 +18,7 @@ use Rattle.m_compile.specs.Lines.{source_line}
 use Rattle.m_compile.specs.declared.fault.SourceFault.{SourceFault}
 use Rattle.m_ports.specs.Sink.{AppendsPrefix}
 use Rattle.command_plans.specs.Printing.{Prints}
+use Rattle.command_plans.specs.Printing as printing
 use Rattle.command_plans.specs.Status.{IsOfEnd}
 use Rattle.command_plans.specs.Views.{OutputView}
 use Rattle.command_plans.specs.declared.status.Status.{Status}
@@ -37,7 +38,7 @@ use Rattle.survey_commands.specs.Lines.{version_line}
 use Rattle.survey_commands.specs.Tables.{CodeReplies, SchemeReplies, SourceReplies, code_answers, code_is_refused, source_answers, source_is_refused, table_is_refused}
 use Rattle.survey_commands.specs.declared.command.Command.{Command}
 use Rattle.survey_commands.specs.declared.work.Work.{Work}
-use Rattle.survey_commands.specs.declared.work.Work.TheVariants.{Table, CodeTable, Version}
+use Rattle.survey_commands.specs.declared.work.Work.TheVariants.{Table, Facts, CodeTable, Version}
 use Rattle.survey_commands.specs.inner.Courses.{IsWorkOf, WorkIsAnswered, work_in_parts}
 
 -- ---- tables
@@ -82,6 +83,8 @@ pub way_of : (work : Work) (old new : OutputView) (status : Status) → WorkIsAn
 way_of (Table source table) old new status (parts.printed text own r o p) = tells text own r o p
 way_of (Table source table) old new status (parts.no_memory n m) = lacks_memory n m
 way_of (Table source table) old new status (parts.broke_off text own r a f m) = breaks_off text own r refl a f m
+way_of (Facts source ranges) old new status (printing.printed text own r o p) = tells text own r o p
+way_of (Facts source ranges) old new status (printing.no_memory n m) = lacks_memory n m
 way_of (CodeTable code table) old new status (parts.printed text own r o p) = tells text own r o p
 way_of (CodeTable code table) old new status (parts.no_memory n m) = lacks_memory n m
 way_of (CodeTable code table) old new status (parts.broke_off text own r a f m) = breaks_off text own r refl a f m

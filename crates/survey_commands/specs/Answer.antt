@@ -5,25 +5,29 @@ use Rattle.m_places.specs.SourceLimits.{SourceKeepsLimits}
 use Rattle.command_plans.specs.declared.status.Status.{Status}
 use Rattle.command_plans.specs.declared.status.Status.TheVariants.{Done}
 use Rattle.command_answers.specs.Batches.{BatchHasAnswer}
+use Rattle.survey_commands.specs.Facts.{FactsHaveAnswer, FactsReplies}
 use Rattle.survey_commands.specs.Lines.{version_line}
 use Rattle.survey_commands.specs.Tables.{CodeHasAnswer, CodeReplies, SourceReplies}
 use Rattle.survey_commands.specs.declared.work.Work.{Work}
-use Rattle.survey_commands.specs.declared.work.Work.TheVariants.{Table, CodeTable, Version}
+use Rattle.survey_commands.specs.declared.work.Work.TheVariants.{Table, Facts, CodeTable, Version}
 
 -- The text and the status that a command answers with what it has gathered.
 abbrev pub Replies : Work → List ℕ → Status → Type 0
 Replies (Table source table) = SourceReplies source table
+Replies (Facts source ranges) = FactsReplies source ranges
 Replies (CodeTable code table) = CodeReplies code table
 Replies Version = λ text status. (text ≡ version_line) × (status ≡ Done)
 
 -- what was gathered has an answer that isn't an error
 abbrev pub HasAnswer : Work → Type 0
 HasAnswer (Table source table) = BatchHasAnswer source table
+HasAnswer (Facts source ranges) = FactsHaveAnswer source ranges
 HasAnswer (CodeTable code table) = CodeHasAnswer code table
 HasAnswer Version = Unit {0}
 
 -- the files that were gathered keep the limits of what is made of them
 abbrev pub WorkKeepsLimits : Work → Type 0
 WorkKeepsLimits (Table source table) = SourceKeepsLimits source
+WorkKeepsLimits (Facts source ranges) = SourceKeepsLimits source
 WorkKeepsLimits (CodeTable code table) = length code ≤ CODE_FILE_BYTES
 WorkKeepsLimits Version = Unit {0}

@@ -1,14 +1,16 @@
 -- What the words of the command line ask for, and the plan of each command.
-use Rattle.std.specs.Prelude.{ℕ, Bool, true, false, List, [], ◌∷◌, Option, Some, None, if◌then◌else◌, codes}
+use Rattle.std.specs.Prelude.{ℕ, Bool, true, false, List, [], ◌∷◌, Option, Some, None, if◌then◌else◌, codes, option_map}
 use Rattle.std.specs.List.{list_all}
 use Rattle.std.specs.Option.{option_map_or, option_or}
 use Rattle.std.specs.Str.{bytes_eq, is_utf8}
 use Rattle.m_places.specs.declared.limits.TheConstants.{CODE_FILE_BYTES, FILE_BYTES}
 use Rattle.command_plans.specs.Plan.{Plan, done, asks_file, file_plan, and_then}
-use Rattle.command_plans.specs.Source.{source_plan}
+use Rattle.command_plans.specs.Source.{optional_plan, source_plan}
 use Rattle.command_plans.specs.declared.source.SourceNames.{SourceNames}
 use Rattle.survey_commands.specs.declared.command.Command.{Command}
-use Rattle.survey_commands.specs.declared.command.Command.TheVariants.{Table, CodeTable, Version}
+use Rattle.survey_commands.specs.declared.command.Command.TheVariants.{Table, Facts, CodeTable, Version}
+use Rattle.survey_commands.specs.declared.command.OverSource.{OverSource}
+use Rattle.survey_commands.specs.declared.command.OverSource.TheVariants as over
 use Rattle.survey_commands.specs.declared.work.Work.{Work}
 use Rattle.survey_commands.specs.declared.work.Work.TheVariants as work
 
@@ -25,14 +27,24 @@ code_command (word ∷ code ∷ table ∷ []) =
     if bytes_eq word (codes "table") then (if list_all is_utf8 (code ∷ table ∷ []) then Some (CodeTable code table) else None) else None
 code_command _ = None
 
--- the command `table` over a source that the words are, if they are one: its word, what stands at each place of a source, and the name of a table, all in UTF-8
+-- what a word asks for that is done with a source and one file more, `table` or `facts`
+abbrev pub over_source : List ℕ → Option OverSource
+over_source word = if bytes_eq word (codes "table") then Some over.Table else if bytes_eq word (codes "facts") then Some over.Facts else None
+
+abbrev pub command_over : OverSource → SourceNames → List ℕ → Command
+command_over over.Table names file = Table names file
+command_over over.Facts names file = Facts names file
+
+-- The command over a source and one file more that the words are, if they are one: `table` or `facts`, what stands at each place of a source, and
+-- the name of a table or of ranges, all in UTF-8.
 abbrev pub source_command : List (List ℕ) → Option Command
-source_command (word ∷ list ∷ driver ∷ requests ∷ table ∷ []) =
-    if bytes_eq word (codes "table")
-    then (if list_all is_utf8 (list ∷ driver ∷ requests ∷ table ∷ []) then Some (Table (record { list = list; driver = driver; requests = requests }) table) else None) else None
+source_command (word ∷ list ∷ driver ∷ requests ∷ file ∷ []) =
+    if list_all is_utf8 (list ∷ driver ∷ requests ∷ file ∷ [])
+    then option_map (λ asked. command_over asked (record { list = list; driver = driver; requests = requests }) file) (over_source word)
+    else None
 source_command _ = None
 
--- The command that the words are, if they are the form of one: `version`, or `table` over a code file or a source, and a table.
+-- The command that the words are, if they are the form of one: `version`, `table` over a code file or a source and a table, or `facts` over a source and ranges.
 abbrev pub command_of : List (List ℕ) → Option Command
 command_of words = option_or (version_command words) (option_or (code_command words) (source_command words))
 
@@ -42,6 +54,10 @@ command_of words = option_or (version_command words) (option_or (code_command wo
 abbrev pub source_table_plan : SourceNames → List ℕ → Plan Work
 source_table_plan names table = and_then (source_plan names) (λ source. and_then (file_plan table FILE_BYTES) (λ bytes. done (work.Table source bytes)))
 
+-- a source is gathered, and after it ranges, where there are any
+abbrev pub facts_plan : SourceNames → List ℕ → Plan Work
+facts_plan names ranges = and_then (source_plan names) (λ source. and_then (optional_plan ranges) (λ bytes. done (work.Facts source bytes)))
+
 -- a code file is gathered, and after it a table
 abbrev pub code_table_plan : List ℕ → List ℕ → Plan Work
 code_table_plan code table = and_then (file_plan code CODE_FILE_BYTES) (λ bytes. and_then (file_plan table FILE_BYTES) (λ rows. done (work.CodeTable bytes rows)))
@@ -49,6 +65,7 @@ code_table_plan code table = and_then (file_plan code CODE_FILE_BYTES) (λ bytes
 -- The plan of a command: which files it fetches in which order, where it refuses, and what it has gathered at its end. `version` fetches none.
 abbrev pub plan_of : Command → Plan Work
 plan_of (Table names table) = source_table_plan names table
+plan_of (Facts names ranges) = facts_plan names ranges
 plan_of (CodeTable code table) = code_table_plan code table
 plan_of Version = done work.Version
 
@@ -59,6 +76,7 @@ reads_files words = option_map_or (λ command. asks_file (plan_of command)) (com
 -- the most bytes of a file that a command fetches
 abbrev pub file_limit : Command → ℕ
 file_limit (Table names table) = FILE_BYTES
+file_limit (Facts names ranges) = FILE_BYTES
 file_limit (CodeTable code table) = CODE_FILE_BYTES
 file_limit Version = 0
 
@@ -69,6 +87,7 @@ limit_of words = option_map_or file_limit (command_of words) 0
 -- whether a command writes before all its work is done, so that memory may end it after a part of its text
 abbrev pub writes_in_parts : Command → Bool
 writes_in_parts (Table names table) = true
+writes_in_parts (Facts names ranges) = false
 writes_in_parts (CodeTable code table) = true
 writes_in_parts Version = false
 

@@ -2,6 +2,8 @@ pub mod Answer
 pub mod Clauses
 pub mod Command
 pub mod Csv
+pub mod Facts
+pub mod FactsTruths
 pub mod Lines
 pub mod Output
 pub mod Records

@@ -1,12 +1,20 @@
 -- What is fetched and what is printed for these words and files.
 use Rattle.std.specs.Prelude.{◌≡◌, ℕ, List, []}
 use Rattle.std.specs.Option.{option_map_or}
-use Rattle.std.specs.Prelude.{None, Some}
+use Rattle.std.specs.Prelude.{None, Ok, Some}
 use Rattle.tax_print.specs.FaultLines.{cycle_line, recursion_line}
+use Rattle.m_places.specs.declared.source.Source.{Source}
+use Rattle.definedness.specs.Facts.{Possible}
+use Rattle.m_symbols.specs.Declarations.{Declared}
+use Rattle.micro_m.specs.declared.base.Base.{Base}
+use Rattle.m_facts.specs.Lines.{facts_text}
+use Rattle.m_compile.specs.Compiled.{IsCompiled}
+use Rattle.m_compile.specs.Sources.{HasRules}
+use Rattle.m_compile.specs.declared.compiling.Compiled.{Compiled}
 use Rattle.command_plans.specs.Plan.{end_of, gathered, refused, names_fetched}
 use Rattle.command_plans.specs.Views.{Disk}
 use Rattle.command_plans.specs.declared.status.Status.{Status}
-use Rattle.command_plans.specs.declared.status.Status.TheVariants.{Refused, Usage}
+use Rattle.command_plans.specs.declared.status.Status.TheVariants.{Done, Refused, Usage}
 use Rattle.survey_commands.specs.Answer.{Replies, HasAnswer}
 use Rattle.survey_commands.specs.Command.{command_of, plan_of}
 use Rattle.survey_commands.specs.Lines.{usage_line}
@@ -35,8 +43,10 @@ pub record IsValidCommand (words : List (List ℕ)) (disk : Disk) : Type 0 where
   pub answer : HasAnswer work
 
 -- Two outputs are one: they have the same text and the same status; or they refuse rule files that have several cycles, or a driver that has
--- several recursions, and show one of them each.
+-- several recursions, and show one of them each; or they say what holds, within the same ranges, of one base and of what its source is compiled to.
 pub data AreOneOutput : List ℕ → Status → List ℕ → Status → Type 0 where
   the_same : {text other : List ℕ} {status outcome : Status} → text ≡ other → status ≡ outcome → AreOneOutput text status other outcome
   both_cycles : (names others : List (List ℕ)) → AreOneOutput (cycle_line names) Refused (cycle_line others) Refused
   both_recursions : (names others : List (List ℕ)) → AreOneOutput (recursion_line names) Refused (recursion_line others) Refused
+  both_found : (source : Source) (declared : Declared) (base : Base) (one other : Compiled) (given : List Possible) → HasRules source declared base → IsCompiled source one → IsCompiled source other
+      → AreOneOutput (facts_text base one.tidy one.face given) Done (facts_text base other.tidy other.face given) Done

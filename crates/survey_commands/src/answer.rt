@@ -7,6 +7,7 @@ ghost use Rattle.survey_commands.specs.Lines.{version_line};
 ghost use Rattle.survey_commands.specs.inner.Courses.{WorkIsAnswered};
 
 use crate::code::table_code;
+use crate::facts::facts_source;
 use crate::source::table_source;
 use crate::work::Work;
 use command_plans::{Status, printed};
@@ -24,6 +25,7 @@ pub fn answer<R: Threads + Sync, K: Sink>(rt: &R, alloc: Global, work: &Work, ou
 {
     match work {
         Work::Table(source, table) => table_source(rt, alloc, source, table.as_slice(), out),
+        Work::Facts(source, ranges) => facts_source(rt, alloc, source, ranges, out),
         Work::CodeTable(code, table) => {
             table_code(rt, alloc, code.as_slice(), table.as_slice(), out)
         }

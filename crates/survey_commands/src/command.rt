@@ -1,6 +1,6 @@
 //! The words of the command line.
 ghost use Rattle.std.specs.Prelude.{◌≡◌, IfOk};
-ghost use Rattle.survey_commands.specs.Command.{code_command, command_of, source_command, version_command};
+ghost use Rattle.survey_commands.specs.Command.{code_command, command_of, command_over, over_source, source_command, version_command};
 
 use command_plans::SourceNames;
 use m_places::{Name, Word};
@@ -12,10 +12,19 @@ use std::alloc::{AllocError, Global};
 pub enum Command {
     /// Compiles the source, and prints what the households of the table of this name are told, as csv.
     Table(SourceNames, Name),
+    /// Compiles the source, and prints what holds of its requested cells for all households within the ranges of the file of this name; `-` is none.
+    Facts(SourceNames, Name),
     /// Reads the code file of the first name, and prints the same by it, of the table of the second.
     CodeTable(Name, Name),
     /// Prints the version.
     Version,
+}
+
+// What is done with a source and one file more.
+#[derive(Clone, Copy)]
+pub(crate) enum OverSource {
+    Table,
+    Facts,
 }
 
 /// The command that the words are, if they are one. Its only error is running out of memory.
@@ -61,26 +70,48 @@ fn code_command(alloc: Global, words: &[Word]) -> Result<Option<Command>, AllocE
     Ok(Some(Command::CodeTable(code, table.copy(alloc)?)))
 }
 
-// The command `table` over a source that the words are, if they are one. Its only error is running out of memory.
+// The command over a source and one file more that the words are, if they are one. Its only error is running out of memory.
 fn source_command(alloc: Global, words: &[Word]) -> Result<Option<Command>, AllocError>
     ensures { IfOk result (λ command. command ≡ source_command words.now) }
 {
-    let [word, list, driver, requests, table] = words else {
+    let [word, list, driver, requests, file] = words else {
         return Ok(None);
     };
-    if word.bytes() != b"table".as_slice() {
+    let Some(asked) = over_source(word.bytes()) else {
         return Ok(None);
-    }
+    };
     let are_names = is_text(list.bytes())
         && is_text(driver.bytes())
         && is_text(requests.bytes())
-        && is_text(table.bytes());
+        && is_text(file.bytes());
     if !are_names {
         return Ok(None);
     }
-    let table = table.copy(alloc)?;
+    let file = file.copy(alloc)?;
     let names = names_of(alloc, list, driver, requests)?;
-    Ok(Some(Command::Table(names, table)))
+    Ok(Some(command_over(asked, names, file)))
+}
+
+// What a word asks for that is done with a source and one file more, if it asks for that.
+fn over_source(word: &[u8]) -> Option<OverSource>
+    ensures { result ≡ over_source word.now }
+{
+    if word == b"table".as_slice() {
+        Some(OverSource::Table)
+    } else if word == b"facts".as_slice() {
+        Some(OverSource::Facts)
+    } else {
+        None
+    }
+}
+
+fn command_over(asked: OverSource, names: SourceNames, file: Name) -> Command
+    ensures { result ≡ command_over asked names file }
+{
+    match asked {
+        OverSource::Table => Command::Table(names, file),
+        OverSource::Facts => Command::Facts(names, file),
+    }
 }
 
 // The names of a source. Its only error is running out of memory.

@@ -1,14 +1,14 @@
 //! The files of a command, gathered along its plan.
-ghost use Rattle.std.specs.Prelude.{◌≡◌, true, IfOk};
+ghost use Rattle.std.specs.Prelude.{◌≡◌, true, false, IfOk};
 ghost use Rattle.command_plans.specs.Trips.{GoesAlong};
 ghost use Rattle.command_plans.specs.Views.{files_view};
 ghost use Rattle.survey_commands.specs.Answer.{WorkKeepsLimits};
-ghost use Rattle.survey_commands.specs.Command.{code_table_plan, plan_of, source_table_plan};
+ghost use Rattle.survey_commands.specs.Command.{code_table_plan, facts_plan, plan_of, source_table_plan};
 ghost use Rattle.survey_commands.specs.inner.Courses.{IsWorkOf, work_in_parts};
 
 use crate::command::Command;
 use crate::work::Work;
-use command_plans::{Ending, SourceNames, fetch, gather_source};
+use command_plans::{Ending, SourceNames, fetch, gather_optional, gather_source};
 use m_places::Name;
 use m_places::limits::{CODE_FILE_BYTES, FILE_BYTES};
 use m_ports::Files;
@@ -23,6 +23,7 @@ pub fn gather<F: Files>(alloc: Global, files: &mut F, command: &Command) -> Resu
 {
     match command {
         Command::Table(names, table) => gather_table(alloc, files, names, table),
+        Command::Facts(names, ranges) => gather_facts(alloc, files, names, ranges),
         Command::CodeTable(code, table) => gather_code_table(alloc, files, code, table),
         Command::Version => Ok(Work::Version),
     }
@@ -43,6 +44,23 @@ fn gather_table<F: Files>(
     let source = gather_source(alloc, files, names)?;
     let rows = fetch(alloc, files, table, FILE_BYTES)?;
     Ok(Work::Table(source, rows))
+}
+
+// Gathers a source, and ranges after it, where there are any.
+fn gather_facts<F: Files>(
+    alloc: Global,
+    files: &mut F,
+    names: &SourceNames,
+    ranges: &Name,
+) -> Result<Work, Ending>
+    ensures along { GoesAlong (facts_plan names.now ranges.now) (files_view F.told F.attempts F.taken files.old)
+        (files_view F.told F.attempts F.taken files.new) result }
+    ensures within { IfOk result WorkKeepsLimits }
+    ensures kind { IfOk result (λ work. work_in_parts work ≡ false) }
+{
+    let source = gather_source(alloc, files, names)?;
+    let bytes = gather_optional(alloc, files, ranges)?;
+    Ok(Work::Facts(source, bytes))
 }
 
 // Gathers a code file, and a table after it.

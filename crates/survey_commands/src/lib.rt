@@ -1,4 +1,5 @@
-//! The commands of `m_survey`, which are for populations: a table of households as csv, of a source or a code file.
+//! The commands of `m_survey`, which are for populations: a table of households as csv, of a source or a code file, and what holds of all households
+//! within ranges.
 //!
 //! `m_survey` is the one call that a program makes, and carries its theorem. It knows files and output only as the traits of `m_ports`.
 #![tactic(auto)]
@@ -8,9 +9,13 @@ mod code;
 mod columns;
 mod command;
 mod csv;
+mod facts;
+mod found;
 mod gather;
+pub mod laws;
 mod notes;
 mod program;
+mod ranges;
 mod records;
 mod source;
 mod stops;

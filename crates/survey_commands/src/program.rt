@@ -21,7 +21,7 @@ use std::alloc::Global;
 use std::thread::Threads;
 
 const USAGE: &[u8] =
-    b"usage: m_survey table LIST DRIVER REQUESTS TABLE, table CODEFILE TABLE, version";
+    b"usage: m_survey table LIST DRIVER REQUESTS TABLE, table CODEFILE TABLE, facts LIST DRIVER REQUESTS RANGES, version";
 
 // Prints the usage line. It takes no memory.
 fn print_usage<K: Sink>(out: &mut K) -> Status

@@ -71,8 +71,8 @@ fn code_of(compiled: Compiled) -> Loaded
     Loaded { code, face }
 }
 
-// Tells the fault of a source by its line, or that there was no memory.
-fn tell_source<K: Sink>(source: &Source, fault: SourceFault, out: &mut K) -> Status
+/// Tells the fault of a source by its line, or that there was no memory.
+pub(crate) fn tell_source<K: Sink>(source: &Source, fault: SourceFault, out: &mut K) -> Status
     ensures { TellsLine (source_line source.now.texts fault) (output_view K.written K.faults out.old) (output_view K.written K.faults out.new) result }
 {
     let status = tell_refusal(out, told_fault(source.texts.as_slice(), &fault));

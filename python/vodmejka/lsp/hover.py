@@ -67,6 +67,7 @@ def variable(context: Context, base: Base, name: str) -> str:
     context.tick()
     lines += formulas(base, name)
     lines += values(context, base, item)
+    lines += facts(context, base, item)
     lines += readers(base, name)
     return "\n\n".join(lines)
 
@@ -117,6 +118,17 @@ def values(context: Context, base: Base, item: items.Declaration) -> list[str]:
     found = [f"{name} {told.values[name]}" for name in names if name in told.values]
     more = " .." if item.size is not None and item.size > MOST_CELLS else ""
     return [f"`{', '.join(found)}{more}` for {os.path.basename(household)}{when}"] if found else []
+
+
+def facts(context: Context, base: Base, item: items.Declaration) -> list[str]:
+    """What holds of a variable for all households within the ranges of the settings."""
+    found, ranges = context.runs.facts(base), context.workspace.settings.ranges
+    if found is None or not ranges:
+        return []
+    when = "" if context.runs.is_current(base, "facts") else ", before the changes that were made since"
+    names = [item.name] if item.size is None else [f"{item.name}[{cell}]" for cell in range(min(item.size, MOST_CELLS))]
+    told = [f"{name}: {found[name]}" for name in names if name in found]
+    return [f"`{', '.join(told)}` for households within {os.path.basename(ranges)}{when}"] if told else []
 
 
 def readers(base: Base, name: str) -> list[str]:

@@ -1,5 +1,5 @@
-"""What the program tells of the files as they were saved: its fault, the findings of `lint`, and the values of a household that a setting names. It runs beside
-the server, one run at a time."""
+"""What the programs report of the files as they were saved: the fault, the findings of `lint`, the facts that hold for all households within the ranges that a
+setting names, and the values of a household. They run beside the server, one run at a time."""
 from __future__ import annotations
 
 import contextlib
@@ -10,6 +10,7 @@ from typing import Any, NamedTuple
 
 from .. import program, source
 from ..errors import Broken
+from ..facts import Facts, facts_of
 from ..limits import REQUESTS, TABLE_CELLS
 from ..sentences import DRIVER, OTHERS, RULES
 from .base import Base
@@ -24,7 +25,7 @@ Key = tuple[Any, ...]
 
 
 class Job(NamedTuple):
-    """A run of the program: `words` behind its name, and the contents of the files as they were when it began."""
+    """A run of m_tax, or of m_survey for `facts`: `words` behind its name, and the contents of the files as they were when it began."""
 
     base: Base
     kind: str
@@ -42,6 +43,8 @@ class Told(NamedTuple):
     of_list: list[dict[str, Any]] = []
     values: dict[str, str] = {}
     stop: str = ""
+    facts: Facts | None = None
+    never: frozenset[tuple[str, str]] = frozenset()
 
 
 class Runs:
@@ -56,9 +59,11 @@ class Runs:
 
     # ---- runs
 
-    def program(self) -> str | None:
+    def program(self, kind: str) -> str | None:
         try:
             found = program.program_path(self.workspace.settings.program)
+            if kind == "facts":
+                found = program.program_path(None, "m_survey", found)
         except Broken as fault:
             self.workspace.log(f"the program isn't run: {fault}")
             return None
@@ -78,11 +83,14 @@ class Runs:
         texts: list[Text] = [*base.texts, *([driver] if driver else [])]
         words = [base.path, driver.path if driver else "-"]
         household = self.workspace.path(settings.household) if settings.household else None
-        others = [signature_of(self.workspace.path(name)) if name else None for name in (settings.requests, household)]
+        named = (settings.requests, settings.household, settings.ranges)
+        others = [signature_of(self.workspace.path(name)) if name else None for name in named]
         key = (settings, base.folder, *words, signature_of(base.path), *(signature_of(text.path) for text in texts), *others)
         contents = {text: text.content for text in texts if text.is_saved}
         requests = self.workspace.path(settings.requests) if settings.requests else "-"
         jobs = [Job(base, "lint", ["lint", *words, requests], ("lint", *key), contents)]
+        if settings.ranges:
+            jobs.append(Job(base, "facts", ["facts", *words, requests, self.workspace.path(settings.ranges)], ("facts", *key), contents))
         if household:
             jobs.append(Job(base, "values", ["run", *words, "/dev/fd/{}", household], ("values", *key), contents))
         return jobs
@@ -91,10 +99,10 @@ class Runs:
         """Starts the next run, where none is under way."""
         if self.child is not None or not self.jobs or not all(text.is_whole for text in self.jobs[0].base.texts):
             return
-        path = self.program()
+        path = self.program(self.jobs[0].kind)
         if path is None:
-            self.jobs = []
-            return
+            self.jobs.pop(0)
+            return self.next()
         job = self.at_hand = self.jobs.pop(0)
         words = job.words
         kept: tuple[int, ...] = ()
@@ -139,7 +147,11 @@ class Runs:
         if job is None:
             return
         lines = output.decode("utf-8", "surrogateescape").split("\n")[:-1]
-        told = told_by_lint(job, status, lines) if job.kind == "lint" else told_by_run(job, status, lines)
+        if job.kind == "facts":
+            lint = self.results.get((job.base.path, "lint"))
+            told = told_by_facts(job, status, lines, lint.never if lint is not None else frozenset())
+        else:
+            told = (told_by_lint if job.kind == "lint" else told_by_run)(job, status, lines)
         self.results[job.base.path, job.kind] = told
         self.workspace.dirty.update(dict.fromkeys(self.workspace.texts.values()))
 
@@ -170,10 +182,14 @@ class Runs:
     def values(self, base: Base) -> Told | None:
         return self.results.get((base.path, "values"))
 
-    def is_current(self, base: Base) -> bool:
-        """Whether the values are those of the texts as they are now."""
-        told = self.values(base)
-        return told is not None and told.key == next((job.key for job in self.jobs_of(base) if job.kind == "values"), None) and all(
+    def facts(self, base: Base) -> Facts | None:
+        told = self.results.get((base.path, "facts"))
+        return told.facts if told is not None else None
+
+    def is_current(self, base: Base, kind: str = "values") -> bool:
+        """Whether the values or the facts are those of the texts as they are now."""
+        told = self.results.get((base.path, kind))
+        return told is not None and told.key == next((job.key for job in self.jobs_of(base) if job.kind == kind), None) and all(
             text.is_saved for text in base.texts
         )
 
@@ -193,25 +209,33 @@ def diagnostic(text: Text | None, begin: int, end: int, severity: int, what: str
     return {"range": where, "severity": severity, "source": "m_tax", "code": code or what, "message": f"{what}\n{mend}" if mend else what}
 
 
-def told_by_lint(job: Job, status: int, lines: list[str]) -> Told:
-    texts: dict[Text, list[dict[str, Any]]] = {}
-    of_list: list[dict[str, Any]] = []
+class Findings:
+    """What is found at places of the texts that a run read."""
 
-    def tell(piece: Piece | None, begin: int, length: int, severity: int, what: str, **more: Any) -> None:
-        if piece is not None and job.contents.get(piece.text) == piece.text.content:
+    def __init__(self, job: Job) -> None:
+        self.job = job
+        self.texts: dict[Text, list[dict[str, Any]]] = {}
+
+    def tell(self, piece: Piece | None, begin: int, length: int, severity: int, what: str, **more: Any) -> None:
+        if piece is not None and self.job.contents.get(piece.text) == piece.text.content:
             told = {**diagnostic(piece.text, piece.begin + begin, piece.begin + begin + length, severity, what), **more}
-            texts.setdefault(piece.text, []).append(told)
+            self.texts.setdefault(piece.text, []).append(told)
 
+
+def told_by_lint(job: Job, status: int, lines: list[str]) -> Told:
+    found, of_list = Findings(job), list[dict[str, Any]]()
+    texts = found.texts
     if status == 0:
         for line in lines:
-            tell_finding(job.base, line, tell)
+            tell_finding(job.base, line, found.tell)
     elif lines and status in (1, 3):
         text, told = fault_of(job, lines[0])
         if text is None:
             of_list.append(told)
         else:
             texts[text] = [told]
-    return Told(job.key, job.contents, texts, of_list)
+    never = frozenset((words[2], words[3]) for words in (line.split(" ") for line in lines) if words[:2] == ["never", "stops"] and len(words) == 4)
+    return Told(job.key, job.contents, texts, of_list, never=never)
 
 
 def tell_finding(base: Base, line: str, tell: Any) -> None:
@@ -224,8 +248,34 @@ def tell_finding(base: Base, line: str, tell: Any) -> None:
         piece = base.first(base.codes.of(words[2]))
         tell(piece, piece.item.byte if piece else 0, len(piece.item.name) if piece else 0, HINT, f"{line}: whatever it is, the answer is the same", tags=[1])
     elif line.startswith("never stops "):
-        piece = next((piece for piece in base.raisers.of(words[3]) if (head := head_of(piece)) and head.item.number == words[2]), None)
+        piece = verification(base, words[2], words[3])
         tell(piece, piece.item.error_byte if piece else 0, len(words[3]), INFORMATION, f"{line}: whatever a household says, it neither stops nor is noted")
+
+
+def verification(base: Base, number: str, error: str) -> Piece | None:
+    """The check of a verification of this number that raises this error."""
+    return next((piece for piece in base.raisers.of(error) if (head := head_of(piece)) and head.item.number == number), None)
+
+
+def told_by_facts(job: Job, status: int, lines: list[str], known: frozenset[tuple[str, str]]) -> Told:
+    """What holds for all households within the ranges: values that may overflow, and verifications that never stop, without those that `lint` knows. A fault of
+    the source is `lint`'s to report, one of the ranges stands at the list."""
+    if status != 0:
+        faults = [line for line in lines[:1] if "ranges" in line]
+        return Told(job.key, job.contents, of_list=[diagnostic(None, 0, 0, ERROR, line) for line in faults])
+    try:
+        facts = facts_of("".join(line + "\n" for line in lines), ("", ""))
+    except Broken as fault:
+        return Told(job.key, job.contents, of_list=[diagnostic(None, 0, 0, ERROR, str(fault))])
+    base, found, within = job.base, Findings(job), f"for households within {os.path.basename(job.words[-1])}"
+    for name, fact in facts.items():
+        piece = base.first(base.variables.of(name.split("[")[0]))
+        if fact.over and piece is not None:
+            found.tell(piece, piece.item.byte, len(piece.item.name), INFORMATION, f"{name} may overflow {within}: {fact}")
+    for number, error in (one for one in facts.never_stops if one not in known):
+        piece = verification(base, number, error)
+        found.tell(piece, piece.item.error_byte if piece else 0, len(error), INFORMATION, f"never stops {number} {error} {within}")
+    return Told(job.key, job.contents, found.texts, facts=facts)
 
 
 def head_of(piece: Piece) -> Piece | None:

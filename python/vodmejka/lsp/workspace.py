@@ -24,6 +24,7 @@ class Settings(NamedTuple):
     driver: str | None = None
     requests: str | None = None
     household: str | None = None
+    ranges: str | None = None
     folder: str | None = None
     program: str | None = None
 

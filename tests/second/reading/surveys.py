@@ -2,13 +2,18 @@
 
 from .code_files import read_code
 from .commands import CODE_FILE_BYTES, DONE, FILE_BYTES, NO_COMMAND, NOT_READ, REFUSED, Output, fetched, gathered
+from .facts import Facts
 from .faults import Refused, RingRefused, Unreadable
 from .files import read_table
+from .ranges import read_ranges
 from .records import record
 from .sources import Compiled
 from .texts import is_utf8
 
-USAGE = b"usage: m_survey table LIST DRIVER REQUESTS TABLE, table CODEFILE TABLE, version\n"
+USAGE = (
+    b"usage: m_survey table LIST DRIVER REQUESTS TABLE, table CODEFILE TABLE, "
+    b"facts LIST DRIVER REQUESTS RANGES, version\n"
+)
 VERSION = b"vodmejka 1.0.0\n"
 
 
@@ -28,6 +33,12 @@ def survey_answer(words, files):
     """The same, where refusals are raised."""
     if words == [b"version"]:
         return VERSION, DONE
+    if words[:1] == [b"facts"] and len(words) == 5 and all(is_utf8(word) for word in words):
+        source = gathered(words[1:4], files)
+        ranges = None if words[4] == b"-" else fetched(words[4], files, FILE_BYTES)
+        compiled = Compiled(source)
+        given = read_ranges(ranges, compiled.declared.inputs, compiled.declared.types)
+        return b"facts\n", DONE, None, None, Facts(compiled, given)
     if words[:1] == [b"table"] and all(is_utf8(word) for word in words):
         if len(words) == 5:
             source = gathered(words[1:4], files)

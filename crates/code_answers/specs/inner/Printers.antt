@@ -1,7 +1,5 @@
 -- What is printed of rows by code, and the status after it.
-use Rattle.std.specs.Prelude.{ℕ, ◌<◌, List, [], ◌++◌, Option, Result, Ok, Err, length, slice_index_or}
-use Rattle.m_fixed.specs.declared.amount.Value.{Value}
-use Rattle.observables.specs.Outputs.{names_of, notes_of}
+use Rattle.std.specs.Prelude.{ℕ, ◌<◌, List, [], ◌++◌, Result, Ok, Err, length, slice_index_or}
 use Rattle.observables.specs.declared.answer.Answer.{Answer}
 use Rattle.observables.specs.declared.face.Face.{Face}
 use Rattle.code_file.specs.declared.loaded.Loaded.{Loaded}
@@ -11,7 +9,7 @@ use Rattle.m_batch.specs.Printing.{printed_count, printed_text}
 use Rattle.m_batch.specs.declared.fault.PrintFault.{PrintFault}
 use Rattle.m_batch.specs.declared.fault.PrintFault.TheVariants.{Memory, Failed}
 use Rattle.m_cases.specs.Cases.{AreExpected}
-use Rattle.m_cases.specs.Mismatches.{HasValueEach, answer_values, count_line, mismatch_count, mismatch_lines, named_values}
+use Rattle.m_cases.specs.Mismatches.{HasValueEach, answer_values, count_line, mismatch_count, mismatch_lines, output_names}
 use Rattle.m_cases.specs.declared.expected.Expected.{Expected}
 use Rattle.tax_print.specs.Lines.{household_lines}
 use Rattle.command_plans.specs.declared.status.Status.{Status}
@@ -25,26 +23,22 @@ lines_by face at row answer = household_lines row.label face answer
 abbrev pub nothing_counted : ℕ → Row → Answer → ℕ
 nothing_counted at row answer = 0
 
--- the values of an answer that have names
-abbrev pub named_of : Face → Answer → Option (List Value)
-named_of face answer = named_values (length (notes_of face.outputs)) (answer_values answer)
-
 -- what is expected of the row at a place
 abbrev pub expected_at : List (List (ℕ × Expected)) → ℕ → List (ℕ × Expected)
 expected_at expected at = slice_index_or expected at []
 
 -- the lines of what is expected of the row at its place and isn't answered
 abbrev pub mismatches_by : Face → List (List (ℕ × Expected)) → ℕ → Row → Answer → List ℕ
-mismatches_by face expected at row answer = mismatch_lines (names_of face.outputs) row.label (named_of face answer) (expected_at expected at)
+mismatches_by face expected at row answer = mismatch_lines (output_names face.outputs) row.label (answer_values answer) (expected_at expected at)
 
 -- how much that is
 abbrev pub misses_by : Face → List (List (ℕ × Expected)) → ℕ → Row → Answer → ℕ
-misses_by face expected at row answer = mismatch_count (named_of face answer) (expected_at expected at)
+misses_by face expected at row answer = mismatch_count (answer_values answer) (expected_at expected at)
 
 -- something is expected of the row at this place that may be compared with the answer
 pub record MayBeCompared (face : Face) (expected : List (List (ℕ × Expected))) (at : ℕ) (row : Row) (answer : Answer) : Type 0 where
   pub there : at < length expected
-  pub expected_is : AreExpected (length (names_of face.outputs)) (expected_at expected at)
+  pub expected_is : AreExpected (length face.outputs) (expected_at expected at)
   pub values : HasValueEach face answer
 
 -- the lines of rows by code, where this is expected of them, and how much of it the code doesn't answer

@@ -1,5 +1,5 @@
 -- The rows of a table, read in parts.
-use Rattle.std.specs.Prelude.{◌≡◌, ℕ, ◌+◌, ◌*◌, ◌<◌, List, [], ◌∷◌, ◌++◌, Vec, length, take, get_or, Result, Ok, Err}
+use Rattle.std.specs.Prelude.{◌≡◌, ℕ, ◌+◌, ◌*◌, ◌<◌, List, [], Vec, length, take, get_or, Result, Ok, Err}
 use Rattle.std.specs.declared.alloc.Global.{Global}
 use Rattle.m_places.specs.Refusals.{Outcome}
 use Rattle.observables.specs.declared.inputs.Coded.{Coded}
@@ -24,14 +24,3 @@ abbrev pub SaysPart : List Coded → List ℕ → List (List (List ℕ)) → ℕ
 SaysPart inputs columns records before size result =
     Outcome Memory result (λ rows. in_turn (table_row_behind inputs columns before) [] (take size records) ≡ Ok rows.items)
     (λ fault. in_turn (table_row_behind inputs columns before) [] (take size records) ≡ Err fault)
-
--- the rows after those of a part
-abbrev pub behind : List Row → Result (List Row) HouseholdFault → Result (List Row) HouseholdFault
-behind rows (Ok more) = Ok (rows ++ more)
-behind rows (Err fault) = Err fault
-
--- the rows of all parts, or the first fault
-abbrev pub joined : List (Result (Vec Row Global) HouseholdFault) → Result (List Row) HouseholdFault
-joined [] = Ok []
-joined (Err fault ∷ parts) = Err fault
-joined (Ok rows ∷ parts) = behind rows.items (joined parts)

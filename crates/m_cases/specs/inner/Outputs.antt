@@ -1,5 +1,5 @@
 -- How the names of outputs are found, and which columns were seen.
-use Rattle.std.specs.Prelude.{◌≡◌, ℕ, ◌<◌, Bool, List, [], ◌∷◌, length, slice_index_or}
+use Rattle.std.specs.Prelude.{◌≡◌, ℕ, ◌<◌, List, [], ◌∷◌, length, slice_index_or}
 use Rattle.std.specs.Option.{option_map}
 use Rattle.m_names.specs.Names.{index_of}
 use Rattle.household.specs.Marks.{Marks}

@@ -1,6 +1,6 @@
 -- The course that a call of the program took, from which all its clauses follow.
 use Rattle.std.specs.Prelude.{◌≡◌, ℕ, Bool, true, false, List, Some, None, Ok, Err}
-use Rattle.command_plans.specs.Printing.{Prints, Tells}
+use Rattle.command_plans.specs.Printing.{IsAnswered, Prints, Tells}
 use Rattle.command_plans.specs.Trips.{GoesAlong}
 use Rattle.command_plans.specs.Views.{FilesView, OutputView}
 use Rattle.command_plans.specs.declared.ending.Ending.{Ending}
@@ -8,15 +8,17 @@ use Rattle.command_plans.specs.declared.status.Status.{Status}
 use Rattle.command_plans.specs.declared.status.Status.TheVariants.{Done, Usage, Memory}
 use Rattle.code_answers.specs.Parts.{IsWrittenInParts}
 use Rattle.survey_commands.specs.Command.{command_of, plan_of, writes_in_parts}
+use Rattle.survey_commands.specs.Facts.{FactsReplies}
 use Rattle.survey_commands.specs.Lines.{usage_line, version_line}
 use Rattle.survey_commands.specs.Tables.{CodeReplies, SourceReplies}
 use Rattle.survey_commands.specs.declared.command.Command.{Command}
 use Rattle.survey_commands.specs.declared.work.Work.{Work}
-use Rattle.survey_commands.specs.declared.work.Work.TheVariants.{Table, CodeTable, Version}
+use Rattle.survey_commands.specs.declared.work.Work.TheVariants.{Table, Facts, CodeTable, Version}
 
 -- whether what was gathered is answered in parts
 abbrev pub work_in_parts : Work → Bool
 work_in_parts (Table source table) = true
+work_in_parts (Facts source ranges) = false
 work_in_parts (CodeTable code table) = true
 work_in_parts Version = false
 
@@ -27,6 +29,7 @@ IsWorkOf asked work = work_in_parts work ≡ writes_in_parts asked
 -- what was gathered was answered
 abbrev pub WorkIsAnswered : Work → OutputView → OutputView → Status → Type 0
 WorkIsAnswered (Table source table) old new status = IsWrittenInParts (SourceReplies source table) old new status
+WorkIsAnswered (Facts source ranges) old new status = IsAnswered (FactsReplies source ranges) old new status
 WorkIsAnswered (CodeTable code table) old new status = IsWrittenInParts (CodeReplies code table) old new status
 WorkIsAnswered Version old new status = Prints version_line Done old new status
 

@@ -2,11 +2,11 @@ use Rattle.std.proofs.Common.{◌≡◌, ◌<◌, length, map, refl, sym, ◌∙
 use Rattle.std.specs.List.{AllByRecursion}
 use Rattle.flat_code.specs.Runs.{AreNodes, IsCheck}
 use Rattle.flat_code.specs.Passes.{Becomes}
-use Rattle.flat_code.specs.Tidy.{IsTidy}
 use Rattle.flat_code.specs.inner.Renumber.{moved}
+use Rattle.dead_rules.specs.inner.Firsts.{IsPruned}
 use Rattle.dead_rules.specs.inner.Steps.{look, is_live, Kept, with_nodes}
 use Rattle.dead_rules.proofs.MoveLemmas.{same-flat, flat-of}
-use Rattle.dead_rules.proofs.KeptLemmas.{becomes-kept, tidy-kept}
+use Rattle.dead_rules.proofs.KeptLemmas.{becomes-kept, pruned-kept}
 use Rattle.dead_rules.proofs.whole.removed.Goals as goal
 
 pub compacted-requires-clause-valid : goal.compacted-requires-clause-valid
@@ -43,8 +43,8 @@ returns-clause-becomes c =
     (c.from_vec-3.ensures ∙ c.in_ok-outputs.ensures ∙ ap (map (look c.deref-3.result.now)) c.as_slice-2.ensures ∙ ap (λ xs. map (look xs) flat.outputs) c.deref-3.ensures.value) in
     subst (Becomes flat) (sym is) (becomes-kept flat (is_live live) new numbers c.requires.valid c.in_ok-live.ensures.live kept)
 
-pub returns-clause-tidy : goal.returns-clause-tidy
-returns-clause-tidy c =
+pub returns-clause-pruned : goal.returns-clause-pruned
+returns-clause-pruned c =
     let flat = c.args.flat in
     let live = c.in_ok-live.live.items in
     let new = c.in_ok-kept.kept.nodes.items in
@@ -57,4 +57,4 @@ returns-clause-tidy c =
     same-flat flat.inputs flat.inputs c.from_vec.result new c.from_vec-2.result (map (moved m) flat.checks) c.from_vec-3.result (map m flat.outputs) refl (c.from_vec.ensures ∙ c.shrink_to_fit.ensures.items)
     (c.from_vec-2.ensures ∙ c.in_ok-checks.ensures ∙ ap (map (moved (look c.deref-2.result.now))) c.as_slice.ensures ∙ ap (λ xs. map (moved (look xs)) flat.checks) c.deref-2.ensures.value)
     (c.from_vec-3.ensures ∙ c.in_ok-outputs.ensures ∙ ap (map (look c.deref-3.result.now)) c.as_slice-2.ensures ∙ ap (λ xs. map (look xs) flat.outputs) c.deref-3.ensures.value) in
-    subst IsTidy (sym is) (tidy-kept flat (is_live live) new numbers c.requires.valid c.requires.folded c.in_ok-live.ensures.live kept)
+    subst IsPruned (sym is) (pruned-kept flat (is_live live) new numbers c.requires.valid c.requires.folded c.in_ok-live.ensures.live kept)

@@ -1,17 +1,22 @@
-use Rattle.std.proofs.Common.{◌≡◌, ◌+◌, ◌*◌, ◌/◌, ◌%◌, min, length, arith}
-use Rattle.household.specs.declared.cuts.TheConstants.{BETWEEN}
-use Rattle.household.specs.inner.Cuts.{left_at}
-use Rattle.household.proofs.PartLemmas.{all_given, given_at, reach}
+use Rattle.std.proofs.Common.{arith, subst, sym}
+use Rattle.household.specs.inner.Cuts.{AreCuts, left_at}
+use Rattle.household.proofs.PartLemmas.{by_rows, cuts_in_part, rows_said}
 use Rattle.household.proofs.parts.read_parts.Goals as goal
+
+pub join_parts-requires-clause-accepts : goal.join_parts-requires-clause-accepts
+join_parts-requires-clause-accepts g c κs held = λ at lent part.
+    let bytes = c.args.bytes.now in
+    let records = left_at bytes c.first_cut-first.result in
+    let cuts = subst (AreCuts bytes records) (sym c.as_slice.ensures.value) c.in_ok-cuts.ensures in
+    (part.some, cuts_in_part bytes records c.as_slice.result.now c.part_size-many.result at lent.now cuts.each part)
 
 pub returns : goal.returns
 returns g c =
-    let many = c.cuts_at_once-many.result in
-    let records = left_at c.args.bytes.now c.first_cut-first.result in
-    let parts : length c.in_ok-parts.parts.items ≡ length c.in_ok-cuts.cuts.items / many + min 1 (length c.in_ok-cuts.cuts.items % many) =
-    let counted = rw c.deref.ensures.value at c.in_ok-parts.ensures.len in
-    omega (arith, c.in_ok-parts.parts.ok, counted) in
-    rw (← c.first_cut-first.ensures.left) (all_given c.args.codes.now c.args.columns.now (many * BETWEEN) records c.in_ok-parts.parts.items _
-    (reach (length records) (length c.in_ok-cuts.cuts.items) many (length c.in_ok-parts.parts.items) c.cuts_at_once-many.ensures c.in_ok-cuts.ensures.far parts)
-    (λ k at place d h a p. let said = (c.in_ok-parts.ensures.each k d h).1 in given_at c.args.codes.now c.args.columns.now records many k at place _ a p said.call)
-    c.joined.ensures)
+    let bytes = c.args.bytes.now in
+    let records = left_at bytes c.first_cut-first.result in
+    let cuts = subst (AreCuts bytes records) (sym c.as_slice.ensures.value) c.in_ok-cuts.ensures in
+    let many = c.part_size-many.result in
+    let all = c.in_ok-join_parts.ensures in
+    let said = rows_said c.args.codes.now c.args.columns.now records many c.as_slice.result.now all.parts (λ n d h. (all.made.each n d h).2) all.made.inside all.made.reach
+    (let far = cuts.far in omega (arith, far)) in
+    rw (← c.first_cut-first.ensures.left) (by_rows _ c.in_ok-join_parts.field-0 (rw (sym all.all_is) at said))

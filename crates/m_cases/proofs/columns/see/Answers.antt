@@ -1,4 +1,4 @@
-use Rattle.std.proofs.Common.{Bool, List, ℕ, length, arith, not, ap, sym, subst, refl, ◌∷◌, ◌++◌, [], ◌∙◌, ◌≡◌}
+use Rattle.std.proofs.Common.{Bool, List, length, arith, not, ap, sym, subst, refl, ◌∷◌, ◌++◌, [], ◌∙◌, ◌≡◌}
 use Rattle.std.specs.List.{list_any}
 use Rattle.std.specs.Vec.{with_items}
 use Rattle.std.proofs.lemmas.List.{with_items_is}

@@ -1,8 +1,5 @@
-use Rattle.m_cases.proofs.Shown.{has_named, name_within}
+use Rattle.m_cases.proofs.Numbered.{has_output}
 use Rattle.m_cases.proofs.mismatches.print_one.Goals as goal
 
-pub got_behind-got-requires : goal.got_behind-got-requires
-got_behind-got-requires g c = has_named c.args.face.now c.args.answer.now _ _ c.requires.within c.requires.notes c.requires.place
-
-pub name_at-name-requires-clause-within : goal.name_at-name-requires-clause-within
-name_at-name-requires-clause-within g c = name_within c.args.face.now _ _ c.requires.notes c.requires.place
+pub got_of-got-requires : goal.got_of-got-requires
+got_of-got-requires g c = has_output c.args.face.now c.args.answer.now _ c.requires.within c.requires.there

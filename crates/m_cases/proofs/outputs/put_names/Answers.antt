@@ -1,4 +1,4 @@
-use Rattle.std.proofs.Common.{arith, length, ◌∙◌, sym, subst, ap, List, ℕ, take, ◌≡◌}
+use Rattle.std.proofs.Common.{arith, length, sym, subst, ap, List, ℕ, take}
 use Rattle.observables.specs.Outputs.{names_of}
 use Rattle.m_cases.specs.inner.Outputs.{Finds}
 use Rattle.m_cases.proofs.Found.{finds_named, counts_named, same_noted}

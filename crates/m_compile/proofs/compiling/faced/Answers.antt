@@ -19,3 +19,6 @@ face_of-requires-clause-noted c =
 
 pub tidy-requires-clause-few : goal.tidy-requires-clause-few
 tidy-requires-clause-few c = let few = c.in_ok-flat.ensures.outcome.1.nodes_fit in omega arith
+
+pub tidy-requires-clause-few_checks : goal.tidy-requires-clause-few_checks
+tidy-requires-clause-few_checks c = let few = c.in_ok-flat.ensures.outcome.1.checks_fit in omega arith

@@ -5,13 +5,13 @@ use Rattle.m_lint.proofs.loud.loud_marks.Goals as goal
 
 pub mark_checks-requires-clause-valid : goal.mark_checks-requires-clause-valid
 mark_checks-requires-clause-valid c =
-    rw c.as_slice-3.ensures (subst (λ n. AllByRecursion (IsCheck n) c.args.flat.now.checks) (sym (ap length c.deref.ensures.value ∙ c.in_ok-known.ensures.count ∙ ap length c.as_slice.ensures)) c.requires.valid.checks)
+    rw c.as_slice-2.ensures (subst (λ n. AllByRecursion (IsCheck n) c.args.flat.now.checks) (sym c.requires.known) c.requires.valid.checks)
 
 pub mark_checks-requires-clause-labels : goal.mark_checks-requires-clause-labels
 mark_checks-requires-clause-labels c =
-    rw c.as_slice-3.ensures (subst (λ n. AllByRecursion (λ check. check.label < n) c.args.flat.now.checks)
-    (sym (c.deref_mut.ensures.len ∙ c.in_ok-marks.ensures.len ∙ ap length c.as_slice-2.ensures)) c.requires.shown.labels)
+    rw c.as_slice-2.ensures (subst (λ n. AllByRecursion (λ check. check.label < n) c.args.flat.now.checks)
+    (sym (c.deref_mut.ensures.len ∙ c.in_ok-marks.ensures.len ∙ ap length c.as_slice.ensures)) c.requires.shown.labels)
 
 pub mark_notes-requires-clause-nodes : goal.mark_notes-requires-clause-nodes
 mark_notes-requires-clause-nodes c =
-    rw c.as_slice-5.ensures (subst (λ n. AllByRecursion (λ p. p < n) c.args.flat.now.outputs) (sym (ap length c.deref-2.ensures.value ∙ c.in_ok-known.ensures.count ∙ ap length c.as_slice.ensures)) c.requires.valid.outputs)
+    rw c.as_slice-4.ensures (subst (λ n. AllByRecursion (λ p. p < n) c.args.flat.now.outputs) (sym c.requires.known) c.requires.valid.outputs)

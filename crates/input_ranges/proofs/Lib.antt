@@ -1,0 +1,4 @@
+pub mod FactLemmas
+pub mod FieldLemmas
+pub mod RangeLemmas
+pub mod RowLemmas

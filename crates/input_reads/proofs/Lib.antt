@@ -1,0 +1,5 @@
+pub mod BitLemmas
+pub mod DependLemmas
+pub mod ListLemmas
+pub mod MaskLemmas
+pub mod ValueLemmas

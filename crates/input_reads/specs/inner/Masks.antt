@@ -1,0 +1,40 @@
+-- Masks of 64 bits: bit k of a node's mask is 1 where the asked node k reaches it.
+use Rattle.std.specs.Prelude.{◌≡◌, ℕ, ◌<◌, ◌==◌, Bool, true, ◌⊎◌, List, length, slice_index_or}
+use Rattle.std.specs.Int.{bit_at}
+use Rattle.definedness.specs.Facts.{Possible}
+use Rattle.flat_code.specs.declared.program.Node.{Node}
+use Rattle.input_reads.specs.Reads.{may_depend}
+use Rattle.input_reads.specs.Steps.{Depends}
+
+abbrev pub has : ℕ → ℕ → Bool
+has mask k = bit_at mask k == 1
+
+abbrev pub mask_at : List ℕ → ℕ → ℕ
+mask_at masks x = slice_index_or masks x 0
+
+abbrev pub number_at : List ℕ → ℕ → ℕ
+number_at asked k = slice_index_or asked k 0
+
+-- a mask was added to those of the numbers that are read, and to no others
+pub record Adds (read : ℕ → Type 0) (mask : ℕ) (old new : List ℕ) : Type 0 where
+  pub size : length new ≡ length old
+  pub keeps : (k x : ℕ) → has (mask_at old x) k ≡ true → has (mask_at new x) k ≡ true
+  pub adds : (k x : ℕ) → read x → has mask k ≡ true → has (mask_at new x) k ≡ true
+  pub only : (k x : ℕ) → has (mask_at new x) k ≡ true → (has (mask_at old x) k ≡ true) ⊎ (read x × (has mask k ≡ true))
+
+-- of the first i asked nodes, each has its bit, and no other bit is 1
+pub record IsMarked (asked : List ℕ) (i : ℕ) (masks : List ℕ) : Type 0 where
+  pub marks : (k : ℕ) → k < i → has (mask_at masks (number_at asked k)) k ≡ true
+  pub only : (k x : ℕ) → has (mask_at masks x) k ≡ true → (k < i) × (x ≡ number_at asked k)
+
+-- The nodes from p on were gone through. Where bit k of an input or of a node is 1, the asked node k depends on the input, and on what
+-- the node does; and what it depends on has its bit, or a node below p with the bit depends on it.
+pub record IsSpread (known : List Possible) (nodes : List Node) (asked : List ℕ) (p : ℕ) (masks found : List ℕ) : Type 0 where
+  pub node : (k q n : ℕ) → k < length asked → has (mask_at masks q) k ≡ true → Depends known nodes n q → Depends known nodes n (number_at asked k)
+  pub input : (k n : ℕ) → k < length asked → has (mask_at found n) k ≡ true → Depends known nodes n (number_at asked k)
+  pub left : (k n : ℕ) → k < length asked → Depends known nodes n (number_at asked k)
+      → (has (mask_at found n) k ≡ true) ⊎ ((q : ℕ) × (q < p) × (has (mask_at masks q) k ≡ true) × Depends known nodes n q)
+
+-- bit k of an input's mask is 1 where the asked node k may depend on the input
+pub record AreMasks (known : List Possible) (nodes : List Node) (asked found : List ℕ) : Type 0 where
+  pub bit : (k n : ℕ) → k < length asked → has (mask_at found n) k ≡ may_depend known nodes (number_at asked k) n

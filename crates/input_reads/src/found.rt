@@ -1,0 +1,70 @@
+//! The inputs on which nodes may depend.
+ghost use Rattle.std.specs.Prelude.{◌≡◌, ◌<◌, ◌≤◌, ◌++◌, IfOk, OnOk, length, map};
+ghost use Rattle.std.specs.List.{AllByRecursion};
+ghost use Rattle.flat_code.specs.Runs.{AreNodes};
+ghost use Rattle.input_reads.specs.Reads.{depends_on};
+
+use crate::lists::{add_lists, lists_of};
+use crate::spread::input_masks;
+use definedness::Fact;
+use flat_code::Node;
+use m_places::Seq;
+use std::alloc::{AllocError, Global};
+
+/// For each asked node the inputs on which its value may depend, in ascending order, where these are the facts of all nodes. Its only error is
+/// running out of memory.
+///
+/// Of the nodes `Input(0)`, `Input(1)` and `Do(Op::Choose, 0, 1, 1)`, where the first is known to be 1, the last depends on input 1 alone.
+///
+/// It takes a step for each node and each input, for each 64 asked nodes, and one for each input of each asked node.
+pub fn dependences(
+    alloc: Global,
+    nodes: &[Node],
+    inputs: u32,
+    known: &[Fact],
+    asked: &[u32],
+) -> Result<Seq<Seq<u32>>, AllocError>
+    requires nodes { AreNodes inputs 0 nodes.now }
+    requires known { length known.now ≡ length nodes.now }
+    requires asked { AllByRecursion (λ p. p < length nodes.now) asked.now }
+    ensures { IfOk result (λ found. found ≡ map (depends_on known.now nodes.now inputs) asked.now) }
+{
+    let mut found = Vec::with_capacity(alloc, asked.len())?;
+    let mut from = 0;
+    while from < asked.len() {
+        let to = from + group_of(asked.len() - from);
+        add_group(alloc, nodes, inputs, known, &asked[from..to], &mut found)?;
+        from = to;
+    }
+    Ok(Seq::from_vec(found))
+}
+
+// How many are in a group, of so many that are left.
+fn group_of(left: usize) -> usize
+    requires { 0 < left }
+    ensures some { 0 < result }
+    ensures within { result ≤ left }
+    ensures few { result ≤ 64 }
+{
+    left.min(64)
+}
+
+// The same of 64 asked nodes at most, after what was found before.
+fn add_group(
+    alloc: Global,
+    nodes: &[Node],
+    inputs: u32,
+    known: &[Fact],
+    asked: &[u32],
+    found: &mut Vec<Seq<u32>>,
+) -> Result<(), AllocError>
+    requires nodes { AreNodes inputs 0 nodes.now }
+    requires known { length known.now ≡ length nodes.now }
+    requires few { length asked.now ≤ 64 }
+    requires asked { AllByRecursion (λ p. p < length nodes.now) asked.now }
+    ensures { OnOk result (found.new.items ≡ found.old.items ++ map (depends_on known.now nodes.now inputs) asked.now) }
+{
+    let masks = input_masks(alloc, nodes, inputs, known, asked)?;
+    let lists = lists_of(alloc, &masks, asked.len())?;
+    add_lists(lists, found)
+}

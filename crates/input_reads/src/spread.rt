@@ -1,0 +1,130 @@
+//! From asked nodes back to the inputs on which they may depend: 64 asked nodes at a time, with a bit for each.
+ghost use Rattle.std.specs.Prelude.{◌≡◌, ℕ, ◌<◌, ◌≤◌, true, List, length, IfOk};
+ghost use Rattle.std.specs.List.{AllByRecursion};
+ghost use Rattle.flat_code.specs.declared.program.Node.TheVariants.{Input};
+ghost use Rattle.flat_code.specs.Runs.{AreNodes, IsNode};
+ghost use Rattle.input_reads.specs.Steps.{LooksAt, Gives, Takes};
+ghost use Rattle.input_reads.specs.inner.Masks.{mask_at, Adds, IsMarked, IsSpread, AreMasks};
+
+use crate::looks::{is_open, looks_at_second, looks_at_third};
+use definedness::Fact;
+use flat_code::Node;
+use m_fixed::Op;
+use std::alloc::{AllocError, Global};
+
+// Adds a mask to that of a number, if it is read.
+fn add_mask(is_read: bool, masks: &mut [u64], x: u32, mask: u64)
+    requires { x < length masks.old }
+    ensures { Adds (λ y. (is_read ≡ true) × (y ≡ x)) mask masks.old masks.new }
+{
+    if is_read {
+        masks[x as usize] |= mask;
+    }
+}
+
+// Adds a mask to those of the arguments at which an operator looks.
+fn add_to_arguments(masks: &mut [u64], known: &[Fact], op: Op, a: u32, b: u32, c: u32, mask: u64)
+    requires node { IsNode 0 (length masks.old) (Node.Do op a b c) }
+    requires known { length known.now ≡ length masks.old }
+    ensures { Adds (LooksAt known.now (Node.Do op a b c)) mask masks.old masks.new }
+{
+    let first = known[a as usize];
+    add_mask(true, masks, a, mask);
+    add_mask(looks_at_second(op, first), masks, b, mask);
+    add_mask(looks_at_third(op, first), masks, c, mask);
+}
+
+// Adds the mask of a node of which more than one value is possible to those of the nodes at which it looks, or to that of its input.
+fn add_node(masks: &mut [u64], found: &mut [u64], known: &[Fact], node: Node, mask: u64)
+    requires node { IsNode (length found.old) (length masks.old) node }
+    requires known { length known.now ≡ length masks.old }
+    ensures masks { Adds (LooksAt known.now node) mask masks.old masks.new }
+    ensures found { Adds (λ n. node ≡ Input n) mask found.old found.new }
+{
+    match node {
+        Node::Input(n) => add_mask(true, found, n, mask),
+        Node::Lit(_) => {}
+        Node::Do(op, a, b, c) => add_to_arguments(masks, known, op, a, b, c, mask),
+    }
+}
+
+// The same of the node with this number, whatever is known of it.
+fn add_from(masks: &mut [u64], found: &mut [u64], known: &[Fact], nodes: &[Node], p: usize)
+    requires within { p < length nodes.now }
+    requires nodes { AreNodes (length found.old) 0 nodes.now }
+    requires known { length known.now ≡ length nodes.now }
+    requires masks { length masks.old ≡ length nodes.now }
+    ensures masks { Adds (Takes known.now nodes.now p) (mask_at masks.old p) masks.old masks.new }
+    ensures found { Adds (Gives known.now nodes.now p) (mask_at masks.old p) found.old found.new }
+{
+    let mask = masks[p];
+    if mask != 0 && is_open(known[p]) {
+        add_node(masks, found, known, nodes[p], mask);
+    }
+}
+
+// Goes back through all nodes, each once.
+fn spread_back(masks: &mut [u64], found: &mut [u64], known: &[Fact], nodes: &[Node])
+    requires nodes { AreNodes (length found.old) 0 nodes.now }
+    requires known { length known.now ≡ length nodes.now }
+    requires masks { length masks.old ≡ length nodes.now }
+    ensures size { length found.new ≡ length found.old }
+    ensures spread { (asked : List ℕ) → IsSpread known.now nodes.now asked (length nodes.now) masks.old found.old
+        → IsSpread known.now nodes.now asked 0 masks.new found.new }
+{
+    let mut p = nodes.len();
+    while p > 0 {
+        p -= 1;
+        add_from(masks, found, known, nodes, p);
+    }
+}
+
+// Gives each of 64 asked nodes at most its bit, where no bit is 1.
+fn mark_asked(masks: &mut [u64], asked: &[u32])
+    requires few { length asked.now ≤ 64 }
+    requires within { AllByRecursion (λ p. p < length masks.old) asked.now }
+    requires none { (x : ℕ) → mask_at masks.old x ≡ 0 }
+    ensures size { length masks.new ≡ length masks.old }
+    ensures marked { IsMarked asked.now (length asked.now) masks.new }
+{
+    for k in 0..asked.len() {
+        masks[asked[k] as usize] |= 1u64 << k;
+    }
+}
+
+// For each input a mask, where no bit is 1 yet: bit k is 1 where the asked node k may depend on it.
+fn fill(masks: &mut [u64], found: &mut [u64], known: &[Fact], nodes: &[Node], asked: &[u32])
+    requires nodes { AreNodes (length found.old) 0 nodes.now }
+    requires known { length known.now ≡ length nodes.now }
+    requires masks { length masks.old ≡ length nodes.now }
+    requires few { length asked.now ≤ 64 }
+    requires within { AllByRecursion (λ p. p < length nodes.now) asked.now }
+    requires none { (x : ℕ) → mask_at masks.old x ≡ 0 }
+    requires none_found { (n : ℕ) → mask_at found.old n ≡ 0 }
+    ensures size { length found.new ≡ length found.old }
+    ensures found { AreMasks known.now nodes.now asked.now found.new }
+{
+    mark_asked(masks, asked);
+    spread_back(masks, found, known, nodes);
+}
+
+/// For each input a mask: bit k is 1 where the asked node k may depend on it. Of asked nodes there are 64 at most.
+pub fn input_masks(
+    alloc: Global,
+    nodes: &[Node],
+    inputs: u32,
+    known: &[Fact],
+    asked: &[u32],
+) -> Result<Vec<u64>, AllocError>
+    requires nodes { AreNodes inputs 0 nodes.now }
+    requires known { length known.now ≡ length nodes.now }
+    requires few { length asked.now ≤ 64 }
+    requires within { AllByRecursion (λ p. p < length nodes.now) asked.now }
+    ensures size { IfOk result (λ found. length found.items ≡ inputs) }
+    ensures found { IfOk result (λ found. AreMasks known.now nodes.now asked.now found.items) }
+{
+    let mut masks = vec![in alloc; 0u64; nodes.len()]?;
+    let mut found = vec![in alloc; 0u64; inputs as usize]?;
+    fill(&mut masks, &mut found, known, nodes, asked);
+    Ok(found)
+}

@@ -1,0 +1,6 @@
+use Rattle.std.proofs.Common.{◌≡◌, ◌++◌, drop, map}
+use Rattle.m_lint.specs.Findings.{fact_at}
+use Rattle.m_facts.proofs.find.facts_at.Given as goal
+
+abbrev pub invariant-loop-p : goal.invariant-loop-p
+invariant-loop-p l = l.facts.items ++ map (fact_at l.known) (drop l.p-index l.nodes) ≡ map (fact_at l.known) l.nodes

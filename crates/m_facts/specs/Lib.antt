@@ -1,0 +1,4 @@
+pub mod Found
+pub mod Lines
+pub mod Truths
+pub mod inner

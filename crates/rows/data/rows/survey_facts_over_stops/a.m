@@ -1,0 +1,6 @@
+REV : saisie revenu classe = 0 alias 1AJ : "s" ;
+IRN : calculee restituee : "n" ;
+regle 10 : application : iliad ;
+IRN = REV + 1 ;
+A01 : anomalie : "A" : "01" : "00" : "trop" : "N" ;
+verif 1 : application : iliad ; si REV * REV < 0 alors erreur A01 ;

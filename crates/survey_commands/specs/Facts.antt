@@ -1,0 +1,64 @@
+-- What `facts` answers.
+use Rattle.std.specs.Prelude.{◌≡◌, ℕ, List, [], ◌∷◌, Option, Some, None, Result, Ok, Err, codes, decimal}
+use Rattle.m_text.specs.Pieces.{joined, new_line}
+use Rattle.m_places.specs.declared.source.Source.{Source}
+use Rattle.definedness.specs.Facts.{Possible}
+use Rattle.observables.specs.declared.inputs.Coded.{Coded}
+use Rattle.m_symbols.specs.Declarations.{Declared}
+use Rattle.micro_m.specs.declared.base.Base.{Base}
+use Rattle.household.specs.declared.fault.HouseholdFault.{HouseholdFault}
+use Rattle.household.specs.declared.fault.HouseholdFault.TheVariants.{BadHeader, TooManyRows, BadRow, UnknownCode, BadAmount, NotOfType, CodeTwice, Memory}
+use Rattle.input_ranges.specs.Ranges.{ranges_of, type_facts}
+use Rattle.m_facts.specs.Lines.{facts_text}
+use Rattle.m_compile.specs.Compiled.{IsCompiled}
+use Rattle.m_compile.specs.Faults.{IsSourceFault}
+use Rattle.m_compile.specs.Lines.{source_line}
+use Rattle.m_compile.specs.Sources.{HasRules}
+use Rattle.m_compile.specs.declared.compiling.Compiled.{Compiled}
+use Rattle.m_compile.specs.declared.fault.SourceFault.{SourceFault}
+use Rattle.command_plans.specs.declared.status.Status.{Status}
+use Rattle.command_plans.specs.declared.status.Status.TheVariants.{Done, Refused}
+use Rattle.code_answers.specs.Schemes.{Scheme}
+use Rattle.command_answers.specs.Sources.{IsScheme}
+
+-- ---- ranges
+
+-- What may be given of each input, by the bytes of ranges; where there are none, by the inputs' types.
+abbrev pub given_by : List Coded → Option (List ℕ) → Result (List Possible) HouseholdFault
+given_by inputs None = Ok (type_facts inputs)
+given_by inputs (Some bytes) = ranges_of inputs bytes
+
+abbrev pub file_line : List ℕ → List ℕ
+file_line words = joined (codes "refused ranges: " ∷ words ∷ new_line ∷ [])
+
+abbrev pub row_line : ℕ → List ℕ → List ℕ
+row_line line words = joined (codes "refused ranges line " ∷ decimal line ∷ codes ": " ∷ words ∷ new_line ∷ [])
+
+-- The line of a fault of ranges; running out of memory has none. A code that is no input's in record 2 has `refused ranges line 2: unknown code`.
+abbrev pub ranges_fault_line : HouseholdFault → Option (List ℕ)
+ranges_fault_line BadHeader = Some (file_line (codes "bad header"))
+ranges_fault_line TooManyRows = Some (file_line (codes "too many rows"))
+ranges_fault_line (BadRow line) = Some (row_line line (codes "bad row"))
+ranges_fault_line (UnknownCode line) = Some (row_line line (codes "unknown code"))
+ranges_fault_line (BadAmount line) = Some (row_line line (codes "bad amount"))
+ranges_fault_line (NotOfType line) = Some (row_line line (codes "not of its type"))
+ranges_fault_line (CodeTwice line) = Some (row_line line (codes "code twice"))
+ranges_fault_line Memory = None
+
+-- ---- answers
+
+-- The answer of a source and ranges: the line of the source's fault; or that of the fault of the ranges, by the inputs of what the source is compiled to;
+-- or the lines of what holds by that of all households within the ranges.
+pub data FactsReplies (source : Source) (ranges : Option (List ℕ)) : List ℕ → Status → Type 0 where
+  source_is_refused : {line : List ℕ} (fault : SourceFault) → IsSourceFault source fault → source_line source.texts fault ≡ Some line → FactsReplies source ranges line Refused
+  ranges_are_refused : {line : List ℕ} (compiled : Compiled) (fault : HouseholdFault) → IsCompiled source compiled → given_by compiled.face.inputs ranges ≡ Err fault
+      → ranges_fault_line fault ≡ Some line → FactsReplies source ranges line Refused
+  facts_are_found : (declared : Declared) (base : Base) (compiled : Compiled) (given : List Possible) → HasRules source declared base → IsCompiled source compiled
+      → given_by compiled.face.inputs ranges ≡ Ok given → FactsReplies source ranges (facts_text base compiled.tidy compiled.face given) Done
+
+-- a valid source, and ranges without a fault by its inputs
+pub record FactsHaveAnswer (source : Source) (ranges : Option (List ℕ)) : Type 0 where
+  pub scheme : Scheme
+  pub valid : IsScheme source scheme
+  pub possible : List Possible
+  pub given : given_by scheme.inputs ranges ≡ Ok possible

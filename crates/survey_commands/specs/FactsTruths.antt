@@ -1,0 +1,33 @@
+-- When the lines of `facts` are true of a source: they hold of whatever it tells to households within the ranges.
+use Rattle.std.specs.Prelude.{◌≡◌, ℕ, ◌+◌, List, Option, Ok, length}
+use Rattle.std.specs.List.{AllByRecursion, AllZip}
+use Rattle.m_places.specs.declared.source.Source.{Source}
+use Rattle.definedness.specs.Facts.{Possible}
+use Rattle.observables.specs.declared.face.Face.{Face}
+use Rattle.observables.specs.Outputs.{names_of, notes_of}
+use Rattle.m_symbols.specs.Declarations.{Declared}
+use Rattle.micro_m.specs.declared.base.Base.{Base}
+use Rattle.m_facts.specs.Lines.{found_text, named_facts}
+use Rattle.m_facts.specs.Truths.{ArePossible, DependsOn, IsSilent}
+use Rattle.m_facts.specs.declared.found.FactsFound.{FactsFound}
+use Rattle.m_compile.specs.Sources.{HasRules}
+use Rattle.code_answers.specs.Schemes.{Scheme}
+use Rattle.survey_commands.specs.Facts.{given_by}
+
+-- The text is lines that are true of what a source tells: the ranges have no fault, and for all households within them each value that is told is possible by
+-- the line of its cell, a verification that is said never to stop is told by none, and two that agree on the inputs of a cell's line, of which neither stops, are
+-- told the same value of it. The place of a value that is told is the number of its output without the notes, which stand first.
+pub record AreTrueFacts (source : Source) (ranges : Option (List ℕ)) (scheme : Scheme) (text : List ℕ) : Type 0 where
+  pub declared : Declared
+  pub base : Base
+  pub rules : HasRules source declared base
+  pub given : List Possible
+  pub said : given_by scheme.inputs ranges ≡ Ok given
+  pub face : Face
+  pub found : FactsFound
+  pub inputs : face.inputs ≡ scheme.inputs
+  pub names : names_of face.outputs ≡ scheme.names
+  pub lines : text ≡ found_text base face found
+  pub possible : ArePossible scheme.inputs given scheme.tells (named_facts face.outputs found.possible)
+  pub silent : AllByRecursion (IsSilent base scheme.inputs given scheme.tells) found.silent
+  pub reads : AllZip (λ k ns. (place : ℕ) → k ≡ length (notes_of face.outputs) + place → DependsOn scheme.inputs given scheme.tells place ns) found.firsts found.reads

@@ -1,0 +1,97 @@
+//! What holds by a source of all households within ranges.
+ghost use Rattle.std.specs.Prelude.{◌≡◌, ◌<◌, ◌^◌, length, map, take};
+ghost use Rattle.m_places.specs.SourceLimits.{SourceKeepsLimits};
+ghost use Rattle.micro_m.specs.Bases.{IsValidBase};
+ghost use Rattle.observables.specs.declared.face.FaceLabel.TheVariants.{Verif};
+ghost use Rattle.flat_code.specs.Faces.{IsFaceOf};
+ghost use Rattle.m_compile.specs.Compiled.{IsRunnable};
+ghost use Rattle.command_plans.specs.Printing.{IsAnswered};
+ghost use Rattle.command_plans.specs.Views.{output_view};
+ghost use Rattle.survey_commands.specs.Facts.{FactsReplies};
+ghost use Rattle.survey_commands.specs.inner.Finding.{IsFactsBy, IsFactsOf};
+
+use crate::found::give_found;
+use crate::ranges::{given_facts, tell_ranges};
+use crate::source::tell_source;
+use command_plans::{Status, printed};
+use definedness::Fact;
+use m_compile::{Compiled, compile_with_rules};
+use m_facts::find_facts;
+use m_places::{Seq, Source};
+use m_ports::Sink;
+use micro_m::Base;
+use std::alloc::{AllocError, Global};
+use std::thread::Threads;
+
+/// Compiles a source and keeps its rules, and prints what holds of the requested cells for all households within these ranges, or the line by
+/// which the source or the ranges are refused.
+pub(crate) fn facts_source<R: Threads + Sync, K: Sink>(
+    rt: &R,
+    alloc: Global,
+    source: &Source,
+    ranges: &Option<Seq<u8>>,
+    out: &mut K,
+) -> Status
+    requires { SourceKeepsLimits source.now }
+    ensures { IsAnswered (FactsReplies source.now ranges.now) (output_view K.written K.faults out.old) (output_view K.written K.faults out.new) result }
+{
+    match compile_with_rules(rt, alloc, source) {
+        Ok((made, compiled)) => {
+            let status = answer_facts(alloc, &made.ordered.base, &compiled, ranges, out);
+            drop(made);
+            drop(compiled);
+            status
+        }
+        Err(fault) => tell_source(source, fault, out),
+    }
+}
+
+// Prints what holds within ranges of a base and what its source is compiled to.
+fn answer_facts<K: Sink>(
+    alloc: Global,
+    base: &Base,
+    compiled: &Compiled,
+    ranges: &Option<Seq<u8>>,
+    out: &mut K,
+) -> Status
+    requires valid { IsValidBase base.now }
+    requires few { length base.now.checks < 2 ^ 32 }
+    requires runnable { IsRunnable compiled.now.face compiled.now.tidy }
+    requires first_labels { take (length base.now.labels) compiled.now.face.labels ≡ map Verif base.now.labels }
+    ensures { IsAnswered (IsFactsOf base.now compiled.now ranges.now) (output_view K.written K.faults out.old) (output_view K.written K.faults out.new) result }
+{
+    let inputs = compiled.face.inputs.as_slice();
+    match given_facts(alloc, inputs, compiled.tidy.flat().inputs, ranges) {
+        Ok(given) => {
+            let status = print_found(alloc, base, compiled, given.as_slice(), out);
+            drop(given);
+            status
+        }
+        Err(fault) => tell_ranges(fault, out),
+    }
+}
+
+// Prints what holds where the inputs have these facts.
+fn print_found<K: Sink>(
+    alloc: Global,
+    base: &Base,
+    compiled: &Compiled,
+    given: &[Fact],
+    out: &mut K,
+) -> Status
+    requires valid { IsValidBase base.now }
+    requires few { length base.now.checks < 2 ^ 32 }
+    requires shown { IsFaceOf compiled.now.face compiled.now.tidy }
+    requires first_labels { take (length base.now.labels) compiled.now.face.labels ≡ map Verif base.now.labels }
+    ensures { IsAnswered (IsFactsBy base.now compiled.now given.now) (output_view K.written K.faults out.old) (output_view K.written K.faults out.new) result }
+{
+    match find_facts(alloc, base, &compiled.tidy, &compiled.face, given) {
+        Ok(found) => {
+            let given = give_found(base, &compiled.face, &found, out);
+            let status = printed(given, Status::Done);
+            drop(found);
+            status
+        }
+        Err(AllocError) => Status::Memory,
+    }
+}

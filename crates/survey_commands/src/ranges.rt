@@ -1,0 +1,86 @@
+//! The facts that ranges give the inputs, and the lines by which ranges are refused.
+ghost use Rattle.std.specs.Prelude.{◌≡◌, ◌∷◌, [], codes, decimal, length};
+ghost use Rattle.m_places.specs.Refusals.{Says};
+ghost use Rattle.m_names.specs.Names.{AreDistinct};
+ghost use Rattle.m_text.specs.Pieces.{joined, new_line};
+ghost use Rattle.observables.specs.Inputs.{codes_of};
+ghost use Rattle.household.specs.declared.fault.HouseholdFault.TheVariants.{Memory as NoMemory};
+ghost use Rattle.command_plans.specs.Printing.{Prints};
+ghost use Rattle.command_plans.specs.Views.{output_view};
+ghost use Rattle.command_plans.specs.declared.status.Status.TheVariants.{Refused};
+ghost use Rattle.code_answers.specs.inner.Refusals.{TellsLine};
+ghost use Rattle.survey_commands.specs.Facts.{given_by, ranges_fault_line};
+
+use command_plans::{Status, printed};
+use definedness::Fact;
+use household::HouseholdFault;
+use input_ranges::{read_ranges, type_facts};
+use itoa::Buffer;
+use m_places::Seq;
+use m_ports::{Sink, give_pieces};
+use observables::Coded;
+use std::alloc::Global;
+
+/// What may be given of each of so many inputs, by these ranges or, where there are none, by the inputs' types.
+pub(crate) fn given_facts(
+    alloc: Global,
+    inputs: &[Coded],
+    count: u32,
+    ranges: &Option<Seq<u8>>,
+) -> Result<Seq<Fact>, HouseholdFault>
+    requires distinct { AreDistinct (codes_of inputs.now) }
+    requires count { count ≡ length inputs.now }
+    ensures { Says NoMemory result (λ facts. facts) (given_by inputs.now ranges.now) }
+{
+    match ranges {
+        Some(bytes) => read_ranges(alloc, bytes.as_slice(), inputs, count),
+        None => Ok(type_facts(alloc, inputs)?),
+    }
+}
+
+/// Tells the fault of ranges by its line, or that there was no memory. It takes no memory.
+pub(crate) fn tell_ranges<K: Sink>(fault: HouseholdFault, out: &mut K) -> Status
+    ensures { TellsLine (ranges_fault_line fault) (output_view K.written K.faults out.old) (output_view K.written K.faults out.new) result }
+{
+    match fault {
+        HouseholdFault::BadHeader => tell_file(b"bad header", out),
+        HouseholdFault::TooManyRows => tell_file(b"too many rows", out),
+        HouseholdFault::BadRow(line) => tell_row(line, b"bad row", out),
+        HouseholdFault::UnknownCode(line) => tell_row(line, b"unknown code", out),
+        HouseholdFault::BadAmount(line) => tell_row(line, b"bad amount", out),
+        HouseholdFault::NotOfType(line) => tell_row(line, b"not of its type", out),
+        HouseholdFault::CodeTwice(line) => tell_row(line, b"code twice", out),
+        HouseholdFault::Memory => Status::Memory,
+    }
+}
+
+// Tells of the file as a whole.
+fn tell_file<K: Sink>(words: &[u8], out: &mut K) -> Status
+    ensures { Prints (joined (codes "refused ranges: " ∷ words.now ∷ new_line ∷ [])) Refused
+        (output_view K.written K.faults out.old) (output_view K.written K.faults out.new) result }
+{
+    printed(
+        give_pieces(out, &[b"refused ranges: ", words, b"\n"]),
+        Status::Refused,
+    )
+}
+
+// Tells of the record with this number.
+fn tell_row<K: Sink>(line: u32, words: &[u8], out: &mut K) -> Status
+    ensures { Prints (joined (codes "refused ranges line " ∷ decimal line ∷ codes ": " ∷ words.now ∷ new_line ∷ [])) Refused
+        (output_view K.written K.faults out.old) (output_view K.written K.faults out.new) result }
+{
+    let mut buffer = Buffer::new();
+    let digits = buffer.format(line).as_bytes();
+    tell_digits(digits, words, out)
+}
+
+fn tell_digits<'a, K: Sink>(digits: &'a [u8], words: &'a [u8], out: &mut K) -> Status
+    ensures { Prints (joined (codes "refused ranges line " ∷ digits.now ∷ codes ": " ∷ words.now ∷ new_line ∷ [])) Refused
+        (output_view K.written K.faults out.old) (output_view K.written K.faults out.new) result }
+{
+    printed(
+        give_pieces(out, &[b"refused ranges line ", digits, b": ", words, b"\n"]),
+        Status::Refused,
+    )
+}
