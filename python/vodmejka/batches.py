@@ -311,7 +311,7 @@ def pieces_of(form: Form, printed: Printed, due: int, asked: str | None = None) 
     """What the program printed, in pieces with as many answers as are due, which tell the values of a form. `asked` is a name
     that each may have an amount of."""
     if printed and not (printed[: len(LABEL_LINE)] == LABEL_LINE.encode() and printed[-1:] == b"\n"):
-        raise Broken(f"a first line without a label, or a last line without its end: {printed[:200]!r}, {printed[-200:]!r}")
+        raise Broken(f"the program's answer has a first line without a label, or a last line without its end: {printed[:200]!r}, {printed[-200:]!r}")
     places = list(cuts(printed))
     if asked is not None:  # each answer has at most one amount of a name
         columns = [form.column(asked, printed, *place) for place in places]
@@ -321,7 +321,7 @@ def pieces_of(form: Form, printed: Printed, due: int, asked: str | None = None) 
     if not form.names or sum(piece.size for piece in pieces) != due:
         pieces = [Piece(form, text, 0, len(text), 1, {}) for text in by_line(printed[:])]
     if sum(piece.size for piece in pieces) != due:
-        raise Broken(f"{sum(piece.size for piece in pieces)} answers for {due} households")
+        raise Broken(f"the program printed {sum(piece.size for piece in pieces)} answers for {due} households")
     return pieces
 
 

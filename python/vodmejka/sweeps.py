@@ -8,7 +8,7 @@ from typing import Iterable, Iterator, Mapping, NamedTuple, Sequence, Union
 
 from .answers import Answer, Over, Stop, Value
 from .bar_pictures import Picture
-from .errors import Refused, Stopped
+from .errors import Broken, Refused, Stopped
 from .expressions import UNIT, Amount, Expression, millionths
 from .program import Amount as Given
 from .rate_pictures import Curve, picture
@@ -125,11 +125,14 @@ def answers_along(
     rules: Rules, household: Mapping[str, Given], code: str, amounts: Sequence[Decimal], of: str, others: Mapping[str, Fraction], stops: str
 ) -> list[Mapping[str, Amount] | Stop]:
     """For each amount the requested values with the household's other amounts, or the stop."""
-    if of not in rules.outputs():
-        raise Refused(f"{of} is no requested value of the rules; there are {', '.join(rules.outputs())}")
+    requested = rules.outputs().keys()
+    if of not in requested:
+        raise Refused(f"{of} is no requested value of the rules; there are {', '.join(requested)}")
     told: list[Mapping[str, Amount] | Stop] = []
     for amount, answer in zip(amounts, answers_of(rules, household, code, amounts)):
         if answer.stop is None:
+            if answer.keys() != requested:
+                raise Broken(f"the program's answer for {code} = {amount} has other values than those requested")
             told.append({**others, **{name: millionths(value) for name, value in answer.items()}})
         elif stops == "raise":
             raise Stopped(answer.stop.line, f"{code} = {amount}: {answer.stop.line}")

@@ -1,6 +1,12 @@
 # What programs, files and outputs can do wrong to the tools that compute one household or change rules.
 tools=$ROOT/tools
 stand_in() { printf '#!/bin/sh\n%s\n' "$1" >stand_in; chmod +x stand_in; }
+# What marginal asks of the program before its batch: code, and the household as it stands.
+answers='case $1 in
+    compile) printf "mcode 1\nslots 0\ninput 1AJ\ninput 1BJ\noutput IRN\ncode\n"; exit ;;
+    exec) echo "IRN = 1"; exit ;;
+esac
+'
 M_TAX=$PWD/stand_in
 export M_TAX
 printf 'iliad\na.m\n' >a.list
@@ -9,12 +15,12 @@ printf 'code,amount\n1AJ,5\n' >h.csv
 echo "-- marginal: an answer that has other lines than were asked for, no program, a full disk"
 twice='awk -F, '\''NR > 1 {print "household " $1 "\nIRN = " $2 * 2}'\'' "$5"'
 draw() { "$tools/marginal" a.list - "$1" 1AJ 0 10 10 --of IRN --csv; echo "status $?"; }
-stand_in "$twice" && draw h.csv
-for said in 'echo IRN = 1' 'printf "household r0\nIRN = 1\nhousehold r1\nhousehold r2\nIRN = 3\n"' 'printf "household r0\nIRM = 1\n"' "$twice | head -n 4"; do
-    stand_in "$said" && draw h.csv
+stand_in "$answers$twice" && draw h.csv
+for said in 'echo IRN = 1' 'printf "household ~\nIRN = 1\nhousehold ~\nhousehold ~\nIRN = 3\n"' 'printf "household ~\nIRM = 1\nhousehold ~\nIRM = 1\nhousehold ~\nIRM = 1\n"' "$twice | head -n 4"; do
+    stand_in "$answers$said" && draw h.csv
 done
 M_TAX=./nowhere draw h.csv 2>&1 | sed "s|$PWD|.|"
-stand_in "$twice"
+stand_in "$answers$twice"
 "$tools/marginal" a.list - h.csv 1AJ 0 10 10 --of IRN >/dev/full
 echo "status $?"
 printf 'code,amount\n1AJ,5\n1AJ,6\n' >twice.csv
@@ -24,17 +30,22 @@ draw open.csv
 echo "-- marginal: the household's faults have its own places, those of the amounts are told by them, and of a program that is killed the status is told"
 cat >stand_in <<'END'
 #!/bin/sh
-# A household is refused where a code is 9ZZ or an amount empty; a table where it has the code 9ZZ, or the amount 10.
-if [ "$1" = run ]; then
-    awk -F, '
-        NR > 1 && $1 == "9ZZ" {print "refused household line " NR ": unknown code"; exit 1}
-        NR > 1 && $2 == "" {print "refused household line " NR ": bad amount"; exit 1}' "$5"
-else
-    [ ! -e "$(dirname "$0")/killed" ] || { printf 'household r0\nIRN = 1\n'; kill -9 $$; }
-    line=$(awk -F, 'NR == 1 && /9ZZ/ {print "refused household line 1: unknown code"} $2 == 10 {print "refused household line " NR ": not of its type"}' "$5")
-    [ -z "$line" ] || { echo "$line"; exit 1; }
-    awk -F, 'NR > 1 {print "household " $1 "\nIRN = 1"}' "$5"
-fi
+# A household is refused where a code is 9ZZ or an amount empty; a table where it has the amount 10.
+case $1 in
+    compile) printf 'mcode 1\nslots 0\ninput 1AJ\ninput 1BJ\ninput 1CJ\noutput IRN\ncode\n' ;;
+    exec)
+        awk -F, '
+            NR > 1 && $1 == "9ZZ" {print "refused household line " NR ": unknown code"; exit 1}
+            NR > 1 && $2 == "" {print "refused household line " NR ": bad amount"; exit 1}
+            END {if (NR && !refused) print "IRN = 1"}' "$3" | head -n 1 >answer
+        cat answer
+        ! grep -q refused answer ;;
+    *)
+        [ ! -e "$(dirname "$0")/killed" ] || { printf 'household ~\nIRN = 1\n'; kill -9 $$; }
+        line=$(awk -F, '$2 == 10 {print "refused household line " NR ": not of its type"}' "$5")
+        [ -z "$line" ] || { echo "$line"; exit 1; }
+        awk -F, 'NR > 1 {print "household " $1 "\nIRN = 1"}' "$5" ;;
+esac
 END
 printf 'code,amount\n1BJ,3\n9ZZ,4\n' >fault.csv && draw fault.csv
 printf 'code,amount\n1BJ,3\n1CJ,\n' >fault.csv && draw fault.csv
@@ -43,11 +54,11 @@ draw h.csv
 "$tools/marginal" a.list - h.csv 1€é 0 10 10 --of IRN --csv
 "$tools/marginal" a.list - h.csv 1AJ -2000000 2000000 4000000 --of IRN --csv
 for range in '0 0.5 0.1' '0 30000 500' '-2.5 0 0.5'; do
-    "$tools/marginal" a.list - h.csv 1AJ $range --of IRN | sed -n 's/.*middle">\(.*\)<.text>/\1/p' | tr '\n' ' '
+    "$tools/marginal" a.list - h.csv 1AJ $range --of IRN | sed -n 's/.*y="350".*">\(.*\)<.text>/\1/p' | tr '\n' ' '
 done
 echo
 : >killed && draw h.csv
-stand_in 'awk -F, '\''NR > 1 {print "household " $1 "\nIRN = 0"}'\'' "$5"'
+stand_in "$answers"'awk -F, '\''NR > 1 {print "household " $1 "\nIRN = 0"}'\'' "$5"'
 "$tools/marginal" a.list - h.csv 1AJ -10 0 10 --of IRN --csv
 rm killed fault.csv
 echo "-- variant: cells by their whole names, numbers of any length"

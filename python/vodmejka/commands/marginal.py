@@ -72,6 +72,9 @@ def pairs_of(path):
     twice = next((code for code, count in counts.items() if count > 1), None)
     if twice is not None:
         raise Wrong(said("marginal.twice", path=path, code=twice))
+    empty = next((code for code, spelled in entries[1:] if not spelled), None)
+    if empty is not None:
+        raise Wrong(said("marginal.no_amount", what=f"{path}: {empty}", text='""'))
     return dict(entries[1:])
 
 
