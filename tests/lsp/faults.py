@@ -19,6 +19,8 @@ from vodmejka.lsp.workspace import Workspace  # noqa: E402
 
 NAME = re.compile(rb"(?<![A-Za-z0-9_\"])[A-Z][A-Z0-9_]*(?![A-Za-z0-9_\"])")
 WORDS = b"i j k X 1 3 9 REV A..C C..A 1..3 3..1 1..10001 V,C ; i=1..2 j=1..2 [0] [9] [X] [1] ZZ E01 iliad batch si ( )".split()
+KINDS = ("bad byte", "bad range", "bad target", "declared twice", "defined twice", "is a table", "loop too large", "none", "not a table", "number too great",
+         "syntax", "table size", "unbound index", "unknown error", "unknown name")
 PROGRAMS = ("cycle", "too many parts", "too many cells", "too deep", "open string")
 
 
@@ -98,13 +100,13 @@ def main():
             kind = wanted[1] if wanted else "none"
             if kind.startswith(PROGRAMS):
                 continue
-            kind = re.sub(" [A-Z0-9_]+(\\[[0-9]+\\])?$", "", kind)
+            kind = re.sub(" [A-Z0-9_][A-Za-z0-9_]*(\\[[0-9]+\\])?$", "", kind)
             kinds[kind] = kinds.get(kind, 0) + 1
             found = told(workspace, text, content)
             if not agree(wanted, found):
                 differ += 1
                 print(f"{wanted}, but {found[:4]}: {content!r}")
-    print(f"{differ} differ; of some kind:", ", ".join(sorted(kind for kind, count in kinds.items() if count >= COUNT / 400)))
+    print(f"{differ} differ; kinds of faults that none had:", ", ".join(kind for kind in KINDS if kind not in kinds) or "none")
 
 
 main()

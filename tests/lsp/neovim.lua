@@ -39,7 +39,7 @@ local function diagnostics(count)
 end
 
 say("encoding", vim.bo.fileencoding)
-diagnostics(1)
+diagnostics(2)
 
 -- a name is mended letter by letter, as one types
 vim.api.nvim_win_set_cursor(0, { 6, 14 })

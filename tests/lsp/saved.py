@@ -107,7 +107,7 @@ def main():
     saved.show("a value that may overflow")
     put("ranges.csv", "code,given,least,greatest\n2XX,yes,0,1\n")
     saved.save(RULES)
-    saved.wait(lambda: any("ranges" in one["message"] for one in saved.told()))
+    saved.wait(lambda: any("refused ranges" in one["message"] for one in saved.told()))
     saved.show("a fault of the ranges")
     put("household.csv", "code,amount\n1AJ,6000\n")
     saved.save(RULES)

@@ -67,7 +67,7 @@ def variable(context: Context, base: Base, name: str) -> str:
     context.tick()
     lines += formulas(base, name)
     lines += values(context, base, item)
-    lines += facts(context, base, item)
+    lines += facts_within(context, base, item)
     lines += readers(base, name)
     return "\n\n".join(lines)
 
@@ -120,7 +120,7 @@ def values(context: Context, base: Base, item: items.Declaration) -> list[str]:
     return [f"`{', '.join(found)}{more}` for {os.path.basename(household)}{when}"] if found else []
 
 
-def facts(context: Context, base: Base, item: items.Declaration) -> list[str]:
+def facts_within(context: Context, base: Base, item: items.Declaration) -> list[str]:
     """What holds of a variable for all households within the ranges of the settings."""
     found, ranges = context.runs.facts(base), context.workspace.settings.ranges
     if found is None or not ranges:
