@@ -52,6 +52,9 @@ class Saved:
     def told(self):
         return [one for told in self.client.told.values() for one in told if one["source"] == "m_tax"]
 
+    def has(self, words):
+        return any(words in one["message"] for one in self.told())
+
     def show(self, what):
         print(what)
         for one in sorted(self.told(), key=lambda one: one["range"]["start"]["line"]):
@@ -103,11 +106,11 @@ def main():
     saved.show("a cycle")
     put("ranges.csv", "code,given,least,greatest\n1AJ,yes,0,5000000000\n")
     saved.save(RULES.replace("REV * 0.5", "REV * REV"))
-    saved.wait(lambda: any("overflow" in one["message"] for one in saved.told()))
+    saved.wait(lambda: saved.has("overflow") and saved.has("never stops 7 E02: ") and not saved.has("cycle") and not saved.has("refused"))
     saved.show("a value that may overflow")
     put("ranges.csv", "code,given,least,greatest\n2XX,yes,0,1\n")
     saved.save(RULES)
-    saved.wait(lambda: any("refused ranges" in one["message"] for one in saved.told()))
+    saved.wait(lambda: saved.has("refused ranges") and saved.has("never stops 7 E02: ") and not saved.has("overflow"))
     saved.show("a fault of the ranges")
     put("household.csv", "code,amount\n1AJ,6000\n")
     saved.save(RULES)
