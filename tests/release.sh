@@ -121,6 +121,8 @@ if python3 -m venv "$room/venv" >/dev/null 2>&1; then
     says "a wheel" "" "$room/venv/bin/pip" install -q --no-index --disable-pip-version-check "$room/one"/*manylinux*.whl
     says "a household by the wheel" "$answer" sh -c "cd '$files' && PATH='$room/venv/bin:/usr/bin:/bin' && $household"
     says "a household from Python" 2286 sh -c "cd '$files' && PATH=/nowhere '$room/venv/bin/python' -c \"$library\""
+    mkdir -p "$room/away/python" && cp -r python/tests "$room/away/python/" && cp -r examples docs "$room/away/" || exit 1
+    says "the tests of the package, without the clone" "OK" sh -c "cd '$room/away/python/tests' && PATH='$room/venv/bin:/usr/bin:/bin' '$room/venv/bin/python' -B -W ignore -m unittest discover -s . 2>&1 | tail -n 1 | sed 's/ (.*//'"
     says "the wheel alone" "" "$room/venv/bin/pip" install -q --no-index --disable-pip-version-check --force-reinstall "$room/one"/*none-any.whl
     rejects "the wheel alone without a program" "there is no program m_tax" sh -c "cd '$files' && PATH=/nowhere '$room/venv/bin/python' -c \"$library\""
 else

@@ -175,6 +175,7 @@ class Faults(Room):
             batched["IRN"]
 
 
+@unittest.skipUnless(os.path.isdir(os.path.join(os.path.dirname(PACKAGE), "tools")), "no clone")
 class Isolated(unittest.TestCase):
     def test_tools_that_leave_nothing(self):
         """They run where the folder of a script isn't searched for modules, and write no compiled files."""

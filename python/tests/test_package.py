@@ -15,6 +15,9 @@ from vodmejka import program, runs
 
 HERE = os.path.dirname(os.path.dirname(os.path.abspath(__file__)))
 
+# (a wheel that is installed elsewhere has neither what makes wheels nor the scripts)
+IN_CLONE = unittest.skipUnless(os.path.isfile(os.path.join(HERE, "wheel_of_package.py")), "no clone")
+
 
 def backend(folder):
     """The module that makes wheels, of a copy of the package."""
@@ -24,6 +27,7 @@ def backend(folder):
     return made
 
 
+@IN_CLONE
 class Wheels(unittest.TestCase):
     def setUp(self):
         room = tempfile.TemporaryDirectory()
@@ -130,6 +134,7 @@ def put_program(room, name):
     return path
 
 
+@IN_CLONE
 class Found(unittest.TestCase):
     def test_the_clone_comes_before_the_path(self):
         """What was built in the clone is used rather than an m_tax of the path, and this rather than the clone's script."""

@@ -24,6 +24,7 @@ cost: Decimal = compare(rules, rules.variant({"A": 3}), [{"1AJ": 1}], of="T").co
 
 
 @unittest.skipUnless(shutil.which("mypy"), "no mypy")
+@unittest.skipUnless(os.path.isfile(os.path.join(HERE, "pyproject.toml")), "no clone")
 class Types(unittest.TestCase):
     @classmethod
     def setUpClass(cls):
