@@ -182,9 +182,9 @@ def read_list_text(name: str, content: bytes) -> tuple[str, list[str]]:
 
 def quick_tokens(content: bytes, byte: int, tokens: list[Token], most: int = sys.maxsize) -> int:
     """Adds tokens up to the first byte that begins none, until there are so many; the byte behind the last one comes back."""
-    for match in itertools.islice(AFTER_GAPS.finditer(content, byte), most - len(tokens)):
-        if match.start() != byte:
-            break
+    # (a scanner matches where the match before it ended, and never searches: blanks at a file's end are read once)
+    matches: Iterator[re.Match[bytes]] = iter(AFTER_GAPS.scanner(content, byte).match, None)  # type: ignore[attr-defined]
+    for match in itertools.islice(matches, most - len(tokens)):
         at = match.lastindex or 0
         tokens.append(Token(match.lastgroup or "", match[at].decode("latin-1"), match.start(at)))
         byte = match.end()
