@@ -7,7 +7,8 @@ import re
 import tempfile
 
 from . import csv_answers, records, runs, source
-from .runs import Failed, digest, file_digest
+from .program import digest_of
+from .runs import Failed, file_digest
 
 
 def remove_dead(path):
@@ -147,4 +148,4 @@ def summary(folder, plan, notes):
     yield f"{plan.parts} parts, {plan.total} households, {stops} of them stopped"
     yield f"table {file_digest(os.path.join(folder, 'table'))}"
     yield f"source {notes[0].source}"
-    yield f"answers {digest(*(note.answer.encode() for note in notes))}"
+    yield f"answers {digest_of(*(note.answer.encode() for note in notes))}"

@@ -16,7 +16,7 @@ import time
 from . import source
 from .errors import Broken
 from .limits import CODE_FILE_BYTES
-from .program import TOP
+from .program import TOP, digest_of
 from .program import program_path as installed_program_path
 
 PIECE = 1_048_576
@@ -28,13 +28,6 @@ class Failed(Exception):
     def __init__(self, why, goes_on=True):
         super().__init__(why)
         self.goes_on = goes_on
-
-
-def digest(*pieces):
-    made = hashlib.sha256()
-    for piece in pieces:
-        made.update(len(piece).to_bytes(8, "big") + piece)
-    return made.hexdigest()
 
 
 def file_digest(path, out=None, below_head=False):
@@ -96,7 +89,7 @@ def digest_of_program(program, name="m_tax"):
     if not below:
         sources = os.walk(os.path.join(folder, "crates"))
         below = sorted(os.path.join(at, name) for at, _, names in sources for name in names if name.endswith(".rt"))
-    return digest(*(file_digest(name).encode() for name in [program, *below]))
+    return digest_of(*(file_digest(name).encode() for name in [program, *below]))
 
 
 # ---- children
@@ -294,7 +287,7 @@ class Source(Batches):
             pieces += [os.fsencode(name), content]
         for content in (driver, requests):
             pieces += [b"none"] if content is None else [b"some", content]
-        self.digest = digest(self.program_digest.encode(), *pieces)
+        self.digest = digest_of(self.program_digest.encode(), *pieces)
 
     @staticmethod
     def read(words):
@@ -311,7 +304,7 @@ class CodeFile(Batches):
         content = source.fetch(path, CODE_FILE_BYTES)
         self.original = {"source.mcode": path}
         self.words = [self.put("source.mcode", content)]
-        self.digest = digest(self.program_digest.encode(), b"code", content)
+        self.digest = digest_of(self.program_digest.encode(), b"code", content)
 
 
 def two_sources(lists, drivers, requests, room):

@@ -48,7 +48,8 @@ from .. import csv_answers, records, runs, source
 from ..limits import FILE_BYTES, ROWS
 from ..parts import READERS, Made, Plan, digest_there, look_at, missing, part_path, remove_dead, summary, unfinished, whole, write_whole
 from ..progress import Progress
-from ..runs import Failed, digest, file_digest
+from ..program import digest_of
+from ..runs import Failed, file_digest
 
 BATCH_BYTES = 256 << 20  # a batch of the longest table takes half of it, and the look at its answer the rest
 MOST_AT_ONCE = 4
@@ -183,7 +184,7 @@ def compute(folder, number, plan, compiled, elsewhere=here):
             raise Failed(f"{table}: {fault}" + ("" if fault.goes_on else "; mend the table and cut it again"), fault.goes_on) from fault
         os.fsync(out.fileno())
         look_at(table, plan.digests[number - 1], "was changed meanwhile")
-        noted = [compiled.digest, "-" if names is None else digest(*names), file_digest(made), compiled.form, str(households), str(stops)]
+        noted = [compiled.digest, "-" if names is None else digest_of(*names), file_digest(made), compiled.form, str(households), str(stops)]
         write_whole(part_path(folder, number, "of"), " ".join(noted).encode() + b"\n")
         os.replace(made, done)
     return households
